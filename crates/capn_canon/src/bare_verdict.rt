@@ -24,8 +24,7 @@ use std::alloc::Allocator;
 /// bytes are canonical. One pass over the words finds that; the message is surveyed only where it doesn't begin with
 /// canonical bytes.
 ///
-/// It refuses what the walk refuses, in the same way. It takes no memory for a depth of at most 64; `Memory`
-/// comes only where a growth was refused.
+/// It refuses what the walk refuses, in the same way. It takes no memory.
 pub fn survey_bare<A: Allocator + Copy>(
     alloc: A,
     space: &Bare<'_>,
@@ -39,8 +38,8 @@ pub fn survey_bare<A: Allocator + Copy>(
     // any other refusal is the first stop.
     ensures refused { IfErr result (λ s. (s.fault ≡ faults.Memory)
         ⊎ IsStopped (space.now ∷ []) limits s.fault s.place s.paid s.visits) }
-    // No growth is needed for a depth of at most 64.
-    ensures no_memory { limits.depth ≤ 64 → IfErr result (λ s. s.fault ≢ faults.Memory) }
+    // No growth is needed, whatever the depth.
+    ensures no_memory { IfErr result (λ s. s.fault ≢ faults.Memory) }
     // No walk pays beyond its budget.
     ensures bounded { MatchResult result (λ c. IsBounded limits.budget c.paid c.visits)
         (λ s. IsBounded limits.budget s.paid s.visits) }
@@ -72,8 +71,8 @@ pub fn is_canonical<A: Allocator + Copy>(
     // What each refusal means.
     ensures refused { IfErr result (λ e. IsRefused forms.Bare bytes.now limits e) }
     ensures bounded { IfErr result (λ e. IsPaidWithin limits.budget e) }
-    // No memory is needed for a depth of at most 64.
-    ensures no_memory { limits.depth ≤ 64 → IfErr result (λ e. e ≢ refusals.Memory) }
+    // No memory is needed, whatever the depth.
+    ensures no_memory { IfErr result (λ e. e ≢ refusals.Memory) }
 {
     let space = Bare::new(bytes)?;
     let checked = survey_bare(alloc, &space, limits)?;

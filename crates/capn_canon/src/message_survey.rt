@@ -15,8 +15,7 @@ use std::alloc::Allocator;
 
 /// What the walk of a message pays and visits within the limits, and its first capability.
 ///
-/// `Walk`: the message is not accepted. `Memory` comes only where a growth was refused, for a depth above 64; no other
-/// refusal comes.
+/// `Walk`: the message is not accepted. No other refusal comes, and it takes no memory.
 pub fn survey<A: Allocator + Copy, S: Space>(
     alloc: A,
     space: &S,
@@ -29,8 +28,8 @@ pub fn survey<A: Allocator + Copy, S: Space>(
         → MatchResult result (λ s. s.capability ≡ first_cap v) (λ e. e ≡ refusals.Memory) }
     // What each refusal means.
     ensures refused { IfErr result (λ e. IsUnaccepted (S.message space.now) limits e) }
-    // Memory is needed only for a depth above 64.
-    ensures no_memory { limits.depth ≤ 64 → IfErr result (λ e. e ≢ refusals.Memory) }
+    // No memory is needed, whatever the depth.
+    ensures no_memory { IfErr result (λ e. e ≢ refusals.Memory) }
     // No walk pays beyond its budget.
     ensures bounded { MatchResult result (λ s. IsBounded limits.budget s.paid s.visits)
         (λ e. IsPaidWithin limits.budget e) }

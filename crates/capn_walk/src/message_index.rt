@@ -61,8 +61,7 @@ pub fn index_into<S: Space>(
 ///
 /// It refuses what [`survey`] refuses, in the same way. `Memory` comes only where a growth was refused.
 ///
-/// Memory: the entries, 24 bytes each, for which it asks once the message is accepted; and for a depth above 64 that
-/// of a survey.
+/// Memory: the entries, 24 bytes each, for which it asks once the message is accepted.
 pub fn index<S: Space, A: Allocator + Copy>(
     alloc: A,
     space: &S,
@@ -77,9 +76,8 @@ pub fn index<S: Space, A: Allocator + Copy>(
     ensures refused { IfErr result (λ s.
         (s.fault ≡ Memory)
         ⊎ IsWalkRefused (S.message space.now) limits s.fault s.place s.paid s.visits) }
-    // For a depth of at most 64 no growth is needed except for the entries: if it is refused, the message is accepted.
-    ensures no_memory { limits.depth ≤ 64 →
-        IfErr result (λ s. s.fault ≡ Memory → IsAccepted (S.message space.now) limits) }
+    // No growth is needed except for the entries: if it is refused, the message is accepted.
+    ensures no_memory { IfErr result (λ s. s.fault ≡ Memory → IsAccepted (S.message space.now) limits) }
     // No walk pays beyond its budget.
     ensures bounded { MatchResult result (λ x. IsBounded limits.budget x.paid (length x.entries.items))
         (λ s. IsBounded limits.budget s.paid s.visits) }

@@ -1,6 +1,6 @@
 //! A survey of all that a message holds, without its value.
 
-ghost use Rattle.std.specs.Prelude.{◌≡◌, ◌≢◌, ◌≤◌, ◌+◌, ◌⊎◌, Ok, IsTrue, IfOk, IfErr, MatchResult};
+ghost use Rattle.std.specs.Prelude.{◌≡◌, ◌≢◌, ◌<◌, ◌≤◌, ◌+◌, ◌⊎◌, Ok, IsTrue, IfOk, IfErr, MatchResult};
 ghost use Rattle.capn_words.specs.Message.{IsMessage, IsPlace};
 ghost use Rattle.capn_value.specs.Cost.{most_cost, most_height};
 ghost use Rattle.capn_target.specs.Target as spec;
@@ -31,8 +31,7 @@ use std::alloc::Allocator;
 
 /// What the walk of a message pays and visits within the limits, and its first capability, without its value.
 ///
-/// It visits the slots as [`walk`] does and refuses what that refuses, in the same way. It takes no memory for a
-/// depth of at most 64; `Memory` comes only where a growth was refused.
+/// It visits the slots as [`walk`] does and refuses what that refuses, in the same way. It takes no memory.
 pub fn survey<S: Space, A: Allocator + Copy>(
     alloc: A,
     space: &S,
@@ -46,8 +45,8 @@ pub fn survey<S: Space, A: Allocator + Copy>(
     ensures refused { IfErr result (λ s.
         (s.fault ≡ Memory)
         ⊎ IsWalkRefused (S.message space.now) limits s.fault s.place s.paid s.visits) }
-    // No growth is needed for a depth of at most 64.
-    ensures no_memory { limits.depth ≤ 64 → IfErr result (λ s. s.fault ≢ Memory) }
+    // No growth is needed, whatever the depth.
+    ensures no_memory { IfErr result (λ s. s.fault ≢ Memory) }
     // No walk pays beyond its budget.
     ensures bounded { MatchResult result (λ s. IsBounded limits.budget s.paid s.visits)
         (λ s. IsBounded limits.budget s.paid s.visits) }
@@ -68,8 +67,7 @@ pub fn survey<S: Space, A: Allocator + Copy>(
 /// What [`survey`] answers, and the least depth under which the message is accepted with the other limits as they are:
 /// 0 if its root is null, else how many objects are one below another at most, the root's among them.
 ///
-/// It is one walk, as [`survey`] is, and refuses what that refuses, in the same way. It takes no memory for a depth of
-/// at most 64; `Memory` comes only where a growth was refused.
+/// It is one walk, as [`survey`] is, and refuses what that refuses, in the same way. It takes no memory.
 pub fn survey_depth<S: Space, A: Allocator + Copy>(
     alloc: A,
     space: &S,
@@ -86,8 +84,8 @@ pub fn survey_depth<S: Space, A: Allocator + Copy>(
     ensures refused { IfErr result (λ s.
         (s.fault ≡ Memory)
         ⊎ IsWalkRefused (S.message space.now) limits s.fault s.place s.paid s.visits) }
-    // No growth is needed for a depth of at most 64.
-    ensures no_memory { limits.depth ≤ 64 → IfErr result (λ s. s.fault ≢ Memory) }
+    // No growth is needed, whatever the depth.
+    ensures no_memory { IfErr result (λ s. s.fault ≢ Memory) }
     // No walk pays beyond its budget.
     ensures bounded { MatchResult result (λ m. IsBounded limits.budget m.survey.paid m.survey.visits)
         (λ s. IsBounded limits.budget s.paid s.visits) }
@@ -124,7 +122,7 @@ fn survey_root<S: Space, A: Allocator + Copy, const DEEP: bool>(
     requires budget { budget ≤ most_cost }
     ensures tells { SurveysAs (S.message space.now) budget 1 (visits (S.message space.now) base depth root) result }
     ensures depth { IsTrue DEEP → IfOk result (λ m. m.depth ≡ reach (S.message space.now) depth root) }
-    ensures no_memory { depth ≤ 64 → IfErr result (λ s. s.fault ≢ Memory) }
+    ensures no_memory { IfErr result (λ s. s.fault ≢ Memory) }
 {
     let visited = match visit_found(space, ROOT, Ok(target), depth, budget, base) {
         Ok(visited) => visited,
@@ -173,6 +171,9 @@ fn stopped(fault: Fault, place: Place, paid: u32, visits: u32) -> Stopped
 
 /// The visits of the slots of a frame, with all below them. Where `DEEP`, it learns how deep they are: it keeps the
 /// least depth that was left where content was met.
+///
+/// Each place of a stack is filled before the first visit, so for the usual limits there is one that is smaller.
+#[inline(always)]
 fn survey_slots<S: Space, A: Allocator + Copy, const DEEP: bool>(
     alloc: A,
     space: &S,
@@ -183,7 +184,7 @@ fn survey_slots<S: Space, A: Allocator + Copy, const DEEP: bool>(
 ) -> Result<Measured, Stopped>
     requires message { IsMessage (S.message space.now) }
     requires inside { Lies (S.message space.now) first }
-    requires limit { limit ≤ most_cost }
+    requires limit { limit < most_height }
     requires budget { budget ≤ most_cost }
     requires few { owed first ≤ most_cost }
     ensures tells { SurveysAs (S.message space.now) budget (owed first)
@@ -191,9 +192,40 @@ fn survey_slots<S: Space, A: Allocator + Copy, const DEEP: bool>(
     ensures depth { IsTrue DEEP →
         IfOk result (λ m. m.depth ≡ reach_of (S.message space.now) limit (places_of first)) }
     ensures shallow { IfOk result (λ m. m.depth ≤ limit + 1) }
-    ensures no_memory { limit ≤ 64 → IfErr result (λ s. s.fault ≢ Memory) }
+    ensures no_memory { IfErr result (λ s. s.fault ≢ Memory) }
 {
-    let mut stack: SmallVec<Waiting, 64, &A> = SmallVec::new(&alloc);
+    if limit <= 64 {
+        survey_in_room::<S, A, DEEP, 64>(alloc, space, first, limit, budget, base)
+    } else {
+        survey_in_room::<S, A, DEEP, 256>(alloc, space, first, limit, budget, base)
+    }
+}
+
+/// The same, with a stack for `ROOM` objects that wait. Where `DEEP`, it learns how deep they are: it keeps the
+/// least depth that was left where content was met.
+#[inline(never)]
+fn survey_in_room<S: Space, A: Allocator + Copy, const DEEP: bool, const ROOM: usize>(
+    alloc: A,
+    space: &S,
+    first: SlotsLeft,
+    limit: u32,
+    budget: u32,
+    base: u32,
+) -> Result<Measured, Stopped>
+    requires message { IsMessage (S.message space.now) }
+    requires inside { Lies (S.message space.now) first }
+    requires limit { limit ≤ ROOM }
+    requires room { ROOM ≤ most_height }
+    requires budget { budget ≤ most_cost }
+    requires few { owed first ≤ most_cost }
+    ensures tells { SurveysAs (S.message space.now) budget (owed first)
+        (visits_of (S.message space.now) base limit (places_of first)) result }
+    ensures depth { IsTrue DEEP →
+        IfOk result (λ m. m.depth ≡ reach_of (S.message space.now) limit (places_of first)) }
+    ensures shallow { IfOk result (λ m. m.depth ≤ limit + 1) }
+    ensures no_memory { IfErr result (λ s. s.fault ≢ Memory) }
+{
+    let mut stack: SmallVec<Waiting, ROOM, &A> = SmallVec::new(&alloc);
     let mut frame = first;
     let mut size = segment_length(space, first.segment);
     let mut depth = limit;

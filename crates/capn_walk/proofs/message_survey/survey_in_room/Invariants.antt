@@ -5,7 +5,7 @@ use Rattle.capn_walk.specs.inner.SlotsLeft.{places_of, owed}
 use Rattle.capn_walk.specs.inner.Reach.{reach_of}
 use Rattle.capn_walk.proofs.UnderWay.{Surveys, coming}
 use Rattle.capn_walk.proofs.DeepVisits.{IsDeep}
-use Rattle.capn_walk.proofs.message_survey.survey_slots.Given as goal
+use Rattle.capn_walk.proofs.message_survey.survey_in_room.Given as goal
 
 abbrev pub decreases-slots : goal.decreases-slots
 decreases-slots g l =
@@ -18,7 +18,7 @@ invariant-slots g l =
     record {
       surveys : Surveys m l.base l.budget (visits_of m l.base l.limit (places_of l.fn.first)) (owed l.fn.first) l.limit
           l.depth l.stack.items l.frame l.paid l.visits l.capability;
-      room : 64 ≤ l.stack.capacity;
+      room : g.row.ROOM ≤ l.stack.capacity;
       size : l.size ≡ length (segment_at m l.frame.segment);
       deep : IsTrue (not (nat_eq g.row.DEEP 0)) → IsDeep m l.base l.limit (reach_of m l.limit (places_of l.fn.first))
           l.least l.depth l.stack.items l.frame;
