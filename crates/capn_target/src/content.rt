@@ -4,28 +4,42 @@ ghost use Rattle.std.specs.Prelude.{◌≡◌, ℕ, ◌<◌, ◌≤◌, ◌+◌,
 ghost use Rattle.capn_words.specs.Message.{segment_at};
 ghost use Rattle.capn_target.specs.Target as spec;
 
+use crate::reader::{Counted, Reads};
 use crate::target::{Fault, Shape, Target};
 use capn_words::{Place, Space, Width};
+use std::sync::ledger::Ledger;
 
 /// The words of a segment, none where there is no such segment.
 #[tactic(auto, using(crate::proofs::shared::Segments::length_of_none, crate::proofs::shared::Segments::length_of_some))]
 #[inline(always)]
-pub fn segment_length<S: Space>(space: &S, segment: u32) -> u32
-    ensures { result ≡ length (segment_at (S.message space.now) segment) }
+pub fn segment_length<S: Space, L: Ledger>(
+    space: &Counted<'_, S, L>,
+    segment: u32,
+    reads: &mut Reads<L>,
+) -> u32
+    ensures length { result ≡ length (segment_at space.now segment) }
+    ensures reads { reads.new ≡ reads.old + 1 }
 {
-    space.words(segment).unwrap_or(0)
+    space.words(segment, reads).unwrap_or(0)
 }
 
 /// The words of a segment, where those of another, or the same, are known.
 #[inline(always)]
-pub fn size_of<S: Space>(space: &S, segment: u32, known: u32, size: u32) -> u32
-    requires { size ≡ length (segment_at (S.message space.now) known) }
-    ensures { result ≡ length (segment_at (S.message space.now) segment) }
+pub fn size_of<S: Space, L: Ledger>(
+    space: &Counted<'_, S, L>,
+    segment: u32,
+    known: u32,
+    size: u32,
+    reads: &mut Reads<L>,
+) -> u32
+    requires { size ≡ length (segment_at space.now known) }
+    ensures length { result ≡ length (segment_at space.now segment) }
+    ensures reads { reads.new ≤ reads.old + 1 }
 {
     if segment == known {
         size
     } else {
-        segment_length(space, segment)
+        segment_length(space, segment, reads)
     }
 }
 
@@ -80,8 +94,8 @@ pub fn content_words(width: Width, count: u32) -> u64
 
 /// A struct whose content starts at a word.
 #[inline(always)]
-pub fn node_at<S: Space>(
-    space: &S,
+pub fn node_at<S: Space, L: Ledger>(
+    space: &Counted<'_, S, L>,
     segment: u32,
     size: u32,
     start: u64,
@@ -89,9 +103,9 @@ pub fn node_at<S: Space>(
     words: u16,
     slots: u16,
 ) -> Result<Target, Fault>
-    requires size { size ≡ length (segment_at (S.message space.now) segment) }
+    requires size { size ≡ length (segment_at space.now segment) }
     requires start { start < 2 ^ 34 }
-    ensures { result ≡ spec.struct (S.message space.now) segment start pads words slots }
+    ensures { result ≡ spec.struct space.now segment start pads words slots }
 {
     if start + words as u64 + slots as u64 > size as u64 {
         return Err(Fault::Range);
@@ -107,24 +121,26 @@ pub fn node_at<S: Space>(
 
 /// A list whose content starts at a word.
 #[inline(always)]
-pub fn many_at<S: Space>(
-    space: &S,
+pub fn many_at<S: Space, L: Ledger>(
+    space: &Counted<'_, S, L>,
     segment: u32,
     size: u32,
     start: u64,
     pads: u8,
     width: Width,
     count: u32,
+    reads: &mut Reads<L>,
 ) -> Result<Target, Fault>
-    requires size { size ≡ length (segment_at (S.message space.now) segment) }
+    requires size { size ≡ length (segment_at space.now segment) }
     requires start { start < 2 ^ 34 }
-    ensures { result ≡ spec.list (S.message space.now) segment start pads width count }
+    ensures list { result ≡ spec.list space.now segment start pads width count }
+    ensures reads { reads.new ≤ reads.old + 1 }
 {
     if start + content_words(width, count) > size as u64 {
         return Err(Fault::Range);
     }
     if let Width::Rows = width {
-        return rows_at(space, segment, start as u32, pads, count);
+        return rows_at(space, segment, start as u32, pads, count, reads);
     }
     let shape = Shape::Many { width, count };
     Ok(Target::Content {
@@ -138,21 +154,24 @@ pub fn many_at<S: Space>(
 /// A composite list of `span` words after its tag, which is at a word.
 #[tactic(auto, using(std::proofs::lemmas::Grind::common_steps))]
 #[inline(always)]
-fn rows_at<S: Space>(
-    space: &S,
+fn rows_at<S: Space, L: Ledger>(
+    space: &Counted<'_, S, L>,
     segment: u32,
     start: u32,
     pads: u8,
     span: u32,
+    reads: &mut Reads<L>,
 ) -> Result<Target, Fault>
-    requires { start < length (segment_at (S.message space.now) segment) }
-    ensures { result ≡ spec.tagged (S.message space.now) segment start pads span
-        (slice_index (segment_at (S.message space.now) segment) start) }
+    requires { start < length (segment_at space.now segment) }
+    ensures rows { result ≡ spec.tagged space.now segment start pads span
+        (slice_index (segment_at space.now segment) start) }
+    ensures reads { reads.new ≤ reads.old + 1 }
 {
-    let tag = space.word(Place {
+    let at = Place {
         segment,
         word: start,
-    });
+    };
+    let tag = space.word(at, reads);
     if tag & 3 != 0 {
         return Err(Fault::BadTag);
     }

@@ -6,13 +6,16 @@
 //! - [`segment_length`], [`size_of`], [`place`], [`start_of`], [`pointer_at`] and [`content_words`] are the steps of
 //!   these, for whoever takes them one by one.
 //!
-//! All take any `Space`, and no memory.
+//! All take any `Space`, and no memory. Module [`counted`] has them for a message each of whose reads is counted.
 #![tactic(auto)]
 
 mod content;
+pub mod counted;
+mod plain;
+mod reader;
 mod slot_target;
 mod target;
 
-pub use content::{content_words, many_at, node_at, place, segment_length, size_of, start_of};
-pub use slot_target::{near, pointer_at, resolve};
+pub use content::{content_words, place, start_of};
+pub use plain::{many_at, near, node_at, pointer_at, resolve, segment_length, size_of};
 pub use target::{Fault, Shape, Target};

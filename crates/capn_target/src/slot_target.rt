@@ -7,8 +7,10 @@ ghost use Rattle.capn_target.specs.Shapes.{IsInMessage};
 ghost use Rattle.capn_target.specs.declared.target.Fault.TheVariants.{NoSegment};
 
 use crate::content::{many_at, node_at, segment_length, start_of};
+use crate::reader::{Counted, Reads};
 use crate::target::{Fault, Target};
 use capn_words::{Place, Pointer, Space, split};
+use std::sync::ledger::Ledger;
 
 /// What the pointer at a place names, or the first fault of that slot.
 ///
@@ -18,20 +20,32 @@ use capn_words::{Place, Pointer, Space, split};
 /// the order of the tests is our own.)
 #[tactic(auto, unfolding(crate::specs::Target::target))]
 #[inline(always)]
-pub fn resolve<S: Space>(space: &S, at: Place) -> Result<Target, Fault>
-    requires { IsPlace (S.message space.now) at }
-    ensures exact { result ≡ spec.target (S.message space.now) at }
+pub fn resolve<S: Space, L: Ledger>(
+    space: &Counted<'_, S, L>,
+    at: Place,
+    reads: &mut Reads<L>,
+) -> Result<Target, Fault>
+    requires { IsPlace space.now at }
+    ensures exact { result ≡ spec.target space.now at }
     // Content lies inside its segment, which exists, and rows within what their list's pointer says.
-    ensures inside { IfOk result (λ t. IsInMessage (S.message space.now) t) }
+    ensures inside { IfOk result (λ t. IsInMessage space.now t) }
+    ensures reads { reads.new ≤ reads.old + 8 }
 {
-    let pointer = pointer_at(space, at.segment, at.word);
-    named(space, at.segment, at.word, pointer)
+    let pointer = pointer_at(space, at.segment, at.word, reads);
+    named(space, at.segment, at.word, pointer, reads)
 }
 
 /// What the pointer at a word of a segment names.
 #[inline(always)]
-fn named<S: Space>(space: &S, segment: u32, word: u32, pointer: Pointer) -> Result<Target, Fault>
-    ensures { result ≡ spec.named (S.message space.now) segment word pointer }
+fn named<S: Space, L: Ledger>(
+    space: &Counted<'_, S, L>,
+    segment: u32,
+    word: u32,
+    pointer: Pointer,
+    reads: &mut Reads<L>,
+) -> Result<Target, Fault>
+    ensures named { result ≡ spec.named space.now segment word pointer }
+    ensures reads { reads.new ≤ reads.old + 7 }
 {
     match pointer {
         Pointer::Nil => Ok(Target::Nil),
@@ -43,39 +57,47 @@ fn named<S: Space>(space: &S, segment: u32, word: u32, pointer: Pointer) -> Resu
             segment,
         } => {
             if double {
-                behind_two(space, segment, word)
+                behind_two(space, segment, word, reads)
             } else {
-                behind_one(space, segment, word)
+                behind_one(space, segment, word, reads)
             }
         }
         pointer => {
-            let size = segment_length(space, segment);
-            near(space, segment, size, word, 0, pointer)
+            let size = segment_length(space, segment, reads);
+            near(space, segment, size, word, 0, pointer, reads)
         }
     }
 }
 
 /// The pointer at a word.
 #[inline(always)]
-pub fn pointer_at<S: Space>(space: &S, segment: u32, word: u32) -> Pointer
-    requires { word < length (segment_at (S.message space.now) segment) }
-    ensures { result ≡ spec.pointer_in (S.message space.now) segment word }
+pub fn pointer_at<S: Space, L: Ledger>(
+    space: &Counted<'_, S, L>,
+    segment: u32,
+    word: u32,
+    reads: &mut Reads<L>,
+) -> Pointer
+    requires { word < length (segment_at space.now segment) }
+    ensures pointer { result ≡ spec.pointer_in space.now segment word }
+    ensures reads { reads.new ≡ reads.old + 1 }
 {
-    split(space.word(Place { segment, word }))
+    split(space.word(Place { segment, word }, reads))
 }
 
 /// The content of the struct or list pointer at a word, which is the slot itself or a pad of one word.
 #[inline(always)]
-pub fn near<S: Space>(
-    space: &S,
+pub fn near<S: Space, L: Ledger>(
+    space: &Counted<'_, S, L>,
     segment: u32,
     size: u32,
     word: u32,
     pads: u8,
     pointer: Pointer,
+    reads: &mut Reads<L>,
 ) -> Result<Target, Fault>
-    requires { size ≡ length (segment_at (S.message space.now) segment) }
-    ensures { result ≡ spec.near (S.message space.now) segment word pads pointer }
+    requires { size ≡ length (segment_at space.now segment) }
+    ensures near { result ≡ spec.near space.now segment word pads pointer }
+    ensures reads { reads.new ≤ reads.old + 1 }
 {
     match pointer {
         Pointer::Node {
@@ -92,7 +114,7 @@ pub fn near<S: Space>(
             count,
         } => {
             let start = start_of(word, offset)?;
-            many_at(space, segment, size, start, pads, width, count)
+            many_at(space, segment, size, start, pads, width, count, reads)
         }
         _ => Err(Fault::BadPad),
     }
@@ -100,40 +122,52 @@ pub fn near<S: Space>(
 
 /// What a far pointer names by a landing pad of one word.
 #[inline(never)]
-fn behind_one<S: Space>(space: &S, segment: u32, word: u32) -> Result<Target, Fault>
-    ensures { result ≡ spec.landing (S.message space.now) segment word 1
-        (spec.near (S.message space.now) segment word 1
-        (spec.pointer_in (S.message space.now) segment word)) }
+fn behind_one<S: Space, L: Ledger>(
+    space: &Counted<'_, S, L>,
+    segment: u32,
+    word: u32,
+    reads: &mut Reads<L>,
+) -> Result<Target, Fault>
+    ensures landed { result ≡ spec.landing space.now segment word 1
+        (spec.near space.now segment word 1
+        (spec.pointer_in space.now segment word)) }
+    ensures reads { reads.new ≤ reads.old + 5 }
 {
-    landing(space, segment, word, 1)?;
-    let size = segment_length(space, segment);
-    near(
-        space,
-        segment,
-        size,
-        word,
-        1,
-        pointer_at(space, segment, word),
-    )
+    landing(space, segment, word, 1, reads)?;
+    let size = segment_length(space, segment, reads);
+    let pointer = pointer_at(space, segment, word, reads);
+    near(space, segment, size, word, 1, pointer, reads)
 }
 
 /// What a far pointer names by a landing pad of two words.
 #[inline(never)]
-fn behind_two<S: Space>(space: &S, segment: u32, word: u32) -> Result<Target, Fault>
-    ensures { result ≡ spec.landing (S.message space.now) segment word 2
-        (spec.two_pads (S.message space.now)
-        (spec.pointer_in (S.message space.now) segment word)
-        (spec.pointer_in (S.message space.now) segment (word + 1))) }
+fn behind_two<S: Space, L: Ledger>(
+    space: &Counted<'_, S, L>,
+    segment: u32,
+    word: u32,
+    reads: &mut Reads<L>,
+) -> Result<Target, Fault>
+    ensures landed { result ≡ spec.landing space.now segment word 2
+        (spec.two_pads space.now
+        (spec.pointer_in space.now segment word)
+        (spec.pointer_in space.now segment (word + 1))) }
+    ensures reads { reads.new ≤ reads.old + 7 }
 {
-    landing(space, segment, word, 2)?;
-    let first = pointer_at(space, segment, word);
-    let second = pointer_at(space, segment, word + 1);
-    named_by_two(space, first, second)
+    landing(space, segment, word, 2, reads)?;
+    let first = pointer_at(space, segment, word, reads);
+    let second = pointer_at(space, segment, word + 1, reads);
+    named_by_two(space, first, second, reads)
 }
 
 /// What the two words of a landing pad name: a far pointer to the content, and the content's form.
-fn named_by_two<S: Space>(space: &S, first: Pointer, second: Pointer) -> Result<Target, Fault>
-    ensures { result ≡ spec.two_pads (S.message space.now) first second }
+fn named_by_two<S: Space, L: Ledger>(
+    space: &Counted<'_, S, L>,
+    first: Pointer,
+    second: Pointer,
+    reads: &mut Reads<L>,
+) -> Result<Target, Fault>
+    ensures named { result ≡ spec.two_pads space.now first second }
+    ensures reads { reads.new ≤ reads.old + 3 }
 {
     let Pointer::Far {
         double: false,
@@ -145,8 +179,8 @@ fn named_by_two<S: Space>(space: &S, first: Pointer, second: Pointer) -> Result<
     };
     match second {
         Pointer::Nil => {
-            exists(space, segment)?;
-            let size = segment_length(space, segment);
+            exists(space, segment, reads)?;
+            let size = segment_length(space, segment, reads);
             node_at(space, segment, size, word as u64, 2, 0, 0)
         }
         Pointer::Node {
@@ -154,8 +188,8 @@ fn named_by_two<S: Space>(space: &S, first: Pointer, second: Pointer) -> Result<
             words,
             slots,
         } => {
-            exists(space, segment)?;
-            let size = segment_length(space, segment);
+            exists(space, segment, reads)?;
+            let size = segment_length(space, segment, reads);
             node_at(space, segment, size, word as u64, 2, words, slots)
         }
         Pointer::Many {
@@ -163,32 +197,44 @@ fn named_by_two<S: Space>(space: &S, first: Pointer, second: Pointer) -> Result<
             width,
             count,
         } => {
-            exists(space, segment)?;
-            let size = segment_length(space, segment);
-            many_at(space, segment, size, word as u64, 2, width, count)
+            exists(space, segment, reads)?;
+            let size = segment_length(space, segment, reads);
+            many_at(space, segment, size, word as u64, 2, width, count, reads)
         }
         _ => Err(Fault::BadPad),
     }
 }
 
 /// Refuses a landing pad of `pads` words that isn't inside its segment.
-fn landing<S: Space>(space: &S, segment: u32, word: u32, pads: u32) -> Result<(), Fault>
+fn landing<S: Space, L: Ledger>(
+    space: &Counted<'_, S, L>,
+    segment: u32,
+    word: u32,
+    pads: u32,
+    reads: &mut Reads<L>,
+) -> Result<(), Fault>
     requires { pads ≤ 2 }
-    ensures exact { result ≡ spec.landing (S.message space.now) segment word pads (Ok tt) }
+    ensures exact { result ≡ spec.landing space.now segment word pads (Ok tt) }
     ensures small { OnOk result (word + pads < 2 ^ 32) }
+    ensures reads { reads.new ≤ reads.old + 2 }
 {
-    exists(space, segment)?;
-    if word as u64 + pads as u64 > segment_length(space, segment) as u64 {
+    exists(space, segment, reads)?;
+    if word as u64 + pads as u64 > segment_length(space, segment, reads) as u64 {
         return Err(Fault::PadRange);
     }
     Ok(())
 }
 
 /// Refuses a segment that doesn't exist.
-fn exists<S: Space>(space: &S, segment: u32) -> Result<(), Fault>
-    ensures { result ≡ (if nat_lt segment (length (S.message space.now)) then Ok tt else Err NoSegment) }
+fn exists<S: Space, L: Ledger>(
+    space: &Counted<'_, S, L>,
+    segment: u32,
+    reads: &mut Reads<L>,
+) -> Result<(), Fault>
+    ensures exact { result ≡ (if nat_lt segment (length space.now) then Ok tt else Err NoSegment) }
+    ensures reads { reads.new ≡ reads.old + 1 }
 {
-    if segment < space.segments() {
+    if segment < space.segments(reads) {
         Ok(())
     } else {
         Err(Fault::NoSegment)

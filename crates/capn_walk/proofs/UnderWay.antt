@@ -169,6 +169,15 @@ module _ (m : List (List ℕ)) (base : ℕ) where
   lie-kept d ws rest new (dropped z e) a l = rw e a
   lie-kept d ws rest new (kept e) a l = rw e (all_lie-push m ws (record { frame = rest; depth = d }) a l)
 
+  pub length-kept : (d : ℕ) (ws : List Waiting) (rest : SlotsLeft) (new : List Waiting) → IsKept d ws rest new
+      → length new ≤ length ws + 1
+  length-kept d ws rest new (dropped z e) = let k = ap length e in omega arith
+  length-kept d ws rest new (kept e) =
+      let k = ap length e ∙ length-append ws (record { frame = rest; depth = d } ∷ []) in omega arith
+
+  pub length-popped : (old ws : List Waiting) (w : Waiting) → old ≡ ws ++ w ∷ [] → length old ≡ length ws + 1
+  length-popped old ws w e = ap length e ∙ length-append ws (w ∷ [])
+
   shallow-kept : (limit d : ℕ) (ws : List Waiting) (rest : SlotsLeft) (new : List Waiting) → IsKept d ws rest new
       → AreShallow limit ws →
       d + length ws ≤ limit → AreShallow limit new × (length new ≤ length ws + 1)

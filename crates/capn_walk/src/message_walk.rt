@@ -1,6 +1,7 @@
 //! The walk over a whole message, from its root.
 
-ghost use Rattle.std.specs.Prelude.{◌≡◌, ◌≢◌, ◌⊎◌, ◌<◌, ◌≤◌, Ok, length, true, IfOk, IfErr, OnOk, MatchResult};
+ghost use Rattle.std.specs.Prelude.{◌+◌, ◌*◌, ◌≡◌, ◌≢◌, ◌⊎◌, ◌<◌, ◌≤◌, Ok};
+ghost use Rattle.std.specs.Prelude.{length, true, IfOk, IfErr, OnOk, MatchResult};
 ghost use Rattle.capn_words.specs.Message.{segment_at};
 ghost use Rattle.capn_value.specs.Tree as trees;
 ghost use Rattle.capn_value.specs.Cost.{base, cost, height};
@@ -14,10 +15,13 @@ ghost use Rattle.capn_target.specs.declared.target.Fault.TheVariants.{Memory};
 use crate::limits::Limits;
 use crate::walk_answer::{Stopped, Walked, stop};
 use crate::walk_visits::walk_target;
-use capn_target::{Fault, Shape, Target, resolve, segment_length};
+use capn_target::counted::{Counted, Reads, counting};
+use capn_target::{Fault, Shape, Target, counted};
 use capn_value::Tree;
 use capn_words::{Place, Space};
 use std::alloc::Allocator;
+use std::marker::Brand;
+use std::sync::ledger::{Blank, Ledger};
 
 /// Where the pointer to the root is.
 pub const ROOT: Place = Place {
@@ -98,13 +102,52 @@ pub fn root_target<S: Space>(space: &S) -> Result<Target, Stopped>
     ensures no_memory { IfErr result (λ s. s.fault ≢ Memory) }
     ensures bounded { IfErr result (λ s. IsBounded 0 s.paid s.visits) }
 {
-    if segment_length(space, ROOT.segment) == 0 {
+    root_target_under::<S, Brand>(space, Blank::new(1))
+}
+
+/// The same, under a new ledger.
+#[inline(always)]
+fn root_target_under<S: Space, L: Ledger>(space: &S, blank: Blank) -> Result<Target, Stopped>
+    requires name { blank.name ≡ L.name }
+    requires parts { blank.parts ≡ L.parts }
+    requires one { 0 < blank.parts }
+    ensures place { OnOk result (0 < length (segment_at (S.message space.now) 0)) }
+    ensures target { IfOk result (λ t. spec.target (S.message space.now) root ≡ Ok t) }
+    ensures kind { IfOk result (λ t. accepted.may_be_root t ≡ true) }
+    ensures refused { IfErr result (λ s.
+        (limits : Bounds) →
+        IsWalkRefused (S.message space.now) limits s.fault s.place s.paid s.visits) }
+    ensures no_memory { IfErr result (λ s. s.fault ≢ Memory) }
+    ensures bounded { IfErr result (λ s. IsBounded 0 s.paid s.visits) }
+{
+    let (space, mut reads) = counting::<S, L>(space, blank);
+    counted_root(&space, &mut reads)
+}
+
+/// The same, with its reads counted.
+#[inline(always)]
+pub fn counted_root<S: Space, L: Ledger>(
+    space: &Counted<'_, S, L>,
+    reads: &mut Reads<L>,
+) -> Result<Target, Stopped>
+    ensures place { OnOk result (0 < length (segment_at space.now 0)) }
+    ensures target { IfOk result (λ t. spec.target space.now root ≡ Ok t) }
+    ensures kind { IfOk result (λ t. accepted.may_be_root t ≡ true) }
+    ensures refused { IfErr result (λ s.
+        (limits : Bounds) →
+        IsWalkRefused space.now limits s.fault s.place s.paid s.visits) }
+    ensures no_memory { IfErr result (λ s. s.fault ≢ Memory) }
+    ensures bounded { IfErr result (λ s. IsBounded 0 s.paid s.visits) }
+    ensures reads { OnOk result (reads.new ≤ reads.old + 9) }
+    ensures few { IfErr result (λ s. reads.new ≤ reads.old + 11 * s.visits + 1) }
+{
+    if counted::segment_length(space, ROOT.segment, reads) == 0 {
         return Err(Stopped {
             visits: 0,
             ..stop(Fault::NoRoot, ROOT)
         });
     }
-    match resolve(space, ROOT) {
+    match counted::resolve(space, ROOT, reads) {
         Ok(target) => {
             if may_be_root(target) {
                 Ok(target)

@@ -8,13 +8,18 @@ ghost use Rattle.capn_walk.specs.Visits.{pays, visits};
 ghost use Rattle.capn_walk.specs.inner.Verdict.{judge, refused};
 ghost use Rattle.capn_walk.specs.inner.Outcomes.{Visits};
 ghost use Rattle.capn_walk.specs.inner.Reach.{levels_at};
+ghost use Rattle.capn_walk.specs.View as seen;
+ghost use Rattle.capn_walk.specs.inner.SlotsLeft.{places_of, owed, Lies};
+ghost use Rattle.capn_target.specs.Shapes.{IsInMessage};
 ghost use Rattle.capn_target.specs.Shapes.{IsPlain, AreNumbers};
 ghost use Rattle.capn_target.specs.declared.target.Fault.TheVariants.{Memory};
 
 use crate::slots_left::SlotsLeft;
-use crate::step::{capability_of, price_within, slots_below};
-use capn_target::{Fault, Target, near, resolve};
+use crate::step::{capability_of, price_within};
+use capn_target::counted::{Counted, Reads, near, resolve};
+use capn_target::{Fault, Target};
 use capn_words::{Place, Pointer, Space, Width};
+use std::sync::ledger::Ledger;
 
 /// What one visit comes to: its price, the capability that it meets, and the slots below it.
 #[derive(Clone, Copy)]
@@ -30,48 +35,52 @@ pub struct Visited {
 /// One visit of a slot whose pointer is that of a near struct, at most `depth` objects deep, where `left` words
 /// are left to pay and each content costs `base` beside its size.
 #[inline(always)]
-pub fn visit_struct<S: Space>(
-    space: &S,
+pub fn visit_struct<S: Space, L: Ledger>(
+    space: &Counted<'_, S, L>,
     at: Place,
     size: u32,
     pointer: Pointer,
     depth: u32,
     left: u32,
     base: u32,
+    reads: &mut Reads<L>,
 ) -> Result<Visited, Fault>
-    requires message { IsMessage (S.message space.now) }
-    requires size { size ≡ length (segment_at (S.message space.now) at.segment) }
-    requires place { IsPlace (S.message space.now) at }
-    requires pointer { spec.near (S.message space.now) at.segment at.word 0 pointer
-        ≡ spec.target (S.message space.now) at }
+    requires message { IsMessage space.now }
+    requires size { size ≡ length (segment_at space.now at.segment) }
+    requires place { IsPlace space.now at }
+    requires pointer { spec.near space.now at.segment at.word 0 pointer
+        ≡ spec.target space.now at }
     requires left { left ≤ most_cost }
-    ensures { Visits (S.message space.now) base depth left at result }
+    ensures visits { Visits space.now base depth left at result }
+    ensures reads { reads.new ≤ reads.old + 1 }
 {
-    let found = near(space, at.segment, size, at.word, 0, pointer);
+    let found = near(space, at.segment, size, at.word, 0, pointer, reads);
     visit_found(space, at, found, depth, left, base)
 }
 
 /// The price of a visit of a slot whose pointer is that of a near list of numbers.
 #[inline(always)]
-pub fn visit_numbers<S: Space>(
-    space: &S,
+pub fn visit_numbers<S: Space, L: Ledger>(
+    space: &Counted<'_, S, L>,
     at: Place,
     size: u32,
     pointer: Pointer,
     depth: u32,
     left: u32,
     base: u32,
+    reads: &mut Reads<L>,
 ) -> Result<u32, Fault>
-    requires size { size ≡ length (segment_at (S.message space.now) at.segment) }
-    requires pointer { spec.near (S.message space.now) at.segment at.word 0 pointer
-        ≡ spec.target (S.message space.now) at }
+    requires size { size ≡ length (segment_at space.now at.segment) }
+    requires pointer { spec.near space.now at.segment at.word 0 pointer
+        ≡ spec.target space.now at }
     requires numbers { AreNumbers pointer }
-    ensures visits { IfOk result (λ p. visits (S.message space.now) base depth at ≡ pays at p ∷ []) }
+    ensures visits { IfOk result (λ p. visits space.now base depth at ≡ pays at p ∷ []) }
     ensures price { IfOk result (λ p. p ≤ left) }
-    ensures refused { IfErr result (λ e. judge left (visits (S.message space.now) base depth at) ≡ refused e at 0 1) }
+    ensures refused { IfErr result (λ e. judge left (visits space.now base depth at) ≡ refused e at 0 1) }
     ensures no_memory { IfErr result (λ e. e ≢ Memory) }
+    ensures reads { reads.new ≤ reads.old + 1 }
 {
-    match near(space, at.segment, size, at.word, 0, pointer) {
+    match near(space, at.segment, size, at.word, 0, pointer, reads) {
         Ok(target) => price_within(target, depth, left, base),
         Err(fault) => Err(fault),
     }
@@ -79,36 +88,39 @@ pub fn visit_numbers<S: Space>(
 
 /// The same, whatever the slot names.
 #[inline(never)]
-pub fn visit_elsewhere<S: Space>(
-    space: &S,
+pub fn visit_elsewhere<S: Space, L: Ledger>(
+    space: Counted<'_, S, L>,
     at: Place,
     depth: u32,
     left: u32,
     base: u32,
+    reads: &mut Reads<L>,
 ) -> Result<Visited, Fault>
-    requires message { IsMessage (S.message space.now) }
-    requires place { IsPlace (S.message space.now) at }
+    requires message { IsMessage space }
+    requires place { IsPlace space at }
     requires left { left ≤ most_cost }
-    ensures { Visits (S.message space.now) base depth left at result }
+    ensures visits { Visits space.entry base depth left at result }
+    ensures reads { reads.new ≤ reads.old + 8 }
 {
-    visit_found(space, at, resolve(space, at), depth, left, base)
+    let found = resolve(&space, at, reads);
+    visit_found(&space, at, found, depth, left, base)
 }
 
 /// What a visit of a slot answers whose target is known.
 #[inline(always)]
-pub fn visit_found<S: Space>(
-    space: &S,
+pub fn visit_found<S: Space, L: Ledger>(
+    space: &Counted<'_, S, L>,
     at: Place,
     found: Result<Target, Fault>,
     depth: u32,
     left: u32,
     base: u32,
 ) -> Result<Visited, Fault>
-    requires message { IsMessage (S.message space.now) }
-    requires place { IsPlace (S.message space.now) at }
-    requires found { found ≡ spec.target (S.message space.now) at }
+    requires message { IsMessage space.now }
+    requires place { IsPlace space.now at }
+    requires found { found ≡ spec.target space.now at }
     requires left { left ≤ most_cost }
-    ensures { Visits (S.message space.now) base depth left at result }
+    ensures { Visits space.now base depth left at result }
 {
     let target = match found {
         Ok(target) => target,
@@ -147,5 +159,31 @@ pub fn lowered<const DEEP: bool>(least: u32, depth: u32, capability: Option<u32>
         depth
     } else {
         least
+    }
+}
+
+/// The slots below a target.
+#[inline(always)]
+fn slots_below<S: Space, L: Ledger>(space: &Counted<'_, S, L>, target: Target) -> SlotsLeft
+    requires message { IsMessage space.now }
+    requires inside { IsInMessage space.now target }
+    ensures places { places_of result ≡ seen.slots_below target }
+    ensures lies { Lies space.now result }
+    ensures owed { (base : ℕ) → owed result ≤ seen.toll base target }
+{
+    match target {
+        Target::Content {
+            segment,
+            start,
+            shape,
+            pads: _,
+        } => {
+            let start = Place {
+                segment,
+                word: start,
+            };
+            SlotsLeft::of_object(start, shape)
+        }
+        _ => SlotsLeft::none(),
     }
 }

@@ -6,6 +6,7 @@ use Rattle.capn_target.proofs.slot_target.resolve.Goals as goal
 pub returns-clause-inside : goal.returns-clause-inside
 unfolding target
 returns-clause-inside g c =
-    let m = g.S.Space.message c.args.space.now in
+    let m = c.args.space.now in
     answer-inside m c.args.at c.named.result c.requires
-    (sym (c.named.ensures ∙ ap (named m c.args.at.segment c.args.at.word) c.pointer_at-pointer.ensures))
+    (sym (c.named.ensures.named
+    ∙ ap (named m c.args.at.segment c.args.at.word) c.pointer_at-pointer.ensures.pointer))

@@ -9,12 +9,12 @@ use Rattle.capn_walk.proofs.message_survey.survey_in_room.Given as goal
 
 abbrev pub decreases-slots : goal.decreases-slots
 decreases-slots g l =
-    3 * length (coming (g.S.Space.message l.space) l.base l.depth l.stack.items l.frame) + length l.stack.items
+    3 * length (coming l.space l.base l.depth l.stack.items l.frame) + length l.stack.items
     + (1 - l.frame.left)
 
 abbrev pub invariant-slots : goal.invariant-slots
 invariant-slots g l =
-    let m = g.S.Space.message l.space in
+    let m = l.space in
     record {
       surveys : Surveys m l.base l.budget (visits_of m l.base l.limit (places_of l.fn.first)) (owed l.fn.first) l.limit
           l.depth l.stack.items l.frame l.paid l.visits l.capability;
@@ -23,4 +23,5 @@ invariant-slots g l =
       deep : IsTrue (not (nat_eq g.row.DEEP 0)) → IsDeep m l.base l.limit (reach_of m l.limit (places_of l.fn.first))
           l.least l.depth l.stack.items l.frame;
       least : l.least ≤ l.limit + 1;
+      reads : l.reads + 2 * length l.stack.items ≤ l.fn.reads + 14 * l.visits + 1 + (1 - (1 - l.frame.left));
     }

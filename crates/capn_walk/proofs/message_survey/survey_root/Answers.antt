@@ -8,7 +8,7 @@ use Rattle.capn_walk.proofs.message_survey.survey_root.Goals as goal
 
 pub returns-then-is_done-clause-tells : goal.returns-then-is_done-clause-tells
 returns-then-is_done-clause-tells g c =
-    let m = g.S.Space.message c.args.space.now in
+    let m = c.args.space.now in
     let x = c.in-Ok in
     let z : owed c.in-Ok.visited.below ≡ 0 = done c.is_done.result _ c.is_done.ensures c.if-is_done.true in
     tells-alone m c.args.base c.args.budget c.args.depth root x.visited.price x.visited.below x.visited.capability
@@ -17,7 +17,7 @@ returns-then-is_done-clause-tells g c =
 
 pub returns-then-is_done-clause-depth : goal.returns-then-is_done-clause-depth
 returns-then-is_done-clause-depth g c on =
-    let m = g.S.Space.message c.args.space.now in
+    let m = c.args.space.now in
     let x = c.in-Ok in
     let z : owed c.in-Ok.visited.below ≡ 0 = done c.is_done.result _ c.is_done.ensures c.if-is_done.true in
     let e = nothing-left x.visited.below x.ensures.below.rows z in
@@ -28,7 +28,7 @@ returns-then-is_done-clause-depth g c on =
 
 pub returns-in-Ok-survey_slots-clause-depth : goal.returns-in-Ok-survey_slots-clause-depth
 returns-in-Ok-survey_slots-clause-depth g c on =
-    let m = g.S.Space.message c.args.space.now in
+    let m = c.args.space.now in
     let x = c.in-Ok in
     let r = reach-named m root c.args.depth c.args.target (places_of c.in-Ok.visited.below) c.requires.some
     (sym c.requires.target) x.ensures.places in

@@ -18,7 +18,7 @@ same-cap (targets.Content s start shape pads) = refl
 
 pub returns-in-Err : goal.returns-in-Err
 returns-in-Err g c =
-    let m = g.S.Space.message c.args.space.now in
+    let m = c.args.space.now in
     let e = sym c.requires.found ∙ c.in-Err.is in
     record {
       refused = ap (judge c.args.left) (visits-fault m c.args.base c.args.at c.args.depth c.in-Err.fault e);
@@ -27,12 +27,12 @@ returns-in-Err g c =
 
 pub slots_below-requires-clause-inside : goal.slots_below-requires-clause-inside
 slots_below-requires-clause-inside g c =
-    found-inside (g.S.Space.message c.args.space.now) c.args.at c.in-Ok.target c.requires.place (sym c.requires.found
+    found-inside c.args.space.now c.args.at c.in-Ok.target c.requires.place (sym c.requires.found
     ∙ c.in-Ok.is)
 
 pub returns-in-Ok-price_within : goal.returns-in-Ok-price_within
 returns-in-Ok-price_within g c =
-    let m = g.S.Space.message c.args.space.now in
+    let m = c.args.space.now in
     let t = sym c.requires.found ∙ c.in-Ok.is in
     let x = c.in-Ok-price_within.ensures in
     let f = c.slots_below.ensures in
@@ -53,7 +53,7 @@ returns-in-Ok-price_within g c =
 
 pub returns-in-Err-price_within : goal.returns-in-Err-price_within
 returns-in-Err-price_within g c =
-    let m = g.S.Space.message c.args.space.now in
+    let m = c.args.space.now in
     let t = sym c.requires.found ∙ c.in-Ok.is in
     record {
       refused = step-stops m c.args.base c.args.at c.args.depth c.args.left c.in-Err-price_within.fault

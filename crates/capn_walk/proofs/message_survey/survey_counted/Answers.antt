@@ -2,18 +2,18 @@ use Rattle.std.proofs.Common.{inr}
 use Rattle.std.proofs.lemmas.Result.{err_from_is_err_and}
 use Rattle.capn_walk.proofs.RootWalks.{refused-below, only-memory}
 use Rattle.capn_walk.proofs.RootSurveys.{surveyed, one-cap}
-use Rattle.capn_walk.proofs.message_survey.survey.Goals as goal
+use Rattle.capn_walk.proofs.message_survey.survey_counted.Goals as goal
 
 pub returns-in_err-target-clause-only : goal.returns-in_err-target-clause-only
 returns-in_err-target-clause-only g c v is =
     let p = err_from_is_err_and c.from_residual.result c.from_residual.ensures.1 in
     rw (p.1, p.2)
-    (only-memory (g.S.Space.message c.args.space.now) c.args.limits c.in_err-target.field-0.0 v is
+    (only-memory c.args.space.now c.args.limits c.in_err-target.field-0.0 v is
     (inr (c.in_err-target.ensures.refused c.args.limits)))
 
 pub returns-in_err-told-clause-refused : goal.returns-in_err-told-clause-refused
 returns-in_err-told-clause-refused g c =
-    let m = g.S.Space.message c.args.space.now in
+    let m = c.args.space.now in
     let t = c.in_ok-target in
     let r = rw (c.depth.ensures.value, c.budget.ensures.value, c.base.ensures.value, c.tariff.ensures) at
     c.in_err-told.ensures.tells in
@@ -24,7 +24,7 @@ returns-in_err-told-clause-refused g c =
 
 pub returns-in_err-told-clause-only : goal.returns-in_err-told-clause-only
 returns-in_err-told-clause-only g c v is =
-    let m = g.S.Space.message c.args.space.now in
+    let m = c.args.space.now in
     let t = c.in_ok-target in
     let r = rw (c.depth.ensures.value, c.budget.ensures.value, c.base.ensures.value, c.tariff.ensures) at
     c.in_err-told.ensures.tells in
@@ -35,7 +35,7 @@ returns-in_err-told-clause-only g c v is =
 
 pub returns-clause-found : goal.returns-clause-found
 returns-clause-found g c =
-    let m = g.S.Space.message c.args.space.now in
+    let m = c.args.space.now in
     let t = c.in_ok-target in
     let x = c.in_ok-told in
     let tells = rw (c.depth.ensures.value, c.budget.ensures.value, c.base.ensures.value, c.tariff.ensures) at
@@ -44,7 +44,7 @@ returns-clause-found g c =
 
 pub returns-clause-only : goal.returns-clause-only
 returns-clause-only g c v is =
-    let m = g.S.Space.message c.args.space.now in
+    let m = c.args.space.now in
     let t = c.in_ok-target in
     let x = c.in_ok-told in
     let cap = rw (c.depth.ensures.value, c.base.ensures.value, c.tariff.ensures) at x.ensures.tells.1 in
