@@ -2,6 +2,7 @@
 //!
 //! - [`canonicalise`] answers the canonical bytes of the value that bytes denote, whichever of the three
 //!   forms they are in, and what its walk paid. [`canonical_of`] does so for any message that is a `Space`.
+//! - [`canonical_into`] writes them into bytes that are there, and takes no memory for a depth of at most 64.
 //! - [`is_canonical`] says whether the bytes of a bare message are its canonical bytes, and makes no copy;
 //!   [`survey_bare`] also reports its price, its visits and its first capability. [`survey_canonical`] is the one pass
 //!   that they make first: it reports on canonical bytes alone. [`measure_canonical`] is the same pass, and also says
@@ -47,6 +48,7 @@ mod progress;
 mod refusal;
 mod survey_input;
 mod surveyed_bare;
+mod written_bytes;
 
 pub use bare_verdict::{is_canonical, survey_bare};
 pub use canonical::{Canonical, canonical_of};
@@ -57,6 +59,7 @@ pub use message_survey::survey;
 pub use refusal::Refusal;
 pub use survey_input::survey_bytes;
 pub use surveyed_bare::{MeasuredBare, SurveyedBare};
+pub use written_bytes::{Unwritten, Written, canonical_into};
 
 // The layout of trees.
 pub use capn_layout::{LayoutFault, Patch, layout};

@@ -11,5 +11,6 @@ pub mod Laid
 pub mod Blocks
 pub mod Opened
 pub mod Stepwise
+pub mod Sized
 pub mod TreeItems
 pub mod MessageItems

@@ -8,7 +8,15 @@ use Rattle.capn_layout.specs.LayoutSteps.{laid, laid_slots, laid_rows, AreRowsOv
 use Rattle.capn_layout.specs.Sound.{AreWide, Sound, Sounds, SoundRows}
 
 module _ {S : Type 0} (has : S → ℕ → Tree → Type 0) where
-  -- a slot has a value, at most `depth` objects high, and there is room for it after n words (Own.)
+  -- a slot has a value, at most `depth` objects high, and there is room for it after n of `most` words (Own.)
+  pub record IsReadyIn (source : S) (slot depth n most : ℕ) : Type 0 where
+    pub value : Tree
+    pub is : has source slot value
+    pub sound : Sound value
+    pub low : height value ≤ depth
+    pub room : n + size value ≤ most
+
+  -- the same with as much room as a pointer reaches (Own.)
   pub record IsReady (source : S) (slot depth n : ℕ) : Type 0 where
     pub value : Tree
     pub is : has source slot value
@@ -16,14 +24,14 @@ module _ {S : Type 0} (has : S → ℕ → Tree → Type 0) where
     pub low : height value ≤ depth
     pub room : n + size value ≤ 2 ^ 29
 
-  -- slots have values, and there is room for those past the first i (Own.)
-  pub record AreReady (source : S) (i number depth n : ℕ) : Type 0 where
+  -- slots have values, and there is room for those past the first i after n of `most` words (Own.)
+  pub record AreReady (source : S) (i number depth n most : ℕ) : Type 0 where
     pub values : Trees
     pub are : (k : ℕ) → k < number → has source k (tree_at values k)
     pub count : number ≤ count values
     pub sound : Sounds values
     pub low : greatest values ≤ depth
-    pub room : n + sizes (past i values) ≤ 2 ^ 29
+    pub room : n + sizes (past i values) ≤ most
 
   -- the pointer to the value in a slot has been put at a place, and its content appended (Own.)
   abbrev pub IsLaid : S → ℕ → ℕ → List ℕ → List ℕ → Type 0
@@ -36,15 +44,17 @@ module _ {S : Type 0} (has : S → ℕ → Tree → Type 0) where
       → ((k : ℕ) → k < number → has source k (tree_at ts k)) → q ≡ laid_slots number ts first p
 
 module _ {R : Type 0} (are : R → Bodies → Type 0) where
-  -- rows have a words and b slots at least, and there is room for what is below those past the first i (Own.)
-  pub record RowsReady (rows : R) (i number a b depth n : ℕ) : Type 0 where
+  -- rows have a words and b slots at least, and there is room for what is below those past the first i after n of
+  -- `most` words (Own.)
+  pub record RowsReady (rows : R) (i number a b depth n most : ℕ) : Type 0 where
     pub values : Bodies
     pub is : are rows values
     pub count : count_rows values ≡ number
     pub wide : AreWide a b values
+    pub kept : kept_slots_of_rows values ≤ b
     pub sound : SoundRows values
     pub low : greatest_in_rows values ≤ depth
-    pub room : n + sizes_in_rows (rows_past i values) ≤ 2 ^ 29
+    pub room : n + sizes_in_rows (rows_past i values) ≤ most
 
   -- the first b slots of each row have been laid out (Own.)
   abbrev pub RowsLaid : R → ℕ → ℕ → ℕ → ℕ → List ℕ → List ℕ → Type 0

@@ -1,13 +1,12 @@
 //! Lists of bits as words.
 
-ghost use Rattle.std.specs.Prelude.{◌≡◌, ◌++◌, ◌≤◌, length, map, OnOk};
+ghost use Rattle.std.specs.Prelude.{◌≡◌, ◌+◌, ◌*◌, ◌≤◌, length, map};
 ghost use Rattle.std.specs.Int.{from_bool};
 ghost use Rattle.capn_target.specs.Target.{words_for};
 ghost use Rattle.capn_layout.specs.Layout.{number, packed};
+ghost use Rattle.capn_layout.specs.inner.Draft.{Appends};
 
-use crate::draft::Draft;
-use capn_value::Memory;
-use std::alloc::Allocator;
+use crate::draft::push;
 
 /// The word whose lowest bit is the first, and whose bits past the last are 0.
 fn word_of_bits(bits: &[bool]) -> u64
@@ -23,16 +22,17 @@ fn word_of_bits(bits: &[bool]) -> u64
 }
 
 /// Appends the words of packed bits, 64 a word.
-pub fn extend_bits<A: Allocator>(draft: &mut Draft<A>, bits: &[bool]) -> Result<(), Memory>
-    ensures { OnOk result (draft.new
-        ≡ draft.old ++ packed 64 1 (words_for (length bits.now)) (map from_bool bits.now)) }
+pub fn extend_bits(out: &mut [u8], len: usize, bits: &[bool]) -> usize
+    requires { 8 * (len + words_for (length bits.now)) ≤ length out.old }
+    ensures { Appends len result (packed 64 1 (words_for (length bits.now)) (map from_bool bits.now)) out.old out.new }
 {
-    let len = bits.len();
-    let words = len.div_ceil(64);
+    let size = bits.len();
+    let words = size.div_ceil(64);
+    let mut end = len;
     for i in 0..words {
-        let start = 64 * i;
-        let end = len.min(start + 64);
-        draft.push(word_of_bits(&bits[start..end]))?;
+        let first = 64 * i;
+        let last = size.min(first + 64);
+        end = push(out, end, word_of_bits(&bits[first..last]));
     }
-    Ok(())
+    end
 }

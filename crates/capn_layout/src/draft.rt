@@ -1,126 +1,145 @@
-//! A buffer of words, each of which can be written again.
+//! Words written into bytes that are there: the first `len` words are written, and what comes next is written after
+//! them.
 
-ghost use Rattle.std.specs.Prelude.{◌≡◌, ◌+◌, ◌*◌, ◌/◌, ◌%◌, ◌<◌, [], ◌∷◌, ◌++◌, length, replicate, set, OnOk, IfOk};
-ghost use Rattle.capn_words.specs.Message.{bytes as bytes_of_words, words_in};
+ghost use Rattle.std.specs.Prelude.{◌≡◌, ℕ, ◌+◌, ◌*◌, ◌/◌, ◌%◌, ◌<◌, ◌≤◌, [], ◌∷◌, length, replicate};
+ghost use Rattle.std.specs.List.{flat_map};
+ghost use Rattle.byteorder.specs.Endian.{little_bytes};
+ghost use Rattle.capn_words.specs.Message.{words_in, word_bytes};
 ghost use Rattle.capn_target.specs.Target.{words_for};
 ghost use Rattle.capn_layout.specs.Layout.{packed};
+ghost use Rattle.capn_layout.specs.inner.Draft.{Writes, Appends, Puts};
 
-use crate::elements::{append_bytes, append_octs, append_pairs, append_quads};
-use crate::patch::{bytes_of, write_at};
-use capn_value::Memory;
-use std::alloc::Allocator;
-use std::marker::Model;
+use byteorder::{ByteOrder, LittleEndian};
 
-/// A list of words, kept as their bytes. A word that isn't known yet is any word: it is written over later.
-#[derive(Drop)]
-pub struct Draft<A: Allocator> {
-    bytes: Vec<u8, A>,
+/// Writes bytes over those from a place on.
+#[inline(always)]
+fn write(out: &mut [u8], at: usize, xs: &[u8])
+    requires { at + length xs.now ≤ length out.old }
+    ensures { Writes at xs.now out.old out.new }
+{
+    out[at..at + xs.len()].copy_from_slice(xs);
 }
 
-impl<A: Allocator> Model for Draft<A> {
-    ghost use Rattle.std.specs.Prelude.{ℕ, List};
-    ghost use Rattle.capn_layout.specs.inner.Draft.{drafted, IsDrafted};
-
-    ghost Value = { List ℕ };
-
-    ghost view = { λ d. drafted d.bytes.items };
-
-    ghost invariant = { λ d. IsDrafted d.bytes.items };
+/// Writes a word over the 8 bytes from a place on: one store.
+#[inline(always)]
+#[tactic(auto, unfolding(capn_words::specs::Message::word_bytes))]
+fn write_word(out: &mut [u8], at: usize, word: u64)
+    requires { at + 8 ≤ length out.old }
+    ensures { Writes at (word_bytes word) out.old out.new }
+{
+    LittleEndian::write_u64(&mut out[at..at + 8], word);
 }
 
-impl<A: Allocator> Draft<A> {
-    /// An empty buffer with room for `words` words.
-    pub fn with_room(alloc: A, words: usize) -> Result<Draft<A>, Memory>
-        ensures { IfOk result (λ d. d ≡ []) }
-    {
-        Ok(Draft {
-            bytes: Vec::with_capacity(alloc, words.saturating_mul(8))?,
-        })
-    }
+/// Appends a word.
+#[inline(always)]
+pub fn push(out: &mut [u8], len: usize, word: u64) -> usize
+    requires { 8 * len + 8 ≤ length out.old }
+    ensures { Appends len result (word ∷ []) out.old out.new }
+{
+    write_word(out, 8 * len, word);
+    len + 1
+}
 
-    /// The number of words.
-    #[inline(always)]
-    pub fn len(&self) -> usize
-        ensures { result ≡ length self.now }
-    {
-        self.bytes.len() / 8
-    }
+/// Appends whole words, given by their bytes.
+#[inline(always)]
+pub fn extend(out: &mut [u8], len: usize, xs: &[u8]) -> usize
+    requires whole { length xs.now % 8 ≡ 0 }
+    requires room { 8 * len + length xs.now ≤ length out.old }
+    ensures { Appends len result (words_in (length xs.now / 8) xs.now) out.old out.new }
+{
+    write(out, 8 * len, xs);
+    len + xs.len() / 8
+}
 
-    /// Appends a word.
-    #[inline(always)]
-    pub fn push(&mut self, word: u64) -> Result<(), Memory>
-        ensures { OnOk result (self.new ≡ self.old ++ word ∷ []) }
-    {
-        let word = bytes_of(word);
-        self.bytes.extend_from_slice(&word)?;
-        Ok(())
-    }
+/// Puts a word over the one at a place.
+#[inline(always)]
+pub fn put(out: &mut [u8], at: usize, word: u64)
+    requires { 8 * at + 8 ≤ length out.old }
+    ensures { (n : ℕ) → at < n → 8 * n ≤ length out.old → Puts n at word out.old out.new }
+{
+    write_word(out, 8 * at, word);
+}
 
-    /// Appends whole words, given by their bytes.
-    #[inline(always)]
-    pub fn extend(&mut self, xs: &[u8]) -> Result<(), Memory>
-        requires { length xs.now % 8 ≡ 0 }
-        ensures { OnOk result (self.new ≡ self.old ++ words_in (length xs.now / 8) xs.now) }
-    {
-        self.bytes.extend_from_slice(xs)?;
-        Ok(())
-    }
+/// Writes zeros over bytes from a place on.
+fn write_zeros(out: &mut [u8], at: usize, n: usize)
+    requires { at + n ≤ length out.old }
+    ensures { Writes at (replicate n 0) out.old out.new }
+{
+    out[at..at + n].fill(0);
+}
 
-    /// Appends the words of packed bytes, eight a word.
-    pub fn extend_bytes(&mut self, xs: &[u8]) -> Result<(), Memory>
-        ensures { OnOk result (self.new ≡ self.old ++ packed 8 8 (words_for (8 * length xs.now)) xs.now) }
-    {
-        append_bytes(&mut self.bytes, xs)?;
-        Ok(())
-    }
+/// Appends words of zeros.
+pub fn extend_zeros(out: &mut [u8], len: usize, n: usize) -> usize
+    requires { 8 * (len + n) ≤ length out.old }
+    ensures words { Appends len result (replicate n 0) out.old out.new }
+    ensures bytes { Writes (8 * len) (replicate (8 * n) 0) out.old out.new }
+{
+    write_zeros(out, 8 * len, 8 * n);
+    len + n
+}
 
-    /// Appends the words of packed 16-bit numbers, four a word.
-    pub fn extend_pairs(&mut self, xs: &[u16]) -> Result<(), Memory>
-        ensures { OnOk result (self.new ≡ self.old ++ packed 4 16 (words_for (16 * length xs.now)) xs.now) }
-    {
-        append_pairs(&mut self.bytes, xs)?;
-        Ok(())
-    }
+/// Writes numbers of 2 bytes over the bytes from a place on.
+fn write_pairs(out: &mut [u8], at: usize, xs: &[u16])
+    requires { at + 2 * length xs.now ≤ length out.old }
+    ensures { Writes at (flat_map (little_bytes 2) xs.now) out.old out.new }
+{
+    let size = 2 * xs.len();
+    LittleEndian::write_u16_into(xs, &mut out[at..at + size]);
+}
 
-    /// Appends the words of packed 32-bit numbers, two a word.
-    pub fn extend_quads(&mut self, xs: &[u32]) -> Result<(), Memory>
-        ensures { OnOk result (self.new ≡ self.old ++ packed 2 32 (words_for (32 * length xs.now)) xs.now) }
-    {
-        append_quads(&mut self.bytes, xs)?;
-        Ok(())
-    }
+/// Writes numbers of 4 bytes over the bytes from a place on.
+fn write_quads(out: &mut [u8], at: usize, xs: &[u32])
+    requires { at + 4 * length xs.now ≤ length out.old }
+    ensures { Writes at (flat_map (little_bytes 4) xs.now) out.old out.new }
+{
+    let size = 4 * xs.len();
+    LittleEndian::write_u32_into(xs, &mut out[at..at + size]);
+}
 
-    /// Appends words.
-    pub fn extend_octs(&mut self, xs: &[u64]) -> Result<(), Memory>
-        ensures { OnOk result (self.new ≡ self.old ++ xs.now) }
-    {
-        append_octs(&mut self.bytes, xs)?;
-        Ok(())
-    }
+/// Writes numbers of 8 bytes over the bytes from a place on.
+fn write_octs(out: &mut [u8], at: usize, xs: &[u64])
+    requires { at + 8 * length xs.now ≤ length out.old }
+    ensures { Writes at (flat_map (little_bytes 8) xs.now) out.old out.new }
+{
+    let size = 8 * xs.len();
+    LittleEndian::write_u64_into(xs, &mut out[at..at + size]);
+}
 
-    /// Appends words of zeros.
-    pub fn extend_zeros(&mut self, n: usize) -> Result<(), Memory>
-        ensures { OnOk result (self.new ≡ self.old ++ replicate n 0) }
-    {
-        for _ in 0..n {
-            self.push(0)?;
-        }
-        Ok(())
-    }
+/// Appends the words of packed bytes, eight a word.
+pub fn extend_bytes(out: &mut [u8], len: usize, xs: &[u8]) -> usize
+    requires { 8 * (len + words_for (8 * length xs.now)) ≤ length out.old }
+    ensures { Appends len result (packed 8 8 (words_for (8 * length xs.now)) xs.now) out.old out.new }
+{
+    let end = extend_zeros(out, len, xs.len().div_ceil(8));
+    write(out, 8 * len, xs);
+    end
+}
 
-    /// Puts a word over the one at a place.
-    #[inline(always)]
-    pub fn put(&mut self, at: usize, word: u64)
-        requires { at < length self.old }
-        ensures { self.new ≡ set self.old at word }
-    {
-        write_at(&mut self.bytes, 8 * at, word);
-    }
+/// Appends the words of packed 16-bit numbers, four a word.
+pub fn extend_pairs(out: &mut [u8], len: usize, xs: &[u16]) -> usize
+    requires { 8 * (len + words_for (16 * length xs.now)) ≤ length out.old }
+    ensures { Appends len result (packed 4 16 (words_for (16 * length xs.now)) xs.now) out.old out.new }
+{
+    let end = extend_zeros(out, len, xs.len().div_ceil(4));
+    write_pairs(out, 8 * len, xs);
+    end
+}
 
-    /// The bytes of the words. The buffer is moved, so nothing is copied.
-    pub fn finish(self) -> Vec<u8, A>
-        ensures { result.items ≡ bytes_of_words self }
-    {
-        self.bytes
-    }
+/// Appends the words of packed 32-bit numbers, two a word.
+pub fn extend_quads(out: &mut [u8], len: usize, xs: &[u32]) -> usize
+    requires { 8 * (len + words_for (32 * length xs.now)) ≤ length out.old }
+    ensures { Appends len result (packed 2 32 (words_for (32 * length xs.now)) xs.now) out.old out.new }
+{
+    let end = extend_zeros(out, len, xs.len().div_ceil(2));
+    write_quads(out, 8 * len, xs);
+    end
+}
+
+/// Appends words.
+pub fn extend_octs(out: &mut [u8], len: usize, xs: &[u64]) -> usize
+    requires { 8 * (len + length xs.now) ≤ length out.old }
+    ensures { Appends len result xs.now out.old out.new }
+{
+    write_octs(out, 8 * len, xs);
+    len + xs.len()
 }

@@ -3,13 +3,15 @@
 //! - [`layout`] writes the canonical bytes of a tree. A tree with a capability has none, and is refused by the first
 //!   one's index.
 //! - [`surveyed_layout`] writes those of the value of a message that was surveyed, which it reads where it is.
+//! - [`surveyed_layout_into`] writes them into bytes that are there, and [`surveyed_length`] says how many they are.
 //! - [`Patch`] is a buffer of words and of holes for what is not known yet, as a pointer whose object has no place so
 //!   far. Nothing here writes to it.
 //! - [`list_pointer`], [`tag_word`], [`bits_of`] and [`kept_in_rows`] say what words a layout has, for whoever compares
 //!   bytes with it.
 //!
-//! A tree and a message are laid out by one writer, over what they have in common: slots with their values. Both take
-//! memory for the bytes that they answer. Where a growth is refused the answer is `Memory`.
+//! A tree and a message are laid out by one writer, over what they have in common: slots with their values. Their
+//! first pass learns how many bytes there are, their second writes them. The memory for them is asked for in between,
+//! once. Where it is refused the answer is `Memory`.
 #![tactic(auto)]
 
 mod bits;
@@ -22,6 +24,7 @@ mod message_layout;
 mod message_slots;
 mod number_list_words;
 mod object_layout;
+mod object_size;
 mod opening;
 mod patch;
 mod pointer_words;
@@ -31,7 +34,7 @@ mod tree_layout;
 mod tree_slots;
 
 pub use kept::kept_in_rows;
-pub use message_layout::surveyed_layout;
+pub use message_layout::{surveyed_layout, surveyed_layout_into, surveyed_length};
 pub use number_list_words::bits_of;
 pub use patch::Patch;
 pub use pointer_words::{list_pointer, tag_word};

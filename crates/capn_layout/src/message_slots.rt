@@ -10,16 +10,13 @@ ghost use Rattle.capn_walk.proofs.shared.Unique.{unique};
 ghost use Rattle.capn_layout.specs.MessageSlots.{HasSlot, PacksBits, AreRows};
 ghost use Rattle.capn_layout.specs.inner.Source.{IsItem};
 
-use crate::draft::Draft;
 use crate::kept::{kept_above, kept_in_rows};
 use crate::known_target::target_at;
 use crate::number_list_words::{append_bits, bits_of};
 use crate::source::{Item, Source};
 use crate::struct_list_words::push_rows;
-use capn_value::Memory;
 use capn_walk::{Shape, Target};
 use capn_words::{Place, Space, Width};
-use std::alloc::Allocator;
 
 /// Slots of a message from a place on, one after the other.
 #[derive_where(Clone, Copy)]
@@ -82,11 +79,13 @@ impl<'a, S: Space> Source for MessageSlots<'a, S> {
     }
 
     #[inline(always)]
-    fn append_numbers<A: Allocator>(
-        numbers: MessageBits<'a, S>,
-        draft: &mut Draft<A>,
-    ) -> Result<(), Memory> {
-        append_bits(numbers.space, numbers.start, numbers.bits, draft)
+    fn append_numbers(numbers: MessageBits<'a, S>, out: &mut [u8], len: usize) -> usize {
+        append_bits(numbers.space, numbers.start, numbers.bits, out, len)
+    }
+
+    #[inline(always)]
+    fn count_words(numbers: MessageBits<'a, S>) -> u32 {
+        numbers.bits.div_ceil(64) as u32
     }
 
     #[inline(always)]
@@ -114,14 +113,15 @@ impl<'a, S: Space> Source for MessageSlots<'a, S> {
     }
 
     #[inline(always)]
-    fn append_rows<A: Allocator>(
+    fn append_rows(
         rows: MessageRows<'a, S>,
         words: u32,
         slots: u32,
-        draft: &mut Draft<A>,
-    ) -> Result<(), Memory> {
+        out: &mut [u8],
+        len: usize,
+    ) -> usize {
         push_rows(
-            rows.space, rows.start, rows.count, rows.words, rows.slots, words, slots, draft,
+            rows.space, rows.start, rows.count, rows.words, rows.slots, words, slots, out, len,
         )
     }
 

@@ -1,16 +1,15 @@
 //! Lists of elements without pointers, copied from the message.
 
-ghost use Rattle.std.specs.Prelude.{◌≡◌, ◌^◌, ◌<◌, ◌++◌, OnOk};
+ghost use Rattle.std.specs.Prelude.{◌≡◌, ◌^◌, ◌<◌, ◌+◌, ◌*◌, ◌≤◌, length};
 ghost use Rattle.capn_words.specs.Message.{IsMessage};
 ghost use Rattle.capn_walk.specs.ValueAt.{words_from};
 ghost use Rattle.capn_target.specs.Target.{words_for};
 ghost use Rattle.capn_target.specs.Shapes.{IsContent, IsPlain};
 ghost use Rattle.capn_layout.specs.FirstBits.{element_bits, first_bits};
+ghost use Rattle.capn_layout.specs.inner.Draft.{Appends};
 
-use crate::draft::Draft;
-use capn_value::Memory;
+use crate::draft::{extend, push};
 use capn_words::{Place, Space, Width};
-use std::alloc::Allocator;
 
 /// The bits of an element.
 pub fn bits_of(width: Width) -> u64
@@ -29,27 +28,29 @@ pub fn bits_of(width: Width) -> u64
 }
 
 /// Appends the first bits of the words from a place on; the bits past them are 0.
-pub fn append_bits<S: Space, A: Allocator>(
+pub fn append_bits<S: Space>(
     space: &S,
     start: Place,
     bits: u64,
-    draft: &mut Draft<A>,
-) -> Result<(), Memory>
+    out: &mut [u8],
+    len: usize,
+) -> usize
     requires message { IsMessage (S.message space.now) }
     requires content { IsContent (S.message space.now) start (words_for bits) }
     requires few { bits < 2 ^ 36 }
-    ensures { OnOk result (draft.new ≡ draft.old
-        ++ first_bits bits (words_from (S.message space.now) start.segment start.word)) }
+    requires room { 8 * (len + words_for bits) ≤ length out.old }
+    ensures { Appends len result (first_bits bits (words_from (S.message space.now) start.segment start.word))
+        out.old out.new }
 {
     let full = (bits / 64) as u32;
     let rest = bits % 64;
-    draft.extend(space.bytes(start, 8 * full as usize))?;
-    if rest != 0 {
-        let last = Place {
-            segment: start.segment,
-            word: start.word + full,
-        };
-        draft.push(space.word(last) % (1 << rest))?;
+    let end = extend(out, len, space.bytes(start, 8 * full as usize));
+    if rest == 0 {
+        return end;
     }
-    Ok(())
+    let last = Place {
+        segment: start.segment,
+        word: start.word + full,
+    };
+    push(out, end, space.word(last) % (1 << rest))
 }

@@ -1,11 +1,14 @@
 //! The content of values, each object with all below it before the next.
 
-ghost use Rattle.std.specs.Prelude.{◌≡◌, ℕ, ◌+◌, ◌*◌, ◌^◌, ◌<◌, ◌≤◌, List, length, IfOk, OnOk};
+ghost use Rattle.std.specs.Prelude.{◌≡◌, ℕ, ◌+◌, ◌*◌, ◌/◌, ◌^◌, ◌<◌, ◌≤◌, ◌++◌, List, length, drop, IfOk};
+ghost use Rattle.capn_words.specs.Message.{words_in};
 ghost use Rattle.capn_value.specs.Tree.{Tree as Value};
 ghost use Rattle.capn_layout.specs.Layout.{canon};
-ghost use Rattle.capn_layout.specs.Ready.{IsReady, AreReady, RowsReady, IsLaid, AreLaid, RowsLaid};
+ghost use Rattle.capn_layout.specs.Ready.{IsReady, IsReadyIn, AreReady, RowsReady, IsLaid, AreLaid, RowsLaid};
+ghost use Rattle.capn_layout.specs.inner.Draft.{IsKept};
 
-use crate::draft::Draft;
+use crate::draft::{push, put};
+use crate::object_size::size_of_slot;
 use crate::opening::{open_links, open_rows, open_struct};
 use crate::pointer_words::list_pointer;
 use crate::source::{Item, Source};
@@ -13,70 +16,88 @@ use capn_value::Memory;
 use capn_words::{Pointer, join};
 use std::alloc::Allocator;
 
-/// The canonical bytes of the value in the first slot: the pointer to it, then its content. There is room at first for
-/// `room` words.
+/// The canonical bytes of the value in the first slot, at most `depth` objects deep. What they take is learnt first,
+/// and
+/// asked for at once.
 pub fn canonical_bytes<S: Source, A: Allocator>(
     alloc: A,
     source: S,
     depth: u32,
-    room: usize,
 ) -> Result<Vec<u8, A>, Memory>
     requires { IsReady S.has source 0 depth 1 }
     ensures { IfOk result (λ bytes. (v : Value) → S.has source 0 v → bytes.items ≡ canon v) }
 {
-    let mut draft = Draft::with_room(alloc, room)?;
-    draft.push(0)?;
-    lay_slot(source, 0, 0, depth, &mut draft)?;
-    Ok(draft.finish())
+    let size = 8 * (1 + size_of_slot(source, 0, depth) as usize);
+    let mut bytes = Vec::with_capacity(alloc, size)?;
+    bytes.resize(size, 0)?;
+    lay_root(source, depth, bytes.as_mut_slice());
+    Ok(bytes)
+}
+
+/// Writes the canonical bytes of the value in the first slot, the pointer to it and then its content, and answers how
+/// many words they are. What is after them stays as it was.
+pub fn lay_root<S: Source>(source: S, depth: u32, out: &mut [u8]) -> usize
+    requires ready { IsReadyIn S.has source 0 depth 1 (length out.old / 8) }
+    requires short { length out.old ≤ 2 ^ 32 }
+    ensures { (v : Value) → S.has source 0 v
+        → (8 * result ≡ length (canon v)) × (out.new ≡ canon v ++ drop (length (canon v)) out.old) }
+{
+    let len = push(out, 0, 0);
+    lay_slot(source, 0, 0, depth, out, len)
 }
 
 /// Puts the pointer to the value in a slot, and appends its content with all below it, at most `depth` objects deep.
 #[cycle(objects)]
-fn lay_slot<S: Source, A: Allocator>(
+#[inline(always)]
+fn lay_slot<S: Source>(
     source: S,
     slot: u32,
     from: usize,
     depth: u32,
-    draft: &mut Draft<A>,
-) -> Result<(), Memory>
-    requires ready { IsReady S.has source slot depth (length draft.old) }
-    requires inside { from < length draft.old }
-    ensures { OnOk result (IsLaid S.has source slot from draft.old draft.new) }
+    out: &mut [u8],
+    len: usize,
+) -> usize
+    requires ready { IsReadyIn S.has source slot depth (length (words_in len out.old)) (length out.old / 8) }
+    requires inside { from < len }
+    requires short { length out.old ≤ 2 ^ 32 }
+    ensures laid { IsLaid S.has source slot from (words_in len out.old) (words_in result out.new) }
+    ensures kept { IsKept result out.old out.new }
 {
     match source.item(slot) {
         Item::Nil => {
-            draft.put(from, 0);
-            Ok(())
+            put(out, from, 0);
+            len
         }
         Item::Cap(index) => {
-            draft.put(from, join(Pointer::Cap(index)));
-            Ok(())
+            put(out, from, join(Pointer::Cap(index)));
+            len
         }
         Item::Numbers(numbers, width, count) => {
-            let word = list_pointer(from, draft.len(), width, count as usize);
-            draft.put(from, word);
-            S::append_numbers(numbers, draft)
+            let word = list_pointer(from, len, width, count as usize);
+            put(out, from, word);
+            S::append_numbers(numbers, out, len)
         }
         Item::Struct(row) => {
-            let own = open_struct::<S, A>(row, from, draft)?;
+            let own = open_struct::<S>(row, from, out, len);
             let first = own.first + own.words as usize;
-            lay_slots(S::slots(row, 0), own.slots, first, depth - 1, draft)
+            lay_slots(S::slots(row, 0), own.slots, first, depth - 1, out, own.end)
         }
         Item::Links(row, count) => {
-            let own = open_links::<S, A>(row, count, from, draft)?;
+            let own = open_links::<S>(row, count, from, out, len);
             let first = own.first + own.words as usize;
-            lay_slots(S::slots(row, 0), own.slots, first, depth - 1, draft)
+            lay_slots(S::slots(row, 0), own.slots, first, depth - 1, out, own.end)
         }
         Item::Rows(rows, count) => {
-            let own = open_rows::<S, A>(rows, count, from, draft)?;
-            lay_rows::<S, A>(
+            let own = open_rows::<S>(rows, count, from, out, len);
+            lay_rows::<S>(
                 rows,
                 count,
                 own.words,
                 own.slots,
                 own.first,
                 depth - 1,
-                draft,
+                out,
+                own.end,
             )
         }
     }
@@ -85,47 +106,58 @@ fn lay_slot<S: Source, A: Allocator>(
 /// Writes the pointers of the first `count` slots over the words from `first` on, and appends their content with all
 /// below it.
 #[cycle(objects)]
-fn lay_slots<S: Source, A: Allocator>(
+#[inline(never)]
+fn lay_slots<S: Source>(
     source: S,
     count: u32,
     first: usize,
     depth: u32,
-    draft: &mut Draft<A>,
-) -> Result<(), Memory>
-    requires ready { AreReady S.has source 0 count depth (length draft.old) }
-    requires inside { first + count ≤ length draft.old }
-    ensures { OnOk result (AreLaid S.has source count first draft.old draft.new) }
+    out: &mut [u8],
+    len: usize,
+) -> usize
+    requires ready { AreReady S.has source 0 count depth (length (words_in len out.old)) (length out.old / 8) }
+    requires inside { first + count ≤ len }
+    requires short { length out.old ≤ 2 ^ 32 }
+    ensures laid { AreLaid S.has source count first (words_in len out.old) (words_in result out.new) }
+    ensures kept { IsKept result out.old out.new }
 {
+    let mut end = len;
     for slot in 0..count {
-        lay_slot(source, slot, first + slot as usize, depth, draft)?;
+        end = lay_slot(source, slot, first + slot as usize, depth, out, end);
     }
-    Ok(())
+    end
 }
 
 /// Writes the pointers of the slots of `count` rows over their words, row by row, and appends their content with all
 /// below it. The rows begin at `first`, each with `words` words and `slots` slots.
 #[cycle(objects)]
-fn lay_rows<S: Source, A: Allocator>(
+#[inline(never)]
+fn lay_rows<S: Source>(
     rows: S::Rows,
     count: u32,
     words: u32,
     slots: u32,
     first: usize,
     depth: u32,
-    draft: &mut Draft<A>,
-) -> Result<(), Memory>
-    requires ready { RowsReady S.are rows 0 count words slots depth (length draft.old) }
-    requires inside { first + count * (words + slots) ≤ length draft.old }
-    ensures { OnOk result (RowsLaid S.are rows count words slots first draft.old draft.new) }
+    out: &mut [u8],
+    len: usize,
+) -> usize
+    requires ready { RowsReady S.are rows 0 count words slots depth (length (words_in len out.old))
+        (length out.old / 8) }
+    requires inside { first + count * (words + slots) ≤ len }
+    requires short { length out.old ≤ 2 ^ 32 }
+    ensures laid { RowsLaid S.are rows count words slots first (words_in len out.old) (words_in result out.new) }
+    ensures kept { IsKept result out.old out.new }
 {
     if slots == 0 {
-        return Ok(());
+        return len;
     }
     let mut next = first;
+    let mut end = len;
     for row in 0..count {
         let from = next + words as usize;
-        lay_slots(S::slots(rows, row), slots, from, depth, draft)?;
+        end = lay_slots(S::slots(rows, row), slots, from, depth, out, end);
         next = from + slots as usize;
     }
-    Ok(())
+    end
 }

@@ -1,16 +1,15 @@
 //! What is laid out: slots with their values, of a tree or of a message.
 
-ghost use Rattle.std.specs.Prelude.{◌≡◌, ℕ, ◌++◌, ◌^◌, ◌<◌, List, OnOk};
+ghost use Rattle.std.specs.Prelude.{◌≡◌, ℕ, ◌+◌, ◌*◌, ◌^◌, ◌<◌, ◌≤◌, List, length};
 ghost use Rattle.capn_value.specs.Tree.{Tree, Bodies, count, count_rows, tree_at};
 ghost use Rattle.capn_value.specs.Trim.{kept_words_of_rows, kept_slots_of_rows};
 ghost use Rattle.capn_layout.specs.LayoutSteps.{AreRowsOver, slots_at};
+ghost use Rattle.capn_words.specs.Message.{words_in};
 ghost use Rattle.capn_layout.specs.inner.Source.{IsItem, IsGrown};
+ghost use Rattle.capn_layout.specs.inner.Draft.{Appends, IsKept};
 ghost use Rattle.capn_layout.specs.Sound.{AreWide};
 
-use crate::draft::Draft;
-use capn_value::Memory;
 use capn_words::Width;
-use std::alloc::Allocator;
 
 /// What a slot holds.
 #[derive(Clone, Copy)]
@@ -53,12 +52,14 @@ pub trait Source: Copy {
         ensures { (v : Tree) → has self slot v → IsItem packs are result v };
 
     /// Appends the words in which numbers are packed; bits past the last number are 0.
-    fn append_numbers<A: Allocator>(
-        numbers: Self::Numbers,
-        draft: &mut Draft<A>,
-    ) -> Result<(), Memory>
-        requires { (ws : List ℕ) × packs numbers ws }
-        ensures { OnOk result ((ws : List ℕ) → packs numbers ws → draft.new ≡ draft.old ++ ws) };
+    fn append_numbers(numbers: Self::Numbers, out: &mut [u8], len: usize) -> usize
+        requires { (ws : List ℕ) × packs numbers ws × (8 * (len + length ws) ≤ length out.old) }
+        ensures { (ws : List ℕ) → packs numbers ws → Appends len result ws out.old out.new };
+
+    /// In how many words numbers are packed.
+    fn count_words(numbers: Self::Numbers) -> u32
+        requires { (ws : List ℕ) × packs numbers ws × (length ws ≤ 2 ^ 29) }
+        ensures { (ws : List ℕ) → packs numbers ws → result ≡ length ws };
 
     /// How many words are kept of each row, when all rows are cut alike.
     fn kept_words(rows: Self::Rows) -> u32
@@ -71,15 +72,12 @@ pub trait Source: Copy {
         ensures { (bs : Bodies) → are rows bs → result ≡ kept_slots_of_rows bs };
 
     /// Appends the first words of each row, each followed by any words in place of its first slots.
-    fn append_rows<A: Allocator>(
-        rows: Self::Rows,
-        words: u32,
-        slots: u32,
-        draft: &mut Draft<A>,
-    ) -> Result<(), Memory>
-        requires { (bs : Bodies) × are rows bs × AreWide words slots bs × (words < 2 ^ 16) × (slots < 2 ^ 29) }
-        ensures { OnOk result ((bs : Bodies) → are rows bs → AreWide words slots bs
-            → IsGrown words slots bs draft.old draft.new) };
+    fn append_rows(rows: Self::Rows, words: u32, slots: u32, out: &mut [u8], len: usize) -> usize
+        requires { (bs : Bodies) × are rows bs × AreWide words slots bs × (words < 2 ^ 16) × (slots < 2 ^ 29)
+            × (8 * (len + count_rows bs * (words + slots)) ≤ length out.old) }
+        ensures grown { (bs : Bodies) → are rows bs → AreWide words slots bs
+            → IsGrown words slots bs (words_in len out.old) (words_in result out.new) }
+        ensures kept { IsKept result out.old out.new };
 
     /// The slots of a row.
     fn slots(rows: Self::Rows, row: u32) -> Self

@@ -45,8 +45,7 @@ const MOST_HEIGHT: u32 = 256;
 /// keeps.
 ///
 /// `Capability` comes exactly where the tree has one, with the index of the first in preorder, before any
-/// memory is taken. `Memory` comes only where a growth was refused. The bytes are written into one buffer,
-/// which is the answer.
+/// memory is taken. `Memory` comes only where that for the answer was refused, which is asked for at once.
 ///
 /// Page: canonicalization. Own: bits past a list's last element are 0, and a list without content points
 /// at the next free word.
@@ -64,7 +63,7 @@ pub fn layout<A: Allocator + Copy, B: Allocator>(
     if let Some(index) = first_cap(value) {
         return Err(LayoutFault::Capability(index));
     }
-    match canonical_bytes(alloc, TreeSlots::Root(value), MOST_HEIGHT, 0) {
+    match canonical_bytes(alloc, TreeSlots::Root(value), MOST_HEIGHT) {
         Ok(bytes) => Ok(bytes),
         Err(Memory) => Err(LayoutFault::Memory),
     }

@@ -1,19 +1,19 @@
 //! The slots of values in memory, as what is laid out.
 
-ghost use Rattle.std.specs.Prelude.{◌≡◌, ◌≤◌, ◌++◌, length, take, replicate, OnOk};
+ghost use Rattle.std.specs.Prelude.{◌≡◌, ◌+◌, ◌*◌, ◌≤◌, ◌++◌, length, take, replicate};
 ghost use Rattle.std.proofs.Common.{◌∙◌, sym};
+ghost use Rattle.capn_value.specs.Tree.{count_rows};
 ghost use Rattle.capn_value.specs.TreeOf.{tree_of, rows_of};
 ghost use Rattle.capn_layout.specs.LayoutSteps.{zero_rows};
 ghost use Rattle.capn_layout.specs.Sound.{AreWide, Sound};
+ghost use Rattle.capn_layout.specs.inner.Draft.{Appends};
 ghost use Rattle.capn_layout.specs.inner.Source.{IsItem};
 ghost use Rattle.capn_layout.specs.inner.TreeSlots.{HasValue, PacksNumbers, AreBodies, values_of};
 
 use crate::bits::extend_bits;
-use crate::draft::Draft;
+use crate::draft::{extend_bytes, extend_octs, extend_pairs, extend_quads, extend_zeros};
 use crate::source::{Item, Source};
-use capn_value::{
-    Body, Memory, Value, kept_slots, kept_slots_of_rows, kept_words, kept_words_of_rows,
-};
+use capn_value::{Body, Value, kept_slots, kept_slots_of_rows, kept_words, kept_words_of_rows};
 use capn_words::Width;
 use std::alloc::Allocator;
 
@@ -61,17 +61,25 @@ impl<'a, B: Allocator> Source for TreeSlots<'a, B> {
         }
     }
 
-    fn append_numbers<A: Allocator>(
-        numbers: TreeNumbers<'a>,
-        draft: &mut Draft<A>,
-    ) -> Result<(), Memory> {
+    fn append_numbers(numbers: TreeNumbers<'a>, out: &mut [u8], len: usize) -> usize {
         match numbers {
-            TreeNumbers::Voids => Ok(()),
-            TreeNumbers::Bits(xs) => extend_bits(draft, xs),
-            TreeNumbers::Bytes(xs) => draft.extend_bytes(xs),
-            TreeNumbers::Pairs(xs) => draft.extend_pairs(xs),
-            TreeNumbers::Quads(xs) => draft.extend_quads(xs),
-            TreeNumbers::Octs(xs) => draft.extend_octs(xs),
+            TreeNumbers::Voids => len,
+            TreeNumbers::Bits(xs) => extend_bits(out, len, xs),
+            TreeNumbers::Bytes(xs) => extend_bytes(out, len, xs),
+            TreeNumbers::Pairs(xs) => extend_pairs(out, len, xs),
+            TreeNumbers::Quads(xs) => extend_quads(out, len, xs),
+            TreeNumbers::Octs(xs) => extend_octs(out, len, xs),
+        }
+    }
+
+    fn count_words(numbers: TreeNumbers<'a>) -> u32 {
+        match numbers {
+            TreeNumbers::Voids => 0,
+            TreeNumbers::Bits(xs) => xs.len().div_ceil(64) as u32,
+            TreeNumbers::Bytes(xs) => xs.len().div_ceil(8) as u32,
+            TreeNumbers::Pairs(xs) => xs.len().div_ceil(4) as u32,
+            TreeNumbers::Quads(xs) => xs.len().div_ceil(2) as u32,
+            TreeNumbers::Octs(xs) => xs.len() as u32,
         }
     }
 
@@ -91,16 +99,19 @@ impl<'a, B: Allocator> Source for TreeSlots<'a, B> {
         }
     }
 
-    fn append_rows<A: Allocator>(
+    fn append_rows(
         rows: TreeRows<'a, B>,
         words: u32,
         slots: u32,
-        draft: &mut Draft<A>,
-    ) -> Result<(), Memory> {
+        out: &mut [u8],
+        len: usize,
+    ) -> usize {
         match rows {
-            TreeRows::Bodies(bodies) => push_bodies(bodies, words as usize, slots as usize, draft),
-            TreeRows::Body(body) => push_body(body, words as usize, slots as usize, draft),
-            TreeRows::Slots(_) => draft.extend_zeros(slots as usize),
+            TreeRows::Bodies(bodies) => {
+                push_bodies(bodies, words as usize, slots as usize, out, len)
+            }
+            TreeRows::Body(body) => push_body(body, words as usize, slots as usize, out, len),
+            TreeRows::Slots(_) => extend_zeros(out, len, slots as usize),
         }
     }
 
@@ -116,33 +127,38 @@ impl<'a, B: Allocator> Source for TreeSlots<'a, B> {
 }
 
 /// Appends the first words of a row, and zeros in place of its first slots.
-fn push_body<A: Allocator, B: Allocator>(
+fn push_body<B: Allocator>(
     body: &Body<B>,
     words: usize,
     slots: usize,
-    draft: &mut Draft<A>,
-) -> Result<(), Memory>
-    requires { words ≤ length body.now.words }
-    ensures { OnOk result (draft.new ≡ draft.old ++ (take words body.now.words ++ replicate slots 0)) }
+    out: &mut [u8],
+    len: usize,
+) -> usize
+    requires wide { words ≤ length body.now.words }
+    requires room { 8 * (len + (words + slots)) ≤ length out.old }
+    ensures { Appends len result (take words body.now.words ++ replicate slots 0) out.old out.new }
 {
-    draft.extend_octs(&body.words.as_slice()[..words])?;
-    draft.extend_zeros(slots)
+    let end = extend_octs(out, len, &body.words.as_slice()[..words]);
+    extend_zeros(out, end, slots)
 }
 
 /// Appends the first words of each row, each followed by zeros in place of its first slots.
-fn push_bodies<A: Allocator, B: Allocator>(
+fn push_bodies<B: Allocator>(
     bodies: &[Body<B>],
     words: usize,
     slots: usize,
-    draft: &mut Draft<A>,
-) -> Result<(), Memory>
-    requires { AreWide words slots (rows_of bodies.now) }
-    ensures { OnOk result (draft.new ≡ draft.old ++ zero_rows words slots (rows_of bodies.now)) }
+    out: &mut [u8],
+    len: usize,
+) -> usize
+    requires wide { AreWide words slots (rows_of bodies.now) }
+    requires room { 8 * (len + count_rows (rows_of bodies.now) * (words + slots)) ≤ length out.old }
+    ensures { Appends len result (zero_rows words slots (rows_of bodies.now)) out.old out.new }
 {
+    let mut end = len;
     for row in bodies {
-        push_body(row, words, slots, draft)?;
+        end = push_body(row, words, slots, out, end);
     }
-    Ok(())
+    end
 }
 
 /// What a value is.

@@ -5,13 +5,12 @@ use Rattle.capn_words.specs.Message.{IsMessage}
 use Rattle.capn_value.specs.Tree.{Tree}
 use Rattle.capn_walk.specs.Accepted.{IsValueOf}
 use Rattle.capn_walk.specs.Limits.{Bounds}
-use Rattle.capn_canon.specs.declared.refusal.Refusal.{Refusal}
 use Rattle.capn_canon.specs.Denotes.{AnswersMessage}
 use Rattle.capn_canon.specs.Canonicity.{IsCanonicalForm}
 use Rattle.capn_canon.proofs.calls.Answered.{answer_length, answer_form}
 
 -- an answer is at most 8 bytes for each word paid and 8 more,
-pub answered_short : {T : Type 0} (r : Result T Refusal) (bytes_of : T → List ℕ) (price_of : T
+pub answered_short : {T E : Type 0} (r : Result T E) (bytes_of : T → List ℕ) (price_of : T
     → ℕ) (m : List (List ℕ)) (limits : Bounds)
     → IsMessage m → limits.budget ≤ 2 ^ 28 → limits.depth ≤ 256
     → IfOk r (λ c. AnswersMessage m limits (bytes_of c) (price_of c))
@@ -20,7 +19,7 @@ answered_short r bytes_of price_of m limits is small shallow =
     IfOk-weaker r _ _ (λ c h. answer_length m limits (bytes_of c) (price_of c) h is small shallow)
 
 -- and has all that a canonical form has
-pub answered_form : {T : Type 0} (r : Result T Refusal) (bytes_of : T → List ℕ) (price_of : T
+pub answered_form : {T E : Type 0} (r : Result T E) (bytes_of : T → List ℕ) (price_of : T
     → ℕ) (m : List (List ℕ)) (limits : Bounds)
     (Q : T → Tree → Type 0) → ((c : T) (v : Tree) → IsCanonicalForm (bytes_of c) limits v → Q c v)
     → IsMessage m → limits.budget ≤ 2 ^ 28 → limits.depth ≤ 256

@@ -1,5 +1,5 @@
 -- How many words the canonical layout of a value takes.
-use Rattle.std.proofs.Common.{◌≡◌, ℕ, suc, ◌+◌, ◌^◌, ◌≤◌, ◌∷◌, length, refl, arith}
+use Rattle.std.proofs.Common.{◌≡◌, ℕ, suc, ◌+◌, ◌*◌, ◌^◌, ◌≤◌, ◌∷◌, length, refl, arith}
 use Rattle.std.proofs.lemmas.Bool.Decides.{nat_tests}
 use Rattle.capn_value.specs.Tree.{Tree, nil, node, voids, numbers, links, rows, cap, Trees}
 use Rattle.capn_value.specs.Tree.{no_trees, tree, Bodies, no_bodies, body, row_words}
@@ -9,7 +9,8 @@ use Rattle.capn_value.specs.Fits.{Fits}
 use Rattle.capn_value.proofs.shared.Fitting.{fit_parts}
 use Rattle.capn_value.specs.InRange.{InRange}
 use Rattle.capn_walk.proofs.shared.Numbers.{numbers-sized}
-use Rattle.capn_layout.specs.Layout.{size, sizes, sizes_in_rows, point, lay, words}
+use Rattle.capn_layout.specs.Layout.{size, sizes, sizes_in_rows, point, lay, words, canon}
+use Rattle.capn_words.proofs.shared.Words.{length-bytes}
 use Rattle.capn_layout.specs.Sound.{Sound, Sounds, SoundRows}
 use Rattle.capn_layout.proofs.shared.KeptLengths.{kept_words-le, kept_slots-le}
 use Rattle.capn_layout.proofs.shared.LayLengths.{length-lay}
@@ -60,3 +61,7 @@ room v f r =
     let b = size-cost 0 v s in
     let d = (fit_parts v f).cheap in
     (a, (λ base. size-cost base v s), omega arith)
+
+-- the canonical bytes
+pub length-canon : (v : Tree) → Sound v → length (canon v) ≡ 8 * (1 + size v)
+length-canon v h = let a = length-bytes (words v) in let b = length_words v h in omega arith

@@ -1,5 +1,5 @@
 -- Objects whose content is rows of words and slots.
-use Rattle.std.proofs.Common.{◌≡◌, ℕ, suc, ◌+◌, ◌-◌, ◌*◌, ◌^◌, ◌<◌, ◌≤◌, List, [], ◌∷◌, ◌++◌, length, take, set}
+use Rattle.std.proofs.Common.{◌≡◌, ℕ, suc, ◌+◌, ◌-◌, ◌*◌, ◌<◌, ◌≤◌, List, [], ◌∷◌, ◌++◌, length, take, set}
 use Rattle.std.proofs.Common.{ap, ap₂, sym, subst, ◌∙◌, arith, append_assoc, append-nil, length-append}
 use Rattle.std.proofs.lemmas.List.{length-set}
 use Rattle.std.proofs.Math.Seq.{take-length}
@@ -19,6 +19,7 @@ use Rattle.capn_layout.specs.inner.Source.{IsStruct, AreLinks, AreStructs}
 use Rattle.capn_layout.proofs.shared.KeptLengths.{kept_words-le, kept_slots-le}
 use Rattle.capn_layout.proofs.shared.LayLengths.{length-points}
 use Rattle.capn_layout.proofs.writer.Laid.{laid-is, laid-rows-is, length-over, rows-none, rows-next, row-at}
+use Rattle.capn_layout.proofs.writer.Laid.{length-slots, length-rows}
 
 -- ---- the content of a struct, of a list of pointers and of a list of structs
 
@@ -144,7 +145,7 @@ one-row a b (body ws ss no_bodies) at p e = rows-next a b ws ss no_bodies at p �
 one-row a b (body ws ss (body vs ts bs)) at p e = absurd (omega arith)
 
 module _ (v : Tree) (bs : Bodies) (from : ℕ) (p q : List ℕ) (first a b depth : ℕ) (o : IsOpened v bs from p q first a b)
-    (room : length p + size v ≤ 2 ^ 29) (low : height v ≤ depth) where
+    {most : ℕ} (room : length p + size v ≤ most) (low : height v ≤ depth) where
   abbrev pointed : List ℕ
   pointed = set p from (point v from (length p))
 
@@ -164,7 +165,7 @@ module _ (v : Tree) (bs : Bodies) (from : ℕ) (p q : List ℕ) (first a b depth
       let c = length-over a b bs o.cells o.block.wide o.over in
       ap length o.grown ∙ length-append tagged o.cells ∙ omega arith
 
-  pub opened-room : length q + sizes_in_rows bs ≤ 2 ^ 29
+  pub opened-room : length q + sizes_in_rows bs ≤ most
   opened-room = let l = opened-length in let e = o.at in let z = o.block.size_is in omega arith
 
   pub opened-rows : laid_rows a b bs first q ≡ laid v pointed
@@ -198,7 +199,7 @@ module _ (v : Tree) (bs : Bodies) (from : ℕ) (p q : List ℕ) (first a b depth
     one-size no_bodies e = omega arith
     one-size (body ws ss cs) e = omega arith
 
-    pub one-ready : AreReady has source 0 b (depth - 1) (length q)
+    pub one-ready : AreReady has source 0 b (depth - 1) (length q) most
     one-ready = record {
       values = slots_at bs 0;
       are = λ k lt. are k (let l = long in omega arith);
@@ -216,15 +217,22 @@ module _ (v : Tree) (bs : Bodies) (from : ℕ) (p q : List ℕ) (first a b depth
         h (slots_at bs 0) long (λ k lt. are k (let l = long in omega arith))
         ∙ sym (one-row a b bs first q one) ∙ opened-rows
 
+    pub one-grown : (r : List ℕ) → AreLaid has source b (first + a) q r → length q ≤ length r
+    one-grown r h =
+        let s = (row-at a b 0 bs (omega arith) o.block.wide o.block.sound).sound in
+        let l = length-slots b (slots_at bs 0) (first + a) q s in
+        omega (arith, ap length (h (slots_at bs 0) long (λ k lt. are k (let l = long in omega arith))), l.0)
+
   -- the slots of all rows
   module _ {R : Type 0} (are : R → Bodies → Type 0) (source : R) (n : ℕ) (en : count_rows bs ≡ n)
       (is : are source bs) where
-    pub all-ready : RowsReady are source 0 n a b (depth - 1) (length q)
+    pub all-ready : RowsReady are source 0 n a b (depth - 1) (length q) most
     all-ready = record {
       values = bs;
       is = is;
       count = en;
       wide = o.block.wide;
+      kept = o.block.kept;
       sound = o.block.sound;
       low = let l = o.block.low in omega arith;
       room = opened-room;
@@ -235,6 +243,10 @@ module _ (v : Tree) (bs : Bodies) (from : ℕ) (p q : List ℕ) (first a b depth
         let l = opened-length in
         let e : count_rows bs * (a + b) ≡ n * (a + b) = ap (λ (k : ℕ). k * (a + b)) en in
         omega arith
+
+    pub all-grown : (r : List ℕ) → RowsLaid are source n a b first q r → length q ≤ length r
+    all-grown r h =
+        omega (arith, ap length (h bs is en o.block.wide o.block.sound), length-rows a b bs first q o.block.sound)
 
     pub all-laid : (r : List ℕ) → RowsLaid are source n a b first q r → r ≡ laid v pointed
     all-laid r h = h bs is en o.block.wide o.block.sound ∙ opened-rows

@@ -86,6 +86,15 @@ length-slots (suc n) (tree t ts) first p h =
     let r = length-slots n ts (suc first) (laid t q) h.1 in
     (omega (arith, r.0), omega (arith, r.1))
 
+pub length-rows : (a b : ℕ) (bs : Bodies) (at : ℕ) (p : List ℕ) → SoundRows bs
+    → length p ≤ length (laid_rows a b bs at p)
+unfolding laid_rows
+length-rows a b no_bodies at p h = omega arith
+length-rows a b (body ws ss bs) at p h =
+    let l = length-slots b ss (at + a) p h.0 in
+    let r = length-rows a b bs (at + a + b) (laid_slots b ss (at + a) p) h.1 in
+    omega (arith, l.0, r)
+
 -- ---- all slots
 
 null-is : (t : Tree) → is_null t ≡ true → t ≡ nil
@@ -101,11 +110,11 @@ none-kept : (b : Bool) (n : ℕ) → kept_behind b n ≤ 0 → (b ≡ true) × (
 none-kept true n h = (refl, grind (arith, nat_tests))
 none-kept false n h = absurd (grind (arith, nat_tests))
 
-one-fewer : (b : Bool) (n k : ℕ) → kept_behind b n ≤ suc k → n ≤ k
+pub one-fewer : (b : Bool) (n k : ℕ) → kept_behind b n ≤ suc k → n ≤ k
 one-fewer b n k h = grind (arith, nat_tests)
 
 -- below slots of which none is kept there is nothing
-nothing-below : (ts : Trees) (at : ℕ) → kept_slots ts ≤ 0 → (lays ts at ≡ []) × (sizes ts ≡ 0)
+pub nothing-below : (ts : Trees) (at : ℕ) → kept_slots ts ≤ 0 → (lays ts at ≡ []) × (sizes ts ≡ 0)
 nothing-below no_trees at h = (refl, refl)
 nothing-below (tree t ts) at h =
     let k = none-kept (is_null t) (kept_slots ts) h in

@@ -1,13 +1,15 @@
 -- The own words of an object are appended.
-use Rattle.std.proofs.Common.{◌≡◌, ℕ, ◌+◌, ◌*◌, ◌^◌, ◌<◌, List, [], ◌∷◌, ◌++◌, length, set, ap, ap₂, sym}
+use Rattle.std.proofs.Common.{◌≡◌, ℕ, ◌+◌, ◌*◌, ◌^◌, ◌<◌, ◌≤◌, List, [], ◌∷◌, ◌++◌, length, set, ap, ap₂, sym}
 use Rattle.std.proofs.Common.{subst, ◌∙◌, arith, append-nil, length-append}
 use Rattle.std.specs.Prelude.{pos}
+use Rattle.capn_words.specs.Message.{words_in}
+use Rattle.capn_words.proofs.shared.Words.{length-words_in}
 use Rattle.capn_words.specs.Pointers.{word_of}
 use Rattle.capn_words.specs.declared.pointer.Pointer.TheVariants.{Node}
 use Rattle.capn_words.specs.declared.pointer.Width.TheVariants.{Link, Rows}
 use Rattle.capn_value.specs.Tree.{Tree, Bodies, no_bodies, body, count_rows}
 use Rattle.capn_value.specs.Trim.{kept_words_of_rows, kept_slots_of_rows}
-use Rattle.capn_layout.specs.Layout.{point, struct_to, list_to}
+use Rattle.capn_layout.specs.Layout.{size, point, struct_to, list_to}
 use Rattle.capn_layout.specs.Ready.{IsBlock, IsOpened}
 use Rattle.capn_layout.specs.Sound.{AreWide, Sound}
 use Rattle.capn_layout.specs.inner.Source.{IsStruct, AreLinks, AreStructs, IsGrown}
@@ -52,8 +54,14 @@ module _ (v : Tree) (bs : Bodies) (h : IsStruct v bs) (sound : Sound v) (a b : �
         omega (arith, eb, ap kept_slots_of_rows h.3, d),
       )
 
+  pub struct-block-at : IsBlock v [] a b bs
+  struct-block-at = block-at v [] _ _ a b bs (struct-block v bs h sound) ea eb
+
   pub struct-wide : AreWide a b bs
   struct-wide = (block-at v [] _ _ a b bs (struct-block v bs h sound) ea eb).wide
+
+  pub struct-fits : count_rows bs * (a + b) ≤ size v
+  struct-fits = let e = (block-at v [] _ _ a b bs (struct-block v bs h sound) ea eb).size_is in omega arith
 
   pub struct-opened : (from word : ℕ) (p q r : List ℕ) → word ≡ struct_to from (length p) a b → q ≡ set p from word
       → IsGrown a b bs q r → IsOpened v bs from p r (length p) a b
@@ -70,6 +78,9 @@ module _ (n : ℕ) (v : Tree) (bs : Bodies) (h : AreLinks n v bs) (sound : Sound
 
   pub links-wide : AreWide 0 n bs
   links-wide = (links-block n v bs h sound).wide
+
+  pub links-fits : count_rows bs * (0 + n) ≤ size v
+  links-fits = let e = (links-block n v bs h sound).size_is in omega arith
 
   pub links-opened : (from word : ℕ) (p q r : List ℕ) → word ≡ list_to from (length p) Link n → q ≡ set p from word
       → IsGrown 0 n bs q r → IsOpened v bs from p r (length p) 0 n
@@ -93,8 +104,16 @@ module _ (n : ℕ) (v : Tree) (bs : Bodies) (h : AreStructs n v bs) (sound : Sou
       ap₂ ◌*◌ (sym h.1) (ap₂ ◌+◌ ea eb) in
       (omega arith, omega arith, omega arith, omega arith)
 
+  pub rows-block-at : IsBlock v (tag_of_rows bs ∷ []) a b bs
+  rows-block-at = block-at v (tag_of_rows bs ∷ []) _ _ a b bs (rows-block n v bs h sound) ea eb
+
   pub rows-wide : AreWide a b bs
   rows-wide = (block-at v (tag_of_rows bs ∷ []) _ _ a b bs (rows-block n v bs h sound) ea eb).wide
+
+  pub rows-fits : 1 + count_rows bs * (a + b) ≤ size v
+  rows-fits =
+      let e = (block-at v (tag_of_rows bs ∷ []) _ _ a b bs (rows-block n v bs h sound) ea eb).size_is in
+      omega arith
 
   pub rows-opened : (from word tag first : ℕ) (p q r t : List ℕ) → word ≡ list_to from (length p) Rows (n * (a + b))
       → tag ≡ word_of (Node (pos n) a b) → q ≡ set p from word → r ≡ q ++ tag ∷ [] → IsGrown a b bs r t
@@ -110,3 +129,11 @@ module _ (n : ℕ) (v : Tree) (bs : Bodies) (h : AreStructs n v bs) (sound : Sou
       (ew ∙ ap (list_to from (length p) Rows) k ∙ sym (point-rows n v bs from (length p) h))
       (er ∙ ap₂ (λ (x : List ℕ) (y : ℕ). x ++ y ∷ []) eq tagged) g
       (let l = ap length er ∙ length-append q (tag ∷ []) in omega arith)
+
+-- nothing is taken away
+pub grown-end : (a b : ℕ) (bs : Bodies) (n m : ℕ) (p q : List ℕ) → IsGrown a b bs (words_in n p) (words_in m q) → n ≤ m
+grown-end a b bs n m p q g =
+    let l = ap length g.grown ∙ length-append (words_in n p) g.cells in
+    let u = length-words_in n p in
+    let v = length-words_in m q in
+    omega arith

@@ -20,7 +20,7 @@ little_from-none : (i n : ℕ) → little_from i n [] ≡ 0
 little_from-none i zero = refl
 little_from-none i (suc n) = let e = little_from-none (suc i) n in omega arith
 
-little_from-number : (n : ℕ) (bs : List ℕ) → little_from 0 n bs ≡ number 256 (take n bs)
+pub little_from-number : (n : ℕ) (bs : List ℕ) → little_from 0 n bs ≡ number 256 (take n bs)
 little_from-number zero bs = refl
 little_from-number (suc n) [] = little_from-none 0 (suc n)
 little_from-number (suc n) (b ∷ bs) = ap (λ (x : ℕ). b + 256 * x) (little_from-cons 0 n b bs ∙ little_from-number n bs)
@@ -44,7 +44,7 @@ words-packed (suc k) bs =
 
 -- ---- zeros at the end change no word
 
-number-zeros : (base n p : ℕ) → number base (take n (replicate p 0)) ≡ 0
+pub number-zeros : (base n p : ℕ) → number base (take n (replicate p 0)) ≡ 0
 number-zeros base zero p = refl
 number-zeros base (suc n) zero = refl
 number-zeros base (suc n) (suc p) = let e = number-zeros base n p in ap (λ (x : ℕ). 0 + base * x) e ∙ omega arith

@@ -1,5 +1,5 @@
 -- One slot after the other is laid out, and one row after the other.
-use Rattle.std.proofs.Common.{◌≡◌, ℕ, zero, suc, ◌+◌, ◌-◌, ◌*◌, ◌^◌, ◌<◌, ◌≤◌, List, [], ◌∷◌, ◌++◌, length, set, refl}
+use Rattle.std.proofs.Common.{◌≡◌, ℕ, zero, suc, ◌+◌, ◌-◌, ◌*◌, ◌<◌, ◌≤◌, List, [], ◌∷◌, ◌++◌, length, set, refl}
 use Rattle.std.proofs.Common.{ap, sym, subst, ◌∙◌, arith, append-nil}
 use Rattle.std.proofs.lemmas.List.{length-set}
 use Rattle.capn_words.specs.Pointers.{word_of}
@@ -8,18 +8,18 @@ use Rattle.capn_value.specs.Tree.{Tree, nil, cap, Trees, tree_at, count, Bodies,
 use Rattle.capn_value.specs.Tree.{count_rows}
 use Rattle.capn_layout.specs.Layout.{size, sizes, sizes_in_rows, point, lay, words}
 use Rattle.capn_layout.specs.LayoutSteps.{laid, laid_slots, laid_rows, past, rows_past, slots_at}
-use Rattle.capn_layout.specs.Ready.{IsReady, AreReady, IsLaid, AreLaid, RowsReady}
+use Rattle.capn_layout.specs.Ready.{IsReadyIn, AreReady, IsLaid, AreLaid, RowsReady}
 use Rattle.capn_layout.specs.Sound.{AreWide, SoundRows}
 use Rattle.capn_layout.proofs.writer.Laid.{laid-is, length-laid, slots-none, slots-next, rows-none, rows-next}
 use Rattle.capn_layout.proofs.writer.Laid.{past-next, sound-at, height-at, row-at, length-slots}
 
 -- the next slot
 module _ {S : Type 0} (has : S → ℕ → Tree → Type 0) (source : S) (n depth i : ℕ) (lt : i < n) where
-  module _ (len : ℕ) (r : AreReady has source i n depth len) where
+  module _ (len : ℕ) {most : ℕ} (r : AreReady has source i n depth len most) where
     pub next-sizes : sizes (past i r.values) ≡ size (tree_at r.values i) + sizes (past (suc i) r.values)
     next-sizes = ap sizes (past-next i r.values (let c = r.count in omega arith))
 
-    pub next-ready : IsReady has source i depth len
+    pub next-ready : IsReadyIn has source i depth len most
     next-ready = record {
       value = tree_at r.values i;
       is = r.are i lt;
@@ -28,9 +28,9 @@ module _ {S : Type 0} (has : S → ℕ → Tree → Type 0) (source : S) (n dept
       room = let e = next-sizes in let m = r.room in omega arith;
     }
 
-  module _ (first : ℕ) (p q : List ℕ) (r : AreReady has source i n depth (length p))
+  module _ (first : ℕ) (p q : List ℕ) {most : ℕ} (r : AreReady has source i n depth (length p) most)
       (h : IsLaid has source i (first + i) p q) where
-    grown : length q ≡ length p + size (tree_at r.values i)
+    pub grown : length q ≡ length p + size (tree_at r.values i)
     grown =
         let t = tree_at r.values i in
         let l = length-laid t (set p (first + i) (point t (first + i) (length p)))
@@ -41,7 +41,7 @@ module _ {S : Type 0} (has : S → ℕ → Tree → Type 0) (source : S) (n dept
     pub then-inside : (most : ℕ) → most ≤ length p → most ≤ length q
     then-inside most le = let e = grown in omega arith
 
-    pub then-ready : AreReady has source (i + 1) n depth (length q)
+    pub then-ready : AreReady has source (i + 1) n depth (length q) most
     then-ready = record {
       values = r.values;
       are = r.are;
@@ -53,7 +53,7 @@ module _ {S : Type 0} (has : S → ℕ → Tree → Type 0) (source : S) (n dept
           let e = next-sizes (length p) r in
           let g = grown in
           let m = r.room in
-          subst (λ (j : ℕ). length q + sizes (past j r.values) ≤ 2 ^ 29) (sym z) (omega arith);
+          subst (λ (j : ℕ). length q + sizes (past j r.values) ≤ most) (sym z) (omega arith);
     }
 
     pub then-rest : (ts : Trees) → n ≤ count ts → ((k : ℕ) → k < n → has source k (tree_at ts k))
@@ -92,7 +92,7 @@ module _ {S R : Type 0} (has : S → ℕ → Tree → Type 0) (are : R → Bodie
     (slots : (bs : Bodies) → are rows bs → (k : ℕ) → k < count (slots_at bs i)
     → has source k (tree_at (slots_at bs i) k))
   where
-    module _ (len : ℕ) (r : RowsReady are rows i n a b depth len) where
+    module _ (len : ℕ) {most : ℕ} (r : RowsReady are rows i n a b depth len most) where
       here : i < count_rows r.values
       here = let c = r.count in omega arith
 
@@ -100,7 +100,7 @@ module _ {S R : Type 0} (has : S → ℕ → Tree → Type 0) (are : R → Bodie
           ≡ sizes (slots_at r.values i) + sizes_in_rows (rows_past (suc i) r.values)
       row-sizes = ap sizes_in_rows (row-at a b i r.values here r.wide r.sound).next
 
-      pub row-ready : AreReady has source 0 b depth len
+      pub row-ready : AreReady has source 0 b depth len most
       row-ready =
           let x = row-at a b i r.values here r.wide r.sound in
           record {
@@ -112,7 +112,7 @@ module _ {S R : Type 0} (has : S → ℕ → Tree → Type 0) (are : R → Bodie
             room = let e = row-sizes in let m = r.room in omega arith;
           }
 
-    module _ (next : ℕ) (p q : List ℕ) (r : RowsReady are rows i n a b depth (length p))
+    module _ (next : ℕ) (p q : List ℕ) {most : ℕ} (r : RowsReady are rows i n a b depth (length p) most)
         (h : AreLaid has source b (next + a) p q) where
       laid-is-row : (bs : Bodies) → are rows bs → count_rows bs ≡ n → AreWide a b bs → SoundRows bs
           → q ≡ laid_slots b (slots_at bs i) (next + a) p
@@ -120,7 +120,7 @@ module _ {S R : Type 0} (has : S → ℕ → Tree → Type 0) (are : R → Bodie
           let x = row-at a b i bs (omega arith) w s in
           h (slots_at bs i) x.long (λ k l. slots bs is k (let m = x.long in omega arith))
 
-      grown-row : (length p ≤ length q) × (length q ≤ length p + sizes (slots_at r.values i))
+      pub grown-row : (length p ≤ length q) × (length q ≤ length p + sizes (slots_at r.values i))
       grown-row =
           let x = row-at a b i r.values (here (length p) r) r.wide r.sound in
           let e = laid-is-row r.values r.is r.count r.wide r.sound in
@@ -135,12 +135,13 @@ module _ {S R : Type 0} (has : S → ℕ → Tree → Type 0) (are : R → Bodie
           let d : suc (n - (i + 1)) * (a + b) ≡ a + b + (n - (i + 1)) * (a + b) = omega arith in
           omega arith
 
-      pub row-then-ready : RowsReady are rows (i + 1) n a b depth (length q)
+      pub row-then-ready : RowsReady are rows (i + 1) n a b depth (length q) most
       row-then-ready = record {
         values = r.values;
         is = r.is;
         count = r.count;
         wide = r.wide;
+        kept = r.kept;
         sound = r.sound;
         low = r.low;
         room =
@@ -148,7 +149,7 @@ module _ {S R : Type 0} (has : S → ℕ → Tree → Type 0) (are : R → Bodie
             let e = row-sizes (length p) r in
             let g = grown-row.1 in
             let m = r.room in
-            subst (λ (j : ℕ). length q + sizes_in_rows (rows_past j r.values) ≤ 2 ^ 29) (sym z) (omega arith);
+            subst (λ (j : ℕ). length q + sizes_in_rows (rows_past j r.values) ≤ most) (sym z) (omega arith);
       }
 
       pub row-then-rest : (bs : Bodies) → are rows bs → count_rows bs ≡ n → AreWide a b bs → SoundRows bs

@@ -1,7 +1,8 @@
 -- What a value is, as what is laid out.
-use Rattle.std.proofs.Common.{◌≡◌, ℕ, zero, suc, ◌*◌, ◌<◌, List, [], ◌∷◌, ◌++◌, length, take, map}
+use Rattle.std.proofs.Common.{◌≡◌, ℕ, zero, suc, ◌+◌, ◌*◌, ◌<◌, ◌≤◌, drop, append_assoc, List, [], ◌∷◌, ◌++◌, length}
+use Rattle.std.proofs.Common.{take, map}
 use Rattle.std.proofs.Common.{replicate, refl, ap, sym, subst, ◌∙◌, arith, append-nil, get_or, Bool}
-use Rattle.std.proofs.lemmas.List.{length-replicate, length-map}
+use Rattle.std.proofs.lemmas.List.{length-replicate, length-map, drop_more, drop_all}
 use Rattle.std.specs.Int.{from_bool}
 use Rattle.capn_words.specs.declared.pointer.Width.TheVariants.{W0, W1}
 use Rattle.capn_value.specs.NumberWidth.{NumberWidth, bit, oct, bits_in, per_word}
@@ -14,7 +15,7 @@ use Rattle.capn_value.specs.declared.value.Body.{Body}
 use Rattle.capn_target.specs.Target.{words_for, content_words, list_width}
 use Rattle.capn_layout.specs.Layout.{packed, point, lay}
 use Rattle.capn_layout.specs.LayoutSteps.{AreRowsOver, zero_rows, slots_at}
-use Rattle.capn_layout.specs.Sound.{Sound, Sounds, SoundRows}
+use Rattle.capn_layout.specs.Sound.{AreWide, Sound, Sounds, SoundRows}
 use Rattle.capn_layout.specs.declared.tree_slots.TreeRows.{TreeRows}
 use Rattle.capn_layout.specs.inner.Source.{IsListOf, IsGrown, IsStruct, AreLinks, AreStructs}
 use Rattle.capn_layout.specs.inner.TreeSlots.{HasValue, AreBodies, bodies_of}
@@ -228,3 +229,27 @@ module _ {B : Type 0} where
       has-slot vs (slots_at bs i) k
       (ap (λ (x : Bodies). slots_at x i) e ∙ ap (slots_at (body ws (trees_of ts) no_bodies)) z ∙ ap trees_of (sym ev))
       (sound-row bs i s) lt
+
+-- ---- the next row
+
+module _ {B : Type 0} (bodies : List (Body B)) (i : ℕ) (row : Body B) (lt : i < length bodies)
+    (is : row ≡ get_or bodies i row) (a b : ℕ) where
+  pub next-row : rows_of (drop i bodies) ≡ body row.words (trees_of row.slots) (rows_of (drop (i + 1) bodies))
+  next-row = ap rows_of (drop_more bodies i row lt ∙ ap (λ (x : Body B). x ∷ drop (i + 1) bodies) (sym is))
+
+  pub next-zeros : zero_rows a b (rows_of (drop i bodies))
+      ≡ (take a row.words ++ replicate b 0) ++ zero_rows a b (rows_of (drop (i + 1) bodies))
+  next-zeros =
+      ap (zero_rows a b) next-row
+      ∙ sym (append_assoc (take a row.words) (replicate b 0) (zero_rows a b (rows_of (drop (i + 1) bodies))))
+
+  pub next-wide : AreWide a b (rows_of (drop i bodies)) → (a ≤ length row.words)
+      × AreWide a b (rows_of (drop (i + 1) bodies))
+  next-wide h = let x = subst (AreWide a b) next-row h in (x.0, x.2)
+
+  pub next-count : count_rows (rows_of (drop i bodies)) * (a + b)
+      ≡ a + b + count_rows (rows_of (drop (i + 1) bodies)) * (a + b)
+  next-count = ap (λ (x : Bodies). count_rows x * (a + b)) next-row ∙ omega arith
+
+pub past-rows : {B : Type 0} (bodies : List (Body B)) (i : ℕ) → length bodies ≤ i → rows_of (drop i bodies) ≡ no_bodies
+past-rows bodies i h = ap rows_of (drop_all i bodies h)

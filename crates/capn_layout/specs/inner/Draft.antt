@@ -1,12 +1,22 @@
--- A buffer of words, each of which can be written again, is the list of its words.
-use Rattle.std.specs.Prelude.{◌≡◌, ℕ, ◌/◌, ◌%◌, List, length}
-use Rattle.capn_words.specs.Message.{AreBytes, words_in}
+-- Words in bytes that are there, as they are written.
+use Rattle.std.specs.Prelude.{◌≡◌, ℕ, ◌+◌, ◌*◌, List, ◌++◌, length, take, drop, set}
+use Rattle.capn_words.specs.Message.{words_in}
 
--- the words whose bytes these are (Own.)
-abbrev pub drafted : List ℕ → List ℕ
-drafted bs = words_in (length bs / 8) bs
+-- bytes are written over those from a place on (Own.)
+abbrev pub Writes : ℕ → List ℕ → List ℕ → List ℕ → Type 0
+Writes at xs p q = q ≡ take at p ++ (xs ++ drop (at + length xs) p)
 
--- whole words (Own.)
-pub record IsDrafted (bs : List ℕ) : Type 0 where
-  pub even : length bs % 8 ≡ 0
-  pub bytes : AreBytes bs
+-- what comes after the first n words is as it was (Own.)
+pub record IsKept (n : ℕ) (p q : List ℕ) : Type 0 where
+  pub same : length q ≡ length p
+  pub rest : drop (8 * n) q ≡ drop (8 * n) p
+
+-- words are appended to the first n words, and then there are m (Own.)
+pub record Appends (n m : ℕ) (ws p q : List ℕ) : Type 0 where
+  pub words : words_in m q ≡ words_in n p ++ ws
+  pub kept : IsKept m p q
+
+-- a word is put over one of the first n words (Own.)
+pub record Puts (n at word : ℕ) (p q : List ℕ) : Type 0 where
+  pub words : words_in n q ≡ set (words_in n p) at word
+  pub kept : IsKept n p q

@@ -2,11 +2,20 @@ use Rattle.std.proofs.Common.{sym, arith, subst, ℕ}
 use Rattle.capn_layout.specs.MessageSlots.{HasSlot}
 use Rattle.capn_layout.specs.Ready.{IsReady}
 use Rattle.capn_canon.proofs.calls.AtRoot.{root-ready}
+use Rattle.capn_canon.proofs.theorem.Headline.{denoted_length}
 use Rattle.capn_canon.proofs.canonical.canonical_of_inner.Goals as goal
 
-pub surveyed_layout-requires : goal.surveyed_layout-requires
-surveyed_layout-requires g c =
+pub surveyed_layout-requires-clause-ready : goal.surveyed_layout-requires-clause-ready
+surveyed_layout-requires-clause-ready g c =
     let m = g.S.Space.message c.args.space.now in
     let f = c.in_ok-surveyed.ensures.found in
     subst (λ (d : ℕ). IsReady (HasSlot m) 0 0 d 1) (sym c.depth-depth.ensures.value)
     (root-ready m c.args.limits f.value c.segments-segments.ensures.bounds (omega arith) (omega arith) f.is)
+
+pub surveyed_layout-requires-clause-paid : goal.surveyed_layout-requires-clause-paid
+surveyed_layout-requires-clause-paid g c v at =
+    let f = c.in_ok-surveyed.ensures.found in
+    let l = denoted_length (g.S.Space.message c.args.space.now) c.args.limits v c.segments-segments.ensures.bounds
+    (omega arith) (omega arith) (record { accepted = f.is.accepted; is = at }) in
+    let p = f.pays in
+    omega arith

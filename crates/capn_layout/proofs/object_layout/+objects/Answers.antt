@@ -1,275 +1,374 @@
-use Rattle.std.proofs.Common.{◌≡◌, ℕ, ◌+◌, ◌-◌, length, set, ap, sym, subst, ◌∙◌, arith}
-use Rattle.std.proofs.Common.{refl}
-use Rattle.std.proofs.lemmas.Result.{on_ok_weaker}
+use Rattle.std.proofs.Common.{ℕ, ◌+◌, ◌-◌, ◌*◌, ◌/◌, ◌≤◌, length, set, ap, sym, subst, ◌∙◌, arith}
+use Rattle.capn_words.specs.Message.{words_in}
+use Rattle.capn_words.proofs.shared.Words.{length-words_in}
 use Rattle.capn_value.specs.Tree.{Tree}
 use Rattle.capn_layout.specs.declared.source.Item.{Item}
 use Rattle.capn_layout.specs.Layout.{point, list_to}
 use Rattle.capn_layout.specs.LayoutSteps.{laid}
+use Rattle.capn_layout.specs.Ready.{AreReady, RowsReady}
 use Rattle.capn_layout.specs.inner.Source.{IsItem}
-use Rattle.capn_layout.proofs.writer.Blocks.{opened-room, opened-first, one-ready, one-laid, all-ready, all-inside}
-use Rattle.capn_layout.proofs.writer.Blocks.{all-laid}
-use Rattle.capn_layout.proofs.writer.Blocks.{struct-one, links-one}
-use Rattle.capn_layout.proofs.writer.Stepwise.{next-ready, then-inside, then-ready, then-rest, slots-start, slots-end}
-use Rattle.capn_layout.proofs.writer.Stepwise.{row-ready}
-use Rattle.capn_layout.proofs.writer.Stepwise.{row-then-inside, row-then-ready, row-then-rest, rows-end, rows-empty}
+use Rattle.capn_layout.proofs.writer.Blocks.{opened-room, opened-first, one-ready, one-laid, one-grown, all-ready}
+use Rattle.capn_layout.proofs.writer.Blocks.{all-inside, all-laid, all-grown, struct-one, links-one}
+use Rattle.capn_layout.proofs.shared.LayLengths.{length-lay}
+use Rattle.capn_layout.proofs.writer.Drafted.{kept-then, appends-length}
+use Rattle.capn_layout.proofs.writer.Stepwise.{next-ready, then-ready, then-rest, slots-end, grown}
+use Rattle.capn_layout.proofs.writer.Stepwise.{row-ready, row-then-inside, row-then-ready, row-then-rest, rows-end}
+use Rattle.capn_layout.proofs.writer.Stepwise.{rows-empty, grown-row}
 use Rattle.capn_layout.proofs.writer.Stepwise.{laid-plain}
 use Rattle.capn_layout.proofs.writer.Stepwise.{laid-nil, laid-cap, one-more}
 use Rattle.capn_layout.proofs.object_layout.+objects.Goals as goal
 
 -- ---- a slot
 
-pub lay_slot-item-requires : goal.lay_slot-item-requires
-lay_slot-item-requires g t c = (c.requires.ready.value, c.requires.ready.is)
+pub lay_slot-put-requires : goal.lay_slot-put-requires
+lay_slot-put-requires g t c =
+    let l = length-words_in c.args.len c.args.out.now in
+    let r = c.requires.ready.room in
+    let i = c.requires.inside in
+    omega arith
 
-pub lay_slot-returns-in-Nil : goal.lay_slot-returns-in-Nil
-lay_slot-returns-in-Nil g t c v h =
+pub lay_slot-put-requires-in-Cap : goal.lay_slot-put-requires-in-Cap
+lay_slot-put-requires-in-Cap g t c =
+    let l = length-words_in c.args.len c.args.out.now in
+    let r = c.requires.ready.room in
+    let i = c.requires.inside in
+    omega arith
+
+pub lay_slot-put-requires-in-Numbers : goal.lay_slot-put-requires-in-Numbers
+lay_slot-put-requires-in-Numbers g t c =
+    let l = length-words_in c.args.len c.args.out.now in
+    let r = c.requires.ready.room in
+    let i = c.requires.inside in
+    omega arith
+
+pub lay_slot-returns-in-Nil-clause-laid : goal.lay_slot-returns-in-Nil-clause-laid
+lay_slot-returns-in-Nil-clause-laid g t c v h =
     let e = subst (λ (x : Item g.row.S-Numbers.Denot g.row.S-Rows.Denot). IsItem g.S.Source.packs g.S.Source.are x v)
     c.in-Nil.is (c.item.ensures v h) in
-    laid-nil v c.args.from c.args.draft.now c.put.new.self e c.put.ensures
+    let l = length-words_in c.args.len c.args.out.now in
+    let r = c.requires.ready.room in
+    laid-nil v c.args.from (words_in c.args.len c.args.out.now) (words_in c.args.len c.put.new.out) e
+    (c.put.ensures c.args.len c.requires.inside (omega arith)).words
 
-pub lay_slot-returns-in-Cap : goal.lay_slot-returns-in-Cap
-lay_slot-returns-in-Cap g t c v h =
+pub lay_slot-returns-in-Cap-clause-laid : goal.lay_slot-returns-in-Cap-clause-laid
+lay_slot-returns-in-Cap-clause-laid g t c v h =
     let e = subst (λ (x : Item g.row.S-Numbers.Denot g.row.S-Rows.Denot). IsItem g.S.Source.packs g.S.Source.are x v)
     c.in-Cap.is (c.item.ensures v h) in
-    laid-cap v c.in-Cap.index c.join.result c.args.from c.args.draft.now c.put-in-Cap.new.self e c.join.ensures.word
-    c.put-in-Cap.ensures
+    let l = length-words_in c.args.len c.args.out.now in
+    let r = c.requires.ready.room in
+    laid-cap v c.in-Cap.index c.join.result c.args.from (words_in c.args.len c.args.out.now)
+    (words_in c.args.len c.put-in-Cap.new.out) e c.join.ensures.word
+    (c.put-in-Cap.ensures c.args.len c.requires.inside (omega arith)).words
 
-pub lay_slot-list_pointer-word-requires-clause-few : goal.lay_slot-list_pointer-word-requires-clause-few
-lay_slot-list_pointer-word-requires-clause-few g t c =
-    let v = c.requires.ready.value in
-    let x = subst (λ (x : Item g.row.S-Numbers.Denot g.row.S-Rows.Denot). IsItem g.S.Source.packs g.S.Source.are x v)
-    c.in-Numbers.is (c.item.ensures v c.requires.ready.is) in
-    x.2.few
+pub lay_slot-list_pointer-word-requires-clause-room : goal.lay_slot-list_pointer-word-requires-clause-room
+lay_slot-list_pointer-word-requires-clause-room g t c =
+    let l = length-words_in c.args.len c.args.out.now in
+    let r = c.requires.ready.room in
+    let s = c.requires.short in
+    omega arith
 
 pub lay_slot-append_numbers-requires : goal.lay_slot-append_numbers-requires
 lay_slot-append_numbers-requires g t c =
     let v = c.requires.ready.value in
     let x = subst (λ (x : Item g.row.S-Numbers.Denot g.row.S-Rows.Denot). IsItem g.S.Source.packs g.S.Source.are x v)
     c.in-Numbers.is (c.item.ensures v c.requires.ready.is) in
-    (x.0, x.1)
+    let l = length-words_in c.args.len c.args.out.now in
+    let r = c.requires.ready.room in
+    let k = (c.put-in-Numbers.ensures c.args.len c.requires.inside (omega arith)).kept.same in
+    let n = length-lay v 0 c.requires.ready.sound in
+    let e = ap length (x.2.content 0) in
+    (x.0, x.1, omega arith)
 
-pub lay_slot-returns-in-Numbers : goal.lay_slot-returns-in-Numbers
-lay_slot-returns-in-Numbers g t c =
-    on_ok_weaker c.append_numbers.result
-    (λ l v h.
+pub lay_slot-returns-in-Numbers-clause-laid : goal.lay_slot-returns-in-Numbers-clause-laid
+lay_slot-returns-in-Numbers-clause-laid g t c v h =
     let x = subst (λ (y : Item g.row.S-Numbers.Denot g.row.S-Rows.Denot). IsItem g.S.Source.packs g.S.Source.are y v)
     c.in-Numbers.is (c.item.ensures v h) in
-    laid-plain v c.args.from c.list_pointer-word.result x.0 c.args.draft.now c.put-in-Numbers.new.self
-    c.append_numbers.new.draft
-    (x.2.pointer c.args.from (length c.args.draft.now)
+    let p = words_in c.args.len c.args.out.now in
+    let l = length-words_in c.args.len c.args.out.now in
+    let r = c.requires.ready.room in
+    laid-plain v c.args.from c.list_pointer-word.result x.0 p (words_in c.args.len c.put-in-Numbers.new.out)
+    (words_in c.append_numbers.result c.append_numbers.new.out)
+    (x.2.pointer c.args.from (length p)
     ∙ sym (c.list_pointer-word.ensures
-    ∙ ap (λ (to : ℕ). list_to c.args.from to c.in-Numbers.width c.in-Numbers.count) c.len.ensures))
-    x.2.content c.put-in-Numbers.ensures (l x.0 x.1))
-    c.append_numbers.ensures
+    ∙ ap (λ (to : ℕ). list_to c.args.from to c.in-Numbers.width c.in-Numbers.count) (sym l)))
+    x.2.content (c.put-in-Numbers.ensures c.args.len c.requires.inside (omega arith)).words
+    (c.append_numbers.ensures x.0 x.1).words
+
+pub lay_slot-returns-in-Numbers-clause-kept : goal.lay_slot-returns-in-Numbers-clause-kept
+lay_slot-returns-in-Numbers-clause-kept g t c =
+    let v = c.requires.ready.value in
+    let x = subst (λ (x : Item g.row.S-Numbers.Denot g.row.S-Rows.Denot). IsItem g.S.Source.packs g.S.Source.are x v)
+    c.in-Numbers.is (c.item.ensures v c.requires.ready.is) in
+    let l = length-words_in c.args.len c.args.out.now in
+    let r = c.requires.ready.room in
+    let a = c.append_numbers.ensures x.0 x.1 in
+    let n = appends-length c.args.len c.append_numbers.result x.0 c.put-in-Numbers.new.out c.append_numbers.new.out a in
+    kept-then c.args.len c.append_numbers.result c.args.out.now c.put-in-Numbers.new.out c.append_numbers.new.out
+    (omega arith) (c.put-in-Numbers.ensures c.args.len c.requires.inside (omega arith)).kept a.kept
 
 -- ---- a struct
 
-pub lay_slot-open_struct-requires-clause-some : goal.lay_slot-open_struct-requires-clause-some
-lay_slot-open_struct-requires-clause-some g t c =
+pub lay_slot-open_struct-own-requires-clause-some : goal.lay_slot-open_struct-own-requires-clause-some
+lay_slot-open_struct-own-requires-clause-some g t c =
     let v = c.requires.ready.value in
     let x = subst (λ (x : Item g.row.S-Numbers.Denot g.row.S-Rows.Denot). IsItem g.S.Source.packs g.S.Source.are x v)
     c.in-Struct.is (c.item.ensures v c.requires.ready.is) in
-    (v, x.0, x.1, x.2, c.requires.ready.sound)
+    let l = length-words_in c.args.len c.args.out.now in
+    let r = c.requires.ready.room in
+    (v, x.0, x.1, x.2, c.requires.ready.sound, omega arith)
 
 pub lay_slot-overflow_add-first : goal.lay_slot-overflow_add-first
 lay_slot-overflow_add-first g t c =
     let v = c.requires.ready.value in
     let x = subst (λ (x : Item g.row.S-Numbers.Denot g.row.S-Rows.Denot). IsItem g.S.Source.packs g.S.Source.are x v)
     c.in-Struct.is (c.item.ensures v c.requires.ready.is) in
-    let r = c.in_ok-own-in-Struct.own in
-    let o = c.in_ok-own-in-Struct.ensures v x.0 x.1 x.2 c.requires.ready.sound in
-    let inside = opened-first v x.0 c.args.from c.args.draft.now c.open_struct.new.draft r.first r.words r.slots
-    c.args.depth o c.requires.ready.room c.requires.ready.low (struct-one v x.0 x.1) in
-    let room = opened-room v x.0 c.args.from c.args.draft.now c.open_struct.new.draft r.first r.words r.slots
-    c.args.depth o c.requires.ready.room c.requires.ready.low in
+    let r = c.open_struct-own.result in
+    let p = words_in c.args.len c.args.out.now in
+    let q = words_in r.end c.open_struct-own.new.out in
+    let o = c.open_struct-own.ensures.opened v x.0 x.1 x.2 c.requires.ready.sound in
+    let inside = opened-first v x.0 c.args.from p q r.first r.words r.slots c.args.depth o
+    c.requires.ready.room c.requires.ready.low (struct-one v x.0 x.1) in
+    let l = length-words_in r.end c.open_struct-own.new.out in
+    let room = opened-room v x.0 c.args.from p q r.first r.words r.slots c.args.depth o
+    c.requires.ready.room c.requires.ready.low in
+    let s = c.requires.short in
     omega arith
-
-pub lay_slot-slots-requires : goal.lay_slot-slots-requires
-lay_slot-slots-requires g t c =
-    let v = c.requires.ready.value in
-    let x = subst (λ (x : Item g.row.S-Numbers.Denot g.row.S-Rows.Denot). IsItem g.S.Source.packs g.S.Source.are x v)
-    c.in-Struct.is (c.item.ensures v c.requires.ready.is) in
-    let one = struct-one v x.0 x.1 in
-    (x.0, x.2, omega arith)
 
 pub lay_slot-lay_slots-requires : goal.lay_slot-lay_slots-requires
 lay_slot-lay_slots-requires g t c κs live =
     let v = c.requires.ready.value in
     let x = subst (λ (x : Item g.row.S-Numbers.Denot g.row.S-Rows.Denot). IsItem g.S.Source.packs g.S.Source.are x v)
     c.in-Struct.is (c.item.ensures v c.requires.ready.is) in
-    let r = c.in_ok-own-in-Struct.own in
-    let o = c.in_ok-own-in-Struct.ensures v x.0 x.1 x.2 c.requires.ready.sound in
+    let r = c.open_struct-own.result in
+    let p = words_in c.args.len c.args.out.now in
+    let q = words_in r.end c.open_struct-own.new.out in
+    let o = c.open_struct-own.ensures.opened v x.0 x.1 x.2 c.requires.ready.sound in
     let one = struct-one v x.0 x.1 in
     let low = o.block.low in
     let high = c.requires.ready.low in
     let are = c.slots.ensures x.0 x.2 in
-    let ready = one-ready v x.0 c.args.from c.args.draft.now c.open_struct.new.draft r.first r.words r.slots
-    c.args.depth o c.requires.ready.room
-    c.requires.ready.low
-    g.S.Source.has c.slots.result one are in
-    let inside = opened-first v x.0 c.args.from c.args.draft.now c.open_struct.new.draft r.first r.words r.slots
-    c.args.depth o c.requires.ready.room
-    c.requires.ready.low one in
-    (omega arith, (live.0, (live.1.0, (live.1.1.0, (live.1.1.1, (ready, omega arith))))))
+    let same = c.open_struct-own.ensures.kept.same in
+    let ready = subst (λ (k : ℕ). AreReady g.S.Source.has c.slots.result 0 r.slots (c.args.depth - 1) (length q) (k /
+    8))
+    (sym same) (one-ready v x.0 c.args.from p q r.first r.words r.slots c.args.depth o
+    c.requires.ready.room c.requires.ready.low
+    g.S.Source.has c.slots.result one are) in
+    let inside = opened-first v x.0 c.args.from p q r.first r.words r.slots c.args.depth o
+    c.requires.ready.room c.requires.ready.low one in
+    let l = length-words_in r.end c.open_struct-own.new.out in
+    let s = c.requires.short in
+    (omega arith, (live.0, (live.1.0, (live.1.1, (ready, (omega arith, omega arith))))))
 
-pub lay_slot-returns-in_ok-own-in-Struct : goal.lay_slot-returns-in_ok-own-in-Struct
-lay_slot-returns-in_ok-own-in-Struct g t c =
-    on_ok_weaker c.lay_slots.result
-    (λ l w h.
+pub lay_slot-returns-in-Struct-clause-laid : goal.lay_slot-returns-in-Struct-clause-laid
+lay_slot-returns-in-Struct-clause-laid g t c w h =
     let v = c.requires.ready.value in
     let x = subst (λ (x : Item g.row.S-Numbers.Denot g.row.S-Rows.Denot). IsItem g.S.Source.packs g.S.Source.are x v)
     c.in-Struct.is (c.item.ensures v c.requires.ready.is) in
-    let r = c.in_ok-own-in-Struct.own in
-    let o = c.in_ok-own-in-Struct.ensures v x.0 x.1 x.2 c.requires.ready.sound in
+    let r = c.open_struct-own.result in
+    let p = words_in c.args.len c.args.out.now in
+    let q = words_in r.end c.open_struct-own.new.out in
+    let o = c.open_struct-own.ensures.opened v x.0 x.1 x.2 c.requires.ready.sound in
     let one = struct-one v x.0 x.1 in
     let are = c.slots.ensures x.0 x.2 in
     let e = g.met.S.Source.one c.args.source c.args.slot w v h c.requires.ready.is in
-    one-laid v x.0 c.args.from c.args.draft.now c.open_struct.new.draft r.first r.words r.slots c.args.depth o
-    c.requires.ready.room
-    c.requires.ready.low
-    g.S.Source.has c.slots.result one are c.lay_slots.new.draft l
-    ∙ ap (λ (y : Tree). laid y (set c.args.draft.now c.args.from (point y c.args.from (length c.args.draft.now))))
-    (sym e))
-    c.lay_slots.ensures
+    one-laid v x.0 c.args.from p q r.first r.words r.slots c.args.depth o
+    c.requires.ready.room c.requires.ready.low
+    g.S.Source.has c.slots.result one are (words_in c.lay_slots.result c.lay_slots.new.out) c.lay_slots.ensures.laid
+    ∙ ap (λ (y : Tree). laid y (set p c.args.from (point y c.args.from (length p)))) (sym e)
+
+pub lay_slot-returns-in-Struct-clause-kept : goal.lay_slot-returns-in-Struct-clause-kept
+lay_slot-returns-in-Struct-clause-kept g t c =
+    let v = c.requires.ready.value in
+    let x = subst (λ (x : Item g.row.S-Numbers.Denot g.row.S-Rows.Denot). IsItem g.S.Source.packs g.S.Source.are x v)
+    c.in-Struct.is (c.item.ensures v c.requires.ready.is) in
+    let r = c.open_struct-own.result in
+    let p = words_in c.args.len c.args.out.now in
+    let q = words_in r.end c.open_struct-own.new.out in
+    let o = c.open_struct-own.ensures.opened v x.0 x.1 x.2 c.requires.ready.sound in
+    let one = struct-one v x.0 x.1 in
+    let are = c.slots.ensures x.0 x.2 in
+    let grown = one-grown v x.0 c.args.from p q r.first r.words r.slots c.args.depth o
+    c.requires.ready.room c.requires.ready.low
+    g.S.Source.has c.slots.result one are (words_in c.lay_slots.result c.lay_slots.new.out) c.lay_slots.ensures.laid in
+    let l = length-words_in r.end c.open_struct-own.new.out in
+    let k = length-words_in c.lay_slots.result c.lay_slots.new.out in
+    kept-then r.end c.lay_slots.result c.args.out.now c.open_struct-own.new.out c.lay_slots.new.out (omega arith)
+    c.open_struct-own.ensures.kept c.lay_slots.ensures.kept
 
 -- ---- a list of pointers
 
-pub lay_slot-open_links-requires-clause-some : goal.lay_slot-open_links-requires-clause-some
-lay_slot-open_links-requires-clause-some g t c =
+pub lay_slot-open_links-own-requires-clause-some : goal.lay_slot-open_links-own-requires-clause-some
+lay_slot-open_links-own-requires-clause-some g t c =
     let v = c.requires.ready.value in
     let x = subst (λ (x : Item g.row.S-Numbers.Denot g.row.S-Rows.Denot). IsItem g.S.Source.packs g.S.Source.are x v)
     c.in-Links.is (c.item.ensures v c.requires.ready.is) in
-    (v, x.0, x.1, x.2, c.requires.ready.sound)
+    let l = length-words_in c.args.len c.args.out.now in
+    let r = c.requires.ready.room in
+    (v, x.0, x.1, x.2, c.requires.ready.sound, omega arith)
 
 pub lay_slot-overflow_add-first-in-Links : goal.lay_slot-overflow_add-first-in-Links
 lay_slot-overflow_add-first-in-Links g t c =
     let v = c.requires.ready.value in
     let x = subst (λ (x : Item g.row.S-Numbers.Denot g.row.S-Rows.Denot). IsItem g.S.Source.packs g.S.Source.are x v)
     c.in-Links.is (c.item.ensures v c.requires.ready.is) in
-    let r = c.in_ok-own-in-Links.own in
-    let o = c.in_ok-own-in-Links.ensures v x.0 x.1 x.2 c.requires.ready.sound in
-    let inside = opened-first v x.0 c.args.from c.args.draft.now c.open_links.new.draft r.first r.words r.slots
-    c.args.depth o c.requires.ready.room c.requires.ready.low (links-one c.in-Links.count v x.0 x.1) in
-    let room = opened-room v x.0 c.args.from c.args.draft.now c.open_links.new.draft r.first r.words r.slots
-    c.args.depth o c.requires.ready.room c.requires.ready.low in
+    let r = c.open_links-own.result in
+    let p = words_in c.args.len c.args.out.now in
+    let q = words_in r.end c.open_links-own.new.out in
+    let o = c.open_links-own.ensures.opened v x.0 x.1 x.2 c.requires.ready.sound in
+    let inside = opened-first v x.0 c.args.from p q r.first r.words r.slots c.args.depth o
+    c.requires.ready.room c.requires.ready.low (links-one c.in-Links.count v x.0 x.1) in
+    let l = length-words_in r.end c.open_links-own.new.out in
+    let room = opened-room v x.0 c.args.from p q r.first r.words r.slots c.args.depth o
+    c.requires.ready.room c.requires.ready.low in
+    let s = c.requires.short in
     omega arith
-
-pub lay_slot-slots-requires-in-Links : goal.lay_slot-slots-requires-in-Links
-lay_slot-slots-requires-in-Links g t c =
-    let v = c.requires.ready.value in
-    let x = subst (λ (x : Item g.row.S-Numbers.Denot g.row.S-Rows.Denot). IsItem g.S.Source.packs g.S.Source.are x v)
-    c.in-Links.is (c.item.ensures v c.requires.ready.is) in
-    let one = links-one c.in-Links.count v x.0 x.1 in
-    (x.0, x.2, omega arith)
 
 pub lay_slot-lay_slots-requires-in-Links : goal.lay_slot-lay_slots-requires-in-Links
 lay_slot-lay_slots-requires-in-Links g t c κs live =
     let v = c.requires.ready.value in
     let x = subst (λ (x : Item g.row.S-Numbers.Denot g.row.S-Rows.Denot). IsItem g.S.Source.packs g.S.Source.are x v)
     c.in-Links.is (c.item.ensures v c.requires.ready.is) in
-    let r = c.in_ok-own-in-Links.own in
-    let o = c.in_ok-own-in-Links.ensures v x.0 x.1 x.2 c.requires.ready.sound in
+    let r = c.open_links-own.result in
+    let p = words_in c.args.len c.args.out.now in
+    let q = words_in r.end c.open_links-own.new.out in
+    let o = c.open_links-own.ensures.opened v x.0 x.1 x.2 c.requires.ready.sound in
     let one = links-one c.in-Links.count v x.0 x.1 in
     let low = o.block.low in
     let high = c.requires.ready.low in
     let are = c.slots-in-Links.ensures x.0 x.2 in
-    let ready = one-ready v x.0 c.args.from c.args.draft.now c.open_links.new.draft r.first r.words r.slots
-    c.args.depth o c.requires.ready.room
-    c.requires.ready.low
-    g.S.Source.has c.slots-in-Links.result one are in
-    let inside = opened-first v x.0 c.args.from c.args.draft.now c.open_links.new.draft r.first r.words r.slots
-    c.args.depth o c.requires.ready.room
-    c.requires.ready.low one in
-    (omega arith, (live.0, (live.1.0, (live.1.1.0, (live.1.1.1, (ready, omega arith))))))
+    let same = c.open_links-own.ensures.kept.same in
+    let ready = subst (λ (k : ℕ). AreReady g.S.Source.has c.slots-in-Links.result 0 r.slots (c.args.depth - 1)
+    (length q) (k / 8))
+    (sym same) (one-ready v x.0 c.args.from p q r.first r.words r.slots c.args.depth o
+    c.requires.ready.room c.requires.ready.low
+    g.S.Source.has c.slots-in-Links.result one are) in
+    let inside = opened-first v x.0 c.args.from p q r.first r.words r.slots c.args.depth o
+    c.requires.ready.room c.requires.ready.low one in
+    let l = length-words_in r.end c.open_links-own.new.out in
+    let s = c.requires.short in
+    (omega arith, (live.0, (live.1.0, (live.1.1, (ready, (omega arith, omega arith))))))
 
-pub lay_slot-returns-in_ok-own-in-Links : goal.lay_slot-returns-in_ok-own-in-Links
-lay_slot-returns-in_ok-own-in-Links g t c =
-    on_ok_weaker c.lay_slots-in-Links.result
-    (λ l w h.
+pub lay_slot-returns-in-Links-clause-laid : goal.lay_slot-returns-in-Links-clause-laid
+lay_slot-returns-in-Links-clause-laid g t c w h =
     let v = c.requires.ready.value in
     let x = subst (λ (x : Item g.row.S-Numbers.Denot g.row.S-Rows.Denot). IsItem g.S.Source.packs g.S.Source.are x v)
     c.in-Links.is (c.item.ensures v c.requires.ready.is) in
-    let r = c.in_ok-own-in-Links.own in
-    let o = c.in_ok-own-in-Links.ensures v x.0 x.1 x.2 c.requires.ready.sound in
+    let r = c.open_links-own.result in
+    let p = words_in c.args.len c.args.out.now in
+    let q = words_in r.end c.open_links-own.new.out in
+    let o = c.open_links-own.ensures.opened v x.0 x.1 x.2 c.requires.ready.sound in
     let one = links-one c.in-Links.count v x.0 x.1 in
     let are = c.slots-in-Links.ensures x.0 x.2 in
     let e = g.met.S.Source.one c.args.source c.args.slot w v h c.requires.ready.is in
-    one-laid v x.0 c.args.from c.args.draft.now c.open_links.new.draft r.first r.words r.slots c.args.depth o
-    c.requires.ready.room
-    c.requires.ready.low
-    g.S.Source.has c.slots-in-Links.result one are c.lay_slots-in-Links.new.draft l
-    ∙ ap (λ (y : Tree). laid y (set c.args.draft.now c.args.from (point y c.args.from (length c.args.draft.now))))
-    (sym e))
-    c.lay_slots-in-Links.ensures
+    one-laid v x.0 c.args.from p q r.first r.words r.slots c.args.depth o
+    c.requires.ready.room c.requires.ready.low
+    g.S.Source.has c.slots-in-Links.result one are (words_in c.lay_slots-in-Links.result
+    c.lay_slots-in-Links.new.out) c.lay_slots-in-Links.ensures.laid
+    ∙ ap (λ (y : Tree). laid y (set p c.args.from (point y c.args.from (length p)))) (sym e)
+
+pub lay_slot-returns-in-Links-clause-kept : goal.lay_slot-returns-in-Links-clause-kept
+lay_slot-returns-in-Links-clause-kept g t c =
+    let v = c.requires.ready.value in
+    let x = subst (λ (x : Item g.row.S-Numbers.Denot g.row.S-Rows.Denot). IsItem g.S.Source.packs g.S.Source.are x v)
+    c.in-Links.is (c.item.ensures v c.requires.ready.is) in
+    let r = c.open_links-own.result in
+    let p = words_in c.args.len c.args.out.now in
+    let q = words_in r.end c.open_links-own.new.out in
+    let o = c.open_links-own.ensures.opened v x.0 x.1 x.2 c.requires.ready.sound in
+    let one = links-one c.in-Links.count v x.0 x.1 in
+    let are = c.slots-in-Links.ensures x.0 x.2 in
+    let grown = one-grown v x.0 c.args.from p q r.first r.words r.slots c.args.depth o
+    c.requires.ready.room c.requires.ready.low
+    g.S.Source.has c.slots-in-Links.result one are (words_in c.lay_slots-in-Links.result
+    c.lay_slots-in-Links.new.out) c.lay_slots-in-Links.ensures.laid in
+    let l = length-words_in r.end c.open_links-own.new.out in
+    let k = length-words_in c.lay_slots-in-Links.result c.lay_slots-in-Links.new.out in
+    kept-then r.end c.lay_slots-in-Links.result c.args.out.now c.open_links-own.new.out c.lay_slots-in-Links.new.out
+    (omega arith)
+    c.open_links-own.ensures.kept c.lay_slots-in-Links.ensures.kept
 
 -- ---- a list of structs
 
-pub lay_slot-open_rows-requires-clause-some : goal.lay_slot-open_rows-requires-clause-some
-lay_slot-open_rows-requires-clause-some g t c =
+pub lay_slot-open_rows-own-requires-clause-some : goal.lay_slot-open_rows-own-requires-clause-some
+lay_slot-open_rows-own-requires-clause-some g t c =
     let v = c.requires.ready.value in
     let x = subst (λ (x : Item g.row.S-Numbers.Denot g.row.S-Rows.Denot). IsItem g.S.Source.packs g.S.Source.are x v)
     c.in-Rows.is (c.item.ensures v c.requires.ready.is) in
-    (v, x.0, x.1, x.2, c.requires.ready.sound)
+    let l = length-words_in c.args.len c.args.out.now in
+    let r = c.requires.ready.room in
+    (v, x.0, x.1, x.2, c.requires.ready.sound, omega arith)
 
 pub lay_slot-lay_rows-requires : goal.lay_slot-lay_rows-requires
 lay_slot-lay_rows-requires g t c κs live =
     let v = c.requires.ready.value in
     let x = subst (λ (x : Item g.row.S-Numbers.Denot g.row.S-Rows.Denot). IsItem g.S.Source.packs g.S.Source.are x v)
     c.in-Rows.is (c.item.ensures v c.requires.ready.is) in
-    let r = c.in_ok-own-in-Rows.own in
-    let o = c.in_ok-own-in-Rows.ensures v x.0 x.1 x.2 c.requires.ready.sound in
+    let r = c.open_rows-own.result in
+    let p = words_in c.args.len c.args.out.now in
+    let q = words_in r.end c.open_rows-own.new.out in
+    let o = c.open_rows-own.ensures.opened v x.0 x.1 x.2 c.requires.ready.sound in
     let low = o.block.low in
     let high = c.requires.ready.low in
-    let ready = all-ready v x.0 c.args.from c.args.draft.now c.open_rows.new.draft r.first r.words r.slots
-    c.args.depth o c.requires.ready.room
-    c.requires.ready.low
+    let same = c.open_rows-own.ensures.kept.same in
+    let ready = subst (λ (k : ℕ). RowsReady g.S.Source.are c.in-Rows.rows 0 c.in-Rows.count r.words r.slots
+    (c.args.depth - 1)
+    (length q) (k / 8))
+    (sym same) (all-ready v x.0 c.args.from p q r.first r.words r.slots c.args.depth o
+    c.requires.ready.room c.requires.ready.low
+    g.S.Source.are c.in-Rows.rows c.in-Rows.count x.1.1 x.2) in
+    let inside = all-inside v x.0 c.args.from p q r.first r.words r.slots c.args.depth o
+    c.requires.ready.room c.requires.ready.low
     g.S.Source.are c.in-Rows.rows c.in-Rows.count x.1.1 x.2 in
-    let inside = all-inside v x.0 c.args.from c.args.draft.now c.open_rows.new.draft r.first r.words r.slots
-    c.args.depth o c.requires.ready.room c.requires.ready.low
-    g.S.Source.are c.in-Rows.rows c.in-Rows.count x.1.1 x.2 in
-    (omega arith, (live.0, (live.1.0, (live.1.1.0, (live.1.1.1, (ready, inside))))))
+    let l = length-words_in r.end c.open_rows-own.new.out in
+    let s = c.requires.short in
+    (omega arith, (live.0, (live.1.0, (live.1.1, (ready, (omega arith, omega arith))))))
 
-pub lay_slot-returns-in_ok-own-in-Rows : goal.lay_slot-returns-in_ok-own-in-Rows
-lay_slot-returns-in_ok-own-in-Rows g t c =
-    on_ok_weaker c.lay_rows.result
-    (λ l w h.
+pub lay_slot-returns-in-Rows-clause-laid : goal.lay_slot-returns-in-Rows-clause-laid
+lay_slot-returns-in-Rows-clause-laid g t c w h =
     let v = c.requires.ready.value in
     let x = subst (λ (x : Item g.row.S-Numbers.Denot g.row.S-Rows.Denot). IsItem g.S.Source.packs g.S.Source.are x v)
     c.in-Rows.is (c.item.ensures v c.requires.ready.is) in
-    let r = c.in_ok-own-in-Rows.own in
-    let o = c.in_ok-own-in-Rows.ensures v x.0 x.1 x.2 c.requires.ready.sound in
+    let r = c.open_rows-own.result in
+    let p = words_in c.args.len c.args.out.now in
+    let q = words_in r.end c.open_rows-own.new.out in
+    let o = c.open_rows-own.ensures.opened v x.0 x.1 x.2 c.requires.ready.sound in
     let e = g.met.S.Source.one c.args.source c.args.slot w v h c.requires.ready.is in
-    all-laid v x.0 c.args.from c.args.draft.now c.open_rows.new.draft r.first r.words r.slots c.args.depth o
+    all-laid v x.0 c.args.from p q r.first r.words r.slots c.args.depth o
     c.requires.ready.room c.requires.ready.low
-    g.S.Source.are c.in-Rows.rows c.in-Rows.count x.1.1 x.2 c.lay_rows.new.draft l
-    ∙ ap (λ (y : Tree). laid y (set c.args.draft.now c.args.from (point y c.args.from (length c.args.draft.now))))
-    (sym e))
-    c.lay_rows.ensures
+    g.S.Source.are c.in-Rows.rows c.in-Rows.count x.1.1 x.2 (words_in c.lay_rows.result c.lay_rows.new.out)
+    c.lay_rows.ensures.laid
+    ∙ ap (λ (y : Tree). laid y (set p c.args.from (point y c.args.from (length p)))) (sym e)
+
+pub lay_slot-returns-in-Rows-clause-kept : goal.lay_slot-returns-in-Rows-clause-kept
+lay_slot-returns-in-Rows-clause-kept g t c =
+    let v = c.requires.ready.value in
+    let x = subst (λ (x : Item g.row.S-Numbers.Denot g.row.S-Rows.Denot). IsItem g.S.Source.packs g.S.Source.are x v)
+    c.in-Rows.is (c.item.ensures v c.requires.ready.is) in
+    let r = c.open_rows-own.result in
+    let p = words_in c.args.len c.args.out.now in
+    let q = words_in r.end c.open_rows-own.new.out in
+    let o = c.open_rows-own.ensures.opened v x.0 x.1 x.2 c.requires.ready.sound in
+    let grown = all-grown v x.0 c.args.from p q r.first r.words r.slots c.args.depth o
+    c.requires.ready.room c.requires.ready.low
+    g.S.Source.are c.in-Rows.rows c.in-Rows.count x.1.1 x.2 (words_in c.lay_rows.result c.lay_rows.new.out)
+    c.lay_rows.ensures.laid in
+    let l = length-words_in r.end c.open_rows-own.new.out in
+    let k = length-words_in c.lay_rows.result c.lay_rows.new.out in
+    kept-then r.end c.lay_rows.result c.args.out.now c.open_rows-own.new.out c.lay_rows.new.out (omega arith)
+    c.open_rows-own.ensures.kept c.lay_rows.ensures.kept
 
 -- ---- slots
 
-pub lay_slots-loop-slot-init : goal.lay_slots-loop-slot-init
-lay_slots-loop-slot-init g t c = record {
-  rest = λ ts n are. slots-start c.args.count ts c.args.first c.args.draft.now;
-  inside = c.requires.inside;
-  ready = c.requires.ready;
-}
-
-pub lay_slots-overflow_add-first : goal.lay_slots-overflow_add-first
-lay_slots-overflow_add-first g t c =
-    let lt = c.loop-slot-test.true in
-    let h = c.loop-slot.invariant.inside in
-    let r = c.loop-slot.invariant.ready.room in
-    omega arith
-
-pub lay_slots-lay_slot-requires : goal.lay_slots-lay_slot-requires
-lay_slots-lay_slot-requires g t c κs live =
+pub lay_slots-lay_slot-end-requires : goal.lay_slots-lay_slot-end-requires
+lay_slots-lay_slot-end-requires g t c κs live =
     let i = c.loop-slot.slot in
     let lt = c.loop-slot-test.true in
     let inside = c.loop-slot.invariant.inside in
-    let ready = next-ready g.S.Source.has c.args.source c.args.count c.args.depth i lt (length c.loop-slot.draft)
-    c.loop-slot.invariant.ready in
-    (omega arith, (live.0, (live.1.0, (live.1.1.0, (live.1.1.1, (ready, omega arith))))))
+    let same = c.loop-slot.invariant.same.same in
+    let s = c.requires.short in
+    let ready = next-ready g.S.Source.has c.args.source c.args.count c.args.depth i lt
+    (length (words_in c.loop-slot.end c.loop-slot.out)) c.loop-slot.invariant.ready in
+    (omega arith, (live.0, (live.1.0, (live.1.1, (ready, (omega arith, omega arith))))))
 
 pub lay_slots-loop-slot-preserved : goal.lay_slots-loop-slot-preserved
 lay_slots-loop-slot-preserved g t c =
@@ -277,64 +376,68 @@ lay_slots-loop-slot-preserved g t c =
     let d = c.args.depth in
     let i = c.loop-slot.slot in
     let lt = c.loop-slot-test.true in
-    let p = c.loop-slot.draft in
-    let q = c.lay_slot.new.draft in
+    let p = words_in c.loop-slot.end c.loop-slot.out in
+    let q = words_in c.lay_slot-end.result c.lay_slot-end.new.out in
     let v = c.loop-slot.invariant in
-    let h = c.in_ok-lay_slot.ensures in
+    let h = c.lay_slot-end.ensures.laid in
+    let lp = length-words_in c.loop-slot.end c.loop-slot.out in
+    let lq = length-words_in c.lay_slot-end.result c.lay_slot-end.new.out in
+    let more = grown g.S.Source.has c.args.source n d i lt c.args.first p q v.ready h in
+    let kept = c.lay_slot-end.ensures.kept in
+    let le = v.inside in
     record {
       rest = λ ts m are. then-rest g.S.Source.has c.args.source n d i lt c.args.first p q v.ready h ts m are
           ∙ v.rest ts m are;
-      inside = then-inside g.S.Source.has c.args.source n d i lt c.args.first p q v.ready h (c.args.first + n) v.inside;
-      ready = then-ready g.S.Source.has c.args.source n d i lt c.args.first p q v.ready h;
+      inside = omega arith;
+      ready = subst (λ (k : ℕ). AreReady g.S.Source.has c.args.source (i + 1) n d (length q) (k / 8)) (sym kept.same)
+          (then-ready g.S.Source.has c.args.source n d i lt c.args.first p q v.ready h);
+      same = kept-then c.loop-slot.end c.lay_slot-end.result c.args.out.now c.loop-slot.out c.lay_slot-end.new.out
+          (omega arith) v.same kept;
     }
 
-pub lay_slots-returns : goal.lay_slots-returns
-lay_slots-returns g t c ts m are =
-    sym (slots-end c.args.count c.loop-slot.slot ts c.args.first c.loop-slot.draft c.loop-slot-test.false)
+pub lay_slots-returns-clause-laid : goal.lay_slots-returns-clause-laid
+lay_slots-returns-clause-laid g t c ts m are =
+    sym (slots-end c.args.count c.loop-slot.slot ts c.args.first (words_in c.loop-slot.end c.loop-slot.out)
+    c.loop-slot-test.false)
     ∙ c.loop-slot.invariant.rest ts m are
 
 -- ---- rows
 
-pub lay_rows-returns-then-slots-eq0 : goal.lay_rows-returns-then-slots-eq0
-lay_rows-returns-then-slots-eq0 g t c bs is e w s =
-    rows-empty c.args.words c.args.slots bs c.args.first c.args.draft.now c.if-slots-eq0.true
-
-pub lay_rows-loop-row-init : goal.lay_rows-loop-row-init
-lay_rows-loop-row-init g t c = record {
-  rest = λ bs is e w s. refl;
-  inside = let h = c.requires.inside in let z : c.args.count - 0 ≡ c.args.count = omega arith in rw z h;
-  ready = c.requires.ready;
-}
+pub lay_rows-returns-then-slots-eq0-clause-laid : goal.lay_rows-returns-then-slots-eq0-clause-laid
+lay_rows-returns-then-slots-eq0-clause-laid g t c bs is e w s =
+    rows-empty c.args.words c.args.slots bs c.args.first (words_in c.args.len c.args.out.now) c.if-slots-eq0.true
 
 pub lay_rows-overflow_add-from : goal.lay_rows-overflow_add-from
 lay_rows-overflow_add-from g t c =
-    let h = one-more c.loop-row.next c.args.words c.args.slots c.args.count c.loop-row.row (length c.loop-row.draft)
+    let h = one-more c.loop-row.next c.args.words c.args.slots c.args.count c.loop-row.row c.loop-row.end
     c.loop-row-test.true c.loop-row.invariant.inside in
     let r = c.loop-row.invariant.ready.room in
+    let l = length-words_in c.loop-row.end c.loop-row.out in
+    let same = c.loop-row.invariant.same.same in
+    let s = c.requires.short in
     omega arith
 
 pub lay_rows-overflow_add-next : goal.lay_rows-overflow_add-next
 lay_rows-overflow_add-next g t c =
-    let h = one-more c.loop-row.next c.args.words c.args.slots c.args.count c.loop-row.row (length c.loop-row.draft)
+    let h = one-more c.loop-row.next c.args.words c.args.slots c.args.count c.loop-row.row c.loop-row.end
     c.loop-row-test.true c.loop-row.invariant.inside in
     let r = c.loop-row.invariant.ready.room in
+    let l = length-words_in c.loop-row.end c.loop-row.out in
+    let same = c.loop-row.invariant.same.same in
+    let s = c.requires.short in
     omega arith
 
-pub lay_rows-slots-requires : goal.lay_rows-slots-requires
-lay_rows-slots-requires g t c =
-    let r = c.loop-row.invariant.ready in
-    let n = r.count in
-    let lt = c.loop-row-test.true in
-    (r.values, r.is, omega arith)
-
-pub lay_rows-lay_slots-requires : goal.lay_rows-lay_slots-requires
-lay_rows-lay_slots-requires g t c κs live =
-    let h = one-more c.loop-row.next c.args.words c.args.slots c.args.count c.loop-row.row (length c.loop-row.draft)
+pub lay_rows-lay_slots-end-requires : goal.lay_rows-lay_slots-end-requires
+lay_rows-lay_slots-end-requires g t c κs live =
+    let h = one-more c.loop-row.next c.args.words c.args.slots c.args.count c.loop-row.row c.loop-row.end
     c.loop-row-test.true c.loop-row.invariant.inside in
+    let same = c.loop-row.invariant.same.same in
+    let s = c.requires.short in
     let ready = row-ready g.S.Source.has g.S.Source.are c.args.rows c.slots.result c.args.count c.args.words
-    c.args.slots c.args.depth c.loop-row.row c.loop-row-test.true c.slots.ensures (length c.loop-row.draft)
+    c.args.slots c.args.depth c.loop-row.row c.loop-row-test.true c.slots.ensures
+    (length (words_in c.loop-row.end c.loop-row.out))
     c.loop-row.invariant.ready in
-    (omega arith, (live.0, (live.1.0, (live.1.1.0, (live.1.1.1, (ready, omega arith))))))
+    (omega arith, (live.0, (live.1.0, (live.1.1, (ready, (omega arith, omega arith))))))
 
 pub lay_rows-loop-row-preserved : goal.lay_rows-loop-row-preserved
 lay_rows-loop-row-preserved g t c =
@@ -343,21 +446,33 @@ lay_rows-loop-row-preserved g t c =
     let b = c.args.slots in
     let i = c.loop-row.row in
     let lt = c.loop-row-test.true in
-    let p = c.loop-row.draft in
-    let q = c.lay_slots.new.draft in
+    let p = words_in c.loop-row.end c.loop-row.out in
+    let q = words_in c.lay_slots-end.result c.lay_slots-end.new.out in
     let v = c.loop-row.invariant in
-    let h = c.in_ok-lay_slots.ensures in
+    let h = c.lay_slots-end.ensures.laid in
+    let lp = length-words_in c.loop-row.end c.loop-row.out in
+    let lq = length-words_in c.lay_slots-end.result c.lay_slots-end.new.out in
+    let more = (grown-row g.S.Source.has g.S.Source.are c.args.rows c.slots.result n a b c.args.depth i
+    lt c.slots.ensures c.loop-row.next p q v.ready h).0 in
+    let kept = c.lay_slots-end.ensures.kept in
     record {
       rest = λ bs is e w s. row-then-rest g.S.Source.has g.S.Source.are c.args.rows c.slots.result n a b c.args.depth i
           lt c.slots.ensures c.loop-row.next p q v.ready h bs is e w s ∙ v.rest bs is e w s;
-      inside = row-then-inside g.S.Source.has g.S.Source.are c.args.rows c.slots.result n a b c.args.depth i lt
-          c.slots.ensures c.loop-row.next p q v.ready h v.inside;
-      ready = row-then-ready g.S.Source.has g.S.Source.are c.args.rows c.slots.result n a b c.args.depth i lt
-          c.slots.ensures c.loop-row.next p q v.ready h;
+      inside = subst (λ (k : ℕ). c.loop-row.next + a + b + (n - (i + 1)) * (a + b) ≤ k) lq
+          (row-then-inside g.S.Source.has g.S.Source.are c.args.rows c.slots.result n a b c.args.depth i lt
+          c.slots.ensures c.loop-row.next p q v.ready h
+          (subst (λ (k : ℕ). c.loop-row.next + (n - i) * (a + b) ≤ k) (sym lp) v.inside));
+      ready = subst (λ (k : ℕ). RowsReady g.S.Source.are c.args.rows (i + 1) n a b c.args.depth (length q) (k / 8))
+          (sym kept.same)
+          (row-then-ready g.S.Source.has g.S.Source.are c.args.rows c.slots.result n a b c.args.depth i lt
+          c.slots.ensures c.loop-row.next p q v.ready h);
+      same = kept-then c.loop-row.end c.lay_slots-end.result c.args.out.now c.loop-row.out c.lay_slots-end.new.out
+          (omega arith) v.same kept;
     }
 
-pub lay_rows-returns : goal.lay_rows-returns
-lay_rows-returns g t c bs is e w s =
-    sym (rows-end c.args.words c.args.slots c.loop-row.row bs c.loop-row.next c.loop-row.draft
+pub lay_rows-returns-clause-laid : goal.lay_rows-returns-clause-laid
+lay_rows-returns-clause-laid g t c bs is e w s =
+    sym (rows-end c.args.words c.args.slots c.loop-row.row bs c.loop-row.next
+    (words_in c.loop-row.end c.loop-row.out)
     (let f = c.loop-row-test.false in omega arith))
     ∙ c.loop-row.invariant.rest bs is e w s

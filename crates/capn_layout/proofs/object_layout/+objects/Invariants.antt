@@ -1,6 +1,8 @@
-use Rattle.std.proofs.Common.{◌≡◌, ◌+◌, ◌-◌, ◌*◌, ◌≤◌, length}
+use Rattle.std.proofs.Common.{◌≡◌, ◌+◌, ◌-◌, ◌*◌, ◌/◌, ◌≤◌, length}
 use Rattle.capn_value.specs.Tree.{Trees, Bodies, tree_at, count, count_rows}
 use Rattle.std.proofs.Common.{ℕ, ◌<◌}
+use Rattle.capn_words.specs.Message.{words_in}
+use Rattle.capn_layout.specs.inner.Draft.{IsKept}
 use Rattle.capn_layout.specs.LayoutSteps.{laid_slots, laid_rows, past, rows_past}
 use Rattle.capn_layout.specs.Ready.{AreReady, RowsReady}
 use Rattle.capn_layout.specs.Sound.{AreWide, SoundRows}
@@ -18,17 +20,20 @@ decreases-lay_rows g l = 4 * l.depth + 2
 abbrev pub invariant-lay_slots-loop-slot : goal.invariant-lay_slots-loop-slot
 invariant-lay_slots-loop-slot g l = record {
   rest : (ts : Trees) → l.count ≤ count ts → ((k : ℕ) → k < l.count → g.S.Source.has l.source k (tree_at ts k))
-      → laid_slots (l.count - l.slot) (past l.slot ts) (l.first + l.slot) l.draft
-      ≡ laid_slots l.count ts l.first l.initial.draft;
-  inside : l.first + l.count ≤ length l.draft;
-  ready : AreReady g.S.Source.has l.source l.slot l.count l.depth (length l.draft);
+      → laid_slots (l.count - l.slot) (past l.slot ts) (l.first + l.slot) (words_in l.end l.out)
+      ≡ laid_slots l.count ts l.first (words_in l.len l.initial.out);
+  inside : l.first + l.count ≤ l.end;
+  ready : AreReady g.S.Source.has l.source l.slot l.count l.depth (length (words_in l.end l.out)) (length l.out / 8);
+  same : IsKept l.end l.initial.out l.out;
 }
 
 abbrev pub invariant-lay_rows-loop-row : goal.invariant-lay_rows-loop-row
 invariant-lay_rows-loop-row g l = record {
   rest : (bs : Bodies) → g.S.Source.are l.rows bs → count_rows bs ≡ l.count → AreWide l.words l.slots bs → SoundRows bs
-      → laid_rows l.words l.slots (rows_past l.row bs) l.next l.draft
-      ≡ laid_rows l.words l.slots bs l.first l.initial.draft;
-  inside : l.next + (l.count - l.row) * (l.words + l.slots) ≤ length l.draft;
-  ready : RowsReady g.S.Source.are l.rows l.row l.count l.words l.slots l.depth (length l.draft);
+      → laid_rows l.words l.slots (rows_past l.row bs) l.next (words_in l.end l.out)
+      ≡ laid_rows l.words l.slots bs l.first (words_in l.len l.initial.out);
+  inside : l.next + (l.count - l.row) * (l.words + l.slots) ≤ l.end;
+  ready : RowsReady g.S.Source.are l.rows l.row l.count l.words l.slots l.depth (length (words_in l.end l.out))
+      (length l.out / 8);
+  same : IsKept l.end l.initial.out l.out;
 }

@@ -1,23 +1,29 @@
-use Rattle.std.proofs.Common.{ℕ, [], ◌∷◌, ◌++◌, List, length, ap, sym, subst, ◌∙◌, arith}
-use Rattle.capn_words.specs.Message.{bytes}
-use Rattle.capn_layout.specs.Ready.{IsReady}
-use Rattle.capn_layout.proofs.writer.Stepwise.{laid-words}
+use Rattle.std.proofs.Common.{ℕ, ◌++◌, List, length, take, drop, ap, ◌∙◌, arith, append_assoc}
+use Rattle.std.proofs.lemmas.List.{take_at}
+use Rattle.capn_layout.specs.Layout.{canon}
+use Rattle.capn_layout.proofs.shared.Room.{length-canon}
 use Rattle.capn_layout.proofs.object_layout.canonical_bytes.Goals as goal
 
-pub lay_slot-requires-clause-ready : goal.lay_slot-requires-clause-ready
-lay_slot-requires-clause-ready g c =
-    let e = c.in_ok-push.ensures ∙ ap (λ (x : List ℕ). x ++ 0 ∷ []) c.in_ok-draft.ensures in
-    subst (λ (n : ℕ). IsReady g.S.Source.has c.args.source 0 c.args.depth n) (sym (ap length e)) c.requires
-
-pub lay_slot-requires-clause-inside : goal.lay_slot-requires-clause-inside
-lay_slot-requires-clause-inside g c =
-    let e = c.in_ok-push.ensures ∙ ap (λ (x : List ℕ). x ++ 0 ∷ []) c.in_ok-draft.ensures in
-    let l = ap length e in
-    omega arith
+pub size_of_slot-requires : goal.size_of_slot-requires
+size_of_slot-requires g c =
+    let r = c.requires in
+    let room = r.room in
+    record { value = r.value; is = r.is; sound = r.sound; low = r.low; room = omega arith }
 
 pub returns : goal.returns
 returns g c v h =
-    c.finish.ensures
-    ∙ ap bytes (laid-words v c.push.new.self c.lay_slot.new.draft
-    (c.in_ok-push.ensures ∙ ap (λ (x : List ℕ). x ++ 0 ∷ []) c.in_ok-draft.ensures)
-    (c.in_ok-lay_slot.ensures v h))
+    let r = c.requires in
+    let laid = c.lay_root.ensures v h in
+    let own = c.lay_root.ensures r.value r.is in
+    let a = laid.0 in
+    let b = own.0 in
+    let l = length-canon r.value r.sound in
+    let n = c.size_of_slot.ensures r.value r.is in
+    let room = r.room in
+    let len = c.in_ok-resize.ensures.len in
+    let items = c.resize.new.self.items in
+    let past = drop (length (canon v)) c.as_mut_slice.result.now in
+    let behind = drop (length c.lay_root.new.out) items in
+    ap (λ (x : List ℕ). take c.resize.new.self.len (x ++ behind)) laid.1
+    ∙ ap (take c.resize.new.self.len) (append_assoc (canon v) past behind)
+    ∙ take_at (canon v) (past ++ behind) c.resize.new.self.len (omega arith)

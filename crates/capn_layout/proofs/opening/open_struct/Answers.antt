@@ -1,7 +1,10 @@
 use Rattle.std.proofs.Common.{ℕ, ap, ◌∙◌, sym, subst, arith}
+use Rattle.capn_words.specs.Message.{words_in}
+use Rattle.capn_words.proofs.shared.Words.{length-words_in}
 use Rattle.capn_layout.specs.Layout.{struct_to}
 use Rattle.capn_layout.specs.Ready.{IsOpened}
-use Rattle.capn_layout.proofs.writer.Opened.{struct-short, struct-wide, struct-opened}
+use Rattle.capn_layout.proofs.writer.Drafted.{kept-then}
+use Rattle.capn_layout.proofs.writer.Opened.{struct-short, struct-wide, struct-fits, struct-opened, grown-end}
 use Rattle.capn_layout.proofs.opening.open_struct.Goals as goal
 
 pub kept_words-words-requires : goal.kept_words-words-requires
@@ -9,6 +12,9 @@ kept_words-words-requires g c = (c.requires.some.1, c.requires.some.3)
 
 pub kept_slots-slots-requires : goal.kept_slots-slots-requires
 kept_slots-slots-requires g c = (c.requires.some.1, c.requires.some.3)
+
+pub struct_pointer-word-requires-clause-room : goal.struct_pointer-word-requires-clause-room
+struct_pointer-word-requires-clause-room g c = let f = c.requires.some.5 in let s = c.requires.short in omega arith
 
 pub struct_pointer-word-requires-clause-words : goal.struct_pointer-word-requires-clause-words
 struct_pointer-word-requires-clause-words g c =
@@ -22,29 +28,52 @@ struct_pointer-word-requires-clause-slots g c =
     (struct-short x.0 x.1 x.2 x.4 c.kept_words-words.result c.kept_slots-slots.result
     (c.kept_words-words.ensures x.1 x.3) (c.kept_slots-slots.ensures x.1 x.3)).1
 
-pub append_rows-requires : goal.append_rows-requires
-append_rows-requires g c =
+pub put-requires : goal.put-requires
+put-requires g c = let f = c.requires.some.5 in let o = c.requires.order in omega arith
+
+pub append_rows-end-requires : goal.append_rows-end-requires
+append_rows-end-requires g c =
     let x = c.requires.some in
     let a = c.kept_words-words.ensures x.1 x.3 in
     let b = c.kept_slots-slots.ensures x.1 x.3 in
     let s = struct-short x.0 x.1 x.2 x.4 c.kept_words-words.result c.kept_slots-slots.result a b in
-    let n = s.1 in (
+    let n = s.1 in
+    let f = struct-fits x.0 x.1 x.2 x.4 c.kept_words-words.result c.kept_slots-slots.result a b in
+    let r = x.5 in
+    let k = (c.put.ensures c.args.len c.requires.order (omega arith)).kept.same in (
       x.1,
       x.3,
       struct-wide x.0 x.1 x.2 x.4 c.kept_words-words.result c.kept_slots-slots.result a b,
       s.0,
       omega arith,
+      omega arith,
     )
 
-pub returns : goal.returns
-returns g c v bs h is s =
-    subst (λ (j : ℕ). IsOpened v bs c.args.from c.args.draft.now c.append_rows.new.draft j c.kept_words-words.result
-    c.kept_slots-slots.result) (sym c.len-first.ensures)
-    (struct-opened v bs h s c.kept_words-words.result c.kept_slots-slots.result (c.kept_words-words.ensures bs is)
-    (c.kept_slots-slots.ensures bs is) c.args.from c.struct_pointer-word.result c.args.draft.now c.put.new.self
-    c.append_rows.new.draft
-    (c.struct_pointer-word.ensures
-    ∙ ap (λ (j : ℕ). struct_to c.args.from j c.kept_words-words.result c.kept_slots-slots.result) c.len-first.ensures)
-    c.put.ensures
-    (c.in_ok-append_rows.ensures bs is (struct-wide v bs h s c.kept_words-words.result c.kept_slots-slots.result
+pub returns-clause-opened : goal.returns-clause-opened
+returns-clause-opened g c v bs h is s =
+    let p = words_in c.args.len c.args.out.now in
+    let r = words_in c.append_rows-end.result c.append_rows-end.new.out in
+    let l = length-words_in c.args.len c.args.out.now in
+    let f = c.requires.some.5 in
+    let a = c.kept_words-words.result in
+    let b = c.kept_slots-slots.result in
+    subst (λ (j : ℕ). IsOpened v bs c.args.from p r j a b) l
+    (struct-opened v bs h s a b (c.kept_words-words.ensures bs is)
+    (c.kept_slots-slots.ensures bs is) c.args.from c.struct_pointer-word.result p
+    (words_in c.args.len c.put.new.out) r
+    (c.struct_pointer-word.ensures ∙ ap (λ (j : ℕ). struct_to c.args.from j a b) (sym l))
+    (c.put.ensures c.args.len c.requires.order (omega arith)).words
+    (c.append_rows-end.ensures.grown bs is (struct-wide v bs h s a b
     (c.kept_words-words.ensures bs is) (c.kept_slots-slots.ensures bs is))))
+
+pub returns-clause-kept : goal.returns-clause-kept
+returns-clause-kept g c =
+    let x = c.requires.some in
+    let a = c.kept_words-words.result in
+    let b = c.kept_slots-slots.result in
+    let f = x.5 in
+    kept-then c.args.len c.append_rows-end.result c.args.out.now c.put.new.out c.append_rows-end.new.out
+    (grown-end a b x.1 c.args.len c.append_rows-end.result c.put.new.out c.append_rows-end.new.out
+    (c.append_rows-end.ensures.grown x.1 x.3 (struct-wide x.0 x.1 x.2 x.4 a b
+    (c.kept_words-words.ensures x.1 x.3) (c.kept_slots-slots.ensures x.1 x.3))))
+    (c.put.ensures c.args.len c.requires.order (omega arith)).kept c.append_rows-end.ensures.kept

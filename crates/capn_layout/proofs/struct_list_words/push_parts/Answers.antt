@@ -1,16 +1,26 @@
-use Rattle.std.proofs.Common.{ℕ, ◌+◌, List, take, ap, ◌++◌, ◌∙◌, arith}
-use Rattle.std.proofs.lemmas.Result.{on_ok_weaker}
+use Rattle.std.proofs.Common.{◌+◌, take, ◌∙◌, arith, append_assoc}
+use Rattle.capn_words.specs.Message.{words_in}
 use Rattle.capn_walk.specs.ValueAt.{words_from}
-use Rattle.capn_layout.proofs.shared.Copied.{whole-bytes, copy-of}
+use Rattle.capn_layout.proofs.shared.Copied.{whole-bytes, copied, copied-end, length-copied}
 use Rattle.capn_layout.proofs.shared.EachRow.{copy-parts}
+use Rattle.capn_layout.proofs.writer.Drafted.{appends-then}
 use Rattle.capn_layout.proofs.struct_list_words.push_parts.Goals as goal
 
-pub extend-requires : goal.extend-requires
-extend-requires g c =
+pub extend-requires-clause-whole : goal.extend-requires-clause-whole
+extend-requires-clause-whole g c =
     let e = c.if-words-size.true in
     let h = c.requires.content.within in
     whole-bytes (g.S.Space.message c.args.space.now) c.args.start.segment c.args.start.word
     (c.args.words + c.args.slots) c.bytes.result.now (omega arith) c.bytes.ensures
+
+pub extend-requires-clause-room : goal.extend-requires-clause-room
+extend-requires-clause-room g c =
+    let e = c.if-words-size.true in
+    let h = c.requires.content.within in
+    let r = c.requires.room in
+    let l = length-copied (g.S.Space.message c.args.space.now) c.args.start.segment c.args.start.word
+    (c.args.words + c.args.slots) c.bytes.result.now (omega arith) c.bytes.ensures in
+    omega arith
 
 pub returns-then-words-size : goal.returns-then-words-size
 returns-then-words-size g c =
@@ -19,24 +29,52 @@ returns-then-words-size g c =
     let w = c.args.start.word in
     let e = c.if-words-size.true in
     let h = c.requires.content.within in
-    on_ok_weaker c.extend.result
-    (λ o. copy-parts m s w c.args.words c.args.slots c.args.size c.args.draft.now c.extend.new.self e
-    (copy-of m s w (c.args.words + c.args.slots) c.args.draft.now c.extend.new.self c.bytes.result.now
-    c.requires.message (omega arith) c.bytes.ensures o))
-    c.extend.ensures
+    let a = copied m s w (c.args.words + c.args.slots) c.args.len c.extend.result c.args.out.now c.extend.new.out
+    c.bytes.result.now c.requires.message (omega arith) c.bytes.ensures c.extend.ensures in
+    let p = words_in c.args.len c.args.out.now in
+    record {
+      words =
+          copy-parts m s w c.args.words c.args.slots c.args.size p (words_in c.extend.result c.extend.new.out) e a.words
+          ∙ append_assoc p (take c.args.words (words_from m s w))
+          (take c.args.slots (words_from m s (w + c.args.size)));
+      kept = a.kept;
+    }
 
-pub extend-requires-2 : goal.extend-requires-2
-extend-requires-2 g c =
+pub extend-end-requires-clause-whole : goal.extend-end-requires-clause-whole
+extend-end-requires-clause-whole g c =
     let h = c.requires.content.within in
     let p = c.requires.part in
     whole-bytes (g.S.Space.message c.args.space.now) c.args.start.segment c.args.start.word c.args.words
     c.bytes-2.result.now (omega arith) c.bytes-2.ensures
 
-pub extend-requires-3 : goal.extend-requires-3
-extend-requires-3 g c =
+pub extend-end-requires-clause-room : goal.extend-end-requires-clause-room
+extend-end-requires-clause-room g c =
+    let h = c.requires.content.within in
+    let p = c.requires.part in
+    let r = c.requires.room in
+    let l = length-copied (g.S.Space.message c.args.space.now) c.args.start.segment c.args.start.word c.args.words
+    c.bytes-2.result.now (omega arith) c.bytes-2.ensures in
+    omega arith
+
+pub extend-requires-2-clause-whole : goal.extend-requires-2-clause-whole
+extend-requires-2-clause-whole g c =
     let h = c.requires.content.within in
     whole-bytes (g.S.Space.message c.args.space.now) c.args.start.segment (c.args.start.word + c.args.size) c.args.slots
     c.bytes-3.result.now (omega arith) c.bytes-3.ensures
+
+pub extend-requires-2-clause-room : goal.extend-requires-2-clause-room
+extend-requires-2-clause-room g c =
+    let m = g.S.Space.message c.args.space.now in
+    let s = c.args.start.segment in
+    let w = c.args.start.word in
+    let h = c.requires.content.within in
+    let p = c.requires.part in
+    let r = c.requires.room in
+    let e = copied-end m s w c.args.words c.args.len c.extend-end.result c.args.out.now c.extend-end.new.out
+    c.bytes-2.result.now c.requires.message (omega arith) c.bytes-2.ensures c.extend-end.ensures in
+    let k = c.extend-end.ensures.kept.same in
+    let l = length-copied m s (w + c.args.size) c.args.slots c.bytes-3.result.now (omega arith) c.bytes-3.ensures in
+    omega arith
 
 pub returns : goal.returns
 returns g c =
@@ -45,10 +83,9 @@ returns g c =
     let w = c.args.start.word in
     let h = c.requires.content.within in
     let p = c.requires.part in
-    let first = copy-of m s w c.args.words c.args.draft.now c.extend-2.new.self c.bytes-2.result.now c.requires.message
-    (omega arith) c.bytes-2.ensures c.in_ok-extend.ensures in
-    on_ok_weaker c.extend-3.result
-    (λ o. copy-of m s (w + c.args.size) c.args.slots c.extend-2.new.self c.extend-3.new.self c.bytes-3.result.now
-    c.requires.message (omega arith) c.bytes-3.ensures o
-    ∙ ap (λ (x : List ℕ). x ++ take c.args.slots (words_from m s (w + c.args.size))) first)
-    c.extend-3.ensures
+    let a = copied m s w c.args.words c.args.len c.extend-end.result c.args.out.now c.extend-end.new.out
+    c.bytes-2.result.now c.requires.message (omega arith) c.bytes-2.ensures c.extend-end.ensures in
+    let b = copied m s (w + c.args.size) c.args.slots c.extend-end.result c.extend-2.result c.extend-end.new.out
+    c.extend-2.new.out c.bytes-3.result.now c.requires.message (omega arith) c.bytes-3.ensures c.extend-2.ensures in
+    appends-then c.args.len c.extend-end.result c.extend-2.result (take c.args.words (words_from m s w))
+    (take c.args.slots (words_from m s (w + c.args.size))) c.args.out.now c.extend-end.new.out c.extend-2.new.out a b

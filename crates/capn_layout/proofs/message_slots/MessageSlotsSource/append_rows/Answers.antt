@@ -1,5 +1,4 @@
-use Rattle.std.proofs.Common.{◌+◌, arith}
-use Rattle.std.proofs.lemmas.Result.{on_ok_weaker}
+use Rattle.std.proofs.Common.{ℕ, ◌+◌, ◌*◌, ap, arith}
 use Rattle.capn_layout.specs.RowWords.{row_cells}
 use Rattle.capn_layout.proofs.shared.EachRow.{cells-over, wide-part}
 use Rattle.capn_layout.proofs.message_slots.MessageSlotsSource.append_rows.Goals as goal
@@ -24,15 +23,22 @@ push_rows-requires-clause-part g c lt =
 pub push_rows-requires-clause-short : goal.push_rows-requires-clause-short
 push_rows-requires-clause-short g c = let a = c.requires.3 in let b = c.requires.4 in omega arith
 
-pub returns : goal.returns
-returns g c =
+pub push_rows-requires-clause-room : goal.push_rows-requires-clause-room
+push_rows-requires-clause-room g c =
+    let e = ap (λ (n : ℕ). n * (c.args.words + c.args.slots)) c.requires.1.number in
+    let r = c.requires.5 in
+    omega arith
+
+pub returns-clause-grown : goal.returns-clause-grown
+returns-clause-grown g c bs h wide =
     let r = c.args.rows in
     let m = g.S.Space.message r.space.now in
-    on_ok_weaker c.push_rows.result
-    (λ e bs h wide. record {
+    record {
       cells = row_cells m r.start.segment r.start.word (r.words + r.slots) r.words c.args.words c.args.slots r.count;
       over = cells-over m bs r.words r.slots r.start.segment r.start.word r.count c.args.words c.args.slots h.rows
           h.number wide h.content.within;
-      grown = e;
-    })
-    c.push_rows.ensures
+      grown = c.push_rows.ensures.words;
+    }
+
+pub returns-clause-kept : goal.returns-clause-kept
+returns-clause-kept g c = c.push_rows.ensures.kept
