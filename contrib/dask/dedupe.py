@@ -11,6 +11,7 @@ import argparse
 import os
 import subprocess
 import sys
+import tempfile
 from dataclasses import dataclass, field
 from typing import Any, BinaryIO
 
@@ -79,7 +80,10 @@ def messages_of(listing: bytes) -> list[Message]:
 def cut(path: str, most: int) -> list[Part]:
     """The parts of a file: whole messages, at most this many bytes of them, or a single longer one."""
     with open(path, "rb") as file:
-        messages = messages_of(capn("list", "--keep-going", stdin=file))
+        try:
+            messages = messages_of(capn("list", "--keep-going", stdin=file))
+        except RuntimeError as fault:
+            raise RuntimeError(f"{path}: {fault}") from None
     parts, begin, end = [], 0, 0
     for message in messages:
         if begin < end and message.end - begin > most:
@@ -149,6 +153,23 @@ def told(report: Report) -> str:
     return "\n".join(lines)
 
 
+def write(client: Client, paths: list[str], options: argparse.Namespace) -> Report:
+    """Writes the result beside its place, and puts it there once it is whole. Until then what was there stays."""
+    folder, name = os.path.split(os.path.abspath(options.out))
+    with tempfile.NamedTemporaryFile(dir=folder, prefix=f".{name}.", delete=False) as out:
+        try:
+            report = dedupe(client, paths, out, options.most, options.canonical)
+            out.close()
+            mask = os.umask(0)
+            os.umask(mask)
+            os.chmod(out.name, 0o666 & ~mask)
+            os.replace(out.name, os.path.join(folder, name))
+        except BaseException:
+            os.unlink(out.name)
+            raise
+    return report
+
+
 def main() -> int:
     parser = argparse.ArgumentParser(description="Frees archives of duplicates over the workers of a Dask cluster.")
     parser.add_argument("--scheduler", help="the address of the scheduler; without it, this process does it all")
@@ -159,8 +180,12 @@ def main() -> int:
     options = parser.parse_args()
     paths = [os.path.abspath(path) for path in options.archives]
     client = Client(options.scheduler) if options.scheduler else Client(processes=False, dashboard_address=":0")
-    with client, open(options.out, "wb") as out:
-        report = dedupe(client, paths, out, options.most, options.canonical)
+    with client:
+        try:
+            report = write(client, paths, options)
+        except (RuntimeError, OSError) as fault:
+            print(f"dedupe: {fault}", file=sys.stderr)
+            return 3
     print(told(report))
     return 1 if report.refused else 0
 

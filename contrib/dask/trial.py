@@ -45,12 +45,28 @@ def by_one_process(data: bytes, *words: str) -> tuple[bytes, str]:
     return ran.stdout, ran.stderr.decode().removeprefix("capn: ").strip()
 
 
-def by_command(paths: list[str]) -> tuple[bytes, str]:
-    """What the example's own command writes in canonical form, without other workers, and its last line."""
+def run_command(paths: list[str]) -> subprocess.CompletedProcess[bytes]:
+    """Runs the example's own command, without other workers, with the result in the file framed."""
     script = Path(__file__).with_name("dedupe.py")
     words = [sys.executable, "-B", str(script), "--canonical", "--most", str(MOST), "framed", *paths]
-    ran = subprocess.run(words, stdout=subprocess.PIPE, check=False)
+    return subprocess.run(words, capture_output=True, check=False)
+
+
+def by_command(paths: list[str]) -> tuple[bytes, str]:
+    """What the example's own command writes in canonical form, and its last line."""
+    ran = run_command(paths)
     return Path("framed").read_bytes(), ran.stdout.decode().strip().split("\n")[-1]
+
+
+def is_named(paths: list[str]) -> bool:
+    """Whether a file that is cut is named, and the result of an earlier run stays, with nothing beside it."""
+    before = Path("framed").read_bytes()
+    cut = Path("cut.messages")
+    cut.write_bytes(Path(paths[0]).read_bytes()[:-8])
+    files = sorted(os.listdir("."))
+    ran = run_command([paths[1], str(cut)])
+    is_told = f"{cut.absolute()}: ".encode() in ran.stderr and b"frame: Cut" in ran.stderr
+    return ran.returncode == 3 and is_told and Path("framed").read_bytes() == before and sorted(os.listdir(".")) == files
 
 
 def is_counted(report: Report, data: bytes) -> bool:
@@ -74,6 +90,7 @@ def main() -> int:
     passed = {
         "the archive is that of one process": out.getvalue() == kept,
         "so it is in canonical form": by_command(paths) == (canonical, line),
+        "a file that is cut is named, and the old result stays": is_named(paths),
         "the counts and refusals are those of one process": is_counted(report, data),
         "a worker was ended that had answers": out.lost > 0 and is_ended,
     }
