@@ -15,7 +15,7 @@ WishesVersion usage = kind_of (error_of usage) ≡ kinds.DisplayVersion
 
 -- the line of the version
 abbrev pub version_line : List ℕ
-version_line = codes "capn 0.1.0\n"
+version_line = codes "capn 1.0.0\n"
 
 -- a reason of this kind why the words order nothing: memory was refused; or it is among those of the parser's first
 -- step that fails, a request for help or for the version being one; or no step fails, and with the values of their

@@ -4,10 +4,10 @@
 use capn_tool::help::Page;
 
 /// The version, which is that of the file VERSION.
-pub const VERSION: &str = "0.1.0";
+pub const VERSION: &str = "1.0.0";
 
 /// The line of the version.
-pub const VERSION_LINE: &[u8] = b"capn 0.1.0\n";
+pub const VERSION_LINE: &[u8] = b"capn 1.0.0\n";
 
 /// The program.
 pub const PROGRAM: Page = Page {

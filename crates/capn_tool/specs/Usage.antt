@@ -36,7 +36,7 @@ Orders command (Err usage) = NeedsMemory usage
 -- the first line of every help, which names the version, and an empty line
 abbrev pub help_title : List ℕ
 help_title =
-    codes "capn 0.1.0: Cap'n Proto messages without a schema, standard input to output\n\n"
+    codes "capn 1.0.0: Cap'n Proto messages without a schema, standard input to output\n\n"
 
 -- a text of help begins with its title; what the parser of the command line says follows
 abbrev pub IsHelp : List ℕ → Type 0

@@ -15,7 +15,7 @@ pub struct Page {
 
 /// The first line of every help, which names the version, and an empty line.
 pub const TITLE: &str =
-    "capn 0.1.0: Cap'n Proto messages without a schema, standard input to output\n\n";
+    "capn 1.0.0: Cap'n Proto messages without a schema, standard input to output\n\n";
 
 /// The program.
 pub const PROGRAM: Page = Page {
