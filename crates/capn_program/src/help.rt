@@ -107,7 +107,8 @@ with `use` has options that leave room: four times the words and the price, and
 twice the depth, as far as each option goes.
 The limits that are given hold here too: a message past them is refused.
 With `--keep-going` a message that is refused counts in N alone.
-The input may have any length.
+The input may have any length. If it has no message, the first line is
+`messages 0`, and the last one has the least limits.
 
 Exit status:
   0  Done
@@ -120,7 +121,7 @@ With 1 and 3 one line on standard error says why; the manual page explains it
 under DIAGNOSTICS.
 
 Example:
-  capn limits --budget 268435456 --depth 256 < messages",
+  capn limits --message-words 268435456 --budget 268435456 --depth 256 < A",
 };
 
 /// `canonical`.
@@ -161,8 +162,7 @@ capability has no canonical bytes and is refused.
 With `--count` nothing is written but a line `U of N` at the end. U messages
 would be written, of N that were not refused.
 Each message is answered as soon as it is complete, and the input may have any
-length. Memory grows by some 50 bytes for each message that is written, or by
-72 if their digests come in ascending order.
+length. Memory grows by at most 72 bytes for each message that is written.
 
 Exit status:
   0  Done
@@ -204,21 +204,40 @@ Example:
   capn pick --from 3 --to 3 < messages > message",
 };
 
-/// `pack`: as it is without an option, except the usage.
+/// `pack`, with `--streaming`.
 pub const PACK: Page = Page {
     usage: "capn pack [OPTIONS] < INPUT",
     about: "Packs the input, whose bytes are whole words",
     more: "Exit status:
   0  Done
-  1  The number of bytes is no multiple of 8, and nothing was written
+  1  The number of bytes is no multiple of 8; only with `--streaming` something
+     was written
   2  The command line is wrong
-  3  Reading or writing failed, the input is longer than 2^32 bytes, or memory
-     ran out
+  3  Reading or writing failed, the input is longer than 2^32 bytes, or with
+     `--streaming` than 2^64 - 1, or memory ran out
 With 1 and 3 one line on standard error says why; the manual page explains it
 under DIAGNOSTICS.
 
 Example:
   capn pack < message > message.packed",
+};
+
+/// `unpack`, with `--streaming`.
+pub const UNPACK: Page = Page {
+    usage: "capn unpack [OPTIONS] < INPUT",
+    about: "Unpacks the input, which is packed",
+    more: "Exit status:
+  0  Done
+  1  The input is cut or holds too many words; only with `--streaming` something
+     was written
+  2  The command line is wrong
+  3  Reading or writing failed, the input is longer than 2^32 bytes, or with
+     `--streaming` than 2^64 - 1, or memory ran out
+With 1 and 3 one line on standard error says why; the manual page explains it
+under DIAGNOSTICS.
+
+Example:
+  capn unpack < message.packed > message",
 };
 
 /// `make`.

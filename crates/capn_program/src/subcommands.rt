@@ -40,7 +40,7 @@ fn page_of(name: &str) -> Page {
         "uniq" => help::UNIQ,
         "pick" => help::PICK,
         "pack" => help::PACK,
-        "unpack" => tool_help::UNPACK,
+        "unpack" => help::UNPACK,
         "make" => help::MAKE,
         "show" => help::SHOW,
         "check" => tool_help::CHECK,
@@ -216,7 +216,7 @@ fn pack_command<'a>(alloc: Global) -> Result<Command<'a>, AllocError>
 fn unpack_command<'a>(alloc: Global) -> Result<Command<'a>, AllocError>
     ensures { IfOk result (λ c. HasLine c unpacking_line) }
 {
-    let command = parts::unpack_command(alloc)?;
+    let command = parts::unpack_command(alloc, help::UNPACK)?;
     command.arg(flag(alloc, "streaming", option_help::UNPACK_STREAMING))
 }
 

@@ -134,11 +134,11 @@ pub fn message_command<'a>(
     plain_command(alloc, name, page).args(options)
 }
 
-/// `unpack` and its option. Refused memory is answered.
-pub fn unpack_command<'a>(alloc: Global) -> Result<Command<'a>, AllocError>
+/// `unpack` and its option, with this page of help. Refused memory is answered.
+pub fn unpack_command<'a>(alloc: Global, page: Page) -> Result<Command<'a>, AllocError>
     ensures { IfOk result (λ c. HasLine c unpack_line) }
 {
-    plain_command(alloc, "unpack", help::UNPACK).arg(words_option(alloc, help::UNPACKED_WORDS))
+    plain_command(alloc, "unpack", page).arg(words_option(alloc, help::UNPACKED_WORDS))
 }
 
 /// A program with this command beside those that it has, if both could be made. Refused memory is answered.
@@ -206,5 +206,5 @@ pub fn tool_command<'a>(alloc: Global) -> Result<Command<'a>, AllocError>
 {
     let pack = plain_command(alloc, "pack", help::PACK);
     let with_pack = with_command(messages_command(alloc), Ok(pack));
-    with_command(with_pack, unpack_command(alloc))
+    with_command(with_pack, unpack_command(alloc, help::UNPACK))
 }
