@@ -16,8 +16,8 @@ use clap::error::ErrorKind;
 use clap::{Arg, Command};
 use std::alloc::{AllocError, Global};
 
-/// An option of this name, with its usual value. It takes any text, and `line` reads that of `--form` and `--tariff`: a
-/// list of names has no place in the statement of the command line.
+/// An option of this name, with its usual value. It takes any text, and `command_line` reads that of `--form` and
+/// `--tariff`: a list of names has no place in the statement of the command line.
 pub fn usual_option<'a>(
     alloc: Global,
     name: &'a str,
