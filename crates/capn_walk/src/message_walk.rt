@@ -15,7 +15,7 @@ ghost use Rattle.capn_target.specs.declared.target.Fault.TheVariants.{Memory};
 use crate::limits::Limits;
 use crate::walk_answer::{Stopped, Walked, stop};
 use crate::walk_visits::walk_target;
-use capn_target::counted::{Counted, Reads, counting};
+use capn_target::counted::{CountedSpace, Reads, count_reads};
 use capn_target::{Fault, Shape, Target, counted};
 use capn_value::Tree;
 use capn_words::{Place, Space};
@@ -102,12 +102,12 @@ pub fn root_target<S: Space>(space: &S) -> Result<Target, Stopped>
     ensures no_memory { IfErr result (λ s. s.fault ≢ Memory) }
     ensures bounded { IfErr result (λ s. IsBounded 0 s.paid s.visits) }
 {
-    root_target_under::<S, Brand>(space, Blank::new(1))
+    root_target_with_ledger::<S, Brand>(space, Blank::new(1))
 }
 
-/// The same, under a new ledger.
+/// The same, with a new ledger.
 #[inline(always)]
-fn root_target_under<S: Space, L: Ledger>(space: &S, blank: Blank) -> Result<Target, Stopped>
+fn root_target_with_ledger<S: Space, L: Ledger>(space: &S, blank: Blank) -> Result<Target, Stopped>
     requires name { blank.name ≡ L.name }
     requires parts { blank.parts ≡ L.parts }
     requires one { 0 < blank.parts }
@@ -120,14 +120,14 @@ fn root_target_under<S: Space, L: Ledger>(space: &S, blank: Blank) -> Result<Tar
     ensures no_memory { IfErr result (λ s. s.fault ≢ Memory) }
     ensures bounded { IfErr result (λ s. IsBounded 0 s.paid s.visits) }
 {
-    let (space, mut reads) = counting::<S, L>(space, blank);
-    counted_root(&space, &mut reads)
+    let (space, mut reads) = count_reads::<S, L>(space, blank);
+    root_target_counted(&space, &mut reads)
 }
 
 /// The same, with its reads counted.
 #[inline(always)]
-pub fn counted_root<S: Space, L: Ledger>(
-    space: &Counted<'_, S, L>,
+pub fn root_target_counted<S: Space, L: Ledger>(
+    space: &CountedSpace<'_, S, L>,
     reads: &mut Reads<L>,
 ) -> Result<Target, Stopped>
     ensures place { OnOk result (0 < length (segment_at space.now 0)) }
@@ -139,7 +139,7 @@ pub fn counted_root<S: Space, L: Ledger>(
     ensures no_memory { IfErr result (λ s. s.fault ≢ Memory) }
     ensures bounded { IfErr result (λ s. IsBounded 0 s.paid s.visits) }
     ensures reads { OnOk result (reads.new ≤ reads.old + 9) }
-    ensures few { IfErr result (λ s. reads.new ≤ reads.old + 11 * s.visits + 1) }
+    ensures few { IfErr result (λ s. reads.new ≤ reads.old + 8 * s.visits + 1) }
 {
     if counted::segment_length(space, ROOT.segment, reads) == 0 {
         return Err(Stopped {

@@ -1,4 +1,4 @@
 use Rattle.capn_walk.proofs.message_walk.root_target.Given as goal
 
-abbrev pub ghosts-root_target_under : goal.ghosts-root_target_under
-ghosts-root_target_under g a = record { name = a.blank.name; parts = a.blank.parts }
+abbrev pub ghosts-root_target_with_ledger : goal.ghosts-root_target_with_ledger
+ghosts-root_target_with_ledger g a = record { name = a.blank.name; parts = a.blank.parts }
