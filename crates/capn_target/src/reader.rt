@@ -1,12 +1,12 @@
 //! A message each of whose reads is counted.
 //!
 //! Whoever is handed a [`CountedSpace`] in place of a `Space` can read the message by its calls alone, and each of them
-//! counts one. So a clause on [`Reads`] bounds what a body reads, whatever it answers. That a read is counted
+//! counts. So a clause on [`Reads`] bounds what a body reads, whatever it answers. That a read is counted
 //! is proved: the fields are private to this file, and no other ledger fits the type. That a loop counts its turns is
 //! the word of its author: a loop that leaves out [`Reads::tick`] is not refused, and its turns are not bounded.
 
-ghost use Rattle.std.specs.Prelude.{◌≡◌, ◌+◌, ◌<◌, length};
-ghost use Rattle.capn_words.specs.Message.{IsMessage, IsPlace, word_at, words_of};
+ghost use Rattle.std.specs.Prelude.{◌≡◌, ◌+◌, ◌/◌, ◌<◌, length};
+ghost use Rattle.capn_words.specs.Message.{IsMessage, IsPlace, IsRange, word_at, words_of, bytes_at};
 
 use capn_words::{Place, Space};
 use std::marker::{Model, PhantomData};
@@ -128,5 +128,16 @@ impl<'s, S: Space, L: Ledger> CountedSpace<'s, S, L> {
     {
         reads.tick();
         self.space.word(at)
+    }
+    /// `len` bytes from the start of a word on, as [`Space::bytes`] says. It counts as one read for each word that they
+    /// take.
+    #[inline(always)]
+    pub fn bytes(&self, at: Place, len: usize, reads: &mut Reads<L>) -> &[u8]
+        requires { IsRange self.now at len }
+        ensures bytes { result.now ≡ bytes_at self.now at len }
+        ensures reads { reads.new ≡ reads.old + (len + 7) / 8 }
+    {
+        reads.book.add(&mut reads.share, len.div_ceil(8) as u64);
+        self.space.bytes(at, len)
     }
 }

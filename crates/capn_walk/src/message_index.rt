@@ -10,7 +10,7 @@ use crate::entry::{Entry, Index, Indexed};
 use crate::index_visits::index_found;
 use crate::limits::Limits;
 use crate::message_survey::survey;
-use crate::message_walk::{ROOT, root_target_counted};
+use crate::message_walk::{ROOT, root_target};
 use crate::walk_answer::{Stopped, out_of_memory};
 use capn_target::counted::{CountedSpace, Reads, count_reads, segment_length};
 use capn_target::{Fault, Target};
@@ -96,7 +96,7 @@ pub fn index_into_counted<S: Space, L: Ledger>(
     ensures work { reads.new ≤ reads.old + 13 * (limits.budget + 1) + 1 }
 {
     space.bounds();
-    let target = root_target_counted(space, reads)?;
+    let target = root_target(space, reads)?;
     let size = segment_length(space, ROOT.segment, reads);
     let told = index_found(
         space,

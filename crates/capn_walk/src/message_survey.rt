@@ -9,7 +9,7 @@ ghost use Rattle.capn_value.specs.FirstCap.{first_cap};
 ghost use Rattle.capn_target.specs.declared.target.Fault.TheVariants.{Memory};
 
 use crate::limits::Limits;
-use crate::message_walk::root_target_counted;
+use crate::message_walk::root_target;
 use crate::survey_answer::{Measured, Surveyed};
 use crate::survey_loop::survey_root;
 use crate::walk_answer::Stopped;
@@ -103,7 +103,7 @@ pub fn survey_counted<S: Space, A: Allocator + Copy, L: Ledger>(
     ensures work { reads.new ≤ reads.old + 14 * (limits.budget + 1) + 1 }
 {
     space.bounds();
-    let target = root_target_counted(space, reads)?;
+    let target = root_target(space, reads)?;
     let told = survey_root::<S, A, L, false>(
         alloc,
         space,
@@ -207,7 +207,7 @@ pub fn survey_depth_counted<S: Space, A: Allocator + Copy, L: Ledger>(
     ensures work { reads.new ≤ reads.old + 14 * (limits.budget + 1) + 1 }
 {
     space.bounds();
-    let target = root_target_counted(space, reads)?;
+    let target = root_target(space, reads)?;
     let told = survey_root::<S, A, L, true>(
         alloc,
         space,
