@@ -4,7 +4,7 @@ ghost use Rattle.std.specs.Prelude.{◌≡◌, ℕ, ◌<◌, ◌≤◌, ◌+◌,
 ghost use Rattle.capn_words.specs.Message.{segment_at};
 ghost use Rattle.capn_target.specs.Target as spec;
 
-use crate::reader::{Counted, Reads};
+use crate::reader::{CountedSpace, Reads};
 use crate::target::{Fault, Shape, Target};
 use capn_words::{Place, Space, Width};
 use std::sync::ledger::Ledger;
@@ -13,7 +13,7 @@ use std::sync::ledger::Ledger;
 #[tactic(auto, using(crate::proofs::shared::Segments::length_of_none, crate::proofs::shared::Segments::length_of_some))]
 #[inline(always)]
 pub fn segment_length<S: Space, L: Ledger>(
-    space: &Counted<'_, S, L>,
+    space: &CountedSpace<'_, S, L>,
     segment: u32,
     reads: &mut Reads<L>,
 ) -> u32
@@ -26,7 +26,7 @@ pub fn segment_length<S: Space, L: Ledger>(
 /// The words of a segment, where those of another, or the same, are known.
 #[inline(always)]
 pub fn size_of<S: Space, L: Ledger>(
-    space: &Counted<'_, S, L>,
+    space: &CountedSpace<'_, S, L>,
     segment: u32,
     known: u32,
     size: u32,
@@ -95,7 +95,7 @@ pub fn content_words(width: Width, count: u32) -> u64
 /// A struct whose content starts at a word.
 #[inline(always)]
 pub fn node_at<S: Space, L: Ledger>(
-    space: &Counted<'_, S, L>,
+    space: &CountedSpace<'_, S, L>,
     segment: u32,
     size: u32,
     start: u64,
@@ -122,7 +122,7 @@ pub fn node_at<S: Space, L: Ledger>(
 /// A list whose content starts at a word.
 #[inline(always)]
 pub fn many_at<S: Space, L: Ledger>(
-    space: &Counted<'_, S, L>,
+    space: &CountedSpace<'_, S, L>,
     segment: u32,
     size: u32,
     start: u64,
@@ -155,7 +155,7 @@ pub fn many_at<S: Space, L: Ledger>(
 #[tactic(auto, using(std::proofs::lemmas::Grind::common_steps))]
 #[inline(always)]
 fn rows_at<S: Space, L: Ledger>(
-    space: &Counted<'_, S, L>,
+    space: &CountedSpace<'_, S, L>,
     segment: u32,
     start: u32,
     pads: u8,

@@ -1,4 +1,4 @@
-//! The steps to a slot's target for whoever counts no reads: those of [`counted`](crate::counted), under a ledger of
+//! The steps to a slot's target for whoever counts no reads: those of [`counted`](crate::counted), with a ledger of
 //! their own.
 
 ghost use Rattle.std.specs.Prelude.{◌≡◌, ◌<◌, ◌≤◌, ◌^◌, length, IfOk};
@@ -6,7 +6,7 @@ ghost use Rattle.capn_words.specs.Message.{segment_at, IsPlace};
 ghost use Rattle.capn_target.specs.Target as spec;
 ghost use Rattle.capn_target.specs.Shapes.{IsInMessage};
 
-use crate::reader::counting;
+use crate::reader::count_reads;
 use crate::target::{Fault, Target};
 use crate::{content, slot_target};
 use capn_words::{Place, Pointer, Space, Width, split};
@@ -50,7 +50,7 @@ pub fn node_at<S: Space>(
     requires start { start < 2 ^ 34 }
     ensures { result ≡ spec.struct (S.message space.now) segment start pads words slots }
 {
-    node_at_under::<S, Brand>(
+    node_at_with_ledger::<S, Brand>(
         space,
         segment,
         size,
@@ -77,7 +77,7 @@ pub fn many_at<S: Space>(
     requires start { start < 2 ^ 34 }
     ensures { result ≡ spec.list (S.message space.now) segment start pads width count }
 {
-    many_at_under::<S, Brand>(
+    many_at_with_ledger::<S, Brand>(
         space,
         segment,
         size,
@@ -102,7 +102,7 @@ pub fn resolve<S: Space>(space: &S, at: Place) -> Result<Target, Fault>
     // Content lies inside its segment, which exists, and rows within what their list's pointer says.
     ensures inside { IfOk result (λ t. IsInMessage (S.message space.now) t) }
 {
-    resolve_under::<S, Brand>(space, at, Blank::new(1))
+    resolve_with_ledger::<S, Brand>(space, at, Blank::new(1))
 }
 
 /// The pointer at a word.
@@ -127,12 +127,12 @@ pub fn near<S: Space>(
     requires { size ≡ length (segment_at (S.message space.now) segment) }
     ensures { result ≡ spec.near (S.message space.now) segment word pads pointer }
 {
-    near_under::<S, Brand>(space, segment, size, word, pads, pointer, Blank::new(1))
+    near_with_ledger::<S, Brand>(space, segment, size, word, pads, pointer, Blank::new(1))
 }
 
-/// The same, under a new ledger.
+/// The same, with a new ledger.
 #[inline(always)]
-fn node_at_under<S: Space, L: Ledger>(
+fn node_at_with_ledger<S: Space, L: Ledger>(
     space: &S,
     segment: u32,
     size: u32,
@@ -149,13 +149,13 @@ fn node_at_under<S: Space, L: Ledger>(
     requires start { start < 2 ^ 34 }
     ensures { result ≡ spec.struct (S.message space.now) segment start pads words slots }
 {
-    let (space, _reads) = counting::<S, L>(space, blank);
+    let (space, _reads) = count_reads::<S, L>(space, blank);
     content::node_at(&space, segment, size, start, pads, words, slots)
 }
 
-/// The same, under a new ledger.
+/// The same, with a new ledger.
 #[inline(always)]
-fn many_at_under<S: Space, L: Ledger>(
+fn many_at_with_ledger<S: Space, L: Ledger>(
     space: &S,
     segment: u32,
     size: u32,
@@ -172,13 +172,17 @@ fn many_at_under<S: Space, L: Ledger>(
     requires start { start < 2 ^ 34 }
     ensures { result ≡ spec.list (S.message space.now) segment start pads width count }
 {
-    let (space, mut reads) = counting::<S, L>(space, blank);
+    let (space, mut reads) = count_reads::<S, L>(space, blank);
     content::many_at(&space, segment, size, start, pads, width, count, &mut reads)
 }
 
-/// The same, under a new ledger.
+/// The same, with a new ledger.
 #[inline(always)]
-fn resolve_under<S: Space, L: Ledger>(space: &S, at: Place, blank: Blank) -> Result<Target, Fault>
+fn resolve_with_ledger<S: Space, L: Ledger>(
+    space: &S,
+    at: Place,
+    blank: Blank,
+) -> Result<Target, Fault>
     requires name { blank.name ≡ L.name }
     requires parts { blank.parts ≡ L.parts }
     requires one { 0 < blank.parts }
@@ -187,13 +191,13 @@ fn resolve_under<S: Space, L: Ledger>(space: &S, at: Place, blank: Blank) -> Res
     // Content lies inside its segment, which exists, and rows within what their list's pointer says.
     ensures inside { IfOk result (λ t. IsInMessage (S.message space.now) t) }
 {
-    let (space, mut reads) = counting::<S, L>(space, blank);
+    let (space, mut reads) = count_reads::<S, L>(space, blank);
     slot_target::resolve(&space, at, &mut reads)
 }
 
-/// The same, under a new ledger.
+/// The same, with a new ledger.
 #[inline(always)]
-fn near_under<S: Space, L: Ledger>(
+fn near_with_ledger<S: Space, L: Ledger>(
     space: &S,
     segment: u32,
     size: u32,
@@ -208,6 +212,6 @@ fn near_under<S: Space, L: Ledger>(
     requires size { size ≡ length (segment_at (S.message space.now) segment) }
     ensures { result ≡ spec.near (S.message space.now) segment word pads pointer }
 {
-    let (space, mut reads) = counting::<S, L>(space, blank);
+    let (space, mut reads) = count_reads::<S, L>(space, blank);
     slot_target::near(&space, segment, size, word, pads, pointer, &mut reads)
 }

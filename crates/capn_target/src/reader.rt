@@ -1,17 +1,19 @@
 //! A message each of whose reads is counted.
 //!
-//! Whoever is handed a [`Counted`] message in place of a `Space` can read it by these calls alone, and each of them
-//! counts. So a clause on [`Reads`] bounds what a body reads, whatever it answers.
+//! Whoever is handed a [`CountedSpace`] in place of a `Space` can read the message by its calls alone, and each of them
+//! counts. So a clause on [`Reads`] bounds what a body reads, whatever it answers. That a read is counted
+//! is proved: the fields are private to this file, and no other ledger fits the type. That a loop counts its turns is
+//! the word of its author: a loop that leaves out [`Reads::tick`] is not refused, and its turns are not bounded.
 
-ghost use Rattle.std.specs.Prelude.{◌≡◌, ◌+◌, ◌<◌, length};
-ghost use Rattle.capn_words.specs.Message.{IsMessage, IsPlace, word_at, words_of};
+ghost use Rattle.std.specs.Prelude.{◌≡◌, ◌+◌, ◌/◌, ◌<◌, length};
+ghost use Rattle.capn_words.specs.Message.{IsMessage, IsPlace, IsRange, word_at, words_of, bytes_at};
 
 use capn_words::{Place, Space};
 use std::marker::{Model, PhantomData};
 use std::sync::ledger::{Blank, Book, Ledger, Share};
 
-/// How often a message was read. It takes no bytes, and only a read of the [`Counted`] message of its ledger
-/// changes it.
+/// How often the message of its ledger was read, and how many turns of loops were counted with the reads. It takes no
+/// bytes, and no call lowers it.
 #[derive(Drop)]
 pub struct Reads<L: Ledger> {
     book: Book<L>,
@@ -29,7 +31,7 @@ impl<L: Ledger> Model for Reads<L> {
 }
 
 impl<L: Ledger> Reads<L> {
-    /// One more: a read, or a turn of a loop that counts its turns, too.
+    /// One more: a read, or a turn of a loop. Whoever writes a loop has to call it once a turn: nothing makes him.
     #[inline(always)]
     pub fn tick(&mut self)
         ensures { self.new ≡ self.old + 1 }
@@ -38,14 +40,14 @@ impl<L: Ledger> Reads<L> {
     }
 }
 
-/// A message that is read by calls that are counted, and in no other way.
+/// A space whose message is read by calls that count, and in no other way. It takes the bytes of a reference.
 #[derive(Drop)]
-pub struct Counted<'s, S: Space, L: Ledger> {
+pub struct CountedSpace<'s, S: Space, L: Ledger> {
     space: &'s S,
     ledger: PhantomData<L>,
 }
 
-impl<'s, S: Space, L: Ledger> Model for Counted<'s, S, L> {
+impl<'s, S: Space, L: Ledger> Model for CountedSpace<'s, S, L> {
     ghost use Rattle.std.specs.Prelude.{ℕ, List};
     ghost use Rattle.capn_words.specs.Message.{IsMessage};
 
@@ -56,12 +58,12 @@ impl<'s, S: Space, L: Ledger> Model for Counted<'s, S, L> {
     ghost invariant = { λ c. IsMessage (S.message c.space.now) };
 }
 
-/// A message of which no read was counted yet, by a new ledger.
+/// The message of a space, to be read by calls that count, and the count of its reads, which is 0. The ledger is new.
 #[inline(always)]
-pub fn counting<'s, S: Space, L: Ledger>(
+pub fn count_reads<'s, S: Space, L: Ledger>(
     space: &'s S,
     blank: Blank,
-) -> (Counted<'s, S, L>, Reads<L>)
+) -> (CountedSpace<'s, S, L>, Reads<L>)
     requires name { blank.name ≡ L.name }
     requires parts { blank.parts ≡ L.parts }
     requires some { 0 < blank.parts }
@@ -70,20 +72,20 @@ pub fn counting<'s, S: Space, L: Ledger>(
 {
     let _bounds = space.segments();
     let (book, share) = blank.open::<L>();
-    let message = Counted {
+    let message = CountedSpace {
         space,
         ledger: PhantomData,
     };
     (message, Reads { book, share })
 }
 
-impl<'s, S: Space, L: Ledger> Counted<'s, S, L> {
+impl<'s, S: Space, L: Ledger> CountedSpace<'s, S, L> {
     /// The same message, for a function that takes it by value: a reference to it would be one to a reference.
     #[inline(always)]
-    pub fn again(&self) -> Counted<'s, S, L>
+    pub fn again(&self) -> CountedSpace<'s, S, L>
         ensures { result ≡ self.now }
     {
-        Counted {
+        CountedSpace {
             space: self.space,
             ledger: PhantomData,
         }
@@ -97,7 +99,7 @@ impl<'s, S: Space, L: Ledger> Counted<'s, S, L> {
         let _space = self.space;
     }
 
-    /// How many segments there are.
+    /// How many segments there are. It counts as one read.
     #[inline(always)]
     pub fn segments(&self, reads: &mut Reads<L>) -> u32
         ensures count { result ≡ length self.now }
@@ -107,7 +109,7 @@ impl<'s, S: Space, L: Ledger> Counted<'s, S, L> {
         self.space.segments()
     }
 
-    /// How many words a segment has, or `None` exactly where there is no such segment.
+    /// How many words a segment has, or `None` exactly where there is no such segment. It counts as one read.
     #[inline(always)]
     pub fn words(&self, segment: u32, reads: &mut Reads<L>) -> Option<u32>
         ensures words { result ≡ words_of self.now segment }
@@ -117,7 +119,7 @@ impl<'s, S: Space, L: Ledger> Counted<'s, S, L> {
         self.space.words(segment)
     }
 
-    /// The word at a place, which has to be in range.
+    /// The word at a place, which has to be in range. It counts as one read.
     #[inline(always)]
     pub fn word(&self, at: Place, reads: &mut Reads<L>) -> u64
         requires { IsPlace self.now at }
@@ -126,5 +128,16 @@ impl<'s, S: Space, L: Ledger> Counted<'s, S, L> {
     {
         reads.tick();
         self.space.word(at)
+    }
+    /// `len` bytes from the start of a word on, as [`Space::bytes`] says. It counts as one read for each word that they
+    /// take.
+    #[inline(always)]
+    pub fn bytes(&self, at: Place, len: usize, reads: &mut Reads<L>) -> &[u8]
+        requires { IsRange self.now at len }
+        ensures bytes { result.now ≡ bytes_at self.now at len }
+        ensures reads { reads.new ≡ reads.old + (len + 7) / 8 }
+    {
+        reads.book.add(&mut reads.share, len.div_ceil(8) as u64);
+        self.space.bytes(at, len)
     }
 }

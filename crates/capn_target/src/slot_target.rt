@@ -7,7 +7,7 @@ ghost use Rattle.capn_target.specs.Shapes.{IsInMessage};
 ghost use Rattle.capn_target.specs.declared.target.Fault.TheVariants.{NoSegment};
 
 use crate::content::{many_at, node_at, segment_length, start_of};
-use crate::reader::{Counted, Reads};
+use crate::reader::{CountedSpace, Reads};
 use crate::target::{Fault, Target};
 use capn_words::{Place, Pointer, Space, split};
 use std::sync::ledger::Ledger;
@@ -21,7 +21,7 @@ use std::sync::ledger::Ledger;
 #[tactic(auto, unfolding(crate::specs::Target::target))]
 #[inline(always)]
 pub fn resolve<S: Space, L: Ledger>(
-    space: &Counted<'_, S, L>,
+    space: &CountedSpace<'_, S, L>,
     at: Place,
     reads: &mut Reads<L>,
 ) -> Result<Target, Fault>
@@ -38,7 +38,7 @@ pub fn resolve<S: Space, L: Ledger>(
 /// What the pointer at a word of a segment names.
 #[inline(always)]
 fn named<S: Space, L: Ledger>(
-    space: &Counted<'_, S, L>,
+    space: &CountedSpace<'_, S, L>,
     segment: u32,
     word: u32,
     pointer: Pointer,
@@ -72,7 +72,7 @@ fn named<S: Space, L: Ledger>(
 /// The pointer at a word.
 #[inline(always)]
 pub fn pointer_at<S: Space, L: Ledger>(
-    space: &Counted<'_, S, L>,
+    space: &CountedSpace<'_, S, L>,
     segment: u32,
     word: u32,
     reads: &mut Reads<L>,
@@ -87,7 +87,7 @@ pub fn pointer_at<S: Space, L: Ledger>(
 /// The content of the struct or list pointer at a word, which is the slot itself or a pad of one word.
 #[inline(always)]
 pub fn near<S: Space, L: Ledger>(
-    space: &Counted<'_, S, L>,
+    space: &CountedSpace<'_, S, L>,
     segment: u32,
     size: u32,
     word: u32,
@@ -123,7 +123,7 @@ pub fn near<S: Space, L: Ledger>(
 /// What a far pointer names by a landing pad of one word.
 #[inline(never)]
 fn behind_one<S: Space, L: Ledger>(
-    space: &Counted<'_, S, L>,
+    space: &CountedSpace<'_, S, L>,
     segment: u32,
     word: u32,
     reads: &mut Reads<L>,
@@ -142,7 +142,7 @@ fn behind_one<S: Space, L: Ledger>(
 /// What a far pointer names by a landing pad of two words.
 #[inline(never)]
 fn behind_two<S: Space, L: Ledger>(
-    space: &Counted<'_, S, L>,
+    space: &CountedSpace<'_, S, L>,
     segment: u32,
     word: u32,
     reads: &mut Reads<L>,
@@ -161,7 +161,7 @@ fn behind_two<S: Space, L: Ledger>(
 
 /// What the two words of a landing pad name: a far pointer to the content, and the content's form.
 fn named_by_two<S: Space, L: Ledger>(
-    space: &Counted<'_, S, L>,
+    space: &CountedSpace<'_, S, L>,
     first: Pointer,
     second: Pointer,
     reads: &mut Reads<L>,
@@ -207,7 +207,7 @@ fn named_by_two<S: Space, L: Ledger>(
 
 /// Refuses a landing pad of `pads` words that isn't inside its segment.
 fn landing<S: Space, L: Ledger>(
-    space: &Counted<'_, S, L>,
+    space: &CountedSpace<'_, S, L>,
     segment: u32,
     word: u32,
     pads: u32,
@@ -227,7 +227,7 @@ fn landing<S: Space, L: Ledger>(
 
 /// Refuses a segment that doesn't exist.
 fn exists<S: Space, L: Ledger>(
-    space: &Counted<'_, S, L>,
+    space: &CountedSpace<'_, S, L>,
     segment: u32,
     reads: &mut Reads<L>,
 ) -> Result<(), Fault>

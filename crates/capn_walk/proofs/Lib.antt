@@ -17,6 +17,7 @@ pub mod ValuesRead
 pub mod CapsMet
 pub mod Exists
 pub mod RootSurveys
+pub mod OwnReads
 pub mod Stepped
 pub mod Showing
 pub mod WorkedValues

@@ -4,3 +4,4 @@ pub mod Reach
 pub mod IndexRoom
 pub mod Outcomes
 pub mod Verdict
+pub mod OwnReads

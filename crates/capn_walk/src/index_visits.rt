@@ -1,6 +1,9 @@
 //! The entries of slots, in preorder, put into a room.
+//!
+//! A slot costs at most thirteen reads and turns: its turn of the loop, and one before it that begins its row; its
+//! word; eight to find what it names; the length of the segment below it, and the last turn there.
 
-ghost use Rattle.std.specs.Prelude.{◌≡◌, ◌+◌, ◌<◌, ◌≤◌, ◌^◌, length, set};
+ghost use Rattle.std.specs.Prelude.{◌≡◌, ◌+◌, ◌*◌, ◌<◌, ◌≤◌, ◌^◌, length, set, MatchResult};
 ghost use Rattle.capn_words.specs.Message.{segment_at, IsMessage, IsPlace};
 ghost use Rattle.capn_value.specs.Cost.{most_cost};
 ghost use Rattle.capn_target.specs.Target as spec;
@@ -13,8 +16,10 @@ use crate::entry::{Entry, Indexed};
 use crate::slots_left::SlotsLeft;
 use crate::step::{price_within, slots_below};
 use crate::walk_answer::{Stopped, stop};
-use capn_target::{Fault, Target, near, resolve, size_of};
+use capn_target::counted::{CountedSpace, Reads, near, resolve, size_of};
+use capn_target::{Fault, Target};
 use capn_words::{Place, Pointer, Space, split};
+use std::sync::ledger::Ledger;
 
 /// Puts an entry into the room, if there is room for it.
 #[inline(always)]
@@ -41,8 +46,8 @@ fn set_span(room: &mut [Entry], at: u32, span: u32)
 /// The entries of a slot whose target is known, from an index on.
 #[cycle(index_slots)]
 #[inline(always)]
-pub fn index_found<S: Space>(
-    space: &S,
+pub fn index_found<S: Space, L: Ledger>(
+    space: &CountedSpace<'_, S, L>,
     at: Place,
     size: u32,
     found: Result<Target, Fault>,
@@ -51,15 +56,18 @@ pub fn index_found<S: Space>(
     base: u32,
     room: &mut [Entry],
     first: u32,
+    reads: &mut Reads<L>,
 ) -> Result<Indexed, Stopped>
-    requires message { IsMessage (S.message space.now) }
-    requires size { size ≡ length (segment_at (S.message space.now) at.segment) }
-    requires place { IsPlace (S.message space.now) at }
-    requires found { found ≡ spec.target (S.message space.now) at }
+    requires message { IsMessage space.now }
+    requires size { size ≡ length (segment_at space.now at.segment) }
+    requires place { IsPlace space.now at }
+    requires found { found ≡ spec.target space.now at }
     requires left { left ≤ most_cost }
     requires fits { first + 1 + left < 2 ^ 32 }
-    ensures { Indexes left (visits (S.message space.now) base depth at) 1 (entries (S.message space.now) depth at) first
+    ensures indexes { Indexes left (visits space.now base depth at) 1 (entries space.now depth at) first
         room.old room.new result }
+    ensures reads { MatchResult result (λ t. reads.new + 11 ≤ reads.old + 13 * t.visits)
+        (λ s. reads.new + 11 ≤ reads.old + 13 * s.visits) }
 {
     let target = match found {
         Ok(target) => target,
@@ -77,9 +85,9 @@ pub fn index_found<S: Space>(
             visits: 1,
         });
     }
-    let size = size_of(space, below.segment, at.segment, size);
+    let size = size_of(space, below.segment, at.segment, size, reads);
     match index_frame(
-        space,
+        space.again(),
         below,
         size,
         depth - 1,
@@ -87,6 +95,7 @@ pub fn index_found<S: Space>(
         base,
         room,
         first + 1,
+        reads,
     ) {
         Ok(told) => {
             let span = 1 + told.visits;
@@ -103,8 +112,8 @@ pub fn index_found<S: Space>(
 /// The entries of a slot whose pointer is that of a struct or list that is near.
 #[cycle(index_slots)]
 #[inline(always)]
-fn index_near<S: Space>(
-    space: &S,
+fn index_near<S: Space, L: Ledger>(
+    space: &CountedSpace<'_, S, L>,
     at: Place,
     size: u32,
     pointer: Pointer,
@@ -113,26 +122,31 @@ fn index_near<S: Space>(
     base: u32,
     room: &mut [Entry],
     first: u32,
+    reads: &mut Reads<L>,
 ) -> Result<Indexed, Stopped>
-    requires message { IsMessage (S.message space.now) }
-    requires size { size ≡ length (segment_at (S.message space.now) at.segment) }
-    requires place { IsPlace (S.message space.now) at }
-    requires pointer { spec.near (S.message space.now) at.segment at.word 0 pointer
-        ≡ spec.target (S.message space.now) at }
+    requires message { IsMessage space.now }
+    requires size { size ≡ length (segment_at space.now at.segment) }
+    requires place { IsPlace space.now at }
+    requires pointer { spec.near space.now at.segment at.word 0 pointer
+        ≡ spec.target space.now at }
     requires left { left ≤ most_cost }
     requires fits { first + 1 + left < 2 ^ 32 }
-    ensures { Indexes left (visits (S.message space.now) base depth at) 1 (entries (S.message space.now) depth at) first
+    ensures indexes { Indexes left (visits space.now base depth at) 1 (entries space.now depth at) first
         room.old room.new result }
+    ensures reads { MatchResult result (λ t. reads.new + 10 ≤ reads.old + 13 * t.visits)
+        (λ s. reads.new + 10 ≤ reads.old + 13 * s.visits) }
 {
-    let found = near(space, at.segment, size, at.word, 0, pointer);
-    index_found(space, at, size, found, depth, left, base, room, first)
+    let found = near(space, at.segment, size, at.word, 0, pointer, reads);
+    index_found(
+        space, at, size, found, depth, left, base, room, first, reads,
+    )
 }
 
 /// The entries of a slot, whatever its pointer names.
 #[cycle(index_slots)]
 #[inline(never)]
-fn index_elsewhere<S: Space>(
-    space: &S,
+fn index_elsewhere<S: Space, L: Ledger>(
+    space: CountedSpace<'_, S, L>,
     at: Place,
     size: u32,
     depth: u32,
@@ -140,25 +154,21 @@ fn index_elsewhere<S: Space>(
     base: u32,
     room: &mut [Entry],
     first: u32,
+    reads: &mut Reads<L>,
 ) -> Result<Indexed, Stopped>
-    requires message { IsMessage (S.message space.now) }
-    requires size { size ≡ length (segment_at (S.message space.now) at.segment) }
-    requires place { IsPlace (S.message space.now) at }
+    requires message { IsMessage space }
+    requires size { size ≡ length (segment_at space at.segment) }
+    requires place { IsPlace space at }
     requires left { left ≤ most_cost }
     requires fits { first + 1 + left < 2 ^ 32 }
-    ensures { Indexes left (visits (S.message space.now) base depth at) 1 (entries (S.message space.now) depth at) first
+    ensures indexes { Indexes left (visits space.entry base depth at) 1 (entries space.entry depth at) first
         room.old room.new result }
+    ensures reads { MatchResult result (λ t. reads.new + 3 ≤ reads.old + 13 * t.visits)
+        (λ s. reads.new + 3 ≤ reads.old + 13 * s.visits) }
 {
+    let found = resolve(&space, at, reads);
     index_found(
-        space,
-        at,
-        size,
-        resolve(space, at),
-        depth,
-        left,
-        base,
-        room,
-        first,
+        &space, at, size, found, depth, left, base, room, first, reads,
     )
 }
 
@@ -166,8 +176,8 @@ fn index_elsewhere<S: Space>(
 /// its form alone.
 #[cycle(index_slots)]
 #[inline(always)]
-fn index_slot<S: Space>(
-    space: &S,
+fn index_slot<S: Space, L: Ledger>(
+    space: &CountedSpace<'_, S, L>,
     at: Place,
     size: u32,
     depth: u32,
@@ -175,16 +185,19 @@ fn index_slot<S: Space>(
     base: u32,
     room: &mut [Entry],
     first: u32,
+    reads: &mut Reads<L>,
 ) -> Result<Indexed, Stopped>
-    requires message { IsMessage (S.message space.now) }
-    requires size { size ≡ length (segment_at (S.message space.now) at.segment) }
-    requires place { IsPlace (S.message space.now) at }
+    requires message { IsMessage space.now }
+    requires size { size ≡ length (segment_at space.now at.segment) }
+    requires place { IsPlace space.now at }
     requires left { left ≤ most_cost }
     requires fits { first + 1 + left < 2 ^ 32 }
-    ensures { Indexes left (visits (S.message space.now) base depth at) 1 (entries (S.message space.now) depth at) first
+    ensures indexes { Indexes left (visits space.now base depth at) 1 (entries space.now depth at) first
         room.old room.new result }
+    ensures reads { MatchResult result (λ t. reads.new + 2 ≤ reads.old + 13 * t.visits)
+        (λ s. reads.new + 2 ≤ reads.old + 13 * s.visits) }
 {
-    let word = space.word(at);
+    let word = space.word(at, reads);
     if word == 0 {
         put(room, first, Entry::nil());
         return Ok(Indexed { paid: 0, visits: 1 });
@@ -192,20 +205,30 @@ fn index_slot<S: Space>(
     let pointer = split(word);
     match pointer {
         Pointer::Node { .. } => index_near(
-            space, at, size, pointer, depth, left, base, room, first,
+            space, at, size, pointer, depth, left, base, room, first, reads,
         ),
         Pointer::Many { .. } => index_near(
-            space, at, size, pointer, depth, left, base, room, first,
+            space, at, size, pointer, depth, left, base, room, first, reads,
         ),
-        _ => index_elsewhere(space, at, size, depth, left, base, room, first),
+        _ => index_elsewhere(
+            space.again(),
+            at,
+            size,
+            depth,
+            left,
+            base,
+            room,
+            first,
+            reads,
+        ),
     }
 }
 
 /// The entries of the slots of a frame, one after the other, each with all below it.
 #[cycle(index_slots)]
 #[inline(never)]
-fn index_frame<S: Space>(
-    space: &S,
+fn index_frame<S: Space, L: Ledger>(
+    space: CountedSpace<'_, S, L>,
     slots: SlotsLeft,
     size: u32,
     depth: u32,
@@ -213,19 +236,23 @@ fn index_frame<S: Space>(
     base: u32,
     room: &mut [Entry],
     first: u32,
+    reads: &mut Reads<L>,
 ) -> Result<Indexed, Stopped>
-    requires message { IsMessage (S.message space.now) }
-    requires inside { Lies (S.message space.now) slots }
-    requires size { size ≡ length (segment_at (S.message space.now) slots.segment) }
+    requires message { IsMessage space }
+    requires inside { Lies space slots }
+    requires size { size ≡ length (segment_at space slots.segment) }
     requires left { left ≤ most_cost }
     requires fits { first + owed slots + left < 2 ^ 32 }
-    ensures { Indexes left (visits_of (S.message space.now) base depth (places_of slots)) (owed slots)
-        (entries_of (S.message space.now) depth (places_of slots)) first room.old room.new result }
+    ensures indexes { Indexes left (visits_of space.entry base depth (places_of slots)) (owed slots)
+        (entries_of space.entry depth (places_of slots)) first room.old room.new result }
+    ensures reads { MatchResult result (λ t. reads.new ≤ reads.old + 13 * t.visits + 1)
+        (λ s. reads.new ≤ reads.old + 13 * s.visits + 1) }
 {
     let mut frame = slots;
     let mut paid = 0u32;
     let mut visits = 0u32;
     'slots: loop {
+        reads.tick();
         if frame.left == 0 {
             if frame.rows > 0 {
                 frame = frame.turned();
@@ -235,7 +262,7 @@ fn index_frame<S: Space>(
         }
         let (at, rest) = frame.take();
         match index_slot(
-            space,
+            &space,
             at,
             size,
             depth,
@@ -243,6 +270,7 @@ fn index_frame<S: Space>(
             base,
             room,
             first + visits,
+            reads,
         ) {
             Ok(told) => {
                 paid += told.paid;

@@ -8,7 +8,8 @@
 //! - [`survey`] answers the same price and refusal and makes no tree, and [`survey_depth`] also the least depth that
 //!   admits the message. [`index`] and [`index_into`] add an entry for each slot that was visited, by which the message
 //!   can be read in place with no further test.
-//! - [`survey_counted`] is a survey that is handed a message whose reads are counted, and bounds them.
+//! - [`walk_counted`], [`survey_counted`], [`survey_depth_counted`] and [`index_into_counted`] do the same to a message
+//!   whose reads are counted: the budget bounds how often they read it.
 //! - [`View`] goes from one object to those below it, and pays from a [`Meter`] for each.
 //!
 //! All take any `Space`: a bare segment, a framed message, one that owns its segments.
@@ -37,6 +38,7 @@ mod sizes;
 mod slots_left;
 mod step;
 mod survey_answer;
+mod survey_loop;
 mod survey_visit;
 mod view;
 mod walk_answer;
@@ -45,9 +47,9 @@ mod walk_visits;
 pub use entry::{Entry, Index, Indexed};
 pub use kind::Kind;
 pub use limits::Limits;
-pub use message_index::{index, index_into};
+pub use message_index::{index, index_into, index_into_counted};
 pub use message_survey::{survey, survey_counted, survey_depth, survey_depth_counted};
-pub use message_walk::walk;
+pub use message_walk::{walk, walk_counted};
 pub use meter::Meter;
 pub use survey_answer::{Measured, Surveyed};
 pub use view::View;

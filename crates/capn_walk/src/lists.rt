@@ -13,51 +13,57 @@ ghost use Rattle.capn_target.specs.declared.target.Shape.TheVariants.{Many};
 ghost use Rattle.capn_words.specs.declared.pointer.Width.TheVariants.{W1, W8, W16, W32};
 
 use byteorder::{ByteOrder, LittleEndian};
+use capn_target::counted::{CountedSpace, Reads};
 use capn_value::{Items, Value};
 use capn_words::{Place, Space, Width};
 use std::alloc::{AllocError, Allocator};
+use std::sync::ledger::Ledger;
 
 /// The list of `count` elements whose content starts at a place.
 #[tactic(auto, using(capn_value::specs::Views::views))]
-pub fn list_at<S: Space, A: Allocator + Copy>(
+pub fn list_at<S: Space, A: Allocator + Copy, L: Ledger>(
     alloc: A,
-    space: &S,
+    space: &CountedSpace<'_, S, L>,
     at: Place,
     width: Width,
     count: u32,
+    reads: &mut Reads<L>,
 ) -> Result<Value<A>, AllocError>
-    requires message { IsMessage (S.message space.now) }
+    requires message { IsMessage space.now }
     requires plain { IsPlain width }
-    requires content { IsContent (S.message space.now) at (content_words width count) }
-    ensures { IfOk result (λ v.
-        IsInside (S.message space.now) (Many width count) at.segment at.word (tree_of v)) }
+    requires content { IsContent space.now at (content_words width count) }
+    ensures value { IfOk result (λ v.
+        IsInside space.now (Many width count) at.segment at.word (tree_of v)) }
+    ensures reads { reads.new ≤ reads.old + content_words width count }
 {
     match width {
         Width::W0 => Ok(Value::Voids(count)),
-        Width::W1 => Ok(Value::Bits(bits_at(alloc, space, at, count)?)),
-        Width::W8 => Ok(Value::Bytes(bytes_at(alloc, space, at, count)?)),
-        Width::W16 => Ok(Value::Pairs(pairs_at(alloc, space, at, count)?)),
-        Width::W32 => Ok(Value::Quads(quads_at(alloc, space, at, count)?)),
-        Width::W64 => Ok(Value::Octs(words_at(alloc, space, at, count)?)),
+        Width::W1 => Ok(Value::Bits(bits_at(alloc, space, at, count, reads)?)),
+        Width::W8 => Ok(Value::Bytes(bytes_at(alloc, space, at, count, reads)?)),
+        Width::W16 => Ok(Value::Pairs(pairs_at(alloc, space, at, count, reads)?)),
+        Width::W32 => Ok(Value::Quads(quads_at(alloc, space, at, count, reads)?)),
+        Width::W64 => Ok(Value::Octs(words_at(alloc, space, at, count, reads)?)),
         Width::Link | Width::Rows => unreachable!(),
     }
 }
 
 /// `count` words.
 #[inline(always)]
-pub fn words_at<S: Space, A: Allocator>(
+pub fn words_at<S: Space, A: Allocator, L: Ledger>(
     alloc: A,
-    space: &S,
+    space: &CountedSpace<'_, S, L>,
     at: Place,
     count: u32,
+    reads: &mut Reads<L>,
 ) -> Result<Items<u64, A>, AllocError>
-    requires message { IsMessage (S.message space.now) }
-    requires content { IsContent (S.message space.now) at count }
+    requires message { IsMessage space.now }
+    requires content { IsContent space.now at count }
     ensures number { IfOk result (λ ws. length ws ≡ count) }
-    ensures words { IfOk result (λ ws. take count (words_from (S.message space.now) at.segment at.word) ≡ ws) }
+    ensures words { IfOk result (λ ws. take count (words_from space.now at.segment at.word) ≡ ws) }
+    ensures reads { reads.new ≡ reads.old + count }
 {
     let count = count as usize;
-    let bytes = space.bytes(at, 8 * count);
+    let bytes = space.bytes(at, 8 * count, reads);
     let mut words = Vec::with_capacity(alloc, count)?;
     for i in 0..count {
         words.push_reserved(LittleEndian::read_u64(&bytes[8 * i..]));
@@ -66,19 +72,21 @@ pub fn words_at<S: Space, A: Allocator>(
 }
 
 /// `count` elements of four bytes.
-fn quads_at<S: Space, A: Allocator>(
+fn quads_at<S: Space, A: Allocator, L: Ledger>(
     alloc: A,
-    space: &S,
+    space: &CountedSpace<'_, S, L>,
     at: Place,
     count: u32,
+    reads: &mut Reads<L>,
 ) -> Result<Items<u32, A>, AllocError>
-    requires content { IsContent (S.message space.now) at (content_words W32 count) }
+    requires content { IsContent space.now at (content_words W32 count) }
     ensures number { IfOk result (λ xs. length xs ≡ count) }
     ensures elements { IfOk result (λ xs.
-        AreElements 2 32 (words_from (S.message space.now) at.segment at.word) xs) }
+        AreElements 2 32 (words_from space.now at.segment at.word) xs) }
+    ensures reads { reads.new ≡ reads.old + content_words W32 count }
 {
     let count = count as usize;
-    let bytes = space.bytes(at, 4 * count);
+    let bytes = space.bytes(at, 4 * count, reads);
     let mut quads = Vec::with_capacity(alloc, count)?;
     for i in 0..count {
         quads.push_reserved(LittleEndian::read_u32(&bytes[4 * i..]));
@@ -87,19 +95,21 @@ fn quads_at<S: Space, A: Allocator>(
 }
 
 /// `count` elements of two bytes.
-fn pairs_at<S: Space, A: Allocator>(
+fn pairs_at<S: Space, A: Allocator, L: Ledger>(
     alloc: A,
-    space: &S,
+    space: &CountedSpace<'_, S, L>,
     at: Place,
     count: u32,
+    reads: &mut Reads<L>,
 ) -> Result<Items<u16, A>, AllocError>
-    requires content { IsContent (S.message space.now) at (content_words W16 count) }
+    requires content { IsContent space.now at (content_words W16 count) }
     ensures number { IfOk result (λ xs. length xs ≡ count) }
     ensures elements { IfOk result (λ xs.
-        AreElements 4 16 (words_from (S.message space.now) at.segment at.word) xs) }
+        AreElements 4 16 (words_from space.now at.segment at.word) xs) }
+    ensures reads { reads.new ≡ reads.old + content_words W16 count }
 {
     let count = count as usize;
-    let bytes = space.bytes(at, 2 * count);
+    let bytes = space.bytes(at, 2 * count, reads);
     let mut pairs = Vec::with_capacity(alloc, count)?;
     for i in 0..count {
         pairs.push_reserved(LittleEndian::read_u16(&bytes[2 * i..]));
@@ -108,35 +118,39 @@ fn pairs_at<S: Space, A: Allocator>(
 }
 
 /// `count` bytes, by one copy.
-fn bytes_at<S: Space, A: Allocator>(
+fn bytes_at<S: Space, A: Allocator, L: Ledger>(
     alloc: A,
-    space: &S,
+    space: &CountedSpace<'_, S, L>,
     at: Place,
     count: u32,
+    reads: &mut Reads<L>,
 ) -> Result<Items<u8, A>, AllocError>
-    requires content { IsContent (S.message space.now) at (content_words W8 count) }
+    requires content { IsContent space.now at (content_words W8 count) }
     ensures number { IfOk result (λ xs. length xs ≡ count) }
     ensures elements { IfOk result (λ xs.
-        AreElements 8 8 (words_from (S.message space.now) at.segment at.word) xs) }
+        AreElements 8 8 (words_from space.now at.segment at.word) xs) }
+    ensures reads { reads.new ≡ reads.old + content_words W8 count }
 {
-    Items::from_slice(alloc, space.bytes(at, count as usize))
+    Items::from_slice(alloc, space.bytes(at, count as usize, reads))
 }
 
 /// `count` bits, the least significant of each byte first.
-fn bits_at<S: Space, A: Allocator>(
+fn bits_at<S: Space, A: Allocator, L: Ledger>(
     alloc: A,
-    space: &S,
+    space: &CountedSpace<'_, S, L>,
     at: Place,
     count: u32,
+    reads: &mut Reads<L>,
 ) -> Result<Items<bool, A>, AllocError>
-    requires content { IsContent (S.message space.now) at (content_words W1 count) }
+    requires content { IsContent space.now at (content_words W1 count) }
     ensures number { IfOk result (λ xs. length xs ≡ count) }
     ensures elements { IfOk result (λ xs.
-        AreElements 64 1 (words_from (S.message space.now) at.segment at.word)
+        AreElements 64 1 (words_from space.now at.segment at.word)
         (map from_bool xs)) }
+    ensures reads { reads.new ≡ reads.old + content_words W1 count }
 {
     let count = count as usize;
-    let bytes = space.bytes(at, count.div_ceil(8));
+    let bytes = space.bytes(at, count.div_ceil(8), reads);
     let mut bits = Vec::with_capacity(alloc, count)?;
     for byte in &bytes[..count / 8] {
         push_bits(&mut bits, *byte, 8);

@@ -1,6 +1,6 @@
 //! An index of a message: an entry for each slot that its walk visits, in preorder.
 
-ghost use Rattle.std.specs.Prelude.{◌≡◌, ◌⊎◌, ◌≤◌, length, IfOk, IfErr, IsOk, OnOk, MatchResult};
+ghost use Rattle.std.specs.Prelude.{◌≡◌, ◌⊎◌, ◌<◌, ◌≤◌, ◌+◌, ◌*◌, length, IfOk, IfErr, IsOk, OnOk, MatchResult};
 ghost use Rattle.capn_walk.specs.Index.{index_of, IsIndexed};
 ghost use Rattle.capn_walk.specs.Accepted.{IsAccepted, IsValueOf, IsWalkRefused, IsBounded, paid};
 ghost use Rattle.capn_value.specs.Tree.{Tree};
@@ -12,9 +12,12 @@ use crate::limits::Limits;
 use crate::message_survey::survey;
 use crate::message_walk::{ROOT, root_target};
 use crate::walk_answer::{Stopped, out_of_memory};
-use capn_target::{Fault, Target, segment_length};
+use capn_target::counted::{CountedSpace, Reads, count_reads, segment_length};
+use capn_target::{Fault, Target};
 use capn_words::Space;
 use std::alloc::Allocator;
+use std::marker::Brand;
+use std::sync::ledger::{Blank, Ledger};
 
 /// Writes the index of a message that is accepted within the limits into a room, and answers how many entries there are
 /// and what the walk pays.
@@ -41,18 +44,71 @@ pub fn index_into<S: Space>(
     ensures bounded { MatchResult result (λ t. IsBounded limits.budget t.paid t.visits)
         (λ s. IsBounded limits.budget s.paid s.visits) }
 {
-    let _bounds = space.segments();
-    let target = root_target(space)?;
+    index_into_with_ledger::<S, Brand>(space, limits, room, Blank::new(1))
+}
+
+/// The same, with a new ledger.
+fn index_into_with_ledger<S: Space, L: Ledger>(
+    space: &S,
+    limits: Limits,
+    room: &mut [Entry],
+    blank: Blank,
+) -> Result<Indexed, Stopped>
+    requires name { blank.name ≡ L.name }
+    requires parts { blank.parts ≡ L.parts }
+    requires one { 0 < blank.parts }
+    // An answer: the message is accepted, and the room has its index, as far as it goes.
+    ensures found { IfOk result (λ t. IsIndexed (S.message space.now) limits room.old room.new t) }
+    // A message that is accepted is answered; any refusal is the first stop.
+    ensures only { IsAccepted (S.message space.now) limits → IsOk result }
+    ensures refused { IfErr result (λ s. IsWalkRefused (S.message space.now) limits s.fault s.place s.paid s.visits) }
+    // No walk pays beyond its budget.
+    ensures bounded { MatchResult result (λ t. IsBounded limits.budget t.paid t.visits)
+        (λ s. IsBounded limits.budget s.paid s.visits) }
+{
+    let (space, mut reads) = count_reads::<S, L>(space, blank);
+    index_into_counted(&space, limits, room, &mut reads)
+}
+
+/// What [`index_into`] answers, by calls that count what they read, as for
+/// [`survey_counted`](crate::survey_counted). With the reads it counts the turns of its one loop.
+///
+/// It reads and turns at most thirteen times for each visit that it answers or refuses with, and once more. So the
+/// budget alone bounds its work, whatever the message says. It takes no memory but the stack.
+pub fn index_into_counted<S: Space, L: Ledger>(
+    space: &CountedSpace<'_, S, L>,
+    limits: Limits,
+    room: &mut [Entry],
+    reads: &mut Reads<L>,
+) -> Result<Indexed, Stopped>
+    // An answer: the message is accepted, and the room has its index, as far as it goes.
+    ensures found { IfOk result (λ t. IsIndexed space.now limits room.old room.new t) }
+    // A message that is accepted is answered; any refusal is the first stop.
+    ensures only { IsAccepted space.now limits → IsOk result }
+    ensures refused { IfErr result (λ s. IsWalkRefused space.now limits s.fault s.place s.paid s.visits) }
+    // No walk pays beyond its budget.
+    ensures bounded { MatchResult result (λ t. IsBounded limits.budget t.paid t.visits)
+        (λ s. IsBounded limits.budget s.paid s.visits) }
+    // At most thirteen reads of the message and turns of the loop for each visit, and one more.
+    ensures reads { MatchResult result (λ t. reads.new ≤ reads.old + 13 * t.visits + 1)
+        (λ s. reads.new ≤ reads.old + 13 * s.visits + 1) }
+    // So the budget bounds them, whatever the message says and whatever is answered.
+    ensures work { reads.new ≤ reads.old + 13 * (limits.budget + 1) + 1 }
+{
+    space.bounds();
+    let target = root_target(space, reads)?;
+    let size = segment_length(space, ROOT.segment, reads);
     let told = index_found(
         space,
         ROOT,
-        segment_length(space, ROOT.segment),
+        size,
         Ok(target),
         limits.depth(),
         limits.budget(),
         limits.tariff().base(),
         room,
         0,
+        reads,
     )?;
     Ok(told)
 }

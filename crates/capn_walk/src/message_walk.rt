@@ -15,7 +15,7 @@ ghost use Rattle.capn_target.specs.declared.target.Fault.TheVariants.{Memory};
 use crate::limits::Limits;
 use crate::walk_answer::{Stopped, Walked, stop};
 use crate::walk_visits::walk_target;
-use capn_target::counted::{Counted, Reads, counting};
+use capn_target::counted::{CountedSpace, Reads, count_reads};
 use capn_target::{Fault, Shape, Target, counted};
 use capn_value::Tree;
 use capn_words::{Place, Space};
@@ -72,8 +72,91 @@ pub fn walk<S: Space, A: Allocator + Copy>(
     ensures thrifty { IfOk result (λ w. cost (base limits.tariff) w.tree ≤ w.paid) }
     ensures low { IfOk result (λ w. height w.tree ≤ limits.depth) }
 {
-    let _bounds = space.segments();
-    let target = root_target(space)?;
+    walk_with_ledger::<S, A, Brand>(alloc, space, limits, Blank::new(1))
+}
+
+/// The same, with a new ledger.
+fn walk_with_ledger<S: Space, A: Allocator + Copy, L: Ledger>(
+    alloc: A,
+    space: &S,
+    limits: Limits,
+    blank: Blank,
+) -> Result<Walked<A>, Stopped>
+    requires name { blank.name ≡ L.name }
+    requires parts { blank.parts ≡ L.parts }
+    requires one { 0 < blank.parts }
+    // An answer is the value at the root of an accepted message, with the sum of the prices.
+    ensures found { IfOk result (λ w. IsValueOf (S.message space.now) limits w.tree) }
+    ensures pays { IfOk result (λ w. w.paid ≡ paid (S.message space.now) limits) }
+    ensures counts { IfOk result (λ w. w.visits ≡ number_of_visits (S.message space.now) limits) }
+
+    // Such a value is answered, or a growth was refused; any other refusal is the first stop.
+    ensures only { (v : trees.Tree) → IsValueOf (S.message space.now) limits v →
+        MatchResult result (λ w. w.tree ≡ v) (λ s. s.fault ≡ Memory) }
+    ensures refused { IfErr result (λ s.
+        (s.fault ≡ Memory)
+        ⊎ IsWalkRefused (S.message space.now) limits s.fault s.place s.paid s.visits) }
+
+    // Memory is needed only if the root leads to content whose price is within the budget.
+    ensures memory { IfErr result (λ s. s.fault ≡ Memory →
+        IsEntered (stepped_to_root (S.message space.now) (base limits.tariff) limits.depth limits.budget)) }
+
+    // No walk pays beyond its budget.
+    ensures bounded { MatchResult result (λ w. IsBounded limits.budget w.paid w.visits)
+        (λ s. IsBounded limits.budget s.paid s.visits) }
+
+    // The tree costs no more than what was paid, and is no higher than the limit.
+    ensures thrifty { IfOk result (λ w. cost (base limits.tariff) w.tree ≤ w.paid) }
+    ensures low { IfOk result (λ w. height w.tree ≤ limits.depth) }
+{
+    let (space, mut reads) = count_reads::<S, L>(space, blank);
+    walk_counted(alloc, &space, limits, &mut reads)
+}
+
+/// What [`walk`] answers, by calls that count what they read, as for [`survey_counted`](crate::survey_counted). Bytes
+/// count as one read for each word that they take. With the reads it counts the turns of its loops over slots and over
+/// rows.
+///
+/// It reads and turns at most ten times for each visit that it answers or refuses with, twice for each word paid, and
+/// once more. So the budget alone bounds its work, whatever the message says. Memory: as for [`walk`].
+pub fn walk_counted<S: Space, A: Allocator + Copy, L: Ledger>(
+    alloc: A,
+    space: &CountedSpace<'_, S, L>,
+    limits: Limits,
+    reads: &mut Reads<L>,
+) -> Result<Walked<A>, Stopped>
+    // An answer is the value at the root of an accepted message, with the sum of the prices.
+    ensures found { IfOk result (λ w. IsValueOf space.now limits w.tree) }
+    ensures pays { IfOk result (λ w. w.paid ≡ paid space.now limits) }
+    ensures counts { IfOk result (λ w. w.visits ≡ number_of_visits space.now limits) }
+
+    // Such a value is answered, or a growth was refused; any other refusal is the first stop.
+    ensures only { (v : trees.Tree) → IsValueOf space.now limits v →
+        MatchResult result (λ w. w.tree ≡ v) (λ s. s.fault ≡ Memory) }
+    ensures refused { IfErr result (λ s.
+        (s.fault ≡ Memory)
+        ⊎ IsWalkRefused space.now limits s.fault s.place s.paid s.visits) }
+
+    // Memory is needed only if the root leads to content whose price is within the budget.
+    ensures memory { IfErr result (λ s. s.fault ≡ Memory →
+        IsEntered (stepped_to_root space.now (base limits.tariff) limits.depth limits.budget)) }
+
+    // No walk pays beyond its budget.
+    ensures bounded { MatchResult result (λ w. IsBounded limits.budget w.paid w.visits)
+        (λ s. IsBounded limits.budget s.paid s.visits) }
+
+    // The tree costs no more than what was paid, and is no higher than the limit.
+    ensures thrifty { IfOk result (λ w. cost (base limits.tariff) w.tree ≤ w.paid) }
+    ensures low { IfOk result (λ w. height w.tree ≤ limits.depth) }
+
+    // At most ten reads of the message and turns of a loop for each visit, two for each word paid, and one more.
+    ensures reads { MatchResult result (λ w. reads.new ≤ reads.old + 10 * w.visits + 2 * w.paid + 1)
+        (λ s. reads.new ≤ reads.old + 10 * s.visits + 2 * s.paid + 1) }
+    // So the budget bounds them, whatever the message says and whatever is answered.
+    ensures work { reads.new ≤ reads.old + 12 * (limits.budget + 1) }
+{
+    space.bounds();
+    let target = root_target(space, reads)?;
     let found = walk_target(
         alloc,
         space,
@@ -82,6 +165,7 @@ pub fn walk<S: Space, A: Allocator + Copy>(
         limits.depth(),
         limits.budget(),
         limits.tariff().base(),
+        reads,
     )?;
     Ok(Walked {
         tree: Tree::of_fit(found.value),
@@ -92,42 +176,8 @@ pub fn walk<S: Space, A: Allocator + Copy>(
 
 /// What the pointer to the root names: anything but a capability.
 #[inline(always)]
-pub fn root_target<S: Space>(space: &S) -> Result<Target, Stopped>
-    ensures place { OnOk result (0 < length (segment_at (S.message space.now) 0)) }
-    ensures target { IfOk result (λ t. spec.target (S.message space.now) root ≡ Ok t) }
-    ensures kind { IfOk result (λ t. accepted.may_be_root t ≡ true) }
-    ensures refused { IfErr result (λ s.
-        (limits : Bounds) →
-        IsWalkRefused (S.message space.now) limits s.fault s.place s.paid s.visits) }
-    ensures no_memory { IfErr result (λ s. s.fault ≢ Memory) }
-    ensures bounded { IfErr result (λ s. IsBounded 0 s.paid s.visits) }
-{
-    root_target_under::<S, Brand>(space, Blank::new(1))
-}
-
-/// The same, under a new ledger.
-#[inline(always)]
-fn root_target_under<S: Space, L: Ledger>(space: &S, blank: Blank) -> Result<Target, Stopped>
-    requires name { blank.name ≡ L.name }
-    requires parts { blank.parts ≡ L.parts }
-    requires one { 0 < blank.parts }
-    ensures place { OnOk result (0 < length (segment_at (S.message space.now) 0)) }
-    ensures target { IfOk result (λ t. spec.target (S.message space.now) root ≡ Ok t) }
-    ensures kind { IfOk result (λ t. accepted.may_be_root t ≡ true) }
-    ensures refused { IfErr result (λ s.
-        (limits : Bounds) →
-        IsWalkRefused (S.message space.now) limits s.fault s.place s.paid s.visits) }
-    ensures no_memory { IfErr result (λ s. s.fault ≢ Memory) }
-    ensures bounded { IfErr result (λ s. IsBounded 0 s.paid s.visits) }
-{
-    let (space, mut reads) = counting::<S, L>(space, blank);
-    counted_root(&space, &mut reads)
-}
-
-/// The same, with its reads counted.
-#[inline(always)]
-pub fn counted_root<S: Space, L: Ledger>(
-    space: &Counted<'_, S, L>,
+pub fn root_target<S: Space, L: Ledger>(
+    space: &CountedSpace<'_, S, L>,
     reads: &mut Reads<L>,
 ) -> Result<Target, Stopped>
     ensures place { OnOk result (0 < length (segment_at space.now 0)) }
@@ -139,7 +189,7 @@ pub fn counted_root<S: Space, L: Ledger>(
     ensures no_memory { IfErr result (λ s. s.fault ≢ Memory) }
     ensures bounded { IfErr result (λ s. IsBounded 0 s.paid s.visits) }
     ensures reads { OnOk result (reads.new ≤ reads.old + 9) }
-    ensures few { IfErr result (λ s. reads.new ≤ reads.old + 11 * s.visits + 1) }
+    ensures few { IfErr result (λ s. reads.new ≤ reads.old + 8 * s.visits + 1) }
 {
     if counted::segment_length(space, ROOT.segment, reads) == 0 {
         return Err(Stopped {

@@ -9,8 +9,10 @@ ghost use Rattle.capn_walk.specs.inner.SlotsLeft.{places_of, owed, Lies};
 
 use crate::price::price_of;
 use crate::slots_left::SlotsLeft;
+use capn_target::counted::CountedSpace;
 use capn_target::{Fault, Target};
 use capn_words::{Place, Space};
+use std::sync::ledger::Ledger;
 
 /// The price of a step to a target, at most `depth` objects deep and with `left` words left to pay, where each content
 /// costs `base` beside its size.
@@ -66,11 +68,11 @@ pub fn capability_of(target: Target) -> Option<u32>
 
 /// The slots below a target.
 #[inline(always)]
-pub fn slots_below<S: Space>(space: &S, target: Target) -> SlotsLeft
-    requires message { IsMessage (S.message space.now) }
-    requires inside { IsInMessage (S.message space.now) target }
+pub fn slots_below<S: Space, L: Ledger>(space: &CountedSpace<'_, S, L>, target: Target) -> SlotsLeft
+    requires message { IsMessage space.now }
+    requires inside { IsInMessage space.now target }
     ensures places { places_of result ≡ seen.slots_below target }
-    ensures lies { Lies (S.message space.now) result }
+    ensures lies { Lies space.now result }
     ensures owed { (base : ℕ) → owed result ≤ seen.toll base target }
 {
     match target {

@@ -8,15 +8,12 @@ ghost use Rattle.capn_walk.specs.Visits.{pays, visits};
 ghost use Rattle.capn_walk.specs.inner.Verdict.{judge, refused};
 ghost use Rattle.capn_walk.specs.inner.Outcomes.{Visits};
 ghost use Rattle.capn_walk.specs.inner.Reach.{levels_at};
-ghost use Rattle.capn_walk.specs.View as seen;
-ghost use Rattle.capn_walk.specs.inner.SlotsLeft.{places_of, owed, Lies};
-ghost use Rattle.capn_target.specs.Shapes.{IsInMessage};
 ghost use Rattle.capn_target.specs.Shapes.{IsPlain, AreNumbers};
 ghost use Rattle.capn_target.specs.declared.target.Fault.TheVariants.{Memory};
 
 use crate::slots_left::SlotsLeft;
-use crate::step::{capability_of, price_within};
-use capn_target::counted::{Counted, Reads, near, resolve};
+use crate::step::{capability_of, price_within, slots_below};
+use capn_target::counted::{CountedSpace, Reads, near, resolve};
 use capn_target::{Fault, Target};
 use capn_words::{Place, Pointer, Space, Width};
 use std::sync::ledger::Ledger;
@@ -36,7 +33,7 @@ pub struct Visited {
 /// are left to pay and each content costs `base` beside its size.
 #[inline(always)]
 pub fn visit_struct<S: Space, L: Ledger>(
-    space: &Counted<'_, S, L>,
+    space: &CountedSpace<'_, S, L>,
     at: Place,
     size: u32,
     pointer: Pointer,
@@ -61,7 +58,7 @@ pub fn visit_struct<S: Space, L: Ledger>(
 /// The price of a visit of a slot whose pointer is that of a near list of numbers.
 #[inline(always)]
 pub fn visit_numbers<S: Space, L: Ledger>(
-    space: &Counted<'_, S, L>,
+    space: &CountedSpace<'_, S, L>,
     at: Place,
     size: u32,
     pointer: Pointer,
@@ -89,7 +86,7 @@ pub fn visit_numbers<S: Space, L: Ledger>(
 /// The same, whatever the slot names.
 #[inline(never)]
 pub fn visit_elsewhere<S: Space, L: Ledger>(
-    space: Counted<'_, S, L>,
+    space: CountedSpace<'_, S, L>,
     at: Place,
     depth: u32,
     left: u32,
@@ -109,7 +106,7 @@ pub fn visit_elsewhere<S: Space, L: Ledger>(
 /// What a visit of a slot answers whose target is known.
 #[inline(always)]
 pub fn visit_found<S: Space, L: Ledger>(
-    space: &Counted<'_, S, L>,
+    space: &CountedSpace<'_, S, L>,
     at: Place,
     found: Result<Target, Fault>,
     depth: u32,
@@ -159,31 +156,5 @@ pub fn lowered<const DEEP: bool>(least: u32, depth: u32, capability: Option<u32>
         depth
     } else {
         least
-    }
-}
-
-/// The slots below a target.
-#[inline(always)]
-fn slots_below<S: Space, L: Ledger>(space: &Counted<'_, S, L>, target: Target) -> SlotsLeft
-    requires message { IsMessage space.now }
-    requires inside { IsInMessage space.now target }
-    ensures places { places_of result ≡ seen.slots_below target }
-    ensures lies { Lies space.now result }
-    ensures owed { (base : ℕ) → owed result ≤ seen.toll base target }
-{
-    match target {
-        Target::Content {
-            segment,
-            start,
-            shape,
-            pads: _,
-        } => {
-            let start = Place {
-                segment,
-                word: start,
-            };
-            SlotsLeft::of_object(start, shape)
-        }
-        _ => SlotsLeft::none(),
     }
 }

@@ -1,48 +1,57 @@
 //! The visits of slots, in preorder: what each denotes, what was paid, and how many there were.
+//!
+//! A slot costs at most ten reads and turns: its turn, its word, and eight to find what it names. The object that it
+//! names costs the words of its data, and a turn for each row, which is at most two for each word of its price.
 
-ghost use Rattle.std.specs.Prelude.{◌≡◌, ◌≤◌, ◌+◌, ◌*◌, Ok, length, IfErr};
+ghost use Rattle.std.specs.Prelude.{◌≡◌, ◌≤◌, ◌+◌, ◌*◌, Ok, length, IfErr, MatchResult};
 ghost use Rattle.capn_words.specs.Message.{segment_at, IsMessage, IsPlace};
 ghost use Rattle.capn_value.specs.Cost.{most_cost};
 ghost use Rattle.capn_target.specs.Target as spec;
 ghost use Rattle.capn_target.specs.declared.target.Fault.TheVariants.{Memory};
 ghost use Rattle.capn_walk.specs.View.{IsEntered, stepped};
 ghost use Rattle.capn_walk.specs.inner.Outcomes.{Walks, WalksObject, WalksRows, WalksSlots};
+ghost use Rattle.capn_walk.specs.inner.OwnReads.{own_reads};
 ghost use Rattle.capn_target.specs.Shapes.{IsContent, RowsFit, extent, slot_count};
 
 use crate::found::{Found, FoundRows, FoundSlots};
 use crate::lists::{list_at, words_at};
 use crate::step::price_within;
 use crate::walk_answer::{Stopped, out_of_memory, stop};
-use capn_target::{Fault, Shape, Target, near, place, pointer_at, resolve, segment_length};
+use capn_target::counted::{CountedSpace, Reads, near, pointer_at, resolve, segment_length};
+use capn_target::{Fault, Shape, Target, place};
 use capn_value::{Body, Items, Value};
 use capn_words::{Place, Pointer, Space, Width};
 use std::alloc::Allocator;
+use std::sync::ledger::Ledger;
 
 /// What a slot denotes, at most `depth` objects deep, where `left` words are left to pay and each content costs `base`
 /// beside its size. Near structs and near lists have an arm each, so that each is compiled for its form alone.
 #[cycle(walk)]
 #[inline(always)]
-fn walk_slot<S: Space, A: Allocator + Copy>(
+fn walk_slot<S: Space, A: Allocator + Copy, L: Ledger>(
     alloc: A,
-    space: &S,
+    space: &CountedSpace<'_, S, L>,
     at: Place,
     depth: u32,
     left: u32,
     base: u32,
+    reads: &mut Reads<L>,
 ) -> Result<Found<A>, Stopped>
-    requires message { IsMessage (S.message space.now) }
-    requires place { IsPlace (S.message space.now) at }
+    requires message { IsMessage space.now }
+    requires place { IsPlace space.now at }
     requires left { left ≤ most_cost }
-    ensures { Walks (S.message space.now) base depth left at result }
+    ensures answer { Walks space.now base depth left at result }
+    ensures reads { MatchResult result (λ f. reads.new + 1 ≤ reads.old + 10 * f.visits + 2 * f.paid)
+        (λ s. reads.new + 1 ≤ reads.old + 10 * s.visits + 2 * s.paid) }
 {
-    let pointer = pointer_at(space, at.segment, at.word);
+    let pointer = pointer_at(space, at.segment, at.word, reads);
     match pointer {
         Pointer::Nil => Ok(Found::without_content(Value::Nil)),
-        Pointer::Node { .. } => walk_near(alloc, space, at, pointer, depth, left, base),
-        Pointer::Many { .. } => walk_near(alloc, space, at, pointer, depth, left, base),
+        Pointer::Node { .. } => walk_near(alloc, space, at, pointer, depth, left, base, reads),
+        Pointer::Many { .. } => walk_near(alloc, space, at, pointer, depth, left, base, reads),
         // Taken out and put in again: then only this arm's answer comes through memory.
         _ => {
-            let found = walk_elsewhere(alloc, space, at, depth, left, base)?;
+            let found = walk_elsewhere(alloc, space.again(), at, depth, left, base, reads)?;
             Ok(found)
         }
     }
@@ -51,25 +60,28 @@ fn walk_slot<S: Space, A: Allocator + Copy>(
 /// What a slot denotes whose pointer names near content.
 #[cycle(walk)]
 #[inline(always)]
-fn walk_near<S: Space, A: Allocator + Copy>(
+fn walk_near<S: Space, A: Allocator + Copy, L: Ledger>(
     alloc: A,
-    space: &S,
+    space: &CountedSpace<'_, S, L>,
     at: Place,
     pointer: Pointer,
     depth: u32,
     left: u32,
     base: u32,
+    reads: &mut Reads<L>,
 ) -> Result<Found<A>, Stopped>
-    requires message { IsMessage (S.message space.now) }
-    requires place { IsPlace (S.message space.now) at }
-    requires pointer { spec.near (S.message space.now) at.segment at.word 0 pointer
-        ≡ spec.target (S.message space.now) at }
+    requires message { IsMessage space.now }
+    requires place { IsPlace space.now at }
+    requires pointer { spec.near space.now at.segment at.word 0 pointer
+        ≡ spec.target space.now at }
     requires left { left ≤ most_cost }
-    ensures { Walks (S.message space.now) base depth left at result }
+    ensures answer { Walks space.now base depth left at result }
+    ensures reads { MatchResult result (λ f. reads.new + 8 ≤ reads.old + 10 * f.visits + 2 * f.paid)
+        (λ s. reads.new + 8 ≤ reads.old + 10 * s.visits + 2 * s.paid) }
 {
-    let size = segment_length(space, at.segment);
-    match near(space, at.segment, size, at.word, 0, pointer) {
-        Ok(target) => walk_target(alloc, space, at, target, depth, left, base),
+    let size = segment_length(space, at.segment, reads);
+    match near(space, at.segment, size, at.word, 0, pointer, reads) {
+        Ok(target) => walk_target(alloc, space, at, target, depth, left, base, reads),
         Err(fault) => Err(stop(fault, at)),
     }
 }
@@ -77,21 +89,24 @@ fn walk_near<S: Space, A: Allocator + Copy>(
 /// What a slot denotes, whatever it names.
 #[cycle(walk)]
 #[inline(never)]
-fn walk_elsewhere<S: Space, A: Allocator + Copy>(
+fn walk_elsewhere<S: Space, A: Allocator + Copy, L: Ledger>(
     alloc: A,
-    space: &S,
+    space: CountedSpace<'_, S, L>,
     at: Place,
     depth: u32,
     left: u32,
     base: u32,
+    reads: &mut Reads<L>,
 ) -> Result<Found<A>, Stopped>
-    requires message { IsMessage (S.message space.now) }
-    requires place { IsPlace (S.message space.now) at }
+    requires message { IsMessage space }
+    requires place { IsPlace space at }
     requires left { left ≤ most_cost }
-    ensures { Walks (S.message space.now) base depth left at result }
+    ensures answer { Walks space.entry base depth left at result }
+    ensures reads { MatchResult result (λ f. reads.new + 2 ≤ reads.old + 10 * f.visits + 2 * f.paid)
+        (λ s. reads.new + 2 ≤ reads.old + 10 * s.visits + 2 * s.paid) }
 {
-    match resolve(space, at) {
-        Ok(target) => walk_target(alloc, space, at, target, depth, left, base),
+    match resolve(&space, at, reads) {
+        Ok(target) => walk_target(alloc, &space, at, target, depth, left, base, reads),
         Err(fault) => Err(stop(fault, at)),
     }
 }
@@ -99,22 +114,25 @@ fn walk_elsewhere<S: Space, A: Allocator + Copy>(
 /// What a slot denotes whose target is known. Its price is paid before anything of its content is read.
 #[cycle(walk)]
 #[inline(always)]
-pub fn walk_target<S: Space, A: Allocator + Copy>(
+pub fn walk_target<S: Space, A: Allocator + Copy, L: Ledger>(
     alloc: A,
-    space: &S,
+    space: &CountedSpace<'_, S, L>,
     at: Place,
     target: Target,
     depth: u32,
     left: u32,
     base: u32,
+    reads: &mut Reads<L>,
 ) -> Result<Found<A>, Stopped>
-    requires message { IsMessage (S.message space.now) }
-    requires place { IsPlace (S.message space.now) at }
-    requires target { spec.target (S.message space.now) at ≡ Ok target }
+    requires message { IsMessage space.now }
+    requires place { IsPlace space.now at }
+    requires target { spec.target space.now at ≡ Ok target }
     requires left { left ≤ most_cost }
-    ensures answer { Walks (S.message space.now) base depth left at result }
+    ensures answer { Walks space.now base depth left at result }
     // Memory is needed for content only, and only once its price is paid.
     ensures memory { IfErr result (λ s. s.fault ≡ Memory → IsEntered (stepped base depth left (Ok target))) }
+    ensures reads { MatchResult result (λ f. reads.new + 10 ≤ reads.old + 10 * f.visits + 2 * f.paid)
+        (λ s. reads.new + 10 ≤ reads.old + 10 * s.visits + 2 * s.paid) }
 {
     match target {
         Target::Nil => Ok(Found::without_content(Value::Nil)),
@@ -131,7 +149,7 @@ pub fn walk_target<S: Space, A: Allocator + Copy>(
             };
             let start = place(segment, start);
             let left = left - price;
-            match object(alloc, space, at, start, shape, depth - 1, left, base) {
+            match object(alloc, space, at, start, shape, depth - 1, left, base, reads) {
                 Ok(found) => Ok(Found {
                     value: found.value,
                     paid: price + found.paid,
@@ -146,42 +164,65 @@ pub fn walk_target<S: Space, A: Allocator + Copy>(
 /// The object of the slot at a place, with what is below it. Its own price has been paid.
 #[cycle(walk)]
 #[inline(always)]
-fn object<S: Space, A: Allocator + Copy>(
+fn object<S: Space, A: Allocator + Copy, L: Ledger>(
     alloc: A,
-    space: &S,
+    space: &CountedSpace<'_, S, L>,
     at: Place,
     start: Place,
     shape: Shape,
     depth: u32,
     left: u32,
     base: u32,
+    reads: &mut Reads<L>,
 ) -> Result<Found<A>, Stopped>
-    requires message { IsMessage (S.message space.now) }
-    requires content { IsContent (S.message space.now) start (extent shape) }
+    requires message { IsMessage space.now }
+    requires content { IsContent space.now start (extent shape) }
     requires rows { RowsFit shape }
     requires left { left ≤ most_cost }
     requires count { slot_count shape ≤ most_cost }
-    ensures { WalksObject (S.message space.now) base depth left shape start result }
+    ensures answer { WalksObject space.now base depth left shape start result }
+    ensures reads { MatchResult result (λ f. reads.new ≤ reads.old + 10 * f.visits + 2 * f.paid + own_reads shape)
+        (λ s. reads.new ≤ reads.old + 10 * s.visits + 2 * s.paid + own_reads shape) }
 {
     let segment = start.segment;
     match shape {
         Shape::Node { words, slots } => {
             let first = start.word + words as u32;
-            let Ok(words) = words_at(alloc, space, start, words as u32) else {
+            let Ok(words) = words_at(alloc, space, start, words as u32, reads) else {
                 return Err(out_of_memory(at));
             };
             let count = slots as u32;
-            let below = walk_slots(alloc, space, segment, first, count, depth, left, base)?;
+            let below = walk_slots(
+                alloc,
+                space.again(),
+                segment,
+                first,
+                count,
+                depth,
+                left,
+                base,
+                reads,
+            )?;
             Ok(below.into_struct(words))
         }
         Shape::Many { width, count } => match width {
             Width::Link => {
                 let first = start.word;
-                let below = walk_slots(alloc, space, segment, first, count, depth, left, base)?;
+                let below = walk_slots(
+                    alloc,
+                    space.again(),
+                    segment,
+                    first,
+                    count,
+                    depth,
+                    left,
+                    base,
+                    reads,
+                )?;
                 Ok(below.into_list())
             }
             _ => {
-                let Ok(value) = list_at(alloc, space, start, width, count) else {
+                let Ok(value) = list_at(alloc, space, start, width, count, reads) else {
                     return Err(out_of_memory(at));
                 };
                 Ok(Found::without_slots(value))
@@ -194,7 +235,18 @@ fn object<S: Space, A: Allocator + Copy>(
             span: _,
         } => {
             let first = place(segment, start.word + 1);
-            let below = walk_rows(alloc, space, first, count, words, slots, depth, left, base)?;
+            let below = walk_rows(
+                alloc,
+                space.again(),
+                first,
+                count,
+                words,
+                slots,
+                depth,
+                left,
+                base,
+                reads,
+            )?;
             Ok(below.into_list())
         }
     }
@@ -203,20 +255,23 @@ fn object<S: Space, A: Allocator + Copy>(
 /// The values of `count` slots, one after the other.
 #[cycle(walk)]
 #[inline(never)]
-fn walk_slots<S: Space, A: Allocator + Copy>(
+fn walk_slots<S: Space, A: Allocator + Copy, L: Ledger>(
     alloc: A,
-    space: &S,
+    space: CountedSpace<'_, S, L>,
     segment: u32,
     start: u32,
     count: u32,
     depth: u32,
     left: u32,
     base: u32,
+    reads: &mut Reads<L>,
 ) -> Result<FoundSlots<A>, Stopped>
-    requires message { IsMessage (S.message space.now) }
-    requires inside { start + count ≤ length (segment_at (S.message space.now) segment) }
+    requires message { IsMessage space }
+    requires inside { start + count ≤ length (segment_at space segment) }
     requires left { left ≤ most_cost }
-    ensures { WalksSlots (S.message space.now) base depth left segment start count result }
+    ensures answer { WalksSlots space.entry base depth left segment start count result }
+    ensures reads { MatchResult result (λ f. reads.new ≤ reads.old + 10 * f.visits + 2 * f.paid)
+        (λ s. reads.new ≤ reads.old + 10 * s.visits + 2 * s.paid) }
 {
     let Ok(mut slots) = Vec::with_capacity(alloc, count as usize) else {
         return Err(out_of_memory(place(segment, start)));
@@ -224,8 +279,9 @@ fn walk_slots<S: Space, A: Allocator + Copy>(
     let mut paid = 0;
     let mut visits = 0;
     for i in 0..count {
+        reads.tick();
         let at = place(segment, start + i);
-        match walk_slot(alloc, space, at, depth, left - paid, base) {
+        match walk_slot(alloc, &space, at, depth, left - paid, base, reads) {
             Ok(found) => {
                 paid += found.paid;
                 visits += found.visits;
@@ -244,9 +300,9 @@ fn walk_slots<S: Space, A: Allocator + Copy>(
 /// The bodies of `count` rows of the same sizes, one after the other.
 #[cycle(walk)]
 #[inline(never)]
-fn walk_rows<S: Space, A: Allocator + Copy>(
+fn walk_rows<S: Space, A: Allocator + Copy, L: Ledger>(
     alloc: A,
-    space: &S,
+    space: CountedSpace<'_, S, L>,
     start: Place,
     count: u32,
     words: u16,
@@ -254,12 +310,15 @@ fn walk_rows<S: Space, A: Allocator + Copy>(
     depth: u32,
     left: u32,
     base: u32,
+    reads: &mut Reads<L>,
 ) -> Result<FoundRows<A>, Stopped>
-    requires message { IsMessage (S.message space.now) }
-    requires content { IsContent (S.message space.now) start (count * (words + slots)) }
+    requires message { IsMessage space }
+    requires content { IsContent space start (count * (words + slots)) }
     requires left { left ≤ most_cost }
     requires count { count * slots ≤ most_cost }
-    ensures { WalksRows (S.message space.now) base depth left start words slots count result }
+    ensures answer { WalksRows space.entry base depth left start words slots count result }
+    ensures reads { MatchResult result (λ f. reads.new ≤ reads.old + 10 * f.visits + 2 * f.paid + count * (1 + words))
+        (λ s. reads.new ≤ reads.old + 10 * s.visits + 2 * s.paid + count * (1 + words)) }
 {
     let segment = start.segment;
     let width = slots as u32;
@@ -270,13 +329,24 @@ fn walk_rows<S: Space, A: Allocator + Copy>(
     let mut visits = 0;
     let mut next = start.word;
     for i in 0..count {
+        reads.tick();
         let at = place(segment, next);
-        let Ok(data) = words_at(alloc, space, at, words as u32) else {
+        let Ok(data) = words_at(alloc, &space, at, words as u32, reads) else {
             return Err(out_of_memory(at).behind(paid, visits));
         };
         let first = next + words as u32;
         let room = left - paid;
-        match walk_slots(alloc, space, segment, first, width, depth, room, base) {
+        match walk_slots(
+            alloc,
+            space.again(),
+            segment,
+            first,
+            width,
+            depth,
+            room,
+            base,
+            reads,
+        ) {
             Ok(below) => {
                 paid += below.paid;
                 visits += below.visits;

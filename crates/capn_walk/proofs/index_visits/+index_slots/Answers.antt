@@ -23,18 +23,18 @@ use Rattle.capn_walk.proofs.index_visits.+index_slots.Goals as goal
 
 -- ---- a slot whose target is known
 
-pub index_found-returns-in-Err : goal.index_found-returns-in-Err
-index_found-returns-in-Err g t c =
-    let m = g.S.Space.message c.args.space.now in
+pub index_found-returns-in-Err-clause-indexes : goal.index_found-returns-in-Err-clause-indexes
+index_found-returns-in-Err-clause-indexes g t c =
+    let m = c.args.space.now in
     let e = sym c.requires.found ∙ c.in-Err.is in (
       refuses-here m c.args.base c.args.at c.args.left c.args.depth c.in-Err.fault c.stop.result
           (visits-fault m c.args.base c.args.at c.args.depth c.in-Err.fault e) c.stop.ensures,
       λ h. never-memory m c.args.at c.in-Err.fault e (ap (λ (s : Stopped). s.fault) (sym c.stop.ensures) ∙ h),
     )
 
-pub index_found-returns-in-Err-price_within : goal.index_found-returns-in-Err-price_within
-index_found-returns-in-Err-price_within g t c =
-    let m = g.S.Space.message c.args.space.now in
+pub index_found-returns-in-Err-price_within-clause-indexes : goal.index_found-returns-in-Err-price_within-clause-indexes
+index_found-returns-in-Err-price_within-clause-indexes g t c =
+    let m = c.args.space.now in
     let e = sym c.requires.found ∙ c.in-Ok.is in
     let x = c.in-Err-price_within in
     let s = c.stop-in-Err-price_within in (
@@ -47,12 +47,12 @@ index_found-returns-in-Err-price_within g t c =
 pub index_found-slots_below-below-requires-clause-inside :
     goal.index_found-slots_below-below-requires-clause-inside
 index_found-slots_below-below-requires-clause-inside g t c =
-    found-inside (g.S.Space.message c.args.space.now) c.args.at c.in-Ok.target c.requires.place (sym c.requires.found
+    found-inside c.args.space.now c.args.at c.in-Ok.target c.requires.place (sym c.requires.found
     ∙ c.in-Ok.is)
 
-pub index_found-returns-then-is_done : goal.index_found-returns-then-is_done
-index_found-returns-then-is_done g t c =
-    let m = g.S.Space.message c.args.space.now in
+pub index_found-returns-then-is_done-clause-indexes : goal.index_found-returns-then-is_done-clause-indexes
+index_found-returns-then-is_done-clause-indexes g t c =
+    let m = c.args.space.now in
     let e = sym c.requires.found ∙ c.in-Ok.is in
     let x = c.in-Ok-price_within in
     let f = c.slots_below-below.ensures in
@@ -73,9 +73,9 @@ index_found-returns-then-is_done g t c =
       },
     )
 
-pub index_found-returns-in-Ok-index_frame : goal.index_found-returns-in-Ok-index_frame
-index_found-returns-in-Ok-index_frame g t c =
-    let m = g.S.Space.message c.args.space.now in
+pub index_found-returns-in-Ok-index_frame-clause-indexes : goal.index_found-returns-in-Ok-index_frame-clause-indexes
+index_found-returns-in-Ok-index_frame-clause-indexes g t c =
+    let m = c.args.space.now in
     let e = sym c.requires.found ∙ c.in-Ok.is in
     let x = c.in-Ok-price_within in
     let f = c.slots_below-below.ensures in
@@ -93,18 +93,19 @@ index_found-returns-in-Ok-index_frame g t c =
     (sym n) (sym f.places) in
     let es = entries-object m c.args.depth c.args.at c.in-Ok.target e deep
     ∙ ap (λ (ps : List Place). entered c.in-Ok.target (entries_of m (c.args.depth - 1) ps)) (sym f.places) in
-    let r = c.in-Ok-index_frame in (
+    let r = c.in-Ok-index_frame in
+    let i = rw c.again.ensures at r.ensures.indexes in (
       rw v
           (object-gives c.args.left x.price c.args.at _ (owed below) x.ensures.within few r.told.paid r.told.visits
-          r.ensures.0),
+          i.0),
       object-laid (entries m c.args.depth c.args.at) c.in-Ok.target (entries_of m (c.args.depth - 1) (places_of below))
           es c.args.first r.told.visits c.args.room.now _ _ _
-          (c.put.ensures ∙ ap (set c.args.room.now c.args.first) c.of.ensures) r.ensures.1 c.set_span.ensures,
+          (c.put.ensures ∙ ap (set c.args.room.now c.args.first) c.of.ensures) i.1 c.set_span.ensures,
     )
 
-pub index_found-returns-in-Err-index_frame : goal.index_found-returns-in-Err-index_frame
-index_found-returns-in-Err-index_frame g t c =
-    let m = g.S.Space.message c.args.space.now in
+pub index_found-returns-in-Err-index_frame-clause-indexes : goal.index_found-returns-in-Err-index_frame-clause-indexes
+index_found-returns-in-Err-index_frame-clause-indexes g t c =
+    let m = c.args.space.now in
     let e = sym c.requires.found ∙ c.in-Ok.is in
     let x = c.in-Ok-price_within in
     let f = c.slots_below-below.ensures in
@@ -117,17 +118,18 @@ index_found-returns-in-Err-index_frame g t c =
     ∙ ap₂ (λ (n : ℕ) (ps : List Place). pays c.args.at n ∷ visits_of m c.args.base (c.args.depth - 1) ps)
     (sym n) (sym f.places) in
     let r = c.in-Err-index_frame in
+    let i = rw c.again.ensures at r.ensures.indexes in
     rw (c.behind.ensures, v) (
       object-refuses c.args.left x.price c.args.at _ (owed c.slots_below-below.result) x.ensures.within few r.stopped
-          r.ensures.0,
-      r.ensures.1,
+          i.0,
+      i.1,
     )
 
 -- ---- a slot
 
-pub index_slot-returns-then-word-eq0 : goal.index_slot-returns-then-word-eq0
-index_slot-returns-then-word-eq0 g t c =
-    let m = g.S.Space.message c.args.space.now in
+pub index_slot-returns-then-word-eq0-clause-indexes : goal.index_slot-returns-then-word-eq0-clause-indexes
+index_slot-returns-then-word-eq0-clause-indexes g t c =
+    let m = c.args.space.now in
     let e = null-target m c.args.at (cc) in
     let l = entries-leaf m c.args.depth c.args.at targets.Nil e refl in (
       gives-nothing m c.args.base c.args.at c.args.left c.args.depth
@@ -142,20 +144,20 @@ index_slot-returns-then-word-eq0 g t c =
 
 pub index_slot-index_near-requires : goal.index_slot-index_near-requires
 index_slot-index_near-requires g t c κs within =
-    let m = g.S.Space.message c.args.space.now in
+    let m = c.args.space.now in
     let p = c.split-pointer in
     let x = c.in-Node in
-    let e = near-struct m c.args.at c.word-word.result p.result x.offset x.words x.slots c.word-word.ensures
+    let e = near-struct m c.args.at c.word-word.result p.result x.offset x.words x.slots c.word-word.ensures.word
     p.ensures.read x.is in
     search rules
 
 pub index_slot-index_near-requires-in-Many : goal.index_slot-index_near-requires-in-Many
 index_slot-index_near-requires-in-Many g t c κs within =
-    let m = g.S.Space.message c.args.space.now in
+    let m = c.args.space.now in
     let p = c.split-pointer in
     let x = c.in-Many in
     let e = ap (near m c.args.at.segment c.args.at.word 0) x.is
-    ∙ near-list m c.args.at c.word-word.result p.result x.offset x.width x.count c.word-word.ensures p.ensures.read
+    ∙ near-list m c.args.at c.word-word.result p.result x.offset x.width x.count c.word-word.ensures.word p.ensures.read
     x.is in
     search rules
 
@@ -163,30 +165,31 @@ index_slot-index_near-requires-in-Many g t c κs within =
 
 pub index_frame-slots-preserved : goal.index_frame-slots-preserved
 index_frame-slots-preserved g t c =
-    let m = g.S.Space.message c.args.space.now in
+    let m = c.args.space in
     let w = c.slots in
     let i = c.slots.invariant in
     let k = c.take.ensures in
     let at = c.take.result.0 in
     let rest = c.take.result.1 in
     let x = c.in-Ok in
-    let lies : Lies (g.S.Space.message c.args.space.now) c.take.result.1 = search rules in
+    let lies : Lies c.args.space c.take.result.1 = search rules in
     let all = entries_of m c.args.depth (places_of rest) in
     record {
       way = way-takes c.args.left _ _ _ (visits m c.args.base c.args.depth at)
           (visits_of m c.args.base c.args.depth (places_of rest)) _ _ w.paid w.visits x.told.paid x.told.visits
-          (ap (visits_of m c.args.base c.args.depth) k.places) k.owed i.way x.ensures.0;
+          (ap (visits_of m c.args.base c.args.depth) k.places) k.owed i.way x.ensures.indexes.0;
       lies = lies;
       segment = k.segment ∙ i.segment;
       room = i.room ∙ room-takes _ (entries m c.args.depth at) all (ap (entries_of m c.args.depth) k.places)
-          c.args.first w.visits x.told.visits _ _ x.ensures.1;
+          c.args.first w.visits x.told.visits _ _ x.ensures.indexes.1;
       count = count-takes _ (entries m c.args.depth at) all (ap (entries_of m c.args.depth) k.places)
-          c.args.first w.visits x.told.visits _ _ x.ensures.1 _ i.count;
+          c.args.first w.visits x.told.visits _ _ x.ensures.indexes.1 _ i.count;
+      reads = let n = x.ensures.reads in let so_far = i.reads in omega arith;
     }
 
-pub index_frame-returns-in-Err : goal.index_frame-returns-in-Err
-index_frame-returns-in-Err g t c =
-    let m = g.S.Space.message c.args.space.now in
+pub index_frame-returns-in-Err-clause-indexes : goal.index_frame-returns-in-Err-clause-indexes
+index_frame-returns-in-Err-clause-indexes g t c =
+    let m = c.args.space in
     let w = c.slots in
     let i = c.slots.invariant in
     let k = c.take.ensures in
@@ -196,6 +199,6 @@ index_frame-returns-in-Err g t c =
     rw c.behind.ensures (
       way-refuses c.args.left _ _ _ (visits m c.args.base c.args.depth at)
           (visits_of m c.args.base c.args.depth (places_of rest)) _ _ w.paid w.visits x.stopped
-          (ap (visits_of m c.args.base c.args.depth) k.places) k.owed i.way x.ensures.0,
-      x.ensures.1,
+          (ap (visits_of m c.args.base c.args.depth) k.places) k.owed i.way x.ensures.indexes.0,
+      x.ensures.indexes.1,
     )

@@ -1,4 +1,4 @@
-use Rattle.std.proofs.Common.{◌≡◌, ◌+◌, ◌-◌, ◌*◌, length}
+use Rattle.std.proofs.Common.{◌≡◌, ◌+◌, ◌-◌, ◌*◌, ◌≤◌, length}
 use Rattle.capn_walk.specs.Visits.{visits_of}
 use Rattle.capn_walk.specs.inner.SlotsLeft.{places_of, owed, Lies}
 use Rattle.capn_walk.specs.Index.{entries_of}
@@ -26,7 +26,7 @@ decreases-index_frame-slots g l = 2 * owed l.frame + (1 - l.frame.left)
 
 abbrev pub invariant-index_frame-slots : goal.invariant-index_frame-slots
 invariant-index_frame-slots g l =
-    let m = g.S.Space.message l.space in
+    let m = l.space in
     record {
       way : IsOnWay l.left (visits_of m l.base l.depth (places_of l.fn.slots)) (owed l.fn.slots)
           (visits_of m l.base l.depth (places_of l.frame)) (owed l.frame) l.paid l.visits;
@@ -36,4 +36,5 @@ invariant-index_frame-slots g l =
           ≡ laid (l.first + l.visits) (entries_of m l.depth (places_of l.frame)) l.room;
       count : length (entries_of m l.depth (places_of l.fn.slots))
           ≡ l.visits + length (entries_of m l.depth (places_of l.frame));
+      reads : l.reads ≤ l.fn.reads + 13 * l.visits + (1 - (1 - l.frame.left));
     }

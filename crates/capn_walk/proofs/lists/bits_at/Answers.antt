@@ -8,8 +8,8 @@ pub slice_bounds-byte-items-end : goal.slice_bounds-byte-items-end
 slice_bounds-byte-items-end g c =
     let inside = c.requires.content.within in
     let number = c.div_ceil.ensures in
-    let size = length-read (g.S.Space.message c.args.space.now) c.args.at c.div_ceil.result c.bytes-bytes.result.now
-    c.bytes-bytes.ensures (omega arith) in
+    let size = length-read c.args.space.now c.args.at c.div_ceil.result c.bytes-bytes.result.now
+    c.bytes-bytes.ensures.bytes (omega arith) in
     let whole = length-take-le (c.args.count / 8) c.bytes-bytes.result.now (omega arith) in
     omega arith
 
@@ -17,8 +17,8 @@ pub bounds-bytes-count : goal.bounds-bytes-count
 bounds-bytes-count g c =
     let inside = c.requires.content.within in
     let number = c.div_ceil.ensures in
-    let size = length-read (g.S.Space.message c.args.space.now) c.args.at c.div_ceil.result c.bytes-bytes.result.now
-    c.bytes-bytes.ensures (omega arith) in
+    let size = length-read c.args.space.now c.args.at c.div_ceil.result c.bytes-bytes.result.now
+    c.bytes-bytes.ensures.bytes (omega arith) in
     omega arith
 
 pub loop-byte-preserved : goal.loop-byte-preserved
@@ -30,8 +30,8 @@ loop-byte-preserved g c =
     record {
       number = let a = more.number in omega arith;
       room = more.capacity ∙ c.loop-byte.invariant.room;
-      elements = bits-more (g.S.Space.message c.args.space.now) c.args.at c.div_ceil.result c.bytes-bytes.result.now
-          c.bytes-bytes.ensures (omega arith) c.loop-byte.byte-index 8 _ c.loop-byte.bits.items _
+      elements = bits-more c.args.space.now c.args.at c.div_ceil.result c.bytes-bytes.result.now
+          c.bytes-bytes.ensures.bytes (omega arith) c.loop-byte.byte-index 8 _ c.loop-byte.bits.items _
           (get_or-take (c.args.count / 8) c.bytes-bytes.result.now c.loop-byte.byte-index 0 (omega arith))
           (omega arith) (omega arith) so_far more.items c.loop-byte.invariant.elements;
     }
@@ -40,8 +40,8 @@ pub returns-clause-number : goal.returns-clause-number
 returns-clause-number g c =
     let inside = c.requires.content.within in
     let number = c.div_ceil.ensures in
-    let size = length-read (g.S.Space.message c.args.space.now) c.args.at c.div_ceil.result c.bytes-bytes.result.now
-    c.bytes-bytes.ensures (omega arith) in
+    let size = length-read c.args.space.now c.args.at c.div_ceil.result c.bytes-bytes.result.now
+    c.bytes-bytes.ensures.bytes (omega arith) in
     let whole = length-take-le (c.args.count / 8) c.bytes-bytes.result.now (omega arith) in
     let so_far = c.loop-byte.invariant.number in
     rw (c.from_vec.ensures) (elim c.if-count-gt0.branch [
@@ -53,13 +53,13 @@ pub returns-clause-elements : goal.returns-clause-elements
 returns-clause-elements g c =
     let inside = c.requires.content.within in
     let number = c.div_ceil.ensures in
-    let size = length-read (g.S.Space.message c.args.space.now) c.args.at c.div_ceil.result c.bytes-bytes.result.now
-    c.bytes-bytes.ensures (omega arith) in
+    let size = length-read c.args.space.now c.args.at c.div_ceil.result c.bytes-bytes.result.now
+    c.bytes-bytes.ensures.bytes (omega arith) in
     let whole = length-take-le (c.args.count / 8) c.bytes-bytes.result.now (omega arith) in
     let so_far = c.loop-byte.invariant.number in
     rw (c.from_vec.ensures) (elim c.if-count-gt0.branch [
-      | then-count-gt0 w ↦ rw (w.bits-is) (bits-more (g.S.Space.message c.args.space.now) c.args.at c.div_ceil.result
-          c.bytes-bytes.result.now c.bytes-bytes.ensures (omega arith) (c.args.count / 8) (c.args.count % 8) _
+      | then-count-gt0 w ↦ rw (w.bits-is) (bits-more c.args.space.now c.args.at c.div_ceil.result
+          c.bytes-bytes.result.now c.bytes-bytes.ensures.bytes (omega arith) (c.args.count / 8) (c.args.count % 8) _
           c.loop-byte.bits.items _ refl (omega arith) (omega arith) (omega arith)
           w.push_bits-then-count-gt0.ensures.items c.loop-byte.invariant.elements)
       | else-count-gt0 w ↦ rw (w.bits-is) c.loop-byte.invariant.elements

@@ -7,6 +7,6 @@ abbrev pub invariant-loop-byte : goal.invariant-loop-byte
 invariant-loop-byte g l = record {
   number : length l.bits.items ≡ 8 * l.byte-index;
   room : vec_capacity l.bits ≡ l.count;
-  elements : AreElements 64 1 (words_from (g.S.Space.message l.space) l.fn.at.segment l.fn.at.word)
+  elements : AreElements 64 1 (words_from l.space l.fn.at.segment l.fn.at.word)
       (map from_bool l.bits.items);
 }

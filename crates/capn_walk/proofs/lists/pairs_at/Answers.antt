@@ -7,22 +7,22 @@ use Rattle.capn_walk.proofs.lists.pairs_at.Goals as goal
 pub slice_bounds-read_u16-count : goal.slice_bounds-read_u16-count
 slice_bounds-read_u16-count g c =
     let inside = c.requires.content.within in
-    let size = length-read (g.S.Space.message c.args.space.now) c.args.at (2 * c.args.count) c.bytes-bytes.result.now
-    c.bytes-bytes.ensures (omega arith) in
+    let size = length-read c.args.space.now c.args.at (2 * c.args.count) c.bytes-bytes.result.now
+    c.bytes-bytes.ensures.bytes (omega arith) in
     omega arith
 
 pub slice_bounds-read_u16-start : goal.slice_bounds-read_u16-start
 slice_bounds-read_u16-start g c =
     let inside = c.requires.content.within in
-    let size = length-read (g.S.Space.message c.args.space.now) c.args.at (2 * c.args.count) c.bytes-bytes.result.now
-    c.bytes-bytes.ensures (omega arith) in
+    let size = length-read c.args.space.now c.args.at (2 * c.args.count) c.bytes-bytes.result.now
+    c.bytes-bytes.ensures.bytes (omega arith) in
     omega arith
 
 pub read_u16-requires : goal.read_u16-requires
 read_u16-requires g c =
     let inside = c.requires.content.within in
-    let size = length-read (g.S.Space.message c.args.space.now) c.args.at (2 * c.args.count) c.bytes-bytes.result.now
-    c.bytes-bytes.ensures (omega arith) in
+    let size = length-read c.args.space.now c.args.at (2 * c.args.count) c.bytes-bytes.result.now
+    c.bytes-bytes.ensures.bytes (omega arith) in
     rest-holds 2 (2 * c.loop-i.i) c.bytes-bytes.result.now (omega arith)
 
 pub loop-i-preserved : goal.loop-i-preserved
@@ -41,7 +41,7 @@ returns-clause-elements g c =
     let inside = c.requires.content.within in
     let so_far = c.loop-i.invariant.number in
     let number : length c.loop-i.pairs.items ≡ c.args.count = omega arith in
-    let read = are-pairs (g.S.Space.message c.args.space.now) c.args.at (2 * c.args.count) c.bytes-bytes.result.now
-    c.bytes-bytes.ensures (omega arith) c.loop-i.pairs.items
+    let read = are-pairs c.args.space.now c.args.at (2 * c.args.count) c.bytes-bytes.result.now
+    c.bytes-bytes.ensures.bytes (omega arith) c.loop-i.pairs.items
     (omega arith) c.loop-i.invariant.read in
     rw (c.from_vec.ensures) read

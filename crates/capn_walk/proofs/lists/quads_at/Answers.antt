@@ -7,22 +7,22 @@ use Rattle.capn_walk.proofs.lists.quads_at.Goals as goal
 pub slice_bounds-read_u32-count : goal.slice_bounds-read_u32-count
 slice_bounds-read_u32-count g c =
     let inside = c.requires.content.within in
-    let size = length-read (g.S.Space.message c.args.space.now) c.args.at (4 * c.args.count) c.bytes-bytes.result.now
-    c.bytes-bytes.ensures (omega arith) in
+    let size = length-read c.args.space.now c.args.at (4 * c.args.count) c.bytes-bytes.result.now
+    c.bytes-bytes.ensures.bytes (omega arith) in
     omega arith
 
 pub slice_bounds-read_u32-start : goal.slice_bounds-read_u32-start
 slice_bounds-read_u32-start g c =
     let inside = c.requires.content.within in
-    let size = length-read (g.S.Space.message c.args.space.now) c.args.at (4 * c.args.count) c.bytes-bytes.result.now
-    c.bytes-bytes.ensures (omega arith) in
+    let size = length-read c.args.space.now c.args.at (4 * c.args.count) c.bytes-bytes.result.now
+    c.bytes-bytes.ensures.bytes (omega arith) in
     omega arith
 
 pub read_u32-requires : goal.read_u32-requires
 read_u32-requires g c =
     let inside = c.requires.content.within in
-    let size = length-read (g.S.Space.message c.args.space.now) c.args.at (4 * c.args.count) c.bytes-bytes.result.now
-    c.bytes-bytes.ensures (omega arith) in
+    let size = length-read c.args.space.now c.args.at (4 * c.args.count) c.bytes-bytes.result.now
+    c.bytes-bytes.ensures.bytes (omega arith) in
     rest-holds 4 (4 * c.loop-i.i) c.bytes-bytes.result.now (omega arith)
 
 pub loop-i-preserved : goal.loop-i-preserved
@@ -41,7 +41,7 @@ returns-clause-elements g c =
     let inside = c.requires.content.within in
     let so_far = c.loop-i.invariant.number in
     let number : length c.loop-i.quads.items ≡ c.args.count = omega arith in
-    let read = are-quads (g.S.Space.message c.args.space.now) c.args.at (4 * c.args.count) c.bytes-bytes.result.now
-    c.bytes-bytes.ensures (omega arith) c.loop-i.quads.items
+    let read = are-quads c.args.space.now c.args.at (4 * c.args.count) c.bytes-bytes.result.now
+    c.bytes-bytes.ensures.bytes (omega arith) c.loop-i.quads.items
     (omega arith) c.loop-i.invariant.read in
     rw (c.from_vec.ensures) read

@@ -7,22 +7,22 @@ use Rattle.capn_walk.proofs.lists.words_at.Goals as goal
 pub slice_bounds-read_u64-count : goal.slice_bounds-read_u64-count
 slice_bounds-read_u64-count g c =
     let inside = c.requires.content.within in
-    let size = length-read (g.S.Space.message c.args.space.now) c.args.at (8 * c.args.count) c.bytes-bytes.result.now
-    c.bytes-bytes.ensures (omega arith) in
+    let size = length-read c.args.space.now c.args.at (8 * c.args.count) c.bytes-bytes.result.now
+    c.bytes-bytes.ensures.bytes (omega arith) in
     omega arith
 
 pub slice_bounds-read_u64-start : goal.slice_bounds-read_u64-start
 slice_bounds-read_u64-start g c =
     let inside = c.requires.content.within in
-    let size = length-read (g.S.Space.message c.args.space.now) c.args.at (8 * c.args.count) c.bytes-bytes.result.now
-    c.bytes-bytes.ensures (omega arith) in
+    let size = length-read c.args.space.now c.args.at (8 * c.args.count) c.bytes-bytes.result.now
+    c.bytes-bytes.ensures.bytes (omega arith) in
     omega arith
 
 pub read_u64-requires : goal.read_u64-requires
 read_u64-requires g c =
     let inside = c.requires.content.within in
-    let size = length-read (g.S.Space.message c.args.space.now) c.args.at (8 * c.args.count) c.bytes-bytes.result.now
-    c.bytes-bytes.ensures (omega arith) in
+    let size = length-read c.args.space.now c.args.at (8 * c.args.count) c.bytes-bytes.result.now
+    c.bytes-bytes.ensures.bytes (omega arith) in
     rest-holds 8 (8 * c.loop-i.i) c.bytes-bytes.result.now (omega arith)
 
 pub loop-i-preserved : goal.loop-i-preserved
@@ -41,7 +41,7 @@ returns-clause-words g c =
     let inside = c.requires.content.within in
     let so_far = c.loop-i.invariant.number in
     let number : length c.loop-i.words.items ≡ c.args.count = omega arith in
-    let read = are-words (g.S.Space.message c.args.space.now) c.args.at (8 * c.args.count) c.bytes-bytes.result.now
-    c.bytes-bytes.ensures (omega arith) c.loop-i.words.items (c.requires.message.each c.args.at.segment)
+    let read = are-words c.args.space.now c.args.at (8 * c.args.count) c.bytes-bytes.result.now
+    c.bytes-bytes.ensures.bytes (omega arith) c.loop-i.words.items (c.requires.message.each c.args.at.segment)
     (omega arith) c.loop-i.invariant.read in
     rw (c.from_vec.ensures, ← number) read

@@ -1,4 +1,4 @@
-use Rattle.std.proofs.Common.{◌≡◌, ◌+◌, ◌*◌, length, vec_capacity}
+use Rattle.std.proofs.Common.{◌≡◌, ◌+◌, ◌*◌, ◌≤◌, length, vec_capacity}
 use Rattle.capn_value.specs.Tree.{count, count_rows}
 use Rattle.capn_value.specs.TreeOf.{trees_of, rows_of}
 use Rattle.capn_walk.specs.Visits.{places, row_places, visits_of}
@@ -29,22 +29,24 @@ decreases-object g l = 7 * l.depth + 6
 
 abbrev pub invariant-walk_slots-loop-i : goal.invariant-walk_slots-loop-i
 invariant-walk_slots-loop-i g l = record {
-  pays : Gives l.left (visits_of (g.S.Space.message l.space) l.base l.depth (places l.segment l.start l.i)) l.i l.paid
+  pays : Gives l.left (visits_of l.space l.base l.depth (places l.segment l.start l.i)) l.i l.paid
       l.visits;
-  value : AreAt (g.S.Space.message l.space) l.segment l.start (trees_of l.slots.items);
+  value : AreAt l.space l.segment l.start (trees_of l.slots.items);
   number : count (trees_of l.slots.items) ≡ l.i;
   filled : length l.slots.items ≡ l.i;
   room : vec_capacity l.slots ≡ l.count;
+  reads : l.reads ≤ l.fn.reads + 10 * l.visits + 2 * l.paid;
 }
 
 abbrev pub invariant-walk_rows-loop-i : goal.invariant-walk_rows-loop-i
 invariant-walk_rows-loop-i g l = record {
   pays : Gives l.left
-      (visits_of (g.S.Space.message l.space) l.base l.depth (row_places l.segment l.fn.start.word l.words l.slots l.i))
+      (visits_of l.space l.base l.depth (row_places l.segment l.fn.start.word l.words l.slots l.i))
       (l.i * l.slots) l.paid l.visits;
-  value : RowsAt (g.S.Space.message l.space) l.words l.slots l.segment l.fn.start.word (rows_of l.rows.items);
+  value : RowsAt l.space l.words l.slots l.segment l.fn.start.word (rows_of l.rows.items);
   number : count_rows (rows_of l.rows.items) ≡ l.i;
   filled : length l.rows.items ≡ l.i;
   room : vec_capacity l.rows ≡ l.count;
   next : l.next ≡ l.fn.start.word + l.i * (l.words + l.slots);
+  reads : l.reads ≤ l.fn.reads + 10 * l.visits + 2 * l.paid + l.i * (1 + l.words);
 }

@@ -4,7 +4,7 @@ use Rattle.capn_target.specs.Target.{target}
 use Rattle.capn_walk.specs.Accepted.{root}
 use Rattle.capn_walk.proofs.RootWalks.{refused-kind, refused-fault}
 use Rattle.capn_target.proofs.shared.Ways.{never-memory}
-use Rattle.capn_walk.proofs.message_walk.counted_root.Goals as goal
+use Rattle.capn_walk.proofs.message_walk.root_target.Goals as goal
 
 pub returns-else-may_be_root-clause-refused : goal.returns-else-may_be_root-clause-refused
 returns-else-may_be_root-clause-refused g c limits =

@@ -5,7 +5,7 @@ use Rattle.capn_walk.specs.inner.SlotsLeft.{places_of, owed}
 use Rattle.capn_walk.specs.inner.Reach.{reach_of}
 use Rattle.capn_walk.proofs.UnderWay.{Surveys, coming}
 use Rattle.capn_walk.proofs.DeepVisits.{IsDeep}
-use Rattle.capn_walk.proofs.message_survey.survey_in_room.Given as goal
+use Rattle.capn_walk.proofs.survey_loop.survey_in_room.Given as goal
 
 abbrev pub decreases-slots : goal.decreases-slots
 decreases-slots g l =

@@ -4,7 +4,7 @@ use Rattle.capn_walk.specs.inner.SlotsLeft.{owed, places_of}
 use Rattle.capn_walk.proofs.OwedSlots.{done, nothing-left}
 use Rattle.capn_walk.proofs.DeepVisits.{reach-named}
 use Rattle.capn_walk.proofs.RootSurveys.{tells-alone}
-use Rattle.capn_walk.proofs.message_survey.survey_root.Goals as goal
+use Rattle.capn_walk.proofs.survey_loop.survey_root.Goals as goal
 
 pub returns-then-is_done-clause-tells : goal.returns-then-is_done-clause-tells
 returns-then-is_done-clause-tells g c =

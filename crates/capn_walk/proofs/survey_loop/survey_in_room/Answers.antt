@@ -11,9 +11,9 @@ use Rattle.capn_walk.proofs.Stepped.{capless-near, numbers-none}
 use Rattle.capn_walk.proofs.UnderWay.{popped, entered, passed, refused-here, as-many, fewer-entered, fewer-passed}
 use Rattle.capn_walk.proofs.UnderWay.{passed-null, fewer-null, null-target, next-row, fewer-rows, IsKept, kept, dropped}
 use Rattle.capn_walk.proofs.UnderWay.{no_frame, option_or-none, length-kept, length-popped}
-use Rattle.capn_walk.proofs.message_survey.survey_in_room.Goals.{then-not-is_done+in-Ok-push, else-not-is_done}
-use Rattle.capn_walk.proofs.message_survey.survey_in_room.Goals.{then-not-is_done-2+in-Ok-push-2, else-not-is_done-2}
-use Rattle.capn_walk.proofs.message_survey.survey_in_room.Goals as goal
+use Rattle.capn_walk.proofs.survey_loop.survey_in_room.Goals.{then-not-is_done+in-Ok-push, else-not-is_done}
+use Rattle.capn_walk.proofs.survey_loop.survey_in_room.Goals.{then-not-is_done-2+in-Ok-push-2, else-not-is_done-2}
+use Rattle.capn_walk.proofs.survey_loop.survey_in_room.Goals as goal
 
 pub slots-smaller-then-frame-gt0 : goal.slots-smaller-then-frame-gt0
 slots-smaller-then-frame-gt0 g c =
