@@ -1,6 +1,6 @@
 //! What a message comes to beside its price.
 
-ghost use Rattle.std.specs.Prelude.{◌≡◌, ◌<◌, [], ◌∷◌, None, IfSome, IsSome};
+ghost use Rattle.std.specs.Prelude.{◌≡◌, [], ◌∷◌, None, IfSome, IsSome};
 ghost use Rattle.capn_value.specs.Tree.{Tree as Value};
 ghost use Rattle.capn_walk.specs.Accepted.{IsValueOf};
 ghost use Rattle.capn_walk.specs.Depth.{IsDepth};
@@ -34,10 +34,10 @@ pub struct Measured {
     pub canonical: bool,
 }
 
-/// The least depth under which a message is accepted, or `None` where it is not, or memory was refused.
+/// The least depth under which a message is accepted, or `None` where it is not.
 fn depth_of<S: Space>(alloc: Global, space: &S, limits: Limits) -> Option<u32>
     ensures found { IfSome result (λ d. IsDepth (S.message space.now) limits d) }
-    ensures memory { (v : Value) → IsValueOf (S.message space.now) limits v → result ≡ None → 64 < limits.depth }
+    ensures only { (v : Value) → IsValueOf (S.message space.now) limits v → IsSome result }
 {
     match survey_depth(alloc, space, limits) {
         Ok(told) => Some(told.depth),
@@ -76,10 +76,10 @@ fn canonical_depth<S: Space>(space: &S, limits: Limits) -> Option<u32>
     }
 }
 
-/// What a message comes to beside its price, or `None` where it is not accepted, or memory was refused.
+/// What a message comes to beside its price, or `None` where it is not accepted.
 fn measure<S: Space>(alloc: Global, space: &S, limits: Limits) -> Option<Measured>
     ensures found { IfSome result (λ m. AreMeasures (S.message space.now) limits m) }
-    ensures memory { (v : Value) → IsValueOf (S.message space.now) limits v → result ≡ None → 64 < limits.depth }
+    ensures only { (v : Value) → IsValueOf (S.message space.now) limits v → IsSome result }
 {
     let canonical = canonical_depth(space, limits);
     let depth = match canonical {
@@ -111,7 +111,7 @@ pub fn measure_frame(alloc: Global, bytes: &[u8], limits: Limits) -> Option<Meas
     }
 }
 
-/// What bare words come to beside their price, or `None` if they are refused, or memory was.
+/// What bare words come to beside their price, or `None` if they are refused.
 pub fn measure_bare(alloc: Global, bytes: &[u8], limits: Limits) -> Option<Measured>
     ensures found { IfSome result (λ m. MeasuresIn forms.Bare bytes.now limits m) }
     ensures memory { (v : Value) → Denotes forms.Bare bytes.now limits v → result ≡ None

@@ -6,3 +6,4 @@ pub mod InEachForm
 pub mod Accounted
 pub mod MemoryNeeds
 pub mod ReadInput
+pub mod IntoBuffers

@@ -6,3 +6,4 @@ pub mod EqualExactlySame
 pub mod Headline
 pub mod TheTheorem
 pub mod WorkedCanon
+pub mod IntoDecided

@@ -7,6 +7,10 @@ use Rattle.capn_stream.specs.Display.{frame_text}
 use Rattle.capn_walk.specs.Display.{stopped_text}
 use Rattle.capn_canon.specs.declared.refusal.Refusal.{Refusal}
 use Rattle.capn_canon.specs.declared.refusal.Refusal.TheVariants as refusals
+use Rattle.capn_canon.specs.declared.message_refusal.MessageRefusal.{MessageRefusal}
+use Rattle.capn_canon.specs.declared.message_refusal.MessageRefusal.TheVariants as messages
+use Rattle.capn_canon.specs.declared.message_refusal.IntoRefusal.{IntoRefusal}
+use Rattle.capn_canon.specs.declared.message_refusal.IntoRefusal.TheVariants as intos
 
 -- why an input has no canonical bytes
 abbrev pub refusal_text : Refusal → List ℕ
@@ -17,3 +21,14 @@ refusal_text (refusals.Trailing at) = codes "trailing bytes at " ++ decimal at
 refusal_text (refusals.Walk stopped) = stopped_text stopped
 refusal_text (refusals.Capability index) = codes "capability " ++ decimal index
 refusal_text refusals.Memory = codes "out of memory"
+
+-- why a message has no canonical bytes
+abbrev pub message_refusal_text : MessageRefusal → List ℕ
+message_refusal_text (messages.Walk stopped) = stopped_text stopped
+message_refusal_text (messages.Capability index) = codes "capability " ++ decimal index
+
+-- why canonical bytes are not written
+abbrev pub into_refusal_text : IntoRefusal → List ℕ
+into_refusal_text (intos.Walk stopped) = stopped_text stopped
+into_refusal_text (intos.Capability index) = codes "capability " ++ decimal index
+into_refusal_text (intos.NoRoom needed) = codes "no room for " ++ (decimal needed ++ codes " bytes")

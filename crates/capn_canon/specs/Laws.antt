@@ -1,5 +1,5 @@
 -- The laws of canonical bytes.
-use Rattle.std.specs.Prelude.{◌≡◌, ◌↔◌, ℕ, ◌*◌, ◌+◌, ◌≤◌, List, None, length, Result, IfOk, IfErr}
+use Rattle.std.specs.Prelude.{◌≡◌, ◌↔◌, ℕ, ◌*◌, ◌+◌, ◌≤◌, List, None, length, Result, IfOk, IfErr, OnErr}
 use Rattle.capn_words.specs.Message.{bytes}
 use Rattle.capn_pack.specs.Words.{bytes as packed_bytes}
 use Rattle.capn_value.specs.Tree.{Tree}
@@ -18,7 +18,9 @@ use Rattle.capn_canon.specs.Denotes.{Denotes, Answers}
 use Rattle.capn_canon.specs.Refusal.{IsRefused}
 use Rattle.capn_canon.specs.declared.canonical.Canonical.{Canonical}
 use Rattle.capn_canon.specs.Canonicity.{IsCanonicalForm}
-use Rattle.capn_canon.specs.Theorem.{Answered, EqualExactly, OwnForm, WithinBudget}
+use Rattle.capn_canon.specs.declared.length.CanonicalLength.{CanonicalLength}
+use Rattle.capn_canon.specs.declared.message_refusal.IntoRefusal.{IntoRefusal}
+use Rattle.capn_canon.specs.Theorem.{Answered, EqualExactly, OwnForm, WithinBudget, WrittenInto, RefusedInto}
 
 -- the canonical bytes of a value that fits and is in range are its canonical form, under all limits that hold its
 -- cost and height
@@ -96,3 +98,18 @@ AnswersAreOwnForms A = (form : Form) (bs : List ℕ) (limits : Bounds) (r : Resu
 abbrev pub WalksAreWithinBudgets : Type 0 → Type 0
 WalksAreWithinBudgets A = (form : Form) (bs : List ℕ) (limits : Bounds) (r : Result (Canonical A) Refusal)
     → IsFoundOrRefused form bs limits r → WithinBudget limits r
+
+-- ---- the theorem of `canonical_into`, of all that is answered and refused as its clauses say
+
+-- an answer was written, or a refusal means what it says and left the buffer as it was
+pub record IsWrittenOrRefused (message : List (List ℕ)) (limits : Bounds) (old new : List ℕ)
+    (r : Result CanonicalLength IntoRefusal) : Type 0 where
+  pub written : IfOk r (λ c. WrittenInto message limits old new c)
+  pub refused : IfErr r (λ e. RefusedInto message limits (length old) e)
+  pub unchanged : OnErr r (new ≡ old)
+
+-- for one message, limits and buffer there are not two results, nor two buffers after them
+abbrev pub IntoIsDecided : Type 0
+IntoIsDecided = (message : List (List ℕ)) (limits : Bounds) (old p q : List ℕ)
+    (r s : Result CanonicalLength IntoRefusal) → IsWrittenOrRefused message limits old p r
+    → IsWrittenOrRefused message limits old q s → (r ≡ s) × (p ≡ q)

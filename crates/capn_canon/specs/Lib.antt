@@ -10,7 +10,8 @@ pub mod SurveyedBytes
 pub mod Display
 pub mod MemoryNeed
 pub mod Theorem
-pub mod WrittenInto
+pub mod CanonicalLength
+pub mod MessageRefusal
 pub use Rattle.capn_layout.specs.Layout
 pub use Rattle.capn_layout.specs.LayoutFault
 pub use Rattle.capn_layout.specs.Patch

@@ -1,5 +1,5 @@
 -- Where memory may be needed to survey a message, and to lay out its value. (Own.)
-use Rattle.std.specs.Prelude.{◌≡◌, ◌⊎◌, ℕ, ◌+◌, ◌<◌, List, None}
+use Rattle.std.specs.Prelude.{◌≡◌, ◌⊎◌, ℕ, ◌+◌, List, None}
 use Rattle.capn_pack.specs.UnpackRefusal.{StartsWithin}
 use Rattle.capn_stream.specs.Frames.{most_table_words}
 use Rattle.capn_stream.specs.FrameRefusal.{HasTable}
@@ -10,22 +10,17 @@ use Rattle.capn_walk.specs.Limits.{Bounds}
 use Rattle.capn_canon.specs.Denotes.{Denotes}
 use Rattle.capn_canon.specs.declared.form.Form.{Form}
 use Rattle.capn_canon.specs.declared.form.Form.TheVariants as forms
-use Rattle.capn_canon.specs.Reads.{Reads}
 
--- the bytes are read as a message, which may be more than 64 objects deep
-abbrev pub MayBeDeep : Form → List ℕ → Bounds → Type 0
-MayBeDeep form bs limits = (64 < limits.depth) × (message : List (List ℕ)) × Reads form bs limits.message_words message
-
--- memory may be needed: of bare words, if they may be so deep; of a stream, there, and if a whole frame of two segments
--- or more comes first; of a packed text, only if a whole group within the maximum comes first
+-- memory may be needed: never of bare words; of a stream, if a whole frame of two segments or more comes first; of a
+-- packed text, only if a whole group within the maximum comes first
 abbrev pub MayNeedMemory : Form → List ℕ → Bounds → Type 0
-MayNeedMemory forms.Bare bs limits = MayBeDeep forms.Bare bs limits
-MayNeedMemory forms.Stream bs limits = HasTable bs limits.message_words ⊎ MayBeDeep forms.Stream bs limits
+MayNeedMemory forms.Bare bs limits = ⊥
+MayNeedMemory forms.Stream bs limits = HasTable bs limits.message_words
 MayNeedMemory forms.Packed bs limits = StartsWithin bs (limits.message_words + most_table_words)
 
--- memory may be needed to lay out a message: it may be more than 64 objects deep, or has canonical bytes
+-- memory may be needed to lay out a message: it has canonical bytes
 abbrev pub MayNeedBytes : List (List ℕ) → Bounds → Type 0
-MayNeedBytes message limits = (64 < limits.depth) ⊎ ((v : Tree) × IsValueOf message limits v × (first_cap v ≡ None))
+MayNeedBytes message limits = (v : Tree) × IsValueOf message limits v × (first_cap v ≡ None)
 
 -- memory may be needed for bytes that are read in a form: it may be needed to survey them, or they have canonical bytes
 abbrev pub MayNeedBytesIn : Form → List ℕ → Bounds → Type 0

@@ -9,6 +9,10 @@ use Rattle.capn_target.specs.declared.target.Fault.TheVariants as walk_faults
 use Rattle.capn_walk.specs.declared.walk_answer.Stopped.{Stopped}
 use Rattle.capn_canon.specs.declared.refusal.Refusal.{Refusal}
 use Rattle.capn_canon.specs.declared.refusal.Refusal.TheVariants as refusals
+use Rattle.capn_canon.specs.declared.message_refusal.MessageRefusal.{MessageRefusal}
+use Rattle.capn_canon.specs.declared.message_refusal.MessageRefusal.TheVariants as messages
+use Rattle.capn_canon.specs.declared.message_refusal.IntoRefusal.{IntoRefusal}
+use Rattle.capn_canon.specs.declared.message_refusal.IntoRefusal.TheVariants as intos
 
 -- of a frame
 abbrev pub IsOfFrame : FrameFault → Refusal → Type 0
@@ -24,3 +28,13 @@ IsOfPacked fault e = ((fault ≡ unpack_faults.Memory) × (e ≡ refusals.Memory
 abbrev pub IsOfWalk : Stopped → Refusal → Type 0
 IsOfWalk stopped e = ((stopped.fault ≡ walk_faults.Memory) × (e ≡ refusals.Memory))
     ⊎ ((stopped.fault ≢ walk_faults.Memory) × (e ≡ refusals.Walk stopped))
+
+-- of a message
+abbrev pub IsOfMessage : MessageRefusal → Refusal → Type 0
+IsOfMessage (messages.Walk s) e = e ≡ refusals.Walk s
+IsOfMessage (messages.Capability k) e = e ≡ refusals.Capability k
+
+-- of a message whose canonical bytes are written into a buffer
+abbrev pub IsOfMessageInto : MessageRefusal → IntoRefusal → Type 0
+IsOfMessageInto (messages.Walk s) e = e ≡ intos.Walk s
+IsOfMessageInto (messages.Capability k) e = e ≡ intos.Capability k

@@ -1,8 +1,10 @@
 -- The theorem: each sentence of the README is a definition, of what a call of `canonicalise` gives, and a clause of it.
-use Rattle.std.specs.Prelude.{◌≡◌, ◌≢◌, ◌↔◌, ℕ, ◌≤◌, List, None, Result, Err, IsOk, IfOk, MatchResult}
+use Rattle.std.specs.Prelude.{◌≡◌, ◌≢◌, ◌↔◌, ℕ, ◌<◌, ◌≤◌, List, ◌++◌, length, drop, Some, None, Result, Err, IsOk}
+use Rattle.std.specs.Prelude.{IfOk, MatchResult}
 use Rattle.capn_value.specs.Tree.{Tree}
 use Rattle.capn_value.specs.FirstCap.{first_cap}
 use Rattle.capn_value.specs.Same.{Same}
+use Rattle.capn_walk.specs.Accepted.{IsValueOf, IsWalkRefused}
 use Rattle.capn_walk.specs.Limits.{Bounds, AreLimits}
 use Rattle.capn_walk.specs.declared.walk_answer.Stopped.{Stopped}
 use Rattle.capn_canon.specs.declared.form.Form.{Form}
@@ -10,8 +12,12 @@ use Rattle.capn_canon.specs.declared.form.Form.TheVariants as forms
 use Rattle.capn_canon.specs.declared.refusal.Refusal.{Refusal}
 use Rattle.capn_canon.specs.declared.refusal.Refusal.TheVariants as refusals
 use Rattle.capn_canon.specs.declared.canonical.Canonical.{Canonical}
+use Rattle.capn_canon.specs.declared.length.CanonicalLength.{CanonicalLength}
+use Rattle.capn_canon.specs.declared.message_refusal.IntoRefusal.{IntoRefusal}
+use Rattle.capn_canon.specs.declared.message_refusal.IntoRefusal.TheVariants as intos
 use Rattle.capn_layout.specs.Layout.{canon}
 use Rattle.capn_canon.specs.Denotes.{Denotes, Answers}
+use Rattle.capn_canon.specs.CanonicalLength.{IsCanonicalLength}
 
 -- For any bytes, form and limits, unless memory runs out, `canonicalise` succeeds if and only if the bytes denote a
 -- message without capabilities that is accepted within the limits.
@@ -43,3 +49,28 @@ pub record OwnForm {A : Type 0} (form : Form) (bs : List ℕ) (limits : Bounds) 
 abbrev pub WithinBudget : {A : Type 0} → Bounds → Result (Canonical A) Refusal → Type 0
 WithinBudget limits r = MatchResult r (λ c. c.paid ≤ limits.budget)
     (λ e. (s : Stopped) → e ≡ refusals.Walk s → s.paid ≤ limits.budget)
+
+-- ---- the theorem of `canonical_into`, of what it gives for a message, limits and a buffer
+
+-- For every message, limits and buffer, `canonical_into` answers if and only if the message denotes a value without
+-- capabilities within the limits, and the buffer has room for its canonical bytes.
+abbrev pub AnsweredInto : List (List ℕ) → Bounds → ℕ → Result CanonicalLength IntoRefusal → Type 0
+AnsweredInto message limits room r =
+    IsOk r ↔ ((v : Tree) × IsValueOf message limits v × (first_cap v ≡ None) × (length (canon v) ≤ room))
+
+-- What it writes is exactly these bytes, at the beginning of the buffer; what is after them is as it was.
+pub record WrittenInto (message : List (List ℕ)) (limits : Bounds) (old new : List ℕ) (c : CanonicalLength)
+    : Type 0 where
+  pub value : Tree
+  pub is : IsCanonicalLength message limits value c
+  pub room : length (canon value) ≤ length old
+  pub written : new ≡ canon value ++ drop (length (canon value)) old
+
+-- Else it refuses with the first of these: the walk of the message stops; its value has a capability, of which the
+-- first is named; its canonical bytes, whose length is given, have no room.
+abbrev pub RefusedInto : List (List ℕ) → Bounds → ℕ → IntoRefusal → Type 0
+RefusedInto message limits room (intos.Walk s) = IsWalkRefused message limits s.fault s.place s.paid s.visits
+RefusedInto message limits room (intos.Capability k) =
+    (v : Tree) × IsValueOf message limits v × (first_cap v ≡ Some k)
+RefusedInto message limits room (intos.NoRoom n) =
+    (v : Tree) × IsValueOf message limits v × (first_cap v ≡ None) × (n ≡ length (canon v)) × (room < n)

@@ -12,10 +12,12 @@ ghost use Rattle.capn_canon.specs.Refusal.{IsRefusedMessage, IsPaidWithin};
 ghost use Rattle.capn_canon.specs.declared.refusal.Refusal.TheVariants as refusals;
 ghost use Rattle.capn_canon.specs.MemoryNeed.{MayNeedBytes};
 
+use crate::one_segment::alone;
 use crate::refusal::Refusal;
+use crate::value_survey::survey_value;
 use capn_layout::surveyed_layout;
-use capn_walk::{Limits, survey};
-use capn_words::{Bare, Place, Space};
+use capn_walk::Limits;
+use capn_words::Space;
 use std::alloc::{Allocator, Global};
 
 /// Canonical bytes, and the words that the walk of the message paid.
@@ -26,12 +28,6 @@ pub struct Canonical<A: Allocator = Global> {
     /// The words paid, at most the budget.
     pub paid: u32,
 }
-
-/// Where the first segment begins.
-const BEGINNING: Place = Place {
-    segment: 0,
-    word: 0,
-};
 
 /// The canonical bytes of a message, read as it is.
 fn canonical_of_inner<A: Allocator + Copy, S: Space>(
@@ -44,10 +40,7 @@ fn canonical_of_inner<A: Allocator + Copy, S: Space>(
     let _segments = space.segments();
     let _budget = limits.budget();
     let depth = limits.depth();
-    let surveyed = survey(alloc, space, limits)?;
-    if let Some(index) = surveyed.capability {
-        return Err(Refusal::Capability(index));
-    }
+    let surveyed = survey_value(space, limits)?;
     let bytes = surveyed_layout(alloc, space, depth, surveyed.paid)?;
     Ok(Canonical {
         bytes,
@@ -63,13 +56,10 @@ pub(crate) fn canonical_by_segments<A: Allocator + Copy, S: Space>(
 ) -> Result<Canonical<A>, Refusal>
     ensures { IsCanonicalised (S.message space.now) limits result (λ c. c.bytes.items) (λ c. c.paid) }
 {
-    let words = space.words(0).unwrap_or(0);
-    if space.segments() == 1 {
-        if let Ok(bare) = Bare::new(space.bytes(BEGINNING, 8 * words as usize)) {
-            return canonical_of_inner(alloc, &bare, limits);
-        }
+    match alone(space) {
+        Some(bare) => canonical_of_inner(alloc, &bare, limits),
+        None => canonical_of_inner(alloc, space, limits),
     }
-    canonical_of_inner(alloc, space, limits)
 }
 
 /// The canonical bytes of the value that a message denotes within the limits.
@@ -88,7 +78,7 @@ pub fn canonical_of<A: Allocator + Copy, S: Space>(
         → MatchResult result (λ c. c.bytes.items ≡ canon v) (λ e. e ≡ refusals.Memory) }
     // What each refusal means.
     ensures refused { IfErr result (λ e. IsRefusedMessage (S.message space.now) limits e) }
-    // Memory is needed only for a depth above 64 and for canonical bytes.
+    // Memory is needed only for canonical bytes.
     ensures memory { IsErrOf result refusals.Memory → MayNeedBytes (S.message space.now) limits }
     // No walk pays beyond its budget.
     ensures bounded { MatchResult result (λ c. c.paid ≤ limits.budget) (λ e. IsPaidWithin limits.budget e) }

@@ -3,7 +3,7 @@
 ghost use Rattle.capn_canon.specs.Laws.{CanonIsForm, EqualExactlySame, DenotedHaveForms, DenoteOne};
 ghost use Rattle.capn_canon.specs.Laws.{DenotedAreNotRefused, RefusedForOneReason};
 ghost use Rattle.capn_canon.specs.Laws.{EachIsAnswered, AnswersAreEqualExactly, AnswersAreOwnForms};
-ghost use Rattle.capn_canon.specs.Laws.{WalksAreWithinBudgets, WordsHaveTheSameBytes};
+ghost use Rattle.capn_canon.specs.Laws.{WalksAreWithinBudgets, IntoIsDecided, WordsHaveTheSameBytes};
 
 use std::alloc::Allocator;
 
@@ -14,6 +14,12 @@ pub fn theorem<A: Allocator>()
     ensures equal { AnswersAreEqualExactly A }
     ensures second { AnswersAreOwnForms A }
     ensures within { WalksAreWithinBudgets A }
+{}
+
+/// The message, the limits and the buffer decide what `canonical_into` gives: its clauses `written`, `refused` and
+/// `unchanged` leave one result, and one buffer after it.
+pub fn decision()
+    ensures { IntoIsDecided }
 {}
 
 /// Canonical bytes read back the trimmed value, are their own form, and are equal exactly for values that

@@ -2,7 +2,8 @@
 //!
 //! - [`canonicalise`] answers the canonical bytes of the value that bytes denote, whichever of the three
 //!   forms they are in, and what its walk paid. [`canonical_of`] does so for any message that is a `Space`.
-//! - [`canonical_into`] writes them into bytes that are there, and takes no memory for a depth of at most 64.
+//! - [`canonical_into`] writes them into a buffer that is there, and [`canonical_length`] says how many they are. Both
+//!   take no memory, and no allocator.
 //! - [`is_canonical`] says whether the bytes of a bare message are its canonical bytes, and makes no copy;
 //!   [`survey_bare`] also reports its price, its visits and its first capability. [`survey_canonical`] is the one pass
 //!   that they make first: it reports on canonical bytes alone. [`measure_canonical`] is the same pass, and also says
@@ -40,14 +41,19 @@ mod canonical_survey;
 mod form;
 mod input;
 pub mod laws;
+mod length;
+mod message_refusal;
 mod message_survey;
+mod no_memory;
 mod objects;
 mod one_pass;
+mod one_segment;
 mod own_words_test;
 mod progress;
 mod refusal;
 mod survey_input;
 mod surveyed_bare;
+mod value_survey;
 mod written_bytes;
 
 pub use bare_verdict::{is_canonical, survey_bare};
@@ -55,11 +61,13 @@ pub use canonical::{Canonical, canonical_of};
 pub use canonical_input::canonicalise;
 pub use canonical_survey::{measure_canonical, survey_canonical};
 pub use form::Form;
+pub use length::{CanonicalLength, canonical_length};
+pub use message_refusal::{IntoRefusal, MessageRefusal};
 pub use message_survey::survey;
 pub use refusal::Refusal;
 pub use survey_input::survey_bytes;
 pub use surveyed_bare::{MeasuredBare, SurveyedBare};
-pub use written_bytes::{Unwritten, Written, canonical_into};
+pub use written_bytes::canonical_into;
 
 // The layout of trees.
 pub use capn_layout::{LayoutFault, Patch, layout};

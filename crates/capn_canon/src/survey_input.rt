@@ -36,7 +36,7 @@ impl<A: Allocator + Copy> Task<A> for Survey {
 /// What the walk of the message pays and visits that bytes are in a form, and its first capability, within the limits.
 ///
 /// It refuses as [`crate::canonicalise`] does, but never for a capability. `Memory` comes only where a growth was
-/// refused: for the table of segments, for what is unpacked, or for a depth above 64.
+/// refused: for the table of segments, or for what is unpacked.
 pub fn survey_bytes<A: Allocator + Copy>(
     alloc: A,
     form: Form,
@@ -50,7 +50,7 @@ pub fn survey_bytes<A: Allocator + Copy>(
         → MatchResult result (λ s. s.capability ≡ first_cap v) (λ e. e ≡ refusals.Memory) }
     // What each refusal means.
     ensures refused { IfErr result (λ e. IsUnacceptedIn form bytes.now limits e) }
-    // Memory is needed only for a depth above 64, for where two segments or more end, and for what a text packs.
+    // Memory is needed only for where two segments or more end, and for what a text packs.
     ensures memory { IsErrOf result refusals.Memory → MayNeedMemory form bytes.now limits }
     // No walk pays beyond its budget.
     ensures bounded { MatchResult result (λ s. IsBounded limits.budget s.paid s.visits)

@@ -32,6 +32,7 @@ mod source;
 mod struct_list_words;
 mod tree_layout;
 mod tree_slots;
+mod zero_bytes;
 
 pub use kept::kept_in_rows;
 pub use message_layout::{surveyed_layout, surveyed_layout_into, surveyed_length};

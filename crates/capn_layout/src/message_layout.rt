@@ -11,6 +11,7 @@ ghost use Rattle.capn_layout.specs.Ready.{IsReady};
 use crate::message_slots::MessageSlots;
 use crate::object_layout::lay_root;
 use crate::object_size::size_of_slot;
+use crate::zero_bytes::zeros;
 use capn_value::Memory;
 use capn_words::{Place, Space};
 use std::alloc::Allocator;
@@ -83,8 +84,7 @@ pub fn surveyed_layout<S: Space, A: Allocator>(
     ensures { IfOk result (λ bytes. (v : Value) → IsAt (S.message space.now) root v → bytes.items ≡ canon v) }
 {
     let room = room_for(space, depth, paid);
-    let mut bytes = Vec::with_capacity(alloc, room)?;
-    bytes.resize(room, 0)?;
+    let mut bytes = zeros(alloc, room)?;
     let size = surveyed_layout_into(space, depth, bytes.as_mut_slice());
     bytes.truncate(size);
     Ok(bytes)

@@ -12,13 +12,13 @@ use crate::object_size::size_of_slot;
 use crate::opening::{open_links, open_rows, open_struct};
 use crate::pointer_words::list_pointer;
 use crate::source::{Item, Source};
+use crate::zero_bytes::zeros;
 use capn_value::Memory;
 use capn_words::{Pointer, join};
 use std::alloc::Allocator;
 
 /// The canonical bytes of the value in the first slot, at most `depth` objects deep. What they take is learnt first,
-/// and
-/// asked for at once.
+/// and asked for at once.
 pub fn canonical_bytes<S: Source, A: Allocator>(
     alloc: A,
     source: S,
@@ -28,8 +28,7 @@ pub fn canonical_bytes<S: Source, A: Allocator>(
     ensures { IfOk result (λ bytes. (v : Value) → S.has source 0 v → bytes.items ≡ canon v) }
 {
     let size = 8 * (1 + size_of_slot(source, 0, depth) as usize);
-    let mut bytes = Vec::with_capacity(alloc, size)?;
-    bytes.resize(size, 0)?;
+    let mut bytes = zeros(alloc, size)?;
     lay_root(source, depth, bytes.as_mut_slice());
     Ok(bytes)
 }

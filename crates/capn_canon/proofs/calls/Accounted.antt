@@ -1,6 +1,6 @@
 -- What a survey of a message reports is so of the bytes that are read as it, and of any value that they denote.
-use Rattle.std.proofs.Common.{◌≡◌, ℕ, ◌+◌, ◌*◌, ◌^◌, ◌<◌, ◌≤◌, List, length, ap, arith, ◌∙◌, Result, Ok, Err}
-use Rattle.std.proofs.Common.{IfOk, IfErr, MatchResult}
+use Rattle.std.proofs.Common.{◌≡◌, ◌≢◌, ℕ, ◌+◌, ◌*◌, ◌^◌, ◌≤◌, List, length, refl, ap, subst, arith, ◌∙◌, Result, Ok}
+use Rattle.std.proofs.Common.{Err, IfOk, IfErr, MatchResult}
 use Rattle.std.proofs.lemmas.Result.{IfOk-weaker, IfErr-weaker}
 use Rattle.capn_value.specs.Tree.{Tree}
 use Rattle.capn_value.specs.FirstCap.{first_cap}
@@ -14,7 +14,6 @@ use Rattle.capn_canon.specs.Denotes.{Denotes}
 use Rattle.capn_canon.specs.Refusal.{IsUnaccepted, IsUnacceptedIn}
 use Rattle.capn_canon.specs.inner.Outcomes.{AreSurveyed, IsSurveyed}
 use Rattle.capn_canon.specs.SurveyedBytes.{Surveys}
-use Rattle.capn_canon.specs.MemoryNeed.{MayNeedMemory}
 use Rattle.capn_canon.proofs.shared.OneReading.{one_value, is_message}
 use Rattle.capn_canon.proofs.shared.NotUnaccepted.{not_unaccepted}
 use Rattle.capn_layout.specs.Layout.{canon}
@@ -34,12 +33,11 @@ unaccepted_as form bs limits m is (refusals.Packed e) h = absurd h
 
 -- what a survey reports of a message is so for the bytes that are read as it
 pub surveyed_as : (r : Result Surveyed Refusal) (form : Form) (bs : List ℕ) (limits : Bounds) (m : List (List ℕ))
-    → Reads form bs limits.message_words m → (64 < limits.depth → MayNeedMemory form bs limits)
-    → IsSurveyed m limits r → AreSurveyed form bs limits r
-surveyed_as r form bs limits m is want h = record {
+    → Reads form bs limits.message_words m → IsSurveyed m limits r → AreSurveyed form bs limits r
+surveyed_as r form bs limits m is h = record {
   found = IfOk-weaker r _ _ (λ s x. record { message = m; reads = is; survey = x }) h.found;
   refused = IfErr-weaker r _ _ (unaccepted_as form bs limits m is) h.refused;
-  wanted = λ x. want (h.wanted x);
+  wanted = λ x. absurd (subst (λ y. IfErr y (λ e. e ≢ refusals.Memory)) x h.no_memory refl);
   bounded = h.bounded;
 }
 

@@ -27,7 +27,7 @@ use Rattle.capn_canon.specs.inner.Outcomes.{AreCanonicalised, AreSurveyed, IsAns
 use Rattle.capn_canon.specs.inner.Outcomes.{IsUnread}
 use Rattle.capn_canon.proofs.calls.Accounted.{surveyed_as}
 use Rattle.capn_canon.proofs.calls.InEachForm.{canonicalised_as}
-use Rattle.capn_canon.proofs.calls.MemoryNeeds.{bytes_wanted, memory_wanted, packed_wanted}
+use Rattle.capn_canon.proofs.calls.MemoryNeeds.{bytes_wanted, packed_wanted}
 
 -- ---- bytes that are not read
 
@@ -95,7 +95,7 @@ module _ {T : Type 0} (answers : List (List ℕ) → Bounds → Result T Refusal
       → IsAnswered forms.Stream bs limits answers r
   frame_unread (Ok x) f is h m = absurd is
   frame_unread (Err e) f (inl (memory, is)) h m =
-      inr (e, refl, subst (λ (x : Refusal). IsUnread forms.Stream bs limits x) (sym is) (inl (m memory)))
+      inr (e, refl, subst (λ (x : Refusal). IsUnread forms.Stream bs limits x) (sym is) (m memory))
   frame_unread (Err e) f (inr (other, is)) h m =
       inr (e, refl, subst (λ (x : Refusal). IsUnread forms.Stream bs limits x) (sym is) (other, h))
 
@@ -141,7 +141,7 @@ canonicalised form bs limits r bytes price (inr (e, is, h)) =
 -- and of a survey
 pub surveyed : (form : Form) (bs : List ℕ) (limits : Bounds) (r : Result Surveyed Refusal)
     → IsAnswered form bs limits IsSurveyed r → AreSurveyed form bs limits r
-surveyed form bs limits r (inl (m, is, h)) = surveyed_as r form bs limits m is (memory_wanted form bs limits m is) h
+surveyed form bs limits r (inl (m, is, h)) = surveyed_as r form bs limits m is h
 surveyed form bs limits r (inr (e, is, h)) =
     let n = no-walk form bs limits e h in
     record {

@@ -1,5 +1,6 @@
 -- What private calls answer and refuse, of a message and of bytes in a form.
-use Rattle.std.specs.Prelude.{◌≡◌, ◌⊎◌, ℕ, ◌<◌, ◌≤◌, List, None, Result, Err, IfOk, IfErr, IsErrOf, MatchResult}
+use Rattle.std.specs.Prelude.{◌≡◌, ◌≢◌, ◌⊎◌, ℕ, ◌<◌, ◌≤◌, List, length, Option, Some, None, Result, Err, IfOk, IfErr}
+use Rattle.std.specs.Prelude.{OnErr, IsErrOf, MatchResult}
 use Rattle.capn_value.specs.Tree.{Tree}
 use Rattle.capn_value.specs.FirstCap.{first_cap}
 use Rattle.capn_walk.specs.Accepted.{IsValueOf, IsBounded}
@@ -14,6 +15,12 @@ use Rattle.capn_canon.specs.Reads.{Reads}
 use Rattle.capn_canon.specs.Denotes.{AnswersMessage, Answers}
 use Rattle.capn_canon.specs.SurveyedBytes.{Surveys}
 use Rattle.capn_canon.specs.Refusal.{IsMisread, IsRefusedMessage, IsRefused, IsUnaccepted, IsUnacceptedIn, IsPaidWithin}
+use Rattle.capn_canon.specs.declared.length.CanonicalLength.{CanonicalLength}
+use Rattle.capn_canon.specs.declared.message_refusal.MessageRefusal.{MessageRefusal}
+use Rattle.capn_canon.specs.declared.message_refusal.IntoRefusal.{IntoRefusal}
+use Rattle.capn_canon.specs.CanonicalLength.{IsCanonicalLength}
+use Rattle.capn_canon.specs.MessageRefusal.{HasNoBytes, IsMessagePaidWithin, IsIntoPaidWithin}
+use Rattle.capn_canon.specs.Theorem.{WrittenInto, RefusedInto}
 use Rattle.capn_canon.specs.MemoryNeed.{MayNeedMemory, MayNeedBytes, MayNeedBytesIn}
 
 -- what a call reports of a message is its answer or why it has none, memory is needed only where it may be, and no walk
@@ -44,12 +51,12 @@ pub record AreSurveyed (form : Form) (bs : List ℕ) (limits : Bounds) (r : Resu
   pub wanted : IsErrOf r refusals.Memory → MayNeedMemory form bs limits
   pub bounded : MatchResult r (λ s. IsBounded limits.budget s.paid s.visits) (λ e. IsPaidWithin limits.budget e)
 
--- what a call reports of a message is a survey of it or why it isn't accepted, memory is needed only for a depth above
--- 64, and no walk pays beyond its budget
+-- what a call reports of a message is a survey of it or why it isn't accepted, memory is not needed, and no walk pays
+-- beyond its budget
 pub record IsSurveyed (message : List (List ℕ)) (limits : Bounds) (r : Result Surveyed Refusal) : Type 0 where
   pub found : IfOk r (λ s. IsSurvey message limits s)
   pub refused : IfErr r (λ e. IsUnaccepted message limits e)
-  pub wanted : IsErrOf r refusals.Memory → 64 < limits.depth
+  pub no_memory : IfErr r (λ e. e ≢ refusals.Memory)
   pub bounded : MatchResult r (λ s. IsBounded limits.budget s.paid s.visits) (λ e. IsPaidWithin limits.budget e)
 
 -- the bytes are not read, or memory may be needed for that
@@ -63,3 +70,25 @@ abbrev pub IsAnswered : {T : Type 0} → Form → List ℕ → Bounds
 IsAnswered form bs limits answers r =
     ((message : List (List ℕ)) × Reads form bs limits.message_words message × answers message limits r)
     ⊎ ((e : Refusal) × (r ≡ Err e) × IsUnread form bs limits e)
+
+-- there is room for n bytes, or there is not and this is their number
+abbrev pub IsBeyond : ℕ → ℕ → Option ℕ → Type 0
+IsBeyond n room (Some k) = (k ≡ n) × (room < n)
+IsBeyond n room None = n ≤ room
+
+-- what a call reports of a message is the length of its canonical bytes or why it has none, and no walk pays beyond its
+-- budget
+pub record IsLengthTold (message : List (List ℕ)) (limits : Bounds) (r : Result CanonicalLength MessageRefusal)
+    : Type 0 where
+  pub found : IfOk r (λ c. (v : Tree) × IsCanonicalLength message limits v c)
+  pub refused : IfErr r (λ e. HasNoBytes message limits e)
+  pub bounded : MatchResult r (λ c. IsBounded limits.budget c.paid c.visits) (λ e. IsMessagePaidWithin limits.budget e)
+
+-- what a call leaves in a buffer is the canonical bytes of a message, or as it was and it reports why, and no walk pays
+-- beyond its budget
+pub record IsInto (message : List (List ℕ)) (limits : Bounds) (old new : List ℕ)
+    (r : Result CanonicalLength IntoRefusal) : Type 0 where
+  pub written : IfOk r (λ c. WrittenInto message limits old new c)
+  pub refused : IfErr r (λ e. RefusedInto message limits (length old) e)
+  pub unchanged : OnErr r (new ≡ old)
+  pub bounded : MatchResult r (λ c. IsBounded limits.budget c.paid c.visits) (λ e. IsIntoPaidWithin limits.budget e)

@@ -1,17 +1,8 @@
-use Rattle.std.proofs.Common.{ℕ, ◌*◌, List, ap, subst, sym, ◌∙◌, arith}
-use Rattle.capn_words.specs.Message.{bytes_at}
-use Rattle.capn_walk.specs.Accepted.{root}
+use Rattle.std.proofs.Common.{ℕ, List, subst, sym}
 use Rattle.capn_canon.specs.inner.Outcomes.{IsCanonicalised}
-use Rattle.capn_canon.proofs.shared.OneBare.{one-bare, first-words}
 use Rattle.capn_canon.proofs.canonical.canonical_by_segments.Goals as goal
 
-pub returns-in-Ok : goal.returns-in-Ok
-returns-in-Ok g c =
-    let m = g.S.Space.message c.args.space.now in
-    let n = first-words m c.words.result c.unwrap_or-words.result c.words.ensures c.unwrap_or-words.ensures in
-    let k = c.if-segments-eq1.true in
-    let l = c.segments.ensures.count in
-    let e = one-bare m c.bytes.result.now c.in-Ok.bare c.segments.ensures.bounds (omega arith) (c.bytes.ensures
-    ∙ ap (λ (j : ℕ). bytes_at m root (8 * j)) n) c.in-Ok.ensures.exact in
+pub returns-in-Some : goal.returns-in-Some
+returns-in-Some g c =
     subst (λ (x : List (List ℕ)). IsCanonicalised x c.args.limits c.canonical_of_inner.result (λ a. a.bytes.items)
-    (λ a. a.paid)) (sym e) c.canonical_of_inner.ensures
+    (λ a. a.paid)) (sym c.in-Some.ensures) c.canonical_of_inner.ensures

@@ -1,33 +1,63 @@
 use Rattle.std.proofs.Common.{take, arith}
-use Rattle.capn_canon.proofs.calls.OfMessages.{answered_form, answered_short}
+use Rattle.capn_canon.proofs.calls.OfMessages.{answered_form}
+use Rattle.capn_canon.proofs.calls.IntoBuffers.{into_answered, found_into, past_into, inside_into, short_into}
 use Rattle.capn_canon.proofs.written_bytes.canonical_into.Goals as goal
 
-pub returns-clause-reads_back : goal.returns-clause-reads_back
-returns-clause-reads_back g c =
-    answered_form c.canonical_into_by_segments.result (λ w. take w.size c.canonical_into_by_segments.new.out)
-    (λ w. w.paid) (g.S.Space.message c.args.space.now) c.args.limits _ (λ w v h. h.reads_back)
-    c.segments-segments.ensures.bounds (omega arith) (omega arith) c.canonical_into_by_segments.ensures.found
+pub returns-clause-answered : goal.returns-clause-answered
+returns-clause-answered g c =
+    let told = c.write_by_segments.ensures in
+    into_answered (g.S.Space.message c.args.space.now) c.args.limits c.args.out.now c.write_by_segments.new.out
+    c.write_by_segments.result told.written told.refused
 
-pub returns-clause-pays : goal.returns-clause-pays
-returns-clause-pays g c =
-    answered_form c.canonical_into_by_segments.result (λ w. take w.size c.canonical_into_by_segments.new.out)
-    (λ w. w.paid) (g.S.Space.message c.args.space.now) c.args.limits _ (λ w v h. h.pays)
-    c.segments-segments.ensures.bounds (omega arith) (omega arith) c.canonical_into_by_segments.ensures.found
+pub returns-clause-found : goal.returns-clause-found
+returns-clause-found g c =
+    found_into (g.S.Space.message c.args.space.now) c.args.limits c.args.out.now c.write_by_segments.new.out
+    c.write_by_segments.result c.write_by_segments.ensures.written
 
-pub returns-clause-own : goal.returns-clause-own
-returns-clause-own g c =
-    answered_form c.canonical_into_by_segments.result (λ w. take w.size c.canonical_into_by_segments.new.out)
-    (λ w. w.paid) (g.S.Space.message c.args.space.now) c.args.limits _ (λ w v h. h.own)
-    c.segments-segments.ensures.bounds (omega arith) (omega arith) c.canonical_into_by_segments.ensures.found
+pub returns-clause-past : goal.returns-clause-past
+returns-clause-past g c =
+    past_into (g.S.Space.message c.args.space.now) c.args.limits c.args.out.now c.write_by_segments.new.out
+    c.write_by_segments.result c.write_by_segments.ensures.written
 
-pub returns-clause-exactly : goal.returns-clause-exactly
-returns-clause-exactly g c =
-    answered_form c.canonical_into_by_segments.result (λ w. take w.size c.canonical_into_by_segments.new.out)
-    (λ w. w.paid) (g.S.Space.message c.args.space.now) c.args.limits _ (λ w v h. h.exactly)
-    c.segments-segments.ensures.bounds (omega arith) (omega arith) c.canonical_into_by_segments.ensures.found
+pub returns-clause-inside : goal.returns-clause-inside
+returns-clause-inside g c =
+    inside_into (g.S.Space.message c.args.space.now) c.args.limits c.args.out.now c.write_by_segments.new.out
+    c.write_by_segments.result c.write_by_segments.ensures.written
 
 pub returns-clause-short : goal.returns-clause-short
 returns-clause-short g c =
-    answered_short c.canonical_into_by_segments.result (λ w. take w.size c.canonical_into_by_segments.new.out)
-    (λ w. w.paid) (g.S.Space.message c.args.space.now) c.args.limits
-    c.segments-segments.ensures.bounds (omega arith) (omega arith) c.canonical_into_by_segments.ensures.found
+    short_into (g.S.Space.message c.args.space.now) c.args.limits c.args.out.now c.write_by_segments.new.out
+    c.write_by_segments.result c.write_by_segments.ensures.written c.segments-segments.ensures.bounds (omega arith)
+    (omega arith)
+
+pub returns-clause-reads_back : goal.returns-clause-reads_back
+returns-clause-reads_back g c =
+    let m = g.S.Space.message c.args.space.now in
+    let told = c.write_by_segments.ensures in
+    answered_form c.write_by_segments.result (λ w. take w.length c.write_by_segments.new.out) (λ w. w.paid) m
+    c.args.limits _ (λ w v h. h.reads_back) c.segments-segments.ensures.bounds (omega arith) (omega arith)
+    (found_into m c.args.limits c.args.out.now c.write_by_segments.new.out c.write_by_segments.result told.written)
+
+pub returns-clause-pays : goal.returns-clause-pays
+returns-clause-pays g c =
+    let m = g.S.Space.message c.args.space.now in
+    let told = c.write_by_segments.ensures in
+    answered_form c.write_by_segments.result (λ w. take w.length c.write_by_segments.new.out) (λ w. w.paid) m
+    c.args.limits _ (λ w v h. h.pays) c.segments-segments.ensures.bounds (omega arith) (omega arith)
+    (found_into m c.args.limits c.args.out.now c.write_by_segments.new.out c.write_by_segments.result told.written)
+
+pub returns-clause-own : goal.returns-clause-own
+returns-clause-own g c =
+    let m = g.S.Space.message c.args.space.now in
+    let told = c.write_by_segments.ensures in
+    answered_form c.write_by_segments.result (λ w. take w.length c.write_by_segments.new.out) (λ w. w.paid) m
+    c.args.limits _ (λ w v h. h.own) c.segments-segments.ensures.bounds (omega arith) (omega arith)
+    (found_into m c.args.limits c.args.out.now c.write_by_segments.new.out c.write_by_segments.result told.written)
+
+pub returns-clause-exactly : goal.returns-clause-exactly
+returns-clause-exactly g c =
+    let m = g.S.Space.message c.args.space.now in
+    let told = c.write_by_segments.ensures in
+    answered_form c.write_by_segments.result (λ w. take w.length c.write_by_segments.new.out) (λ w. w.paid) m
+    c.args.limits _ (λ w v h. h.exactly) c.segments-segments.ensures.bounds (omega arith) (omega arith)
+    (found_into m c.args.limits c.args.out.now c.write_by_segments.new.out c.write_by_segments.result told.written)

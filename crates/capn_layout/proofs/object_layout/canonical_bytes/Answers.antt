@@ -20,10 +20,10 @@ returns g c v h =
     let l = length-canon r.value r.sound in
     let n = c.size_of_slot.ensures r.value r.is in
     let room = r.room in
-    let len = c.in_ok-resize.ensures.len in
-    let items = c.resize.new.self.items in
+    let len = c.in_ok-bytes.ensures in
+    let items = c.in_ok-bytes.bytes.items in
     let past = drop (length (canon v)) c.as_mut_slice.result.now in
     let behind = drop (length c.lay_root.new.out) items in
-    ap (λ (x : List ℕ). take c.resize.new.self.len (x ++ behind)) laid.1
-    ∙ ap (take c.resize.new.self.len) (append_assoc (canon v) past behind)
-    ∙ take_at (canon v) (past ++ behind) c.resize.new.self.len (omega arith)
+    ap (λ (x : List ℕ). take c.in_ok-bytes.bytes.len (x ++ behind)) laid.1
+    ∙ ap (take c.in_ok-bytes.bytes.len) (append_assoc (canon v) past behind)
+    ∙ take_at (canon v) (past ++ behind) c.in_ok-bytes.bytes.len (omega arith)

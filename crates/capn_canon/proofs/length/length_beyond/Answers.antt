@@ -3,7 +3,7 @@ use Rattle.capn_layout.specs.MessageSlots.{HasSlot}
 use Rattle.capn_layout.specs.Ready.{IsReady}
 use Rattle.capn_canon.proofs.calls.AtRoot.{root-ready}
 use Rattle.capn_canon.proofs.theorem.Headline.{denoted_length}
-use Rattle.capn_canon.proofs.written_bytes.lacking.Goals as goal
+use Rattle.capn_canon.proofs.length.length_beyond.Goals as goal
 
 pub returns-then-paid-room : goal.returns-then-paid-room
 returns-then-paid-room g c v h =

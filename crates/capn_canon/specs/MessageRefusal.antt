@@ -1,0 +1,25 @@
+-- Why a message has no canonical bytes, or they are not written into a buffer. (Own.)
+use Rattle.std.specs.Prelude.{◌≡◌, ℕ, List, Some, ⊤}
+use Rattle.capn_value.specs.Tree.{Tree}
+use Rattle.capn_value.specs.FirstCap.{first_cap}
+use Rattle.capn_walk.specs.Accepted.{IsValueOf, IsWalkRefused, IsBounded}
+use Rattle.capn_walk.specs.Limits.{Bounds}
+use Rattle.capn_canon.specs.declared.message_refusal.MessageRefusal.{MessageRefusal}
+use Rattle.capn_canon.specs.declared.message_refusal.MessageRefusal.TheVariants as messages
+use Rattle.capn_canon.specs.declared.message_refusal.IntoRefusal.{IntoRefusal}
+use Rattle.capn_canon.specs.declared.message_refusal.IntoRefusal.TheVariants as intos
+
+-- the walk of the message stops here, or it is accepted and this is the first capability of its value
+abbrev pub HasNoBytes : List (List ℕ) → Bounds → MessageRefusal → Type 0
+HasNoBytes message limits (messages.Walk s) = IsWalkRefused message limits s.fault s.place s.paid s.visits
+HasNoBytes message limits (messages.Capability k) = (v : Tree) × IsValueOf message limits v × (first_cap v ≡ Some k)
+
+-- what a refusal reports as paid is within a budget, and the visits are at most one more
+abbrev pub IsMessagePaidWithin : ℕ → MessageRefusal → Type 0
+IsMessagePaidWithin budget (messages.Walk s) = IsBounded budget s.paid s.visits
+IsMessagePaidWithin budget (messages.Capability k) = ⊤
+
+-- the same of what is not written
+abbrev pub IsIntoPaidWithin : ℕ → IntoRefusal → Type 0
+IsIntoPaidWithin budget (intos.Walk s) = IsBounded budget s.paid s.visits
+IsIntoPaidWithin budget _ = ⊤

@@ -1,0 +1,91 @@
+//! Why a message has no canonical bytes, or they are not written.
+
+use crate::refusal::Refusal;
+use capn_walk::Stopped;
+use std::error::Error;
+use std::fmt;
+
+/// Why a message has no canonical bytes within the limits, in the order in which the tests are made. (Own.)
+///
+/// There is no variant for memory, since none is taken. The fault of a walk has one, for walks that make a tree: no
+/// clause lets it come here.
+#[derive(Clone, Copy, Debug, PartialEq, Eq)]
+pub enum MessageRefusal {
+    /// The message is not accepted: where and why its walk stopped. The fault is never `Memory`.
+    Walk(Stopped),
+    /// The value has capabilities, which have no canonical form: the index of the first in preorder.
+    Capability(u32),
+}
+
+/// Why canonical bytes are not written into a buffer, in the order in which the tests are made. (Own.)
+#[derive(Clone, Copy, Debug, PartialEq, Eq)]
+pub enum IntoRefusal {
+    /// The message is not accepted: where and why its walk stopped. The fault is never `Memory`.
+    Walk(Stopped),
+    /// The value has capabilities, which have no canonical form: the index of the first in preorder.
+    Capability(u32),
+    /// The buffer is too short.
+    NoRoom {
+        /// The length of the canonical bytes.
+        needed: usize,
+    },
+}
+
+impl From<MessageRefusal> for IntoRefusal {
+    ghost use Rattle.capn_canon.specs.RefusalOf.{IsOfMessageInto};
+
+    ghost from_gives = { IsOfMessageInto };
+
+    fn from(refusal: MessageRefusal) -> IntoRefusal {
+        match refusal {
+            MessageRefusal::Walk(stopped) => IntoRefusal::Walk(stopped),
+            MessageRefusal::Capability(index) => IntoRefusal::Capability(index),
+        }
+    }
+}
+
+impl From<MessageRefusal> for Refusal {
+    ghost use Rattle.capn_canon.specs.RefusalOf.{IsOfMessage};
+
+    ghost from_gives = { IsOfMessage };
+
+    fn from(refusal: MessageRefusal) -> Refusal {
+        match refusal {
+            MessageRefusal::Walk(stopped) => Refusal::Walk(stopped),
+            MessageRefusal::Capability(index) => Refusal::Capability(index),
+        }
+    }
+}
+
+impl fmt::Display for MessageRefusal {
+    ghost use Rattle.std.specs.Prelude.{Some};
+    ghost use Rattle.capn_canon.specs.Display.{message_refusal_text};
+
+    ghost output = { λ refusal. Some (message_refusal_text refusal) };
+
+    fn fmt<W: fmt::Write>(&self, f: &mut fmt::Formatter<W>) -> fmt::Result {
+        match self {
+            MessageRefusal::Walk(stopped) => write!(f, "{stopped}"),
+            MessageRefusal::Capability(index) => write!(f, "capability {index}"),
+        }
+    }
+}
+
+impl fmt::Display for IntoRefusal {
+    ghost use Rattle.std.specs.Prelude.{Some};
+    ghost use Rattle.capn_canon.specs.Display.{into_refusal_text};
+
+    ghost output = { λ refusal. Some (into_refusal_text refusal) };
+
+    fn fmt<W: fmt::Write>(&self, f: &mut fmt::Formatter<W>) -> fmt::Result {
+        match self {
+            IntoRefusal::Walk(stopped) => write!(f, "{stopped}"),
+            IntoRefusal::Capability(index) => write!(f, "capability {index}"),
+            IntoRefusal::NoRoom { needed } => write!(f, "no room for {needed} bytes"),
+        }
+    }
+}
+
+impl Error for MessageRefusal {}
+
+impl Error for IntoRefusal {}

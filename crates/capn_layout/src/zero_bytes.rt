@@ -1,0 +1,26 @@
+//! Vectors of zeros.
+
+ghost use Rattle.std.specs.Prelude.{◌≡◌, length, IfOk};
+
+use capn_value::Memory;
+use std::alloc::Allocator;
+
+/// How many zeros are copied at once.
+const BLOCK: usize = 4096;
+
+/// Zeros to copy.
+static ZEROS: [u8; 4096] = [0; 4096];
+
+/// A vector of zeros. The memory is asked for at once, and `Memory` comes only where that was refused.
+///
+/// They are copied a block at a time, which is faster than to write each.
+pub fn zeros<A: Allocator>(alloc: A, size: usize) -> Result<Vec<u8, A>, Memory>
+    ensures { IfOk result (λ bytes. length bytes.items ≡ size) }
+{
+    let mut bytes = Vec::with_capacity(alloc, size)?;
+    for _block in 0..size / BLOCK {
+        bytes.extend_from_slice(&ZEROS)?;
+    }
+    bytes.extend_from_slice(&ZEROS[..size % BLOCK])?;
+    Ok(bytes)
+}
