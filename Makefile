@@ -1,4 +1,10 @@
 PREFIX ?= /usr/local
+# Where libraries go, as /usr/lib64 or /usr/lib/x86_64-linux-gnu. A relative folder is one of the current folder.
+override PREFIX := $(abspath $(PREFIX))
+LIBDIR ?= $(PREFIX)/lib
+override LIBDIR := $(abspath $(LIBDIR))
+# What capn.pc calls its prefix: in the archive, the place where it lies.
+PC_PREFIX ?= $(PREFIX)
 # The version is that of the file VERSION.
 VERSION := $(shell cat VERSION)
 # --anew: the gate proves and tries again what an earlier run of it has passed on this machine.
@@ -11,7 +17,14 @@ BUILD := build
 SHELL := bash
 .SHELLFLAGS := -o pipefail -c
 
-.PHONY: try program run test bench interop library linked install install-library
+# The pages that are installed with the program.
+PAGES := $(addprefix docs/,GUIDE.md DIAGNOSTICS.md FORMAT.md PROFILE.md DIFFERENCES.md CHANGES.md SECURITY.md)
+HEADERS := $(wildcard c/*.h c/*.hpp)
+# A file of a release, for verify-dist.
+FILE ?= dist/*
+
+.PHONY: try program run test bench interop library linked install install-library uninstall uninstall-library
+.PHONY: dist verify-dist clean-root
 
 # The stored run, tried before any proof, in about a minute: what runs is not the proved program.
 try:
@@ -31,11 +44,13 @@ run: program
 	@echo "in:"; od -An -v -tx1 -w8 $(PROGRAM)/stdin
 	@echo "out:"; $(PROGRAM)/out/capn $$(cat $(PROGRAM)/args) < $(PROGRAM)/stdin | od -An -v -tx1 -w8
 
-# The whole gate: no line is too long; no crate reaches into another one's proofs; README.md names the toolchain that runs; each place has the version of the file VERSION;
-# the tables of docs/VERIFY.md, PROMISES.md, TESTED.md and ARCHITECTURE.md are true; what `rt ci` tries; the program that
-# it built, once or more for each exit status and with too little memory; and the library for C. The libraries that
-# earlier checks built are removed first: after its run `rt ci` would put them back in place of its own, and the library
-# for C is built over its own.
+# The whole gate: no line is too long; no crate reaches into another one's proofs; README.md names the toolchain that
+# runs; each place has the version of the file VERSION; the tables of docs/VERIFY.md, PROMISES.md, TESTED.md and
+# ARCHITECTURE.md are true; completions complete; the list of symbols and capn(3) are those of the header; what `rt ci`
+# tries; the program that it built, once or more for each exit status and with too little memory; and the library for C.
+# The libraries that earlier checks built are removed first: after its run `rt ci` would put them back in place of its
+# own, and the library for C is built over its own. At the end it packs twice what it built, compares, and writes
+# build/PROVED: what passed, of which commit. With ANEW=--anew it proves again what earlier runs have passed.
 test:
 	.ci/lines
 	.ci/borders
@@ -45,11 +60,16 @@ test:
 	.ci/counts
 	.ci/places
 	.ci/completion
+	release/symbols
+	release/manual
 	rm -rf crates/*/out/rlib
-	rt ci $(ANEW)
+	mkdir -p $(BUILD) && rm -f $(BUILD)/PROVED
+	rt ci $(ANEW) 2>&1 | tee $(BUILD)/gate.log
 	.ci/statuses
 	.ci/failures
 	.ci/library
+	release/twice
+	release/proved
 
 # The shortest times of each operation on each shape of message, in nanoseconds a byte.
 bench:
@@ -78,30 +98,76 @@ library:
 	cd crates/capn_c && rt lib > /dev/null
 	$(MAKE) linked
 
-# The two libraries that are linked with: the archive, the allocator and the texts as one object, of which the names capn_*
-# alone are visible. Proves nothing, and compiles the texts alone.
+# The two libraries that are linked with: the archive, the allocator and the texts as one object, of which the names
+# capn_* alone are visible. Proves nothing, and compiles the texts alone.
 linked:
-	rm -rf $(BUILD) && mkdir $(BUILD)
+	@test -f "$(KIT)c/liblibc_c.a" || { echo "there is no rt, whose folder has the allocator in C" >&2; exit 1; }
+	@test -f crates/capn_c/out/libcapn_c.a || { echo "there is no proved archive: run make library" >&2; exit 1; }
+	rm -f $(BUILD)/*.o $(BUILD)/libcapn.* && mkdir -p $(BUILD)
 	cd $(BUILD) && ar x ../crates/capn_c/out/libcapn_c.a && ar x $(KIT)c/liblibc_c.a heap.pic.o
 	$(CC) -O2 -fPIC -Wall -Wextra -Werror -DCAPN_VERSION_TEXT='"$(VERSION)"' -c c/text.c -o $(BUILD)/text.o
 	cd $(BUILD) && ld -r -o capn.o capn_c.o heap.pic.o text.o && objcopy --wildcard --keep-global-symbol='capn_*' capn.o
 	cd $(BUILD) && ar rcsD libcapn.a capn.o
 	cd $(BUILD) && $(CC) -shared -o libcapn.so.1 -Wl,-soname,libcapn.so.1 -Wl,-z,defs,-z,now capn.o
 
-# The program, its manual page and its completion for bash. Builds nothing, so that nothing is proved and built as root.
+# The program, its manual page, completions and pages. Builds nothing, so that nothing is proved and built as root.
+install: into := $(DESTDIR)$(PREFIX)
 install:
 	@test -x $(PROGRAM)/out/capn || { echo "there is no program to install: run make program first" >&2; exit 1; }
-	install -D -m 755 $(PROGRAM)/out/capn $(DESTDIR)$(PREFIX)/bin/capn
-	install -D -m 644 docs/capn.1 $(DESTDIR)$(PREFIX)/share/man/man1/capn.1
-	install -D -m 644 docs/capn.bash $(DESTDIR)$(PREFIX)/share/bash-completion/completions/capn
+	install -D -m 755 $(PROGRAM)/out/capn $(into)/bin/capn
+	install -D -m 644 docs/capn.1 $(into)/share/man/man1/capn.1
+	install -D -m 644 docs/capn.bash $(into)/share/bash-completion/completions/capn
+	install -D -m 644 docs/capn.zsh $(into)/share/zsh/site-functions/_capn
+	install -D -m 644 docs/capn.fish $(into)/share/fish/vendor_completions.d/capn.fish
+	install -d -m 755 $(into)/share/doc/capn
+	install -m 644 $(PAGES) LICENSE NOTICE $(into)/share/doc/capn
 
-# The library for C, its header and its pkg-config file. Builds nothing either.
+# Removes what install put there, by its names.
+uninstall: into := $(DESTDIR)$(PREFIX)
+uninstall:
+	rm -f $(into)/bin/capn $(into)/share/man/man1/capn.1 $(into)/share/bash-completion/completions/capn
+	rm -f $(into)/share/zsh/site-functions/_capn $(into)/share/fish/vendor_completions.d/capn.fish
+	rm -f $(addprefix $(into)/share/doc/capn/,$(notdir $(PAGES)) LICENSE NOTICE)
+	test ! -d $(into)/share/doc/capn || rmdir --ignore-fail-on-non-empty $(into)/share/doc/capn
+
+# The library for C: both forms, its headers, its manual page, and what pkg-config and CMake read. Builds nothing either.
+install-library: into := $(DESTDIR)$(PREFIX)
 install-library:
 	@test -f $(BUILD)/libcapn.a -a -f $(BUILD)/libcapn.so.1 \
 		|| { echo "there is no library to install: run make library first" >&2; exit 1; }
-	install -D -m 644 c/capn.h $(DESTDIR)$(PREFIX)/include/capn.h
-	install -D -m 644 $(BUILD)/libcapn.a $(DESTDIR)$(PREFIX)/lib/libcapn.a
-	install -D -m 755 $(BUILD)/libcapn.so.1 $(DESTDIR)$(PREFIX)/lib/libcapn.so.1
-	ln -sf libcapn.so.1 $(DESTDIR)$(PREFIX)/lib/libcapn.so
-	sed 's,@PREFIX@,$(PREFIX),; s,@VERSION@,$(VERSION),' c/capn.pc.in \
-		| install -D -m 644 /dev/stdin $(DESTDIR)$(PREFIX)/lib/pkgconfig/capn.pc
+	install -d -m 755 $(into)/include $(into)/share/doc/libcapn
+	install -m 644 $(HEADERS) $(into)/include
+	install -D -m 644 $(BUILD)/libcapn.a $(DESTDIR)$(LIBDIR)/libcapn.a
+	install -D -m 755 $(BUILD)/libcapn.so.1 $(DESTDIR)$(LIBDIR)/libcapn.so.1
+	ln -sf libcapn.so.1 $(DESTDIR)$(LIBDIR)/libcapn.so
+	install -d -m 755 $(DESTDIR)$(LIBDIR)/pkgconfig $(DESTDIR)$(LIBDIR)/cmake/capn
+	include=$$(realpath -ms --relative-to=$(LIBDIR)/cmake/capn $(PREFIX)/include); \
+	for it in pkgconfig/capn.pc cmake/capn/capn-config.cmake cmake/capn/capn-config-version.cmake; do \
+		sed -e 's,@PREFIX@,$(PC_PREFIX),; s,@LIBDIR@,$(patsubst $(PREFIX)/%,$${prefix}/%,$(LIBDIR)),; s,@VERSION@,$(VERSION),' \
+			-e "s,@INCLUDE@,$$include," c/$${it##*/}.in \
+			| install -m 644 /dev/stdin $(DESTDIR)$(LIBDIR)/$$it || exit 1; done
+	install -D -m 644 docs/capn.3 $(into)/share/man/man3/capn.3
+	install -m 644 docs/C.md LICENSE NOTICE $(into)/share/doc/libcapn
+
+# Removes what install-library put there, by its names.
+uninstall-library: into := $(DESTDIR)$(PREFIX)
+uninstall-library: libraries := $(DESTDIR)$(LIBDIR)
+uninstall-library:
+	rm -f $(addprefix $(into)/include/,$(notdir $(HEADERS))) $(into)/share/man/man3/capn.3
+	rm -f $(addprefix $(libraries)/,libcapn.a libcapn.so.1 libcapn.so pkgconfig/capn.pc)
+	rm -f $(libraries)/cmake/capn/capn-config.cmake $(libraries)/cmake/capn/capn-config-version.cmake
+	rm -f $(addprefix $(into)/share/doc/libcapn/,C.md LICENSE NOTICE)
+	for it in $(libraries)/cmake/capn $(into)/share/doc/libcapn; do \
+		test ! -d $$it || rmdir --ignore-fail-on-non-empty $$it; done
+
+# The files of a release, in dist/, of the program and the libraries that are built.
+dist:
+	release/dist
+
+# Whether files of a release are what their commit builds.
+verify-dist:
+	release/verify $(FILE)
+
+# The files of dist/ installed, used and removed in a root that has nothing else.
+clean-root:
+	interop/clean
