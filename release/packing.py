@@ -7,7 +7,9 @@ import os
 import re
 import subprocess
 import tarfile
+import time
 import zipfile
+import zlib
 
 TOP = os.path.abspath(os.path.join(os.path.dirname(os.path.abspath(__file__)), ".."))
 with open(os.path.join(TOP, "VERSION"), encoding="utf-8") as _file:
@@ -95,8 +97,6 @@ def write_tar(folder, path, seconds):
 
 def write_zip(folder, names, path, seconds):
     """Packs files of a folder in this order, each with one time and one mode."""
-    import time
-
     stamp = time.gmtime(max(seconds, 315532800))[:6]
     with zipfile.ZipFile(path, "w", zipfile.ZIP_DEFLATED, compresslevel=9) as whole:
         for name in names:
@@ -123,7 +123,7 @@ def proved_in(path):
             with tarfile.open(fileobj=io.BytesIO(said("dpkg-deb", "--fsys-tarfile", path, text=False))) as tar:
                 found = [it for it in tar if re.fullmatch(r"\./usr/share/doc/[^/]+/PROVED", it.name)]
                 return tar.extractfile(found[0]).read().decode() if found else None
-    except (OSError, EOFError, ValueError, tarfile.TarError, zipfile.BadZipFile, zipfile.zlib.error, Stop):
+    except (OSError, EOFError, ValueError, tarfile.TarError, zipfile.BadZipFile, zlib.error, Stop):
         return None
     return None
 
