@@ -75,10 +75,10 @@ test:
 bench:
 	cd crates/bench && rt run > /dev/null && ./out/bench times
 
-# The program and the library as it is called from C, Python and Rust, on every stored vector; a million calls from C, and
-# calls in two threads; the guide's recipes, and the programs of the pages for C and Python; the package for Python; and
-# where the reference implementation is installed: messages that it wrote, the lines of docs/DIFFERENCES.md, and its table
-# of hostile inputs. With the program that the gate builds, or with an installed one:
+# The program and the library as it is called from C, Python and Rust, on every stored vector; a million calls from C,
+# and calls in two threads; the guide's recipes, and the programs of the pages for C and Python; the package for Python;
+# and where the reference implementation is installed: messages that it wrote, the lines of docs/DIFFERENCES.md, and its
+# table of hostile inputs. With the program that the gate builds, or with an installed one:
 # make interop CAPN=/usr/local/bin/capn.
 interop: $(if $(CAPN),,program library)
 	./c/tests/agree
@@ -130,7 +130,7 @@ uninstall:
 	rm -f $(addprefix $(into)/share/doc/capn/,$(notdir $(PAGES)) LICENSE NOTICE)
 	test ! -d $(into)/share/doc/capn || rmdir --ignore-fail-on-non-empty $(into)/share/doc/capn
 
-# The library for C: both forms, its headers, its manual page, and what pkg-config and CMake read. Builds nothing either.
+# The library for C: both forms, headers, its manual page, and what pkg-config and CMake read. Builds nothing either.
 install-library: into := $(DESTDIR)$(PREFIX)
 install-library:
 	@test -f $(BUILD)/libcapn.a -a -f $(BUILD)/libcapn.so.1 \
@@ -143,8 +143,8 @@ install-library:
 	install -d -m 755 $(DESTDIR)$(LIBDIR)/pkgconfig $(DESTDIR)$(LIBDIR)/cmake/capn
 	include=$$(realpath -ms --relative-to=$(LIBDIR)/cmake/capn $(PREFIX)/include); \
 	for it in pkgconfig/capn.pc cmake/capn/capn-config.cmake cmake/capn/capn-config-version.cmake; do \
-		sed -e 's,@PREFIX@,$(PC_PREFIX),; s,@LIBDIR@,$(patsubst $(PREFIX)/%,$${prefix}/%,$(LIBDIR)),; s,@VERSION@,$(VERSION),' \
-			-e "s,@INCLUDE@,$$include," c/$${it##*/}.in \
+		sed -e 's,@PREFIX@,$(PC_PREFIX),; s,@LIBDIR@,$(patsubst $(PREFIX)/%,$${prefix}/%,$(LIBDIR)),' \
+			-e "s,@VERSION@,$(VERSION),; s,@INCLUDE@,$$include," c/$${it##*/}.in \
 			| install -m 644 /dev/stdin $(DESTDIR)$(LIBDIR)/$$it || exit 1; done
 	install -D -m 644 docs/capn.3 $(into)/share/man/man3/capn.3
 	install -m 644 docs/C.md LICENSE NOTICE $(into)/share/doc/libcapn
