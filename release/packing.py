@@ -44,7 +44,7 @@ def said(*words, cwd=TOP, env=None, text=True):
 def sum_of(path):
     """The SHA-256 of a file."""
     with open(path, "rb") as file:
-        return hashlib.file_digest(file, "sha256").hexdigest()
+        return hashlib.sha256(file.read()).hexdigest()
 
 
 def commit_of(top=TOP):
