@@ -160,11 +160,12 @@ uninstall-library:
 	for it in $(libraries)/cmake/capn $(into)/share/doc/libcapn; do \
 		test ! -d $$it || rmdir --ignore-fail-on-non-empty $$it; done
 
-# The files of a release, in dist/, of the program and the libraries that are built.
+# The files of a release, in dist/, of the program and the libraries that are built. It needs Debian's dpkg-dev, lintian
+# and python3-wheel, and what docs/PYTHON.md lists.
 dist:
 	release/dist
 
-# Whether files of a release are what their commit builds.
+# Whether files of a release, those of dist/ or FILE, are what their commit builds.
 verify-dist:
 	release/verify $(FILE)
 
