@@ -19,7 +19,9 @@ SHELL := bash
 
 # The pages that are installed with the program.
 PAGES := $(addprefix docs/,GUIDE.md DIAGNOSTICS.md FORMAT.md PROFILE.md DIFFERENCES.md CHANGES.md SECURITY.md)
+# The headers, and the pages that are installed with them.
 HEADERS := $(wildcard c/*.h c/*.hpp)
+LIBRARY_PAGES := $(wildcard docs/C.md docs/CPP.md)
 # A file of a release, for verify-dist.
 FILE ?= dist/*
 
@@ -147,7 +149,7 @@ install-library:
 			-e "s,@VERSION@,$(VERSION),; s,@INCLUDE@,$$include," c/$${it##*/}.in \
 			| install -m 644 /dev/stdin $(DESTDIR)$(LIBDIR)/$$it || exit 1; done
 	install -D -m 644 docs/capn.3 $(into)/share/man/man3/capn.3
-	install -m 644 docs/C.md LICENSE NOTICE $(into)/share/doc/libcapn
+	install -m 644 $(LIBRARY_PAGES) LICENSE NOTICE $(into)/share/doc/libcapn
 
 # Removes what install-library put there, by its names.
 uninstall-library: into := $(DESTDIR)$(PREFIX)
@@ -156,7 +158,7 @@ uninstall-library:
 	rm -f $(addprefix $(into)/include/,$(notdir $(HEADERS))) $(into)/share/man/man3/capn.3
 	rm -f $(addprefix $(libraries)/,libcapn.a libcapn.so.1 libcapn.so pkgconfig/capn.pc)
 	rm -f $(libraries)/cmake/capn/capn-config.cmake $(libraries)/cmake/capn/capn-config-version.cmake
-	rm -f $(addprefix $(into)/share/doc/libcapn/,C.md LICENSE NOTICE)
+	rm -f $(addprefix $(into)/share/doc/libcapn/,$(notdir $(LIBRARY_PAGES)) LICENSE NOTICE)
 	for it in $(libraries)/cmake/capn $(into)/share/doc/libcapn; do \
 		test ! -d $$it || rmdir --ignore-fail-on-non-empty $$it; done
 
