@@ -35,10 +35,10 @@ try:
 	@echo "out:"; cd $(PROGRAM) && rt try -- $$(cat args) < stdin | od -An -v -tx1 -w8
 	@echo "nothing was proved: this is not the proved program, which make run builds, in 10 to 30 minutes at first"
 
-# The program, proved and built: crates/capn/out/capn. What it needs is proved and nothing else, crate after crate, each by
-# as many processors as memory allows. All takes some 40 processor minutes, of which the longest chain has 25 (capn_words,
-# value, target, walk, layout, canon, serve, tool, program, capn): crates side by side, with a processor each, would take
-# no less. More processors within a crate, or a shorter chain, would shorten it.
+# The program, proved and built: crates/capn/out/capn. What it needs is proved and nothing else, crate after crate,
+# each by as many processors as memory allows. All takes some 40 processor minutes, of which the longest chain has 25
+# (capn_words, value, target, walk, layout, canon, serve, tool, program, capn): crates side by side, with a processor
+# each, would take no less. More processors within a crate, or a shorter chain, would shorten it.
 program:
 	@echo "proving and building capn: 10 to 30 minutes at first, less where an earlier check has left its work"
 	@cd $(PROGRAM) && rt run -- $$(cat args) < stdin > /dev/null
