@@ -1,4 +1,10 @@
 PREFIX ?= /usr/local
+# Where libraries go, as /usr/lib64 or /usr/lib/x86_64-linux-gnu. A relative folder is one of the current folder.
+override PREFIX := $(abspath $(PREFIX))
+LIBDIR ?= $(PREFIX)/lib
+override LIBDIR := $(abspath $(LIBDIR))
+# What capn.pc calls its prefix: in the archive, the place where it lies.
+PC_PREFIX ?= $(PREFIX)
 # The version is that of the file VERSION.
 VERSION := $(shell cat VERSION)
 # --anew: the gate proves and tries again what an earlier run of it has passed on this machine.
@@ -11,18 +17,30 @@ BUILD := build
 SHELL := bash
 .SHELLFLAGS := -o pipefail -c
 
-.PHONY: try program run test bench interop library linked install install-library
+# The pages that are installed with the program.
+PAGES := $(addprefix docs/,GUIDE.md DIAGNOSTICS.md FORMAT.md PROFILE.md DIFFERENCES.md CHANGES.md SECURITY.md)
+# The headers, and the pages that are installed with them.
+HEADERS := $(wildcard c/*.h c/*.hpp)
+LIBRARY_PAGES := $(wildcard docs/C.md docs/CPP.md)
+# A file of a release, for verify-dist.
+FILE ?= dist/*
+
+.PHONY: try program run test bench interop library linked install install-library uninstall uninstall-library
+.PHONY: dist verify-dist clean-root
 
 # The stored run, tried before any proof, in about a minute: what runs is not the proved program.
 try:
 	@echo "capn $$(tr '\n' ' ' < $(PROGRAM)/args)"
 	@echo "in:"; od -An -v -tx1 -w8 $(PROGRAM)/stdin
 	@echo "out:"; cd $(PROGRAM) && rt try -- $$(cat args) < stdin | od -An -v -tx1 -w8
-	@echo "nothing was proved: this is not the proved program, which make run builds, in 8 to 15 minutes at first"
+	@echo "nothing was proved: this is not the proved program, which make run builds, in 10 to 30 minutes at first"
 
-# The program, proved and built: crates/capn/out/capn.
+# The program, proved and built: crates/capn/out/capn. What it needs is proved and nothing else, crate after crate,
+# each by as many processors as memory allows. All takes some 40 processor minutes, of which the longest chain has 25
+# (capn_words, value, target, walk, layout, canon, serve, tool, program, capn): crates side by side, with a processor
+# each, would take no less. More processors within a crate, or a shorter chain, would shorten it.
 program:
-	@echo "proving and building capn: 8 to 15 minutes at first, less where an earlier check has left its work"
+	@echo "proving and building capn: 10 to 30 minutes at first, less where an earlier check has left its work"
 	@cd $(PROGRAM) && rt run -- $$(cat args) < stdin > /dev/null
 
 # Builds the proved program and shows its stored run: the bytes in and the bytes out.
@@ -31,11 +49,13 @@ run: program
 	@echo "in:"; od -An -v -tx1 -w8 $(PROGRAM)/stdin
 	@echo "out:"; $(PROGRAM)/out/capn $$(cat $(PROGRAM)/args) < $(PROGRAM)/stdin | od -An -v -tx1 -w8
 
-# The whole gate: no line is too long; no crate reaches into another one's proofs; README.md names the toolchain that runs; each place has the version of the file VERSION;
-# the tables of docs/VERIFY.md, PROMISES.md, TESTED.md and ARCHITECTURE.md are true; what `rt ci` tries; the program that
-# it built, once or more for each exit status and with too little memory; and the library for C. The libraries that
-# earlier checks built are removed first: after its run `rt ci` would put them back in place of its own, and the library
-# for C is built over its own.
+# The whole gate: no line is too long; no crate reaches into another one's proofs; README.md names the toolchain that
+# runs; each place has the version of the file VERSION; the tables of docs/VERIFY.md, PROMISES.md, TESTED.md and
+# ARCHITECTURE.md are true; completions complete; the list of symbols and capn(3) are those of the header; what `rt ci`
+# tries; the program that it built, once or more for each exit status and with too little memory; and the library for C.
+# The libraries that earlier checks built are removed first: after its run `rt ci` would put them back in place of its
+# own, and the library for C is built over its own. At the end it packs twice what it built, compares, and writes
+# build/PROVED: what passed, of which commit. With ANEW=--anew it proves again what earlier runs have passed.
 test:
 	.ci/lines
 	.ci/borders
@@ -45,20 +65,25 @@ test:
 	.ci/counts
 	.ci/places
 	.ci/completion
+	release/symbols
+	release/manual
 	rm -rf crates/*/out/rlib
-	rt ci $(ANEW)
+	mkdir -p $(BUILD) && rm -f $(BUILD)/PROVED
+	rt ci $(ANEW) 2>&1 | tee $(BUILD)/gate.log
 	.ci/statuses
 	.ci/failures
 	.ci/library
+	release/twice
+	release/proved
 
 # The shortest times of each operation on each shape of message, in nanoseconds a byte.
 bench:
 	cd crates/bench && rt run > /dev/null && ./out/bench times
 
-# The program and the library as it is called from C, Python and Rust, on every stored vector; a million calls from C, and
-# calls in two threads; the guide's recipes, and the programs of the pages for C and Python; the package for Python; and
-# where the reference implementation is installed: messages that it wrote, the lines of docs/DIFFERENCES.md, and its table
-# of hostile inputs. With the program that the gate builds, or with an installed one:
+# The program and the library as it is called from C, Python and Rust, on every stored vector; a million calls from C,
+# and calls in two threads; the guide's recipes, and the programs of the pages for C and Python; the package for Python;
+# and where the reference implementation is installed: messages that it wrote, the lines of docs/DIFFERENCES.md, and its
+# table of hostile inputs. With the program that the gate builds, or with an installed one:
 # make interop CAPN=/usr/local/bin/capn.
 interop: $(if $(CAPN),,program library)
 	./c/tests/agree
@@ -78,30 +103,77 @@ library:
 	cd crates/capn_c && rt lib > /dev/null
 	$(MAKE) linked
 
-# The two libraries that are linked with: the archive, the allocator and the texts as one object, of which the names capn_*
-# alone are visible. Proves nothing, and compiles the texts alone.
+# The two libraries that are linked with: the archive, the allocator and the texts as one object, of which the names
+# capn_* alone are visible. Proves nothing, and compiles the texts alone.
 linked:
-	rm -rf $(BUILD) && mkdir $(BUILD)
+	@test -f "$(KIT)c/liblibc_c.a" || { echo "there is no rt, whose folder has the allocator in C" >&2; exit 1; }
+	@test -f crates/capn_c/out/libcapn_c.a || { echo "there is no proved archive: run make library" >&2; exit 1; }
+	rm -f $(BUILD)/*.o $(BUILD)/libcapn.* && mkdir -p $(BUILD)
 	cd $(BUILD) && ar x ../crates/capn_c/out/libcapn_c.a && ar x $(KIT)c/liblibc_c.a heap.pic.o
 	$(CC) -O2 -fPIC -Wall -Wextra -Werror -DCAPN_VERSION_TEXT='"$(VERSION)"' -c c/text.c -o $(BUILD)/text.o
 	cd $(BUILD) && ld -r -o capn.o capn_c.o heap.pic.o text.o && objcopy --wildcard --keep-global-symbol='capn_*' capn.o
 	cd $(BUILD) && ar rcsD libcapn.a capn.o
 	cd $(BUILD) && $(CC) -shared -o libcapn.so.1 -Wl,-soname,libcapn.so.1 -Wl,-z,defs,-z,now capn.o
 
-# The program, its manual page and its completion for bash. Builds nothing, so that nothing is proved and built as root.
+# The program, its manual page, completions and pages. Builds nothing, so that nothing is proved and built as root.
+install: into := $(DESTDIR)$(PREFIX)
 install:
 	@test -x $(PROGRAM)/out/capn || { echo "there is no program to install: run make program first" >&2; exit 1; }
-	install -D -m 755 $(PROGRAM)/out/capn $(DESTDIR)$(PREFIX)/bin/capn
-	install -D -m 644 docs/capn.1 $(DESTDIR)$(PREFIX)/share/man/man1/capn.1
-	install -D -m 644 docs/capn.bash $(DESTDIR)$(PREFIX)/share/bash-completion/completions/capn
+	install -D -m 755 $(PROGRAM)/out/capn $(into)/bin/capn
+	install -D -m 644 docs/capn.1 $(into)/share/man/man1/capn.1
+	install -D -m 644 docs/capn.bash $(into)/share/bash-completion/completions/capn
+	install -D -m 644 docs/capn.zsh $(into)/share/zsh/site-functions/_capn
+	install -D -m 644 docs/capn.fish $(into)/share/fish/vendor_completions.d/capn.fish
+	install -d -m 755 $(into)/share/doc/capn
+	install -m 644 $(PAGES) LICENSE NOTICE $(into)/share/doc/capn
 
-# The library for C, its header and its pkg-config file. Builds nothing either.
+# Removes what install put there, by its names.
+uninstall: into := $(DESTDIR)$(PREFIX)
+uninstall:
+	rm -f $(into)/bin/capn $(into)/share/man/man1/capn.1 $(into)/share/bash-completion/completions/capn
+	rm -f $(into)/share/zsh/site-functions/_capn $(into)/share/fish/vendor_completions.d/capn.fish
+	rm -f $(addprefix $(into)/share/doc/capn/,$(notdir $(PAGES)) LICENSE NOTICE)
+	test ! -d $(into)/share/doc/capn || rmdir --ignore-fail-on-non-empty $(into)/share/doc/capn
+
+# The library for C: both forms, headers, its manual page, and what pkg-config and CMake read. Builds nothing either.
+install-library: into := $(DESTDIR)$(PREFIX)
 install-library:
 	@test -f $(BUILD)/libcapn.a -a -f $(BUILD)/libcapn.so.1 \
 		|| { echo "there is no library to install: run make library first" >&2; exit 1; }
-	install -D -m 644 c/capn.h $(DESTDIR)$(PREFIX)/include/capn.h
-	install -D -m 644 $(BUILD)/libcapn.a $(DESTDIR)$(PREFIX)/lib/libcapn.a
-	install -D -m 755 $(BUILD)/libcapn.so.1 $(DESTDIR)$(PREFIX)/lib/libcapn.so.1
-	ln -sf libcapn.so.1 $(DESTDIR)$(PREFIX)/lib/libcapn.so
-	sed 's,@PREFIX@,$(PREFIX),; s,@VERSION@,$(VERSION),' c/capn.pc.in \
-		| install -D -m 644 /dev/stdin $(DESTDIR)$(PREFIX)/lib/pkgconfig/capn.pc
+	install -d -m 755 $(into)/include $(into)/share/doc/libcapn
+	install -m 644 $(HEADERS) $(into)/include
+	install -D -m 644 $(BUILD)/libcapn.a $(DESTDIR)$(LIBDIR)/libcapn.a
+	install -D -m 755 $(BUILD)/libcapn.so.1 $(DESTDIR)$(LIBDIR)/libcapn.so.1
+	ln -sf libcapn.so.1 $(DESTDIR)$(LIBDIR)/libcapn.so
+	install -d -m 755 $(DESTDIR)$(LIBDIR)/pkgconfig $(DESTDIR)$(LIBDIR)/cmake/capn
+	include=$$(realpath -ms --relative-to=$(LIBDIR)/cmake/capn $(PREFIX)/include); \
+	for it in pkgconfig/capn.pc cmake/capn/capn-config.cmake cmake/capn/capn-config-version.cmake; do \
+		sed -e 's,@PREFIX@,$(PC_PREFIX),; s,@LIBDIR@,$(patsubst $(PREFIX)/%,$${prefix}/%,$(LIBDIR)),' \
+			-e "s,@VERSION@,$(VERSION),; s,@INCLUDE@,$$include," c/$${it##*/}.in \
+			| install -m 644 /dev/stdin $(DESTDIR)$(LIBDIR)/$$it || exit 1; done
+	install -D -m 644 docs/capn.3 $(into)/share/man/man3/capn.3
+	install -m 644 $(LIBRARY_PAGES) LICENSE NOTICE $(into)/share/doc/libcapn
+
+# Removes what install-library put there, by its names.
+uninstall-library: into := $(DESTDIR)$(PREFIX)
+uninstall-library: libraries := $(DESTDIR)$(LIBDIR)
+uninstall-library:
+	rm -f $(addprefix $(into)/include/,$(notdir $(HEADERS))) $(into)/share/man/man3/capn.3
+	rm -f $(addprefix $(libraries)/,libcapn.a libcapn.so.1 libcapn.so pkgconfig/capn.pc)
+	rm -f $(libraries)/cmake/capn/capn-config.cmake $(libraries)/cmake/capn/capn-config-version.cmake
+	rm -f $(addprefix $(into)/share/doc/libcapn/,$(notdir $(LIBRARY_PAGES)) LICENSE NOTICE)
+	for it in $(libraries)/cmake/capn $(into)/share/doc/libcapn; do \
+		test ! -d $$it || rmdir --ignore-fail-on-non-empty $$it; done
+
+# The files of a release, in dist/, of the program and the libraries that are built. It needs Debian's dpkg-dev, lintian
+# and python3-wheel, and what docs/PYTHON.md lists.
+dist:
+	release/dist
+
+# Whether files of a release, those of dist/ or FILE, are what their commit builds.
+verify-dist:
+	release/verify $(FILE)
+
+# The files of dist/ installed, used and removed in a root that has nothing else.
+clean-root:
+	interop/clean

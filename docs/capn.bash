@@ -1,8 +1,15 @@
 # Completion of bash for capn, made from its help by .ci/completion.
 _capn() {
-    local word=${COMP_WORDS[COMP_CWORD]} before=${COMP_WORDS[COMP_CWORD - 1]} command=${COMP_WORDS[1]} words=
+    local at=$COMP_CWORD word=${COMP_WORDS[COMP_CWORD]} command=${COMP_WORDS[1]} words=
+    # after a sign of redirection: a file, by -o default
+    case "${COMP_WORDS[at - 1]}" in *'<'* | *'>'*) return ;; esac
+    compopt +o default
+    # --form=p is three words: the option, the sign and what is begun
+    [[ $word == = ]] && word= && ((at++))
+    [[ ${COMP_WORDS[at - 1]} == = ]] && ((at--))
+    local before=${COMP_WORDS[at - 1]}
     if ((COMP_CWORD == 1)); then
-        mapfile -t COMPREPLY < <(compgen -W 'show check list limits canonical hash uniq pick pack unpack make help --help' -- "$word")
+        mapfile -t COMPREPLY < <(compgen -W 'show check list limits canonical hash uniq pick pack unpack make help --help --version' -- "$word")
         return
     fi
     case "$command $before" in
@@ -63,4 +70,4 @@ _capn() {
     esac
     mapfile -t COMPREPLY < <(compgen -W "$words" -- "$word")
 }
-complete -F _capn capn
+complete -o default -F _capn capn

@@ -1,22 +1,14 @@
-"""Builds the package `capn` with the proved library inside: `pip install ./python`, after `make library`.
+"""Builds the module of the package `capn` with the proved library inside, after `make library`; pyproject.toml has the rest.
 
-There is no pyproject.toml: with one, pip would fetch setuptools and cffi again for each build, and fail offline."""
+The library's header, its archive and its licence lie beside this folder, in the repository's top."""
+import shutil
 from pathlib import Path
 
-import cffi  # noqa: F401, without it setuptools would ignore `cffi_modules` and build a package of no library
 from setuptools import setup
 
-TOP = Path(__file__).resolve().parent.parent
+HERE = Path(__file__).resolve().parent
+for name in ("LICENSE", "NOTICE"):
+    if (HERE.parent / name).is_file():
+        shutil.copyfile(HERE.parent / name, HERE / name)
 
-setup(
-    name="capn",
-    version=(TOP / "VERSION").read_text().strip(),
-    description="Checks, canonicalises, hashes and packs Cap'n Proto messages by proved code",
-    packages=["capn"],
-    package_data={"capn": ["py.typed", "_capn.pyi"]},
-    cffi_modules=["binding.py:binding"],
-    install_requires=["cffi>=1.15"],
-    python_requires=">=3.11",
-    zip_safe=False,
-    options={"bdist_wheel": {"py_limited_api": "cp311"}},
-)
+setup(cffi_modules=["binding.py:binding"], options={"bdist_wheel": {"py_limited_api": "cp311"}})

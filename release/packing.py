@@ -1,0 +1,145 @@
+"""What the scripts of a release share: its names, its tools, and archives that are the same bytes wherever they are made."""
+
+import gzip
+import hashlib
+import io
+import os
+import re
+import subprocess
+import tarfile
+import time
+import zipfile
+import zlib
+
+TOP = os.path.abspath(os.path.join(os.path.dirname(os.path.abspath(__file__)), ".."))
+with open(os.path.join(TOP, "VERSION"), encoding="utf-8") as _file:
+    VERSION = _file.read().strip()
+ARCHIVE = f"capn-{VERSION}-x86_64-linux-gnu"
+DEBIAN_VERSION = f"{VERSION}-1"
+# What is built and packed, by the names that PROVED has.
+BUILT = {
+    "program": os.path.join(TOP, "crates", "capn", "out", "capn"),
+    "libcapn.a": os.path.join(TOP, "build", "libcapn.a"),
+    "libcapn.so.1": os.path.join(TOP, "build", "libcapn.so.1"),
+}
+PROVED = os.path.join(TOP, "build", "PROVED")
+
+
+class Stop(Exception):
+    """Why a release can't be made, or a file isn't what it says."""
+
+
+def said(*words, cwd=TOP, env=None, text=True):
+    """What a command writes; if it fails, its own lines say why."""
+    try:
+        ran = subprocess.run(words, cwd=cwd, env=env, stdout=subprocess.PIPE, stderr=subprocess.PIPE, check=False)
+    except FileNotFoundError:
+        raise Stop(f"there is no {words[0]}") from None
+    if ran.returncode != 0:
+        told = (ran.stdout + ran.stderr).decode(errors="replace").strip()
+        raise Stop(f"{' '.join(words[:3])} .. ended with {ran.returncode}:\n{told}")
+    return ran.stdout.decode() if text else ran.stdout
+
+
+def sum_of(path):
+    """The SHA-256 of a file."""
+    with open(path, "rb") as file:
+        return hashlib.sha256(file.read()).hexdigest()
+
+
+def commit_of(top=TOP):
+    """The commit of a clone, its tree, its time in seconds, and whether nothing differs from it."""
+    try:
+        commit, tree, seconds = said("git", "show", "-s", "--format=%H %T %ct", "HEAD", cwd=top).split()
+        return commit, tree, int(seconds), not said("git", "status", "--porcelain", cwd=top).strip()
+    except Stop as why:
+        raise Stop(f"this is no clone of a repository, so there is no commit to name: {why}") from None
+
+
+def settle(folder, seconds):
+    """Gives each file of a folder the modes and the time that it has in every release."""
+    for at, folders, names in os.walk(folder, topdown=False):
+        for name in names + folders:
+            path = os.path.join(at, name)
+            if not os.path.islink(path):
+                is_run = os.path.isdir(path) or os.stat(path).st_mode & 0o100
+                os.chmod(path, 0o755 if is_run else 0o644)
+            os.utime(path, (seconds, seconds), follow_symlinks=False)
+    os.chmod(folder, 0o755)
+    os.utime(folder, (seconds, seconds))
+
+
+def paths_of(folder):
+    """The paths below a folder, sorted, each before those below it."""
+    found = []
+    for at, folders, names in os.walk(folder):
+        found += [os.path.relpath(os.path.join(at, name), folder) for name in folders + names]
+    return sorted(found)
+
+
+def write_tar(folder, path, seconds):
+    """Packs a settled folder, in the order of its names, as files of root."""
+    whole = io.BytesIO()
+    with tarfile.open(fileobj=whole, mode="w", format=tarfile.GNU_FORMAT) as tar:
+        for name in paths_of(folder):
+            item = tar.gettarinfo(os.path.join(folder, name), name)
+            item.uid = item.gid = 0
+            item.uname = item.gname = "root"
+            item.mtime = seconds
+            if item.isreg():
+                with open(os.path.join(folder, name), "rb") as file:
+                    tar.addfile(item, file)
+            else:
+                tar.addfile(item)
+    with open(path, "wb") as file:
+        file.write(gzip.compress(whole.getvalue(), 9, mtime=seconds))
+
+
+def write_zip(folder, names, path, seconds):
+    """Packs files of a folder in this order, each with one time and one mode."""
+    stamp = time.gmtime(max(seconds, 315532800))[:6]
+    with zipfile.ZipFile(path, "w", zipfile.ZIP_DEFLATED, compresslevel=9) as whole:
+        for name in names:
+            item = zipfile.ZipInfo(name, stamp)
+            item.create_system = 3
+            item.external_attr = (0o100755 if name.endswith(".so") else 0o100644) << 16
+            item.compress_type = zipfile.ZIP_DEFLATED
+            with open(os.path.join(folder, name), "rb") as file:
+                whole.writestr(item, file.read(), compresslevel=9)
+
+
+def proved_in(path):
+    """The text of PROVED that a released file has within, or None."""
+    try:
+        if path.endswith(".tar.gz"):
+            with tarfile.open(path) as tar:
+                found = [it for it in tar if re.fullmatch(r"[^/]+/PROVED", it.name)]
+                return tar.extractfile(found[0]).read().decode() if found else None
+        if path.endswith(".whl"):
+            with zipfile.ZipFile(path) as whole:
+                found = [it for it in whole.namelist() if re.fullmatch(r"[^/]+\.dist-info/PROVED", it)]
+                return whole.read(found[0]).decode() if found else None
+        if path.endswith(".deb"):
+            with tarfile.open(fileobj=io.BytesIO(said("dpkg-deb", "--fsys-tarfile", path, text=False))) as tar:
+                found = [it for it in tar if re.fullmatch(r"\./usr/share/doc/[^/]+/PROVED", it.name)]
+                return tar.extractfile(found[0]).read().decode() if found else None
+    except (OSError, EOFError, ValueError, tarfile.TarError, zipfile.BadZipFile, zlib.error, Stop):
+        return None
+    return None
+
+
+def claims_of(text):
+    """What a PROVED says, by the first word of each line of its head and of its sums."""
+    return dict(re.findall(r"^(commit|tree|toolchain|sha256 \S+) (.+)$", text, re.M))
+
+
+def components():
+    """Each component that NOTICE names, as its fields."""
+    with open(os.path.join(TOP, "NOTICE"), encoding="utf-8") as file:
+        text = file.read()
+    for block in re.findall(r"^Component: .*(?:\n(?!\n).*)*", text, re.M):
+        fields = {}
+        for key, value in re.findall(r"^([A-Z][A-Za-z ]*): (.*(?:\n .*)*)", block, re.M):
+            fields.setdefault(key, []).append(re.sub(r"\n ", " ", value))
+        name, version = re.fullmatch(r"(.*?)(?: ([\d.]+|rattle-kit-\w+))?", fields["Component"][0]).groups()
+        yield {"name": name, "version": version, **fields}
