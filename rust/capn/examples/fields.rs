@@ -1,0 +1,112 @@
+//! Shows each message of a stream of `c/tests/fields.capnp` as the generated code of the reference implementation does.
+//!
+//!     fields old | new
+use capn::{Error, Form, Index, Limits, Struct};
+use std::io::{Read, Write};
+
+fn hexadecimal(bytes: &[u8]) -> String {
+    bytes.iter().map(|byte| format!("{byte:02x}")).collect()
+}
+
+/// A text, or what the schema says of an absent one.
+fn text(of: &Struct, slot: u32, default: &str) -> Result<String, Error> {
+    let text = of.slot(slot).as_text()?.unwrap_or(default);
+    Ok(hexadecimal(text.as_bytes()))
+}
+
+fn point(out: &mut String, of: &Struct, is_new: bool) -> Result<(), Error> {
+    let (x, y, label) = (of.get(0, 0i32), of.get(32, -1i32), text(of, 0, "")?);
+    *out += &format!("{x};{y};{label};");
+    if is_new {
+        *out += &format!("{};{};", of.get(64, 77i32), text(of, 1, "")?);
+    }
+    Ok(())
+}
+
+fn shown(message: &[u8], is_new: bool) -> Result<String, Error> {
+    let index = Index::new(message, Form::Stream, &Limits::usual())?;
+    let root = index.root().as_struct()?;
+    let mut out = format!(
+        "{};{};{};{};{:016x};{:08x};{};{};[",
+        u8::from(root.get(0, true)),
+        root.get(8, -5i8),
+        root.get(64, 7u64),
+        root.get(16, 1u16),
+        root.get(128, 1.5f64).to_bits(),
+        root.get(32, -2.5f32).to_bits(),
+        text(&root, 0, "none")?,
+        hexadecimal(root.slot(1).as_data()?.unwrap_or_default()),
+    );
+    if is_new {
+        for one in root.slot(2).as_rows()? {
+            let (value, unit) = (one.get(0, 0u16), one.get(16, 3u16));
+            out += &format!("{value};{unit};{};", text(&one, 0, "")?);
+        }
+    } else {
+        for one in root.slot(2).as_list::<u16>()? {
+            out += &format!("{one};");
+        }
+    }
+    out += "][";
+    if is_new {
+        for one in root.slot(3).as_rows()? {
+            out += &format!("{};{};", text(&one, 0, "")?, one.get(0, 8u32));
+        }
+    } else {
+        for one in root.slot(3).as_pointers()? {
+            out += &(hexadecimal(one.as_text()?.unwrap_or_default().as_bytes()) + ";");
+        }
+    }
+    out += "][";
+    for one in root.slot(4).as_rows()? {
+        point(&mut out, &one, is_new)?;
+    }
+    out += "][";
+    for one in root.slot(5).as_list::<bool>()? {
+        out += &format!("{};", u8::from(one));
+    }
+    out += "][";
+    if is_new {
+        for one in root.slot(6).as_rows()? {
+            let error = one.get(64, 0.5f32).to_bits();
+            out += &format!("{};{error:08x};", one.get(0, 0i64));
+        }
+    } else {
+        let large = root.slot(6).as_list::<i64>()?;
+        for i in 0..large.len() {
+            out += &format!("{};", large.get(i).expect("one of its numbers"));
+        }
+    }
+    out += &format!("]{};", root.slot(7).as_rows()?.len());
+    point(&mut out, &root.slot(8).as_struct()?, is_new)?;
+    let which = root.get(224, 0u16);
+    out += &format!("{};{which}:", u8::from(root.get(1, false)));
+    match which {
+        0 => out += &root.get(192, 100u32).to_string(),
+        1 => out += &text(&root, 9, "")?,
+        3 if is_new => out += &format!("{:016x}", root.get(320, 0.25f64).to_bits()),
+        _ => {}
+    }
+    out += ";";
+    if is_new {
+        let (added, is_late, far) = (
+            root.get(240, 12345u16),
+            root.get(2, true),
+            root.get(256, -9i64),
+        );
+        let note = text(&root, 10, "no note")?;
+        out += &format!("{added};{};{note};{far};", u8::from(is_late));
+    }
+    Ok(out)
+}
+
+fn main() -> Result<(), Box<dyn std::error::Error>> {
+    let is_new = std::env::args().nth(1).as_deref() == Some("new");
+    let mut stream = Vec::new();
+    std::io::stdin().read_to_end(&mut stream)?;
+    let mut out = std::io::stdout().lock();
+    for message in capn::messages(&stream, Limits::usual()) {
+        writeln!(out, "{}", shown(message?, is_new)?)?;
+    }
+    Ok(())
+}
