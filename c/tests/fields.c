@@ -1,7 +1,8 @@
 /* Fields by capn_fields.h.
  *
  *     fields             tests on entries that are written by hand
- *     fields old | new   shows each message of a stream of fields.capnp as fields.c++ does, read by one of its types */
+ *     fields old | new   shows each message of a stream of fields.capnp as fields.c++ does, read by one of its types
+ *     fields any         reads each pointer of each message of a stream as whatever it may be, and counts what it reads */
 #include "capn_fields.h"
 #include <inttypes.h>
 #include <stdio.h>
@@ -120,8 +121,45 @@ static void show_message(const capn_entry *entries, int is_new) {
     printf("\n");
 }
 
+/* Fields and slots of a struct, within it and beyond. */
+static uint64_t read_record(const capn_record *record) {
+    static const uint32_t widths[] = {1, 8, 16, 32, 64};
+    uint64_t sum = 0;
+    for (uint32_t at = 0; at < record->bits + 130; at++)
+        for (int i = 0; i < 5; i++) sum += capn_field(record, at, widths[i], at);
+    for (uint32_t k = 0; k < record->slots + 2; k++) {
+        const capn_entry *slot = capn_slot(record, k);
+        want("a slot", slot != NULL, k < record->slots);
+        sum += slot ? slot->span : 0;
+    }
+    return sum;
+}
+
+/* How many things an entry is taken for: the struct, the text, the data, and each kind of list. */
+static int read_any(const capn_entry *entry) {
+    capn_record record;
+    capn_items items;
+    const char *text;
+    const uint8_t *data;
+    size_t length;
+    volatile uint64_t sum = 0;
+    int read = capn_struct(bytes, entry, &record);
+    sum += read_record(&record);
+    if (capn_text(bytes, entry, &text, &length) && ++read && text) sum += strlen(text) + (uint64_t)text[length];
+    if (capn_data(bytes, entry, &data, &length) && ++read)
+        for (size_t i = 0; i < length; i++) sum += data[i];
+    for (uint32_t kind = CAPN_KIND_VOID; kind <= CAPN_KIND_ROWS; kind++) {
+        if (!capn_list(bytes, entry, kind, &items)) continue;
+        read++;
+        for (uint32_t i = 0; i < items.count && i < 1000 && kind < CAPN_KIND_POINTERS; i++) sum += capn_number(&items, i);
+        for (int i = 0; i < 1000 && capn_next(&items, &record); i++) sum += read_record(&record);
+    }
+    return read;
+}
+
 /* Each message of a stream, in memory of exactly its length. */
-static int show_stream(int is_new) {
+static int show_stream(const char *as) {
+    uint64_t messages = 0, pointers = 0, read = 0;
     const capn_limits limits = CAPN_USUAL_LIMITS;
     size_t have = 0, room = 1 << 16, got;
     uint8_t *all = malloc(room);
@@ -133,16 +171,23 @@ static int show_stream(int is_new) {
         const size_t size = report.length;
         uint8_t *message = malloc(size);
         memcpy(message, all + from, size);
-        if (capn_index(CAPN_STREAM, message, size, &limits, NULL, 0, &report) != CAPN_NO_ROOM) return 1;
-        capn_entry *entries = malloc(report.length);
-        if (capn_index(CAPN_STREAM, message, size, &limits, entries, report.visits, &report) != CAPN_OK) return 1;
-        bytes = message;
-        show_message(entries, is_new);
-        free(entries);
-        free(message);
         from += size;
+        bytes = message;
+        if (capn_index(CAPN_STREAM, message, size, &limits, NULL, 0, &report) == CAPN_NO_ROOM) {
+            const uint32_t count = report.visits;
+            capn_entry *entries = malloc(count * sizeof *entries);
+            if (capn_index(CAPN_STREAM, message, size, &limits, entries, count, &report) != CAPN_OK) return 1;
+            if (strcmp(as, "any")) show_message(entries, !strcmp(as, "new"));
+            else
+                for (uint32_t i = 0; i < count; i++) read += (uint64_t)read_any(&entries[i]);
+            messages++;
+            pointers += count;
+            free(entries);
+        } else if (strcmp(as, "any")) return 1;
+        free(message);
     }
     free(all);
+    if (!strcmp(as, "any")) printf("%" PRIu64 " messages, %" PRIu64 " pointers, %" PRIu64 "\n", messages, pointers, read);
     return failed != 0;
 }
 
@@ -224,7 +269,7 @@ static void by_hand(void) {
 }
 
 int main(int count, char **words) {
-    if (count == 2) return show_stream(!strcmp(words[1], "new"));
+    if (count == 2) return show_stream(words[1]);
     by_hand();
     printf("fields: %d failed\n", failed);
     return failed != 0;

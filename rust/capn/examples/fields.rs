@@ -1,7 +1,8 @@
 //! Shows each message of a stream of `c/tests/fields.capnp` as the generated code of the reference implementation does.
 //!
 //!     fields old | new
-use capn::{Error, Form, Index, Limits, Struct};
+//!     fields any         reads each pointer of each message as whatever it may be, and counts what it reads
+use capn::{Error, Form, Index, Limits, Number, Struct, Value};
 use std::io::{Read, Write};
 
 fn hexadecimal(bytes: &[u8]) -> String {
@@ -100,10 +101,76 @@ fn shown(message: &[u8], is_new: bool) -> Result<String, Error> {
     Ok(out)
 }
 
+/// Fields and slots of a struct, within it and beyond.
+fn read_struct(of: &Struct) -> u64 {
+    let mut sum = 0;
+    for at in 0..8 * of.data().len() as u32 + 130 {
+        sum += u64::from(of.get::<bool>(at, true)) ^ of.get::<u64>(at, 1);
+        sum ^= u64::from(of.get::<u8>(at, 1)) ^ u64::from(of.get::<u32>(at, 1));
+    }
+    (0..of.slots() + 2).for_each(|k| assert!(k < of.slots() || of.slot(k).is_null()));
+    sum
+}
+
+/// How many things a pointer and those below it are taken for, and how many they are.
+fn read_any(value: &Value, read: &mut u64, pointers: &mut u64) {
+    fn numbers<T: Number>(value: &Value) -> u64 {
+        value
+            .as_list::<T>()
+            .map_or(0, |it| it.take(1000).fold(1, |read, _| read))
+    }
+    *pointers += 1;
+    *read += u64::from(value.as_struct().map(|it| read_struct(&it)).is_ok());
+    *read += u64::from(value.as_text_bytes().is_ok()) + u64::from(value.as_data().is_ok());
+    // A list without size is one of structs, and of nothing else.
+    *read += u64::from(matches!(
+        value,
+        Value::Null | Value::Void(_) | Value::Rows(_)
+    ));
+    *read += numbers::<bool>(value) + numbers::<i8>(value) + numbers::<u16>(value);
+    *read += numbers::<f32>(value) + numbers::<u64>(value);
+    *read += u64::from(value.as_pointers().map(|it| it.take(1000).count()).is_ok());
+    if let Ok(rows) = value.as_rows() {
+        *read += 1;
+        assert_ne!(
+            rows.take(1000)
+                .map(|row| read_struct(&row))
+                .fold(1, u64::max),
+            0
+        );
+    }
+    match value {
+        Value::Struct(it) => (0..it.slots()).for_each(|k| read_any(&it.slot(k), read, pointers)),
+        Value::Pointers(all) => all.for_each(|it| read_any(&it, read, pointers)),
+        Value::Rows(all) if all.clone().next().map_or(0, |row| row.slots()) > 0 => {
+            all.for_each(|row| {
+                (0..row.slots()).for_each(|k| read_any(&row.slot(k), read, pointers));
+            })
+        }
+        _ => {}
+    }
+}
+
+fn any(stream: &[u8]) -> Result<String, Error> {
+    let (mut messages, mut pointers, mut read) = (0, 0, 0);
+    for message in capn::messages(stream, Limits::usual()) {
+        if let Ok(index) = Index::new(message?, Form::Stream, &Limits::usual()) {
+            messages += 1;
+            read_any(&index.root(), &mut read, &mut pointers);
+        }
+    }
+    Ok(format!("{messages} messages, {pointers} pointers, {read}"))
+}
+
 fn main() -> Result<(), Box<dyn std::error::Error>> {
-    let is_new = std::env::args().nth(1).as_deref() == Some("new");
+    let word = std::env::args().nth(1).unwrap_or_default();
+    let is_new = word == "new";
     let mut stream = Vec::new();
     std::io::stdin().read_to_end(&mut stream)?;
+    if word == "any" {
+        println!("{}", any(&stream)?);
+        return Ok(());
+    }
     let mut out = std::io::stdout().lock();
     for message in capn::messages(&stream, Limits::usual()) {
         writeln!(out, "{}", shown(message?, is_new)?)?;
