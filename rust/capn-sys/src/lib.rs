@@ -65,6 +65,15 @@ pub struct capn_segment {
     pub count: usize,
 }
 
+/// The types have the sizes that the library gives them.
+const _: () = assert!(
+    core::mem::size_of::<capn_limits>() == 16
+        && core::mem::size_of::<capn_report>() == 32
+        && core::mem::size_of::<capn_figures>() == 32
+        && core::mem::size_of::<capn_entry>() == 24
+        && core::mem::size_of::<capn_segment>() == 16
+);
+
 extern "C" {
     pub fn capn_canonical(
         form: u32,

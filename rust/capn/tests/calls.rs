@@ -295,7 +295,7 @@ fn fields_with_defaults_and_newer_lists() {
 /// The kinds of lists, each in place of each.
 #[test]
 fn lists_in_place_of_others() {
-    let list = |width: u64| words(&[1 | width << 32 | 2 << 35, 1, 1 << 32]);
+    let list = |width: u64| words(&[1 | width << 32 | 2 << 35, 0, 0]);
     let row = |size: u64| {
         let length = (size & 0xffff) + (size >> 16);
         words(
