@@ -214,19 +214,40 @@ private:
 
 namespace detail {
 
+/* An allocator that leaves new bytes as they are, since a call is about to write them. */
+template <class T> struct unfilled : std::allocator<T> {
+    template <class U> struct rebind {
+        using other = unfilled<U>;
+    };
+    template <class U> void construct(U *at) noexcept { ::new (static_cast<void *>(at)) U; }
+    template <class U, class... Of> void construct(U *at, Of &&...of) {
+        ::new (static_cast<void *>(at)) U(std::forward<Of>(of)...);
+    }
+};
+
+} // namespace detail
+
+/* The bytes of an answer: a vector whose bytes are not filled before they are written. */
+using buffer = std::vector<std::byte, detail::unfilled<std::byte>>;
+
+namespace detail {
+
 inline std::uint32_t number(form written) noexcept { return static_cast<std::uint32_t>(written); }
 
-/* Throws, unless the status is that of an answer. */
-inline void answered(capn_status status, const capn_report &report) {
-    if (status == CAPN_OK) return;
+[[noreturn]] inline void unanswered(capn_status status, const capn_report &report) {
     if (status == CAPN_MEMORY) throw std::bad_alloc();
     if (status < CAPN_NOT_WHOLE) throw std::invalid_argument(capn_status_text(status));
     throw refusal(status, report);
 }
 
+/* Throws, unless the status is that of an answer. */
+inline void answered(capn_status status, const capn_report &report) {
+    if (status != CAPN_OK) unanswered(status, report);
+}
+
 /* An answer of a length that a call reports: with the room at hand, and if that is too little with what is enough. */
-template <class Call> std::vector<std::byte> made(std::size_t room, Call call) {
-    std::vector<std::byte> out(room);
+template <class Call> buffer made(std::size_t room, Call call) {
+    buffer out(room);
     capn_report report;
     for (;;) {
         const capn_status status = call(reinterpret_cast<std::uint8_t *>(out.data()), out.size(), &report);
@@ -235,7 +256,7 @@ template <class Call> std::vector<std::byte> made(std::size_t room, Call call) {
             out.resize(static_cast<std::size_t>(report.length));
             return out;
         }
-        out = std::vector<std::byte>();
+        out = buffer();
         out.resize(static_cast<std::size_t>(report.length));
     }
 }
@@ -256,7 +277,7 @@ struct checked {
 };
 
 /* The canonical bytes of one message. */
-inline std::vector<std::byte> canonical(bytes message, form written = form::stream, const limits &most = {}) {
+inline buffer canonical(bytes message, form written = form::stream, const limits &most = {}) {
     const auto call = [&](std::uint8_t *out, std::size_t room, capn_report *report) {
         return capn_canonical(detail::number(written), message.u8(), message.size(), &most, out, room, report);
     };
@@ -298,14 +319,14 @@ inline capn_figures survey(bytes message, form written = form::stream, const lim
 }
 
 /* The packed text of whole words. */
-inline std::vector<std::byte> pack(bytes words) {
+inline buffer pack(bytes words) {
     return detail::made(words.size() / 2 + 16, [&](std::uint8_t *out, std::size_t room, capn_report *report) {
         return capn_pack(words.u8(), words.size(), out, room, report);
     });
 }
 
 /* The words of a packed text, at most `most_words`. */
-inline std::vector<std::byte> unpack(bytes text, std::uint32_t most_words = 8388608 + 2049) {
+inline buffer unpack(bytes text, std::uint32_t most_words = 8388608 + 2049) {
     return detail::made(4 * text.size(), [&](std::uint8_t *out, std::size_t room, capn_report *report) {
         return capn_unpack(text.u8(), text.size(), most_words, out, room, report);
     });
@@ -328,7 +349,7 @@ private:
     std::size_t count_;
 };
 
-inline std::vector<std::byte> canonical(segments message, const limits &most = {}) {
+inline buffer canonical(segments message, const limits &most = {}) {
     return detail::made(message.bytes_in_all(), [&](std::uint8_t *out, std::size_t room, capn_report *report) {
         return capn_canonical_segments(message.data(), message.size(), &most, out, room, report);
     });
@@ -354,8 +375,11 @@ inline capn_figures survey(segments message, const limits &most = {}) {
 
 namespace detail {
 
-inline std::string place(std::uint64_t number, std::uint64_t offset) {
-    return "message " + std::to_string(number) + " at " + std::to_string(offset) + ": ";
+/* Throws, with the place of a message in its stream. */
+[[noreturn]] inline void refused(capn_status status, const capn_report &report, std::uint64_t number,
+                                 std::uint64_t offset) {
+    if (status < CAPN_NOT_WHOLE) unanswered(status, report);
+    throw refusal(status, report, "message " + std::to_string(number) + " at " + std::to_string(offset) + ": ");
 }
 
 } // namespace detail
@@ -368,8 +392,7 @@ template <class Each> std::size_t for_each(bytes stream, const limits &most, Eac
         capn_report report;
         const capn_status status = capn_first(stream.u8() + from, stream.size() - from, &most, &report);
         number++;
-        if (status >= CAPN_NOT_WHOLE) throw refusal(status, report, detail::place(number, from));
-        detail::answered(status, report);
+        if (status != CAPN_OK) detail::refused(status, report, number, from);
         const bytes message(stream.data() + from, static_cast<std::size_t>(report.length));
         if constexpr (std::is_invocable_v<Each, bytes, std::size_t>) each(message, from);
         else each(message);
@@ -404,10 +427,8 @@ public:
                 whole_ = true;
                 return bytes(held_.data(), have_);
             }
-            if (status != CAPN_FRAME_EMPTY && status != CAPN_FRAME_CUT) {
-                if (status >= CAPN_NOT_WHOLE) throw refusal(status, report, detail::place(number_ + 1, offset_));
-                detail::answered(status, report);
-            }
+            if (status != CAPN_FRAME_EMPTY && status != CAPN_FRAME_CUT)
+                detail::refused(status, report, number_ + 1, offset_);
             const std::size_t need = static_cast<std::size_t>(report.length);
             /* A table may announce much and bring little: the room grows with what came. */
             const std::size_t room = std::min(need, std::max<std::size_t>(2 * have_, 65536));
@@ -416,7 +437,7 @@ public:
             if (came == 0) {
                 if (have_ == 0) return std::nullopt;
                 report.length = 0;
-                throw refusal(CAPN_FRAME_CUT, report, detail::place(number_ + 1, offset_));
+                detail::refused(CAPN_FRAME_CUT, report, number_ + 1, offset_);
             }
             have_ += came;
         }
@@ -430,7 +451,7 @@ private:
 
     Read read_;
     limits most_;
-    std::vector<std::byte> held_;
+    buffer held_;
     std::size_t have_ = 0;
     std::uint64_t number_ = 0, offset_ = 0;
     bool whole_ = false;

@@ -38,7 +38,7 @@ private:
 /* Bytes of kj, as those of any container. */
 inline bytes bytes_of(kj::ArrayPtr<const kj::byte> data) noexcept { return {data.begin(), data.size()}; }
 
-inline std::vector<std::byte> canonical(const kj_segments &message, const limits &most = {}) {
+inline buffer canonical(const kj_segments &message, const limits &most = {}) {
     return canonical(segments(message), most);
 }
 inline digest_bytes digest(const kj_segments &message, const limits &most = {}) {

@@ -60,7 +60,7 @@ static void answers() {
     want("check", capn::check(one).paid == 3 && capn::check(one).visits == 1);
     want("survey", capn::survey(one).depth == 1 && !capn::survey(one).canonical);
     want("pack", digits(capn::pack(one)) == "1003100201050000");
-    const std::vector<std::byte> packed = capn::pack(one);
+    const capn::buffer packed = capn::pack(one);
     want("unpack", capn::bytes(capn::unpack(packed)).chars() == one);
     want("packed", capn::canonical(packed, capn::form::packed) == capn::canonical(one));
     want("is canonical", capn::is_canonical(capn::canonical(one)) && !capn::is_canonical(one.substr(8)));
@@ -89,7 +89,7 @@ static void refusals() {
 
 static void containers() {
     const std::vector<unsigned char> vector(one.begin(), one.end());
-    const std::vector<std::byte> made = capn::canonical(vector);
+    const capn::buffer made = capn::canonical(vector);
     std::array<char, 32> array;
     std::copy(one.begin(), one.end(), array.begin());
     want("an array", capn::canonical(array) == made);

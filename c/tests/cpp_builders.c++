@@ -73,7 +73,7 @@ bool try_one() {
     const capn::bytes wanted = capn::bytes_of(theirs.asBytes());
     const auto held = message.getSegmentsForOutput();
 
-    const std::vector<std::byte> ours = capn::canonical(message);
+    const capn::buffer ours = capn::canonical(message);
     want("the canonical bytes of a builder", equal(ours, wanted));
     want("they are canonical", capn::is_canonical(ours));
     const capn::digest_bytes digest = capn::digest(message);

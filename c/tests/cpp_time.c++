@@ -18,10 +18,11 @@ template <class Call> double once(unsigned times, Call call) {
     return took.count() / times;
 }
 template <class C, class Plus> void beside(const char *name, std::size_t size, C c, Plus plus) {
-    const unsigned times = static_cast<unsigned>(1 + 20000 / (1 + once(3, c) / 1000));
+    /* Short rounds, so that many are not interrupted, and more of them as long as they say too much. */
+    const unsigned times = static_cast<unsigned>(1 + 200 / (1 + once(3, c) / 1000));
     double least = 1e18, least_plus = 1e18;
-    for (int attempt = 0; attempt < 5 && (attempt == 0 || least_plus > most * least); attempt++)
-        for (int round = 0; round < 15; round++) {
+    for (int attempt = 0; attempt < 20 && (attempt == 0 || least_plus > most * least); attempt++)
+        for (int round = 0; round < 50; round++) {
             least = std::min(least, once(times, c));
             least_plus = std::min(least_plus, once(times, plus));
         }
@@ -55,7 +56,7 @@ void times(const std::vector<std::uint64_t> &words) {
     const capn::limits limits;
     capn_report report;
     std::uint8_t digest[32];
-    const std::vector<std::byte> canonical = capn::canonical(message);
+    const capn::buffer canonical = capn::canonical(message);
     const capn::bytes bare(canonical);
     beside("check", size, [&] { return capn_check(CAPN_STREAM, data, size, &limits, &report) + report.paid; },
            [&] { return capn::check(message, capn::form::stream, limits).paid; });

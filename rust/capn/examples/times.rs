@@ -118,13 +118,14 @@ impl Times {
         mut c: impl FnMut() -> T,
         mut ours: impl FnMut() -> U,
     ) {
-        let times = 1 + (20e6 / (1000.0 + Self::once(3, &mut c))) as u32;
+        let times = 1 + (2e5 / (1000.0 + Self::once(3, &mut c))) as u32;
         let (mut least, mut least_ours) = (f64::MAX, f64::MAX);
-        for attempt in 0..5 {
+        // Short rounds, so that many are not interrupted, and more of them as long as they say too much.
+        for attempt in 0..20 {
             if attempt > 0 && least_ours <= self.most * least {
                 break;
             }
-            for _ in 0..15 {
+            for _ in 0..50 {
                 least = least.min(Self::once(times, &mut c));
                 least_ours = least_ours.min(Self::once(times, &mut ours));
             }

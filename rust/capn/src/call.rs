@@ -14,6 +14,7 @@ const OK: capn_status = 0;
 const NO_ROOM: capn_status = 1;
 
 /// The report of a call, or why there is no answer.
+#[inline]
 fn reported(call: impl FnOnce(&mut capn_report) -> capn_status) -> Result<capn_report, Error> {
     let mut report = capn_report::default();
     match call(&mut report) {
@@ -70,6 +71,7 @@ pub(crate) fn canonical(
     }
 }
 
+#[inline]
 pub(crate) fn is_canonical(words: &[u8], limits: &capn_limits) -> Result<bool, Error> {
     const NOT_CANONICAL: capn_status = 5;
     let mut report = capn_report::default();
@@ -81,6 +83,7 @@ pub(crate) fn is_canonical(words: &[u8], limits: &capn_limits) -> Result<bool, E
     }
 }
 
+#[inline]
 pub(crate) fn hash(form: Form, message: &[u8], limits: &capn_limits) -> Result<[u8; 32], Error> {
     let (bytes, size) = (message.as_ptr(), message.len());
     let mut digest = [0; 32];
@@ -91,6 +94,7 @@ pub(crate) fn hash(form: Form, message: &[u8], limits: &capn_limits) -> Result<[
     Ok(digest)
 }
 
+#[inline]
 pub(crate) fn check(
     form: Form,
     message: &[u8],
@@ -100,6 +104,7 @@ pub(crate) fn check(
     reported(|report| unsafe { capn_sys::capn_check(form as u32, bytes, size, limits, report) })
 }
 
+#[inline]
 pub(crate) fn survey(
     form: Form,
     message: &[u8],
@@ -141,6 +146,7 @@ pub(crate) enum First {
     Needs(usize),
 }
 
+#[inline]
 pub(crate) fn first(stream: &[u8], limits: &capn_limits) -> Result<First, Error> {
     const FRAME_EMPTY: capn_status = 48;
     const FRAME_CUT: capn_status = 51;
@@ -160,7 +166,7 @@ pub(crate) fn index(
 ) -> Result<Vec<capn_entry>, Error> {
     let (bytes, size) = (message.as_ptr(), message.len());
     let mut entries: Vec<capn_entry> = Vec::new();
-    let mut wanted = 64;
+    let mut wanted = 32;
     loop {
         entries
             .try_reserve_exact(wanted)

@@ -114,6 +114,7 @@ kinds! {
 
 impl Error {
     /// The error of a status that is no answer.
+    #[cold]
     pub(crate) fn of(status: capn_status, report: &capn_report) -> Self {
         let place = match status {
             2 => return Error::Form,

@@ -51,6 +51,7 @@ impl Limits {
         }
     }
 
+    #[inline]
     pub(crate) fn raw(&self) -> capn_sys::capn_limits {
         capn_sys::capn_limits {
             message_words: self.message_words,

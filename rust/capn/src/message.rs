@@ -60,6 +60,7 @@ impl Figures {
 /// assert_eq!(refused.kind(), Some(Kind::Trailing));
 /// # Ok::<(), capn::Error>(())
 /// ```
+#[inline]
 pub fn canonical(message: &[u8], form: Form, limits: &Limits) -> Result<Vec<u8>, Error> {
     let mut out = Vec::new();
     canonical_into(message, form, limits, &mut out)?;
@@ -78,6 +79,7 @@ pub fn canonical(message: &[u8], form: Form, limits: &Limits) -> Result<Vec<u8>,
 /// assert!(statement.ends_with(b"Invoice, \0\0\0\0\0\0\0\0"));
 /// # Ok::<(), capn::Error>(())
 /// ```
+#[inline]
 pub fn canonical_into(
     message: &[u8],
     form: Form,
@@ -108,6 +110,7 @@ pub fn canonical_into(
 /// assert!(!is_signed(&message[..8], &digest, &Limits::usual()));
 /// # Ok::<(), capn::Error>(())
 /// ```
+#[inline]
 pub fn digest(message: &[u8], form: Form, limits: &Limits) -> Result<[u8; 32], Error> {
     call::hash(form, message, &limits.raw())
 }
@@ -119,6 +122,7 @@ pub fn digest(message: &[u8], form: Form, limits: &Limits) -> Result<[u8; 32], E
 /// assert!(!capn::is_canonical(&[0; 16], &capn::Limits::usual())?);
 /// # Ok::<(), capn::Error>(())
 /// ```
+#[inline]
 pub fn is_canonical(words: &[u8], limits: &Limits) -> Result<bool, Error> {
     call::is_canonical(words, &limits.raw())
 }
@@ -135,6 +139,7 @@ pub fn is_canonical(words: &[u8], limits: &Limits) -> Result<bool, Error> {
 /// assert_eq!(refused.kind(), Some(Kind::TooDeep));
 /// assert!(matches!(refused.place(), Some(Place::Slot { segment: 0, word: 0, .. })));
 /// ```
+#[inline]
 pub fn check(message: &[u8], form: Form, limits: &Limits) -> Result<Checked, Error> {
     let report = call::check(form, message, &limits.raw())?;
     Ok(Checked {
@@ -153,6 +158,7 @@ pub fn check(message: &[u8], form: Form, limits: &Limits) -> Result<Checked, Err
 /// assert!(figures.is_canonical);
 /// # Ok::<(), capn::Error>(())
 /// ```
+#[inline]
 pub fn survey(message: &[u8], form: Form, limits: &Limits) -> Result<Figures, Error> {
     Ok(Figures::of(&call::survey(form, message, &limits.raw())?))
 }

@@ -28,7 +28,7 @@ use crate::{Error, Limits};
 #[derive(Debug)]
 pub struct Reader<R> {
     input: R,
-    limits: Limits,
+    limits: capn_sys::capn_limits,
     held: Vec<u8>,
     have: usize,
     is_whole: bool,
@@ -58,7 +58,7 @@ impl<R: Read> Reader<R> {
     pub fn new(input: R, limits: Limits) -> Self {
         Reader {
             input,
-            limits,
+            limits: limits.raw(),
             held: Vec::new(),
             have: 0,
             is_whole: false,
@@ -74,9 +74,8 @@ impl<R: Read> Reader<R> {
             self.have = 0;
             self.is_whole = false;
         }
-        let limits = self.limits.raw();
         loop {
-            let need = match call::first(&self.held[..self.have], &limits) {
+            let need = match call::first(&self.held[..self.have], &self.limits) {
                 Ok(First::Whole(_)) => {
                     self.number += 1;
                     self.is_whole = true;

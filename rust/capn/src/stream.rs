@@ -20,7 +20,7 @@ use crate::{Error, Limits};
 pub fn messages(stream: &[u8], limits: Limits) -> Messages<'_> {
     Messages {
         rest: stream,
-        limits,
+        limits: limits.raw(),
         number: 0,
         offset: 0,
         length: 0,
@@ -32,7 +32,7 @@ pub fn messages(stream: &[u8], limits: Limits) -> Messages<'_> {
 #[derive(Clone, Debug)]
 pub struct Messages<'a> {
     rest: &'a [u8],
-    limits: Limits,
+    limits: capn_sys::capn_limits,
     number: u64,
     offset: u64,
     length: u64,
@@ -53,13 +53,14 @@ impl Messages<'_> {
 impl<'a> Iterator for Messages<'a> {
     type Item = Result<&'a [u8], Error>;
 
+    #[inline]
     fn next(&mut self) -> Option<Self::Item> {
         if self.rest.is_empty() {
             return None;
         }
         self.number += 1;
         self.offset += self.length;
-        let refused = match call::first(self.rest, &self.limits.raw()) {
+        let refused = match call::first(self.rest, &self.limits) {
             Ok(First::Whole(length)) => {
                 let (message, rest) = self.rest.split_at(length);
                 self.rest = rest;
