@@ -135,6 +135,14 @@ impl Error {
         }
     }
 
+    /// A stream that ends inside of a frame.
+    pub(crate) fn frame_cut() -> Self {
+        Error::Refused {
+            kind: Kind::FrameCut,
+            place: Place::Nowhere,
+        }
+    }
+
     /// Bytes that are not whole words.
     pub(crate) fn not_whole(count: usize) -> Self {
         Error::Refused {

@@ -4,7 +4,6 @@ use std::io::{self, Read};
 use std::vec::Vec;
 
 use crate::call::{self, First};
-use crate::error::{Kind, Place};
 use crate::{Error, Limits};
 
 /// Reads a stream message by message, with the current one alone in memory.
@@ -89,10 +88,7 @@ impl<R: Read> Reader<R> {
                 return Ok(None);
             }
             if came == 0 {
-                return Err(self.refused(Error::Refused {
-                    kind: Kind::FrameCut,
-                    place: Place::Nowhere,
-                }));
+                return Err(self.refused(Error::frame_cut()));
             }
             self.have += came;
         }

@@ -2,7 +2,6 @@
 use core::iter::FusedIterator;
 
 use crate::call::{self, First};
-use crate::error::{Kind, Place};
 use crate::{Error, Limits};
 
 /// Each message of a stream, in order, as its bytes. Each call on one of them takes it as a
@@ -19,23 +18,22 @@ use crate::{Error, Limits};
 /// ```
 pub fn messages(stream: &[u8], limits: Limits) -> Messages<'_> {
     Messages {
-        rest: stream,
-        limits: limits.raw(),
+        stream,
+        limits,
         number: 0,
         offset: 0,
-        length: 0,
+        next: 0,
     }
 }
 
-/// The iterator of [`messages`]. It ends after an error: where a table is wrong, no one knows where the next one
-/// begins.
+/// The iterator of [`messages`]. It ends after an error: where a table is wrong, no one knows where the next one begins.
 #[derive(Clone, Debug)]
 pub struct Messages<'a> {
-    rest: &'a [u8],
-    limits: capn_sys::capn_limits,
+    stream: &'a [u8],
+    limits: Limits,
     number: u64,
-    offset: u64,
-    length: u64,
+    offset: usize,
+    next: usize,
 }
 
 impl Messages<'_> {
@@ -46,7 +44,7 @@ impl Messages<'_> {
 
     /// Its offset in the stream.
     pub fn offset(&self) -> u64 {
-        self.offset
+        self.offset as u64
     }
 }
 
@@ -55,26 +53,29 @@ impl<'a> Iterator for Messages<'a> {
 
     #[inline]
     fn next(&mut self) -> Option<Self::Item> {
-        if self.rest.is_empty() {
-            return None;
-        }
+        let rest = self
+            .stream
+            .get(self.next..)
+            .filter(|rest| !rest.is_empty())?;
         self.number += 1;
-        self.offset += self.length;
-        let refused = match call::first(self.rest, &self.limits) {
+        self.offset = self.next;
+        match call::first(rest, &self.limits.raw()) {
             Ok(First::Whole(length)) => {
-                let (message, rest) = self.rest.split_at(length);
-                self.rest = rest;
-                self.length = length as u64;
-                return Some(Ok(message));
+                self.next += length;
+                Some(Ok(&rest[..length]))
             }
-            Ok(First::Needs(_)) => Error::Refused {
-                kind: Kind::FrameCut,
-                place: Place::Nowhere,
-            },
-            Err(error) => error,
-        };
-        self.rest = &[];
-        Some(Err(refused))
+            Ok(First::Needs(_)) => Some(Err(self.ended(Error::frame_cut()))),
+            Err(error) => Some(Err(self.ended(error))),
+        }
+    }
+}
+
+impl Messages<'_> {
+    /// The error after which there is nothing more.
+    #[cold]
+    fn ended(&mut self, error: Error) -> Error {
+        self.next = self.stream.len();
+        error
     }
 }
 
