@@ -1,6 +1,6 @@
-/* capn for C++17 and later: canonical bytes, digests, checks, figures and fields of Cap'n Proto messages.
+/* The library from C++17 and later, header-only.
  *
- * A thin layer over capn.h, header-only: tested, and not proved as the library is. What capn.h says that a caller owes
+ * A thin layer over capn.h: tested, and not proved as the library is. What capn.h says that a caller owes
  * stands here too. Above all, no other thread, process or device may change the bytes while a call runs, nor while an
  * index of them is used: copy them first.
  *

@@ -1,4 +1,4 @@
-/* Fields, texts and lists over the entries of an index, by a schema that the reader knows.
+/* Fields, texts and lists by a schema, over an index.
  *
  * `capn_index` is proved; what stands here is not, it is tested. It reads what the entries of an index name, in `bytes`
  * as they were passed to `capn_index`: nothing may change them meanwhile. It takes no memory and follows no pointer.

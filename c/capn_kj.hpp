@@ -1,5 +1,6 @@
-/* capn over the messages of the reference implementation: a MessageReader, a MessageBuilder, or an array of segments.
- * */
+/* The library over messages of capnp and kj.
+ *
+ * What capn.hpp answers of segments, of a MessageReader, a MessageBuilder, or an array of segments: without a copy. */
 #ifndef CAPN_KJ_HPP
 #define CAPN_KJ_HPP
 

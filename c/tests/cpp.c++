@@ -1,4 +1,6 @@
-// capn.hpp by hand: answers, refusals, streams in pieces, fields with defaults, and what may be passed as bytes.
+// Calls of capn.hpp by hand.
+//
+// Answers, refusals, streams in pieces, fields with defaults, and what may be passed as bytes.
 #include "capn.hpp"
 #include <array>
 #include <cstdio>

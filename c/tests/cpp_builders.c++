@@ -1,5 +1,6 @@
-// Builders of the reference implementation, in several segments: capn_kj.hpp answers them from their segments as the
-// library's own canonical form is.
+// Builders of the reference implementation, by capn_kj.hpp.
+//
+// Their segments are answered as the implementation's own canonical form is.
 //
 //     cpp_builders SEED COUNT   so many builders of two segments or more, and the others that come between them
 #include "capn_kj.hpp"

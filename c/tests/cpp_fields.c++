@@ -1,4 +1,6 @@
-// Shows each message of a stream of fields.capnp as fields.c++ does, read by one of its types, by capn.hpp.
+// The fields of fields.capnp, by capn.hpp.
+//
+// Each message of a stream is shown as fields.c++ shows it, read by one of its types.
 //
 //     cpp_fields old | new
 #include "capn.hpp"

@@ -1,5 +1,7 @@
-// The time of each call of capn.hpp beside that of the calls of capn.h that it makes: cpp_time [MOST], which fails if
-// one takes more than MOST times as long. The shortest of many rounds, in which both take turns.
+// The time of each call of capn.hpp, beside C's.
+//
+// cpp_time [MOST] fails if a call takes more than MOST times as long as the calls of capn.h that it makes: the shortest
+// of many rounds, in which both take turns.
 #include "capn.hpp"
 #include <chrono>
 #include <cstdio>

@@ -1,5 +1,7 @@
-// Answers each call of standard input as the stored answers are written, as vectors.c does, by capn.hpp. What it
-// answers of a stream it answers of its segments too.
+// Answers of capn.hpp to the calls of standard input.
+//
+// They are written as the stored answers are, and as vectors.c writes them. What it answers of a stream it answers of
+// its segments too.
 #include "capn.hpp"
 #include <cstdio>
 #include <iostream>

@@ -2,7 +2,7 @@
  *
  *     fields             tests on entries that are written by hand
  *     fields old | new   shows each message of a stream of fields.capnp as fields.c++ does, read by one of its types
- *     fields any         reads each pointer of each message of a stream as whatever it may be, and counts what it reads */
+ *     fields any         reads each pointer of each message of a stream as anything, and counts what it reads */
 #include "capn_fields.h"
 #include <inttypes.h>
 #include <stdio.h>
@@ -151,7 +151,8 @@ static int read_any(const capn_entry *entry) {
     for (uint32_t kind = CAPN_KIND_VOID; kind <= CAPN_KIND_ROWS; kind++) {
         if (!capn_list(bytes, entry, kind, &items)) continue;
         read++;
-        for (uint32_t i = 0; i < items.count && i < 1000 && kind < CAPN_KIND_POINTERS; i++) sum += capn_number(&items, i);
+        for (uint32_t i = 0; i < items.count && i < 1000; i++)
+            if (kind < CAPN_KIND_POINTERS) sum += capn_number(&items, i);
         for (int i = 0; i < 1000 && capn_next(&items, &record); i++) sum += read_record(&record);
     }
     return read;
@@ -187,7 +188,8 @@ static int show_stream(const char *as) {
         free(message);
     }
     free(all);
-    if (!strcmp(as, "any")) printf("%" PRIu64 " messages, %" PRIu64 " pointers, %" PRIu64 "\n", messages, pointers, read);
+    if (!strcmp(as, "any"))
+        printf("%" PRIu64 " messages, %" PRIu64 " pointers, %" PRIu64 "\n", messages, pointers, read);
     return failed != 0;
 }
 

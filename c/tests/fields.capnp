@@ -1,4 +1,5 @@
-# One message type twice, before and after it grew: fields were added, and lists became lists of structs.
+# One type of messages, older and newer.
+# The newer one has more fields, and lists of structs in place of lists of numbers and texts.
 @0xd3b2a3f0c41e9b57;
 
 enum Color {

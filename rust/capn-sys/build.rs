@@ -1,4 +1,6 @@
-//! Where the library is: in the folder that `CAPN_LIB_DIR` names, or else where pkg-config says that `capn` is.
+//! The folder of the library.
+//!
+//! It is the one that `CAPN_LIB_DIR` names, or else that of which pkg-config says that it has `capn`.
 use std::env;
 use std::path::{Path, PathBuf};
 use std::process::Command;

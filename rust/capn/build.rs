@@ -1,4 +1,4 @@
-//! Whether the library has the calls over segments, as the build of `capn-sys` has found.
+//! The calls over segments, where the library has them.
 fn main() {
     println!("cargo:rerun-if-changed=build.rs");
     println!("cargo:rustc-check-cfg=cfg(capn_has_segments)");

@@ -1,4 +1,6 @@
-//! The declarations of `capn.h`, whose comments say what a caller owes. The crate `capn` is the safe layer over them.
+//! The declarations of `capn.h`.
+//!
+//! Its comments say what a caller owes. The crate `capn` is the safe layer over them.
 #![no_std]
 #![allow(non_camel_case_types)]
 

@@ -1,4 +1,6 @@
-//! Shows each message of a stream of `c/tests/fields.capnp` as the generated code of the reference implementation does.
+//! The fields of `c/tests/fields.capnp`, by `capn`.
+//!
+//! Each message of a stream is shown as the generated code of the reference implementation shows it.
 //!
 //!     fields old | new
 //!     fields any         reads each pointer of each message as whatever it may be, and counts what it reads

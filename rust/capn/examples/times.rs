@@ -1,5 +1,7 @@
-//! The time of each call beside that of the calls of `capn.h` that it makes: times [MOST], which fails if one takes
-//! more than MOST times as long. The shortest of many rounds, in which both take turns.
+//! The time of each call, beside C's.
+//!
+//! `times MOST` fails if a call takes more than MOST times as long as the calls of `capn.h` that it makes: the shortest
+//! of many rounds, in which both take turns.
 use capn::{Form, Index, Limits};
 use capn_sys::{capn_entry, capn_figures, capn_limits, capn_report};
 use std::time::Instant;

@@ -1,5 +1,7 @@
-//! Answers each call of standard input as the stored answers of the project are written. What it answers of a stream it
-//! answers of its segments too.
+//! Answers of `capn` to the calls of standard input.
+//!
+//! They are written as the stored answers of the project are. What it answers of a stream it answers of its segments
+//! too.
 use capn::{segments, Error, Form, Limits, Tariff};
 
 fn digits(bytes: &[u8]) -> String {

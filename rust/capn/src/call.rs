@@ -1,4 +1,4 @@
-//! The calls of the library, and all `unsafe` code of this crate.
+//! The calls of the library, and all `unsafe` code.
 //!
 //! What a caller owes (`capn.h`) is met by types: bytes behind a shared reference don't change while it lives, what a
 //! call writes is borrowed alone or is spare room of a vector, and each pointer goes with the size of its slice.

@@ -1,4 +1,4 @@
-//! Why a call gave no answer.
+//! Refusals and other errors.
 use core::fmt;
 
 use capn_sys::{capn_report, capn_status};

@@ -1,4 +1,4 @@
-//! Structs and lists of a message, and their fields by a schema.
+//! Structs, lists, and their fields by a schema.
 use core::fmt;
 use core::iter::FusedIterator;
 use core::marker::PhantomData;

@@ -1,4 +1,4 @@
-//! What the pointers of a message lead to, by its index.
+//! The index of a message, and its values.
 use alloc::vec::Vec;
 use core::fmt;
 

@@ -1,4 +1,4 @@
-//! Canonical bytes, digests, checks and fields of Cap'n Proto messages, by a proved library, without a schema.
+//! Cap'n Proto messages by a proved library, without a schema.
 //!
 //! What is proved is the library that `capn-sys` links; this crate is a layer over it, which is tested. It copies no
 //! message, and has `unsafe` in one file. A message is passed as its bytes and a [`Form`], or in segments

@@ -1,4 +1,4 @@
-//! How the bytes of a message are written, and how much a call takes on.
+//! Forms, tariffs and limits.
 
 /// How the bytes of a message are written.
 #[derive(Clone, Copy, Debug, Default, PartialEq, Eq, Hash)]

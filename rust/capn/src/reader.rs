@@ -1,4 +1,4 @@
-//! The messages of a stream that comes in pieces.
+//! A reader of streams in pieces.
 use core::fmt;
 use std::io::{self, Read};
 use std::vec::Vec;

@@ -1,7 +1,8 @@
-//! Calls on a message in segments, with no table and no copy.
+//! Calls on a message in segments.
 //!
-//! A segment is a slice of whole words, at any address. So `capnp::message::Builder::get_segments_for_output()` is
-//! passed as it is: `segments::digest(&builder.get_segments_for_output(), &limits)`.
+//! There is no table, and nothing is copied. A segment is a slice of whole words, at any address. So
+//! `capnp::message::Builder::get_segments_for_output()` is passed as it is:
+//! `segments::digest(&builder.get_segments_for_output(), &limits)`.
 use alloc::vec::Vec;
 
 #[cfg(not(capn_has_segments))]

@@ -1,4 +1,4 @@
-//! The messages of a stream that is in memory.
+//! The messages of a stream in memory.
 use core::iter::FusedIterator;
 
 use crate::call::{self, First};
@@ -26,7 +26,8 @@ pub fn messages(stream: &[u8], limits: Limits) -> Messages<'_> {
     }
 }
 
-/// The iterator of [`messages`]. It ends after an error: where a table is wrong, no one knows where the next one begins.
+/// The iterator of [`messages`]. It ends after an error: where a table is wrong, no one knows where the next one
+/// begins.
 #[derive(Clone, Debug)]
 pub struct Messages<'a> {
     stream: &'a [u8],

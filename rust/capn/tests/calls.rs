@@ -1,4 +1,4 @@
-//! The calls by hand: answers, refusals, streams in pieces, fields with defaults.
+//! The calls by hand.
 use capn::{segments, Error, Form, Index, Kind, Limits, Place, ReadError, Reader, Tariff, Value};
 use std::io::{self, Read, Write};
 use std::os::unix::net::UnixStream;

@@ -1,5 +1,6 @@
-//! Builders of the crate `capnp`, in several segments: `capn` answers them from their segments as the crate's own
-//! canonical form is.
+//! Builders of the crate `capnp`, by their segments.
+//!
+//! `capn` answers them as the crate's own canonical form is.
 //!
 //!     reference SEED COUNT   so many builders of two segments or more, and the others that come between them
 use capn::{segments, Form, Limits};
