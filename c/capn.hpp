@@ -100,7 +100,7 @@ inline const char *capn_status_name(capn_status status) {
 }
 inline std::size_t capn_refusal_text(capn_status status, const capn_report *report, char *out, std::size_t room) {
     const unsigned long long at = report->at;
-    const char *text = status == CAPN_NOT_WHOLE           ? "NotWhole(%llu)"
+    const char *text = status == CAPN_NOT_WHOLE           ? "bare: NotWhole(%llu)"
                        : status == CAPN_BARE_TOO_LONG     ? "bare: TooLong(%llu)"
                        : status == CAPN_PACKED_CUT        ? "packed: Cut at %llu"
                        : status == CAPN_PACKED_TOO_LONG   ? "packed: TooLong at %llu"
