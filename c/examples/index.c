@@ -19,7 +19,8 @@ static void show(const capn_entry *all, size_t i, int level, const uint8_t *byte
 }
 
 int main(int count, char **words) {
-    static uint8_t bytes[1 << 20]; /* a copy, which nobody changes while it is read */
+    /* A copy, which nobody changes while it is read. Messages are whole words, so a file that fills it is refused. */
+    static uint8_t bytes[(1 << 20) + 1];
     const capn_limits limits = {1 << 17, 1 << 18, 64, CAPN_STRICT};
     if (count != 2) return 2;
     FILE *file = fopen(words[1], "rb");
@@ -30,9 +31,9 @@ int main(int count, char **words) {
     capn_report report;
     capn_status status = capn_index(CAPN_STREAM, bytes, size, &limits, NULL, 0, &report);
     if (status == CAPN_NO_ROOM) {
-        const size_t room = report.visits; /* at most the budget and 1 */
-        capn_entry *all = malloc(report.length);
-        status = all ? capn_index(CAPN_STREAM, bytes, size, &limits, all, room, &report) : CAPN_MEMORY;
+        const size_t entries = report.visits; /* at most the budget and 1; `length` is in bytes */
+        capn_entry *all = malloc(entries * sizeof *all);
+        status = all ? capn_index(CAPN_STREAM, bytes, size, &limits, all, entries, &report) : CAPN_MEMORY;
         if (status == CAPN_OK) show(all, 0, 0, bytes);
         free(all);
     }

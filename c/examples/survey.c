@@ -3,7 +3,7 @@
 #include <stdio.h>
 
 int main(int count, char **words) {
-    static uint8_t bytes[1 << 20];
+    static uint8_t bytes[(1 << 20) + 1]; /* messages are whole words, so a file that fills it is refused */
     const capn_limits limits = CAPN_USUAL_LIMITS;
     if (count != 2) return 2;
     FILE *file = fopen(words[1], "rb");

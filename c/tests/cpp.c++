@@ -1,0 +1,216 @@
+// Calls of capn.hpp by hand.
+//
+// Answers, refusals, streams in pieces, fields with defaults, and what may be passed as bytes.
+#include "capn.hpp"
+#include <array>
+#include <cstdio>
+#include <list>
+#include <string>
+#include <sys/socket.h>
+#include <thread>
+#include <unistd.h>
+#include <vector>
+
+static int failed = 0;
+static void want(const char *what, bool is) {
+    if (is) return;
+    failed++;
+    std::printf("cpp: %s\n", what);
+}
+/* The text of what a call throws. */
+template <class Thrown, class Call> static std::string thrown(Call call) {
+    try {
+        call();
+    } catch (const Thrown &why) {
+        return why.what();
+    } catch (const std::exception &other) {
+        return std::string("another: ") + other.what();
+    }
+    return "nothing";
+}
+/* The bytes of some words. */
+static std::string words(std::initializer_list<std::uint64_t> words) {
+    std::string out;
+    for (const std::uint64_t word : words)
+        for (int i = 0; i < 8; i++) out += static_cast<char>(word >> 8 * i);
+    return out;
+}
+static std::string framed(const std::string &words) {
+    std::string out(8, '\0');
+    out[4] = static_cast<char>(words.size() / 8);
+    return out + words;
+}
+
+static const std::string one = framed(words({2ull << 32, 5, 0}));
+static const std::string cut = one.substr(0, 20);
+static const std::string hostile = framed(words({0x10000fffffffc}));
+static const std::string digest_of_one = "6a3efd90ef3aebf0decabee51bbe92707bee76bb8f2830efd1bf615b14f61ac2";
+
+static std::string digits(capn::bytes data) {
+    std::string out;
+    char two[3];
+    for (const std::byte it : data) {
+        std::snprintf(two, sizeof two, "%02x", std::to_integer<unsigned>(it));
+        out += two;
+    }
+    return out;
+}
+
+static void answers() {
+    want("canonical", digits(capn::canonical(one)) == "00000000010000000500000000000000");
+    want("digest", digits(capn::digest(one)) == digest_of_one);
+    want("check", capn::check(one).paid == 3 && capn::check(one).visits == 1);
+    want("survey", capn::survey(one).depth == 1 && !capn::survey(one).canonical);
+    want("pack", digits(capn::pack(one)) == "1003100201050000");
+    const capn::buffer packed = capn::pack(one);
+    want("unpack", capn::bytes(capn::unpack(packed)).chars() == one);
+    want("packed", capn::canonical(packed, capn::form::packed) == capn::canonical(one));
+    want("is canonical", capn::is_canonical(capn::canonical(one)) && !capn::is_canonical(one.substr(8)));
+    /* An object that three pointers lead to is written three times: the answer is longer than the message. */
+    const std::string shared = framed(words({3ull << 48, 8 | 1ull << 32, 4 | 1ull << 32, 1ull << 32, 7}));
+    want("a longer answer", capn::canonical(shared).size() == 56 && shared.size() == 48);
+}
+
+static void refusals() {
+    want("a cut one", thrown<capn::refusal>([] { capn::check(cut); }) == "frame: Cut");
+    want("none", thrown<capn::refusal>([] { capn::digest(std::string()); }) == "frame: Empty");
+    want("two", thrown<capn::refusal>([] { capn::digest(one + one); }) == "trailing bytes at 32");
+    want("a cycle", thrown<capn::refusal>([] { capn::canonical(hostile); }) == "TooDeep at 0:0, paid 128, visits 65");
+    try {
+        capn::check(hostile);
+    } catch (const capn::refusal &why) {
+        want("its status", why.status() == CAPN_TOO_DEEP && why.report().visits == 65);
+        want("its name", std::string(why.name()) == "TooDeep");
+    }
+    want("limits", thrown<std::invalid_argument>([] { capn::check(one, capn::form::stream, {1, 1, 0}); })
+                       == "a limit is out of its range");
+    want("a low budget", thrown<capn::refusal>([] { capn::check(one, capn::form::stream, {99, 2, 9}); })
+                             == "OverBudget at 0:0, paid 0, visits 1");
+    want("the plain tariff", capn::check(one, capn::form::stream, {99, 2, 9, capn::tariff::plain}).paid == 2);
+}
+
+static void containers() {
+    const std::vector<unsigned char> vector(one.begin(), one.end());
+    const capn::buffer made = capn::canonical(vector);
+    std::array<char, 32> array;
+    std::copy(one.begin(), one.end(), array.begin());
+    want("an array", capn::canonical(array) == made);
+    want("a view", capn::canonical(std::string_view(one)) == made);
+    want("an address", capn::canonical({one.data(), one.size()}) == made);
+    static_assert(!std::is_convertible_v<const char (&)[3], capn::bytes>, "a literal has a zero too many");
+    static_assert(!std::is_convertible_v<std::vector<int>, capn::bytes> && !std::is_convertible_v<int, capn::bytes>);
+    static_assert(!std::is_convertible_v<std::list<char>, capn::bytes>);
+#ifdef __cpp_lib_span
+    want("a span", capn::canonical(std::as_bytes(std::span(vector))) == made);
+    const std::span<const std::byte> span = capn::bytes(vector);
+    want("as a span", span.size() == 32);
+#endif
+}
+
+static void streams() {
+    std::size_t count = 0;
+    want("two messages", capn::for_each(one + one, [&](capn::bytes message) { count += message.size(); }) == 2);
+    want("their sizes", count == 64);
+    want("with offsets", capn::for_each(one + one, [&](capn::bytes, std::size_t at) { count += at; }) == 2);
+    want("their offsets", count == 64 + 32);
+    want("no message", capn::for_each(std::string(), [](capn::bytes) { want("one", false); }) == 0);
+    count = 0;
+    want("a cut one", thrown<capn::refusal>([&] { capn::for_each(one + cut, [&](capn::bytes) { count++; }); })
+                          == "message 2 at 32: frame: Cut");
+    want("the first of them", count == 1);
+
+    /* From memory, in pieces of each size; every third time it throws. */
+    for (std::size_t most = 1; most < 40; most++) {
+        const std::string all = one + framed(words({0})) + one;
+        std::size_t at = 0, calls = 0, got = 0;
+        capn::reader reader([&](std::byte *to, std::size_t room) -> std::size_t {
+            if (++calls % 3 == 0) throw calls;
+            const std::size_t taken = std::min({room, most, all.size() - at});
+            std::memcpy(to, all.data() + at, taken);
+            at += taken;
+            return taken;
+        });
+        for (bool more = true; more;) try {
+            const auto message = reader.next();
+            more = message.has_value();
+            if (more) want("a message", message->chars() == (++got == 2 ? framed(words({0})) : one));
+        } catch (std::size_t) {
+        }
+        want("all messages", got == 3 && reader.number() == 3);
+    }
+    const auto from = [at = std::size_t{0}](std::byte *to, std::size_t room) mutable {
+        const std::string all = one + cut;
+        const std::size_t taken = std::min(room, all.size() - at);
+        std::memcpy(to, all.data() + at, taken);
+        at += taken;
+        return taken;
+    };
+    capn::reader reader(from);
+    want("the first one", reader.next().has_value());
+    want("the cut one", thrown<capn::refusal>([&] { reader.next(); }) == "message 2 at 32: frame: Cut");
+}
+
+/* Over a socket, whose peer waits for an answer to each message: none is waited for once it is there, and no byte after
+ * the messages is taken. */
+static void sockets() {
+    int ends[2];
+    want("a socket", socketpair(AF_UNIX, SOCK_STREAM, 0, ends) == 0);
+    std::thread peer([&] {
+        char answer;
+        for (int i = 0; i < 2; i++) {
+            want("sent", write(ends[0], one.data(), one.size()) == 32);
+            want("answered", read(ends[0], &answer, 1) == 1);
+        }
+        want("the rest", write(ends[0], "more", 4) == 4);
+    });
+    capn::reader reader([&](std::byte *to, std::size_t room) {
+        const ssize_t came = read(ends[1], to, room);
+        return came < 0 ? throw std::runtime_error("read") : static_cast<std::size_t>(came);
+    });
+    for (int i = 0; i < 2; i++) {
+        want("a message", reader.next()->chars() == one);
+        want("an answer", write(ends[1], "a", 1) == 1);
+    }
+    char rest[5] = "";
+    peer.join();
+    want("what follows", read(ends[1], rest, 4) == 4 && std::string(rest) == "more");
+    close(ends[0]);
+    close(ends[1]);
+}
+
+static void fields() {
+    /* A struct of a word and two slots: `x @0 :UInt64 = 7`, a text, and rows of a newer writer in place of numbers. */
+    const std::string message = framed(words({1ull << 32 | 2ull << 48, 5 ^ 7, 5 | 0x22ull << 32, 5 | 0x17ull << 32,
+                                              0x636261, 8 | 1ull << 32, 3, 4}));
+    const capn::index index = capn::index::of(message);
+    const capn::record root = index.root().as_struct();
+    want("a default", root.get<std::uint64_t>(0, 7) == 5);
+    want("a default that is not there", root.get<std::uint64_t>(64, 7) == 7 && root.get<bool>(64, true));
+    want("a text", root.slot(0).text() == "abc");
+    want("no text", root.slot(2).text("none") == "none" && root.slot(2).is_null());
+    const auto numbers = root.slot(1).list<std::uint16_t>();
+    want("numbers", numbers.size() == 2 && numbers[0] == 3 && numbers[1] == 4);
+    want("a kind", index.root().kind() == capn::kind::structure && root.slot(1).kind() == capn::kind::rows);
+    want("no text", thrown<capn::mismatch>([&] { root.slot(1).text(); }) == "there is no text");
+    want("no struct", thrown<capn::mismatch>([&] { root.slot(0).as_struct(); }) == "there is no struct");
+    want("a packed one", thrown<std::invalid_argument>([&] { capn::index::of(one, capn::form::packed); })
+                             == "the form is none that the call takes");
+    want("a refused one", thrown<capn::refusal>([] { capn::index::of(cut); }) == "frame: Cut");
+    /* More slots than are tried at first. */
+    std::string many = words({200ull << 48});
+    for (int i = 0; i < 200; i++) many += words({0});
+    std::string wide(8, '\0');
+    wide[4] = static_cast<char>(201);
+    want("many slots", capn::index::of(wide + many).size() == 201);
+}
+
+int main() {
+    answers();
+    refusals();
+    containers();
+    streams();
+    sockets();
+    fields();
+    std::printf("cpp: %d failed\n", failed);
+    return failed != 0;
+}

@@ -1,0 +1,278 @@
+/* Fields by capn_fields.h.
+ *
+ *     fields             tests on entries that are written by hand
+ *     fields old | new   shows each message of a stream of fields.capnp as fields.c++ does, read by one of its types
+ *     fields any         reads each pointer of each message of a stream as anything, and counts what it reads */
+#include "capn_fields.h"
+#include <inttypes.h>
+#include <stdio.h>
+#include <stdlib.h>
+
+static int failed = 0;
+static const uint8_t *bytes;
+
+static void want(const char *what, int64_t got, int64_t wanted) {
+    if (got == wanted) return;
+    failed++;
+    printf("fields: %s: %" PRId64 ", and not %" PRId64 "\n", what, got, wanted);
+}
+
+static void show_bytes(const void *data, size_t length) {
+    for (size_t i = 0; i < length; i++) printf("%02x", ((const uint8_t *)data)[i]);
+    printf(";");
+}
+static void show_text(const capn_entry *entry, const char *fallback) {
+    const char *text;
+    size_t length;
+    want("a text", capn_text(bytes, entry, &text, &length), 1);
+    show_bytes(text ? text : fallback, text ? length : strlen(fallback));
+}
+static void show_int(int64_t number) { printf("%" PRId64 ";", number); }
+
+/* A Point, or with `more` a Placed. */
+static void show_point(const capn_record *point, int more) {
+    show_int(capn_field_int(point, 0, 32, 0));
+    show_int(capn_field_int(point, 32, 32, -1));
+    show_text(capn_slot(point, 0), "");
+    if (!more) return;
+    show_int(capn_field_int(point, 64, 32, 77));
+    show_text(capn_slot(point, 1), "");
+}
+
+static void show_message(const capn_entry *entries, int is_new) {
+    capn_record root, one;
+    capn_items items;
+    const uint8_t *data;
+    size_t length;
+    double ratio;
+    float single;
+    want("a struct", capn_struct(bytes, &entries[0], &root), 1);
+    show_int((int64_t)capn_field(&root, 0, 1, 1));
+    show_int(capn_field_int(&root, 8, 8, -5));
+    printf("%" PRIu64 ";", capn_field(&root, 64, 64, 7));
+    show_int((int64_t)capn_field(&root, 16, 16, 1));
+    ratio = capn_field_double(&root, 128, 1.5);
+    uint64_t whole;
+    uint32_t half;
+    memcpy(&whole, &ratio, sizeof whole);
+    printf("%016" PRIx64 ";", whole);
+    single = capn_field_float(&root, 32, -2.5f);
+    memcpy(&half, &single, sizeof half);
+    printf("%08" PRIx32 ";", half);
+    show_text(capn_slot(&root, 0), "none");
+    want("a data", capn_data(bytes, capn_slot(&root, 1), &data, &length), 1);
+    show_bytes(data, length);
+
+    printf("[");
+    if (is_new) {
+        want("numbers as structs", capn_list(bytes, capn_slot(&root, 2), CAPN_KIND_ROWS, &items), 1);
+        while (capn_next(&items, &one)) {
+            show_int((int64_t)capn_field(&one, 0, 16, 0));
+            show_int((int64_t)capn_field(&one, 16, 16, 3));
+            show_text(capn_slot(&one, 0), "");
+        }
+    } else {
+        want("numbers", capn_list(bytes, capn_slot(&root, 2), CAPN_KIND_U16, &items), 1);
+        for (uint32_t i = 0; i < items.count; i++) show_int((int64_t)capn_number(&items, i));
+    }
+    printf("][");
+    want("texts", capn_list(bytes, capn_slot(&root, 3), is_new ? CAPN_KIND_ROWS : CAPN_KIND_POINTERS, &items), 1);
+    while (capn_next(&items, &one)) {
+        show_text(capn_slot(&one, 0), "");
+        if (is_new) show_int((int64_t)capn_field(&one, 0, 32, 8));
+    }
+    printf("][");
+    want("points", capn_list(bytes, capn_slot(&root, 4), CAPN_KIND_ROWS, &items), 1);
+    while (capn_next(&items, &one)) show_point(&one, is_new);
+    printf("][");
+    want("bits", capn_list(bytes, capn_slot(&root, 5), CAPN_KIND_BITS, &items), 1);
+    for (uint32_t i = 0; i < items.count; i++) show_int((int64_t)capn_number(&items, i));
+    printf("][");
+    want("large", capn_list(bytes, capn_slot(&root, 6), is_new ? CAPN_KIND_ROWS : CAPN_KIND_U64, &items), 1);
+    for (uint32_t i = 0; !is_new && i < items.count; i++) show_int((int64_t)capn_number(&items, i));
+    while (is_new && capn_next(&items, &one)) {
+        show_int(capn_field_int(&one, 0, 64, 0));
+        single = capn_field_float(&one, 64, 0.5f);
+        memcpy(&half, &single, sizeof half);
+        printf("%08" PRIx32 ";", half);
+    }
+    printf("]");
+    want("voids", capn_list(bytes, capn_slot(&root, 7), CAPN_KIND_VOID, &items), 1);
+    show_int(items.count);
+    want("inner", capn_struct(bytes, capn_slot(&root, 8), &one), 1);
+    show_point(&one, is_new);
+    show_int((int64_t)capn_field(&root, 1, 1, 0));
+
+    const uint32_t which = (uint32_t)capn_field(&root, 224, 16, 0);
+    printf("%" PRIu32 ":", which);
+    if (which == 0) show_int((int64_t)capn_field(&root, 192, 32, 100));
+    else if (which == 1) show_text(capn_slot(&root, 9), "");
+    else if (which == 3 && is_new) {
+        ratio = capn_field_double(&root, 320, 0.25);
+        memcpy(&whole, &ratio, sizeof whole);
+        printf("%016" PRIx64 ";", whole);
+    } else printf(";");
+    if (is_new) {
+        show_int((int64_t)capn_field(&root, 240, 16, 12345));
+        show_int((int64_t)capn_field(&root, 2, 1, 1));
+        show_text(capn_slot(&root, 10), "no note");
+        show_int(capn_field_int(&root, 256, 64, -9));
+    }
+    printf("\n");
+}
+
+/* Fields and slots of a struct, within it and beyond. */
+static uint64_t read_record(const capn_record *record) {
+    static const uint32_t widths[] = {1, 8, 16, 32, 64};
+    uint64_t sum = 0;
+    for (uint32_t at = 0; at < record->bits + 130; at++)
+        for (int i = 0; i < 5; i++) sum += capn_field(record, at, widths[i], at);
+    for (uint32_t k = 0; k < record->slots + 2; k++) {
+        const capn_entry *slot = capn_slot(record, k);
+        want("a slot", slot != NULL, k < record->slots);
+        sum += slot ? slot->span : 0;
+    }
+    return sum;
+}
+
+/* How many things an entry is taken for: the struct, the text, the data, and each kind of list. */
+static int read_any(const capn_entry *entry) {
+    capn_record record;
+    capn_items items;
+    const char *text;
+    const uint8_t *data;
+    size_t length;
+    volatile uint64_t sum = 0;
+    int read = capn_struct(bytes, entry, &record);
+    sum += read_record(&record);
+    if (capn_text(bytes, entry, &text, &length) && ++read && text) sum += strlen(text) + (uint64_t)text[length];
+    if (capn_data(bytes, entry, &data, &length) && ++read)
+        for (size_t i = 0; i < length; i++) sum += data[i];
+    for (uint32_t kind = CAPN_KIND_VOID; kind <= CAPN_KIND_ROWS; kind++) {
+        if (!capn_list(bytes, entry, kind, &items)) continue;
+        read++;
+        for (uint32_t i = 0; i < items.count && i < 1000; i++)
+            if (kind < CAPN_KIND_POINTERS) sum += capn_number(&items, i);
+        for (int i = 0; i < 1000 && capn_next(&items, &record); i++) sum += read_record(&record);
+    }
+    return read;
+}
+
+/* Each message of a stream, in memory of exactly its length. */
+static int show_stream(const char *as) {
+    uint64_t messages = 0, pointers = 0, read = 0;
+    const capn_limits limits = CAPN_USUAL_LIMITS;
+    size_t have = 0, room = 1 << 16, got;
+    uint8_t *all = malloc(room);
+    while ((got = fread(all + have, 1, room - have, stdin)) > 0)
+        if ((have += got) == room) all = realloc(all, room *= 2);
+    for (size_t from = 0; from < have;) {
+        capn_report report;
+        if (capn_first(all + from, have - from, &limits, &report) != CAPN_OK) return 1;
+        const size_t size = report.length;
+        uint8_t *message = malloc(size);
+        memcpy(message, all + from, size);
+        from += size;
+        bytes = message;
+        if (capn_index(CAPN_STREAM, message, size, &limits, NULL, 0, &report) == CAPN_NO_ROOM) {
+            const uint32_t count = report.visits;
+            capn_entry *entries = malloc(count * sizeof *entries);
+            if (capn_index(CAPN_STREAM, message, size, &limits, entries, count, &report) != CAPN_OK) return 1;
+            if (strcmp(as, "any")) show_message(entries, !strcmp(as, "new"));
+            else
+                for (uint32_t i = 0; i < count; i++) read += (uint64_t)read_any(&entries[i]);
+            messages++;
+            pointers += count;
+            free(entries);
+        } else if (strcmp(as, "any")) return 1;
+        free(message);
+    }
+    free(all);
+    if (!strcmp(as, "any"))
+        printf("%" PRIu64 " messages, %" PRIu64 " pointers, %" PRIu64 "\n", messages, pointers, read);
+    return failed != 0;
+}
+
+/* `x @0 :UInt64 = 7` in a struct of so many words, of which the first is `stored`. */
+static uint64_t of_words(uint16_t words, uint64_t stored) {
+    const capn_entry entry = {0, 0, 1, words, 0, CAPN_KIND_STRUCT};
+    capn_record record;
+    uint8_t data[8];
+    for (int i = 0; i < 8; i++) data[i] = (uint8_t)(stored >> 8 * i);
+    want("a struct", capn_struct(data, &entry, &record), 1);
+    return capn_field(&record, 0, 64, 7);
+}
+
+static void by_hand(void) {
+    want("what is stored for 5", (int64_t)of_words(1, 5 ^ 7), 5);
+    want("what is stored for 7", (int64_t)of_words(1, 0), 7);
+    want("no word", (int64_t)of_words(0, 0), 7);
+
+    /* Each bit and width of two words, beside the same by single bits. */
+    uint8_t data[16];
+    for (int i = 0; i < 16; i++) data[i] = (uint8_t)(37 * i + 11 * i * i + 201);
+    capn_record record = {data, NULL, 128, 0};
+    for (uint32_t at = 0; at < 140; at++)
+        for (uint32_t bits = 1; bits <= 64; bits++) {
+            uint64_t wanted = 0;
+            if (at + bits <= 128)
+                for (uint32_t i = 0; i < bits; i++) wanted |= (uint64_t)(data[(at + i) / 8] >> (at + i) % 8 & 1) << i;
+            want("bits", (int64_t)capn_field(&record, at, bits, 0), (int64_t)wanted);
+            const uint64_t mask = bits < 64 ? (UINT64_C(1) << bits) - 1 : ~UINT64_C(0);
+            const uint64_t fallback = 0x123456789abcdef5;
+            want("XOR", (int64_t)capn_field(&record, at, bits, fallback), (int64_t)((wanted ^ fallback) & mask));
+            const int64_t sign = bits < 64 && wanted >> (bits - 1) ? (int64_t)(wanted | ~mask) : (int64_t)wanted;
+            want("a sign", capn_field_int(&record, at, bits, 0), sign);
+        }
+    want("far beyond", (int64_t)capn_field(&record, UINT32_MAX, 64, 9), 9);
+
+    /* A text: only bytes with a zero at their end. */
+    static const uint8_t abc[] = {'a', 'b', 'c', 0, 'd'};
+    const char *text;
+    size_t length;
+    capn_entry entry = {0, 4, 1, 0, 0, CAPN_KIND_BYTES};
+    want("abc", capn_text(abc, &entry, &text, &length), 1);
+    want("its length", (int64_t)length, 3);
+    entry.count = 5;
+    want("no zero", capn_text(abc, &entry, &text, &length), 0);
+    want("no text", text == NULL && length == 0, 1);
+    entry.count = 0;
+    want("no bytes", capn_text(abc, &entry, &text, &length), 0);
+    want("no entry", capn_text(abc, NULL, &text, &length) && !text, 1);
+    entry.kind = CAPN_KIND_U16;
+    want("other numbers", capn_text(abc, &entry, &text, &length), 0);
+
+    /* Which kinds stand for which: a list of each in place of each, of two elements. */
+    static const char *const taken[] = { /* wanted void bits bytes u16 u32 u64 pointers rows, found the same */
+        "1.......", ".1......", "..1.....", "...1....", "....1...", ".....1..", "......1.", "1.111111"};
+    static const uint8_t zeros[128];
+    for (uint32_t wanted = CAPN_KIND_VOID; wanted <= CAPN_KIND_ROWS; wanted++)
+        for (uint32_t found = CAPN_KIND_NULL; found <= CAPN_KIND_CAPABILITY; found++)
+            for (uint16_t words = 0; words < 3; words++)
+                for (uint16_t slots = 0; slots < 3; slots++) {
+                    capn_entry few[8];
+                    capn_items items;
+                    for (int i = 0; i < 8; i++) few[i] = (capn_entry){0, 0, 1, 0, 0, CAPN_KIND_NULL};
+                    few[0] = (capn_entry){0, 2, 1, 0, 0, found};
+                    if (found == CAPN_KIND_ROWS) few[0].words = words, few[0].slots = slots;
+                    int is = found == CAPN_KIND_NULL;
+                    if (found >= CAPN_KIND_VOID && found <= CAPN_KIND_ROWS)
+                        is = taken[wanted - CAPN_KIND_VOID][found - CAPN_KIND_VOID] == '1';
+                    if (found == CAPN_KIND_ROWS && wanted == CAPN_KIND_VOID) is = 1;
+                    if (found == CAPN_KIND_ROWS && wanted == CAPN_KIND_POINTERS) is = slots > 0;
+                    if (found == CAPN_KIND_ROWS && wanted >= CAPN_KIND_BYTES && wanted <= CAPN_KIND_U64) is = words > 0;
+                    want("a list", capn_list(zeros, few, wanted, &items), is);
+                    want("its elements", items.count, is && found ? 2 : 0);
+                    capn_record row;
+                    int rows = 0;
+                    for (; capn_next(&items, &row); rows++) want("a slot", capn_slot(&row, row.slots) == NULL, 1);
+                    want("its rows", rows, is && found && found != CAPN_KIND_BITS ? 2 : 0);
+                }
+}
+
+int main(int count, char **words) {
+    if (count == 2) return show_stream(words[1]);
+    by_hand();
+    printf("fields: %d failed\n", failed);
+    return failed != 0;
+}

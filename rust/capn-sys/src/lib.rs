@@ -1,0 +1,189 @@
+//! The declarations of `capn.h`.
+//!
+//! Its comments say what a caller owes. The crate `capn` is the safe layer over them.
+#![no_std]
+#![allow(non_camel_case_types)]
+
+use core::ffi::c_void;
+
+/// `char` of C, as it is on x86-64.
+pub type c_char = i8;
+
+pub type capn_status = u32;
+
+/// How much a call takes on.
+#[repr(C)]
+#[derive(Clone, Copy, Debug, PartialEq, Eq)]
+pub struct capn_limits {
+    pub message_words: u32,
+    pub budget: u32,
+    pub depth: u32,
+    pub tariff: u32,
+}
+
+/// What a call says beside its status.
+#[repr(C)]
+#[derive(Clone, Copy, Debug, Default, PartialEq, Eq)]
+pub struct capn_report {
+    pub length: u64,
+    pub at: u64,
+    pub paid: u32,
+    pub visits: u32,
+    pub segment: u32,
+    pub word: u32,
+}
+
+/// What `capn_survey` reports of a message.
+#[repr(C)]
+#[derive(Clone, Copy, Debug, Default, PartialEq, Eq)]
+pub struct capn_figures {
+    pub words: u32,
+    pub segments: u32,
+    pub paid: u32,
+    pub visits: u32,
+    pub depth: u32,
+    pub has_capability: u32,
+    pub capability: u32,
+    pub canonical: u32,
+}
+
+/// An entry of an index: what the pointer in a slot names.
+#[repr(C)]
+#[derive(Clone, Copy, Debug, Default, PartialEq, Eq)]
+pub struct capn_entry {
+    pub offset: u64,
+    pub count: u32,
+    pub span: u32,
+    pub words: u16,
+    pub slots: u16,
+    pub kind: u32,
+}
+
+/// A segment of a message: `count` words of 8 bytes, at any address.
+#[repr(C)]
+#[derive(Clone, Copy, Debug)]
+pub struct capn_segment {
+    pub words: *const c_void,
+    pub count: usize,
+}
+
+/// The types have the sizes that the library gives them.
+const _: () = assert!(
+    core::mem::size_of::<capn_limits>() == 16
+        && core::mem::size_of::<capn_report>() == 32
+        && core::mem::size_of::<capn_figures>() == 32
+        && core::mem::size_of::<capn_entry>() == 24
+        && core::mem::size_of::<capn_segment>() == 16
+);
+
+extern "C" {
+    pub fn capn_canonical(
+        form: u32,
+        bytes: *const u8,
+        size: usize,
+        limits: *const capn_limits,
+        out: *mut u8,
+        room: usize,
+        report: *mut capn_report,
+    ) -> capn_status;
+    pub fn capn_is_canonical(
+        bytes: *const u8,
+        size: usize,
+        limits: *const capn_limits,
+        report: *mut capn_report,
+    ) -> capn_status;
+    pub fn capn_hash(
+        form: u32,
+        bytes: *const u8,
+        size: usize,
+        limits: *const capn_limits,
+        digest: *mut u8,
+        report: *mut capn_report,
+    ) -> capn_status;
+    pub fn capn_check(
+        form: u32,
+        bytes: *const u8,
+        size: usize,
+        limits: *const capn_limits,
+        report: *mut capn_report,
+    ) -> capn_status;
+    pub fn capn_pack(
+        bytes: *const u8,
+        size: usize,
+        out: *mut u8,
+        room: usize,
+        report: *mut capn_report,
+    ) -> capn_status;
+    pub fn capn_unpack(
+        bytes: *const u8,
+        size: usize,
+        max_words: u32,
+        out: *mut u8,
+        room: usize,
+        report: *mut capn_report,
+    ) -> capn_status;
+    pub fn capn_version() -> *const c_char;
+    pub fn capn_status_text(status: capn_status) -> *const c_char;
+    pub fn capn_first(
+        bytes: *const u8,
+        size: usize,
+        limits: *const capn_limits,
+        report: *mut capn_report,
+    ) -> capn_status;
+    pub fn capn_unpack_some(
+        bytes: *const u8,
+        size: usize,
+        out: *mut u8,
+        room: usize,
+        report: *mut capn_report,
+    ) -> capn_status;
+    pub fn capn_survey(
+        form: u32,
+        bytes: *const u8,
+        size: usize,
+        limits: *const capn_limits,
+        figures: *mut capn_figures,
+        report: *mut capn_report,
+    ) -> capn_status;
+    pub fn capn_index(
+        form: u32,
+        bytes: *const u8,
+        size: usize,
+        limits: *const capn_limits,
+        entries: *mut capn_entry,
+        room: usize,
+        report: *mut capn_report,
+    ) -> capn_status;
+}
+
+#[cfg(capn_has_segments)]
+extern "C" {
+    pub fn capn_canonical_segments(
+        segments: *const capn_segment,
+        count: usize,
+        limits: *const capn_limits,
+        out: *mut u8,
+        room: usize,
+        report: *mut capn_report,
+    ) -> capn_status;
+    pub fn capn_hash_segments(
+        segments: *const capn_segment,
+        count: usize,
+        limits: *const capn_limits,
+        digest: *mut u8,
+        report: *mut capn_report,
+    ) -> capn_status;
+    pub fn capn_check_segments(
+        segments: *const capn_segment,
+        count: usize,
+        limits: *const capn_limits,
+        report: *mut capn_report,
+    ) -> capn_status;
+    pub fn capn_survey_segments(
+        segments: *const capn_segment,
+        count: usize,
+        limits: *const capn_limits,
+        figures: *mut capn_figures,
+        report: *mut capn_report,
+    ) -> capn_status;
+}

@@ -1,0 +1,181 @@
+//! The fields of `c/tests/fields.capnp`, by `capn`.
+//!
+//! Each message of a stream is shown as the generated code of the reference implementation shows it.
+//!
+//!     fields old | new
+//!     fields any         reads each pointer of each message as whatever it may be, and counts what it reads
+use capn::{Error, Form, Index, Limits, Number, Struct, Value};
+use std::io::{Read, Write};
+
+fn hexadecimal(bytes: &[u8]) -> String {
+    bytes.iter().map(|byte| format!("{byte:02x}")).collect()
+}
+
+/// A text, or what the schema says of an absent one.
+fn text(of: &Struct, slot: u32, default: &str) -> Result<String, Error> {
+    let text = of.slot(slot).as_text()?.unwrap_or(default);
+    Ok(hexadecimal(text.as_bytes()))
+}
+
+fn point(out: &mut String, of: &Struct, is_new: bool) -> Result<(), Error> {
+    let (x, y, label) = (of.get(0, 0i32), of.get(32, -1i32), text(of, 0, "")?);
+    *out += &format!("{x};{y};{label};");
+    if is_new {
+        *out += &format!("{};{};", of.get(64, 77i32), text(of, 1, "")?);
+    }
+    Ok(())
+}
+
+fn shown(message: &[u8], is_new: bool) -> Result<String, Error> {
+    let index = Index::new(message, Form::Stream, &Limits::usual())?;
+    let root = index.root().as_struct()?;
+    let mut out = format!(
+        "{};{};{};{};{:016x};{:08x};{};{};[",
+        u8::from(root.get(0, true)),
+        root.get(8, -5i8),
+        root.get(64, 7u64),
+        root.get(16, 1u16),
+        root.get(128, 1.5f64).to_bits(),
+        root.get(32, -2.5f32).to_bits(),
+        text(&root, 0, "none")?,
+        hexadecimal(root.slot(1).as_data()?.unwrap_or_default()),
+    );
+    if is_new {
+        for one in root.slot(2).as_rows()? {
+            let (value, unit) = (one.get(0, 0u16), one.get(16, 3u16));
+            out += &format!("{value};{unit};{};", text(&one, 0, "")?);
+        }
+    } else {
+        for one in root.slot(2).as_list::<u16>()? {
+            out += &format!("{one};");
+        }
+    }
+    out += "][";
+    if is_new {
+        for one in root.slot(3).as_rows()? {
+            out += &format!("{};{};", text(&one, 0, "")?, one.get(0, 8u32));
+        }
+    } else {
+        for one in root.slot(3).as_pointers()? {
+            out += &(hexadecimal(one.as_text()?.unwrap_or_default().as_bytes()) + ";");
+        }
+    }
+    out += "][";
+    for one in root.slot(4).as_rows()? {
+        point(&mut out, &one, is_new)?;
+    }
+    out += "][";
+    for one in root.slot(5).as_list::<bool>()? {
+        out += &format!("{};", u8::from(one));
+    }
+    out += "][";
+    if is_new {
+        for one in root.slot(6).as_rows()? {
+            let error = one.get(64, 0.5f32).to_bits();
+            out += &format!("{};{error:08x};", one.get(0, 0i64));
+        }
+    } else {
+        let large = root.slot(6).as_list::<i64>()?;
+        for i in 0..large.len() {
+            out += &format!("{};", large.get(i).expect("one of its numbers"));
+        }
+    }
+    out += &format!("]{};", root.slot(7).as_rows()?.len());
+    point(&mut out, &root.slot(8).as_struct()?, is_new)?;
+    let which = root.get(224, 0u16);
+    out += &format!("{};{which}:", u8::from(root.get(1, false)));
+    match which {
+        0 => out += &root.get(192, 100u32).to_string(),
+        1 => out += &text(&root, 9, "")?,
+        3 if is_new => out += &format!("{:016x}", root.get(320, 0.25f64).to_bits()),
+        _ => {}
+    }
+    out += ";";
+    if is_new {
+        let (added, is_late, far) = (
+            root.get(240, 12345u16),
+            root.get(2, true),
+            root.get(256, -9i64),
+        );
+        let note = text(&root, 10, "no note")?;
+        out += &format!("{added};{};{note};{far};", u8::from(is_late));
+    }
+    Ok(out)
+}
+
+/// Fields and slots of a struct, within it and beyond.
+fn read_struct(of: &Struct) -> u64 {
+    let mut sum = 0;
+    for at in 0..8 * of.data().len() as u32 + 130 {
+        sum += u64::from(of.get::<bool>(at, true)) ^ of.get::<u64>(at, 1);
+        sum ^= u64::from(of.get::<u8>(at, 1)) ^ u64::from(of.get::<u32>(at, 1));
+    }
+    (0..of.slots() + 2).for_each(|k| assert!(k < of.slots() || of.slot(k).is_null()));
+    sum
+}
+
+/// How many things a pointer and those below it are taken for, and how many they are.
+fn read_any(value: &Value, read: &mut u64, pointers: &mut u64) {
+    fn numbers<T: Number>(value: &Value) -> u64 {
+        value
+            .as_list::<T>()
+            .map_or(0, |it| it.take(1000).fold(1, |read, _| read))
+    }
+    *pointers += 1;
+    *read += u64::from(value.as_struct().map(|it| read_struct(&it)).is_ok());
+    *read += u64::from(value.as_text_bytes().is_ok()) + u64::from(value.as_data().is_ok());
+    // A list without size is one of structs, and of nothing else.
+    *read += u64::from(matches!(
+        value,
+        Value::Null | Value::Void(_) | Value::Rows(_)
+    ));
+    *read += numbers::<bool>(value) + numbers::<i8>(value) + numbers::<u16>(value);
+    *read += numbers::<f32>(value) + numbers::<u64>(value);
+    *read += u64::from(value.as_pointers().map(|it| it.take(1000).count()).is_ok());
+    if let Ok(rows) = value.as_rows() {
+        *read += 1;
+        assert_ne!(
+            rows.take(1000)
+                .map(|row| read_struct(&row))
+                .fold(1, u64::max),
+            0
+        );
+    }
+    match value {
+        Value::Struct(it) => (0..it.slots()).for_each(|k| read_any(&it.slot(k), read, pointers)),
+        Value::Pointers(all) => all.for_each(|it| read_any(&it, read, pointers)),
+        Value::Rows(all) if all.clone().next().map_or(0, |row| row.slots()) > 0 => {
+            all.for_each(|row| {
+                (0..row.slots()).for_each(|k| read_any(&row.slot(k), read, pointers));
+            })
+        }
+        _ => {}
+    }
+}
+
+fn any(stream: &[u8]) -> Result<String, Error> {
+    let (mut messages, mut pointers, mut read) = (0, 0, 0);
+    for message in capn::messages(stream, Limits::usual()) {
+        if let Ok(index) = Index::new(message?, Form::Stream, &Limits::usual()) {
+            messages += 1;
+            read_any(&index.root(), &mut read, &mut pointers);
+        }
+    }
+    Ok(format!("{messages} messages, {pointers} pointers, {read}"))
+}
+
+fn main() -> Result<(), Box<dyn std::error::Error>> {
+    let word = std::env::args().nth(1).unwrap_or_default();
+    let is_new = word == "new";
+    let mut stream = Vec::new();
+    std::io::stdin().read_to_end(&mut stream)?;
+    if word == "any" {
+        println!("{}", any(&stream)?);
+        return Ok(());
+    }
+    let mut out = std::io::stdout().lock();
+    for message in capn::messages(&stream, Limits::usual()) {
+        writeln!(out, "{}", shown(message?, is_new)?)?;
+    }
+    Ok(())
+}

@@ -1,0 +1,266 @@
+//! The calls of the library, and all `unsafe` code.
+//!
+//! What a caller owes (`capn.h`) is met by types: bytes behind a shared reference don't change while it lives, what a
+//! call writes is borrowed alone or is spare room of a vector, and each pointer goes with the size of its slice.
+use alloc::vec::Vec;
+
+#[cfg(capn_has_segments)]
+use capn_sys::capn_segment;
+use capn_sys::{capn_entry, capn_figures, capn_limits, capn_report, capn_status};
+
+use crate::{Error, Form};
+
+const OK: capn_status = 0;
+const NO_ROOM: capn_status = 1;
+
+/// The report of a call, or why there is no answer.
+#[inline]
+fn reported(call: impl FnOnce(&mut capn_report) -> capn_status) -> Result<capn_report, Error> {
+    let mut report = capn_report::default();
+    match call(&mut report) {
+        OK => Ok(report),
+        status => Err(Error::of(status, &report)),
+    }
+}
+
+/// Appends to `out` what a call writes: at first with room for `hint` bytes, and then, if that is too little, with room
+/// for as many as it reports. After an error `out` is as it was.
+///
+/// # Safety
+///
+/// With `call(at, room, report)` the call writes at most `room` bytes at `at`, and answers `OK` only if it wrote
+/// `report.length` of them.
+unsafe fn appended(
+    out: &mut Vec<u8>,
+    hint: usize,
+    call: impl Fn(*mut u8, usize, &mut capn_report) -> capn_status,
+) -> Result<capn_report, Error> {
+    let had = out.len();
+    let mut wanted = hint;
+    loop {
+        out.try_reserve_exact(wanted).map_err(|_| Error::Memory)?;
+        let room = out.capacity() - had;
+        let mut report = capn_report::default();
+        // The spare room begins at `had`, within the block or one past it.
+        let status = call(out.as_mut_ptr().add(had), room, &mut report);
+        let length = report.length as usize;
+        match status {
+            OK => {
+                assert!(length <= room, "no more than there is room for");
+                out.set_len(had + length);
+                return Ok(report);
+            }
+            NO_ROOM if length > room => wanted = length,
+            _ => return Err(Error::of(status, &report)),
+        }
+    }
+}
+
+pub(crate) fn canonical(
+    form: Form,
+    message: &[u8],
+    limits: &capn_limits,
+    hint: usize,
+    out: &mut Vec<u8>,
+) -> Result<capn_report, Error> {
+    let (bytes, size) = (message.as_ptr(), message.len());
+    unsafe {
+        appended(out, hint, |at, room, report| {
+            capn_sys::capn_canonical(form as u32, bytes, size, limits, at, room, report)
+        })
+    }
+}
+
+#[inline]
+pub(crate) fn is_canonical(words: &[u8], limits: &capn_limits) -> Result<bool, Error> {
+    const NOT_CANONICAL: capn_status = 5;
+    let mut report = capn_report::default();
+    let (bytes, size) = (words.as_ptr(), words.len());
+    match unsafe { capn_sys::capn_is_canonical(bytes, size, limits, &mut report) } {
+        OK => Ok(true),
+        NOT_CANONICAL => Ok(false),
+        status => Err(Error::of(status, &report)),
+    }
+}
+
+#[inline]
+pub(crate) fn hash(form: Form, message: &[u8], limits: &capn_limits) -> Result<[u8; 32], Error> {
+    let (bytes, size) = (message.as_ptr(), message.len());
+    let mut digest = [0; 32];
+    let at = digest.as_mut_ptr();
+    reported(|report| unsafe {
+        capn_sys::capn_hash(form as u32, bytes, size, limits, at, report)
+    })?;
+    Ok(digest)
+}
+
+#[inline]
+pub(crate) fn check(
+    form: Form,
+    message: &[u8],
+    limits: &capn_limits,
+) -> Result<capn_report, Error> {
+    let (bytes, size) = (message.as_ptr(), message.len());
+    reported(|report| unsafe { capn_sys::capn_check(form as u32, bytes, size, limits, report) })
+}
+
+#[inline]
+pub(crate) fn survey(
+    form: Form,
+    message: &[u8],
+    limits: &capn_limits,
+) -> Result<capn_figures, Error> {
+    let (bytes, size) = (message.as_ptr(), message.len());
+    let mut figures = capn_figures::default();
+    reported(|report| unsafe {
+        capn_sys::capn_survey(form as u32, bytes, size, limits, &mut figures, report)
+    })?;
+    Ok(figures)
+}
+
+pub(crate) fn pack(words: &[u8], out: &mut Vec<u8>) -> Result<capn_report, Error> {
+    let (bytes, size) = (words.as_ptr(), words.len());
+    unsafe {
+        appended(out, size / 2 + 16, |at, room, report| {
+            capn_sys::capn_pack(bytes, size, at, room, report)
+        })
+    }
+}
+
+pub(crate) fn unpack(
+    text: &[u8],
+    most_words: u32,
+    out: &mut Vec<u8>,
+) -> Result<capn_report, Error> {
+    let (bytes, size) = (text.as_ptr(), text.len());
+    unsafe {
+        appended(out, size.saturating_mul(4), |at, room, report| {
+            capn_sys::capn_unpack(bytes, size, most_words, at, room, report)
+        })
+    }
+}
+
+/// The first frame of a stream: its length, or how many bytes it needs at least.
+pub(crate) enum First {
+    Whole(usize),
+    Needs(usize),
+}
+
+#[inline]
+pub(crate) fn first(stream: &[u8], limits: &capn_limits) -> Result<First, Error> {
+    const FRAME_EMPTY: capn_status = 48;
+    const FRAME_CUT: capn_status = 51;
+    let mut report = capn_report::default();
+    let (bytes, size) = (stream.as_ptr(), stream.len());
+    match unsafe { capn_sys::capn_first(bytes, size, limits, &mut report) } {
+        OK => Ok(First::Whole(report.length as usize)),
+        FRAME_EMPTY | FRAME_CUT => Ok(First::Needs(report.length as usize)),
+        status => Err(Error::of(status, &report)),
+    }
+}
+
+pub(crate) fn index(
+    form: Form,
+    message: &[u8],
+    limits: &capn_limits,
+) -> Result<Vec<capn_entry>, Error> {
+    let (bytes, size) = (message.as_ptr(), message.len());
+    let mut entries: Vec<capn_entry> = Vec::new();
+    let mut wanted = 32;
+    loop {
+        entries
+            .try_reserve_exact(wanted)
+            .map_err(|_| Error::Memory)?;
+        let (at, room) = (entries.as_mut_ptr(), entries.capacity());
+        let mut report = capn_report::default();
+        let status = unsafe {
+            capn_sys::capn_index(form as u32, bytes, size, limits, at, room, &mut report)
+        };
+        let visits = report.visits as usize;
+        match status {
+            OK => {
+                assert!(visits <= room, "no more than there is room for");
+                unsafe { entries.set_len(visits) };
+                return Ok(entries);
+            }
+            NO_ROOM if visits > room => wanted = visits,
+            _ => return Err(Error::of(status, &report)),
+        }
+    }
+}
+
+/// Calls with the segments as the library takes them: words at their addresses, on the stack if they are few.
+#[cfg(capn_has_segments)]
+fn with_segments<T>(
+    segments: &[&[u8]],
+    call: impl FnOnce(*const capn_segment, usize) -> Result<T, Error>,
+) -> Result<T, Error> {
+    const FEW: usize = 16;
+    let raw = |segment: &[u8]| capn_segment {
+        words: segment.as_ptr().cast(),
+        count: segment.len() / 8,
+    };
+    if let Some(segment) = segments.iter().find(|it| it.len() % 8 != 0) {
+        return Err(Error::not_whole(segment.len()));
+    }
+    if segments.len() <= FEW {
+        let mut few = [raw(&[]); FEW];
+        for (to, from) in few.iter_mut().zip(segments) {
+            *to = raw(from);
+        }
+        return call(few.as_ptr(), segments.len());
+    }
+    let mut all = Vec::new();
+    all.try_reserve_exact(segments.len())
+        .map_err(|_| Error::Memory)?;
+    all.extend(segments.iter().map(|it| raw(it)));
+    call(all.as_ptr(), all.len())
+}
+
+#[cfg(capn_has_segments)]
+pub(crate) fn canonical_segments(
+    segments: &[&[u8]],
+    limits: &capn_limits,
+    out: &mut Vec<u8>,
+) -> Result<capn_report, Error> {
+    let hint = segments.iter().map(|it| it.len()).sum();
+    with_segments(segments, |first, count| unsafe {
+        appended(out, hint, |at, room, report| {
+            capn_sys::capn_canonical_segments(first, count, limits, at, room, report)
+        })
+    })
+}
+
+#[cfg(capn_has_segments)]
+pub(crate) fn hash_segments(segments: &[&[u8]], limits: &capn_limits) -> Result<[u8; 32], Error> {
+    let mut digest = [0; 32];
+    let at = digest.as_mut_ptr();
+    with_segments(segments, |first, count| {
+        reported(|report| unsafe { capn_sys::capn_hash_segments(first, count, limits, at, report) })
+    })?;
+    Ok(digest)
+}
+
+#[cfg(capn_has_segments)]
+pub(crate) fn check_segments(
+    segments: &[&[u8]],
+    limits: &capn_limits,
+) -> Result<capn_report, Error> {
+    with_segments(segments, |first, count| {
+        reported(|report| unsafe { capn_sys::capn_check_segments(first, count, limits, report) })
+    })
+}
+
+#[cfg(capn_has_segments)]
+pub(crate) fn survey_segments(
+    segments: &[&[u8]],
+    limits: &capn_limits,
+) -> Result<capn_figures, Error> {
+    let mut figures = capn_figures::default();
+    with_segments(segments, |first, count| {
+        reported(|report| unsafe {
+            capn_sys::capn_survey_segments(first, count, limits, &mut figures, report)
+        })
+    })?;
+    Ok(figures)
+}

@@ -1,0 +1,217 @@
+//! Refusals and other errors.
+use core::fmt;
+
+use capn_sys::{capn_report, capn_status};
+
+/// Why a call gave no answer. It is shown as the text that the program `capn` prints.
+#[non_exhaustive]
+#[derive(Clone, Copy, Debug, PartialEq, Eq, Hash)]
+pub enum Error {
+    /// Memory was refused.
+    Memory,
+    /// A limit is out of its range.
+    Limits,
+    /// The call does not take the form.
+    Form,
+    /// The input is refused.
+    Refused {
+        /// The fault that was found.
+        kind: Kind,
+        /// Where it was found.
+        place: Place,
+    },
+    /// A pointer leads to something else than what is asked for; the walk that made the index accepted it.
+    Unexpected {
+        /// What is asked for, as `text`.
+        wanted: &'static str,
+        /// What is there, as `rows`.
+        found: &'static str,
+    },
+}
+
+/// Where a refusal was found.
+#[non_exhaustive]
+#[derive(Clone, Copy, Debug, PartialEq, Eq, Hash)]
+pub enum Place {
+    /// The kind says it.
+    Nowhere,
+    /// An offset, a count or an index, as the kind says.
+    At(u64),
+    /// The slot at which a walk was refused.
+    Slot {
+        /// Its segment.
+        segment: u32,
+        /// Its word there.
+        word: u32,
+        /// The words that were paid before.
+        paid: u32,
+        /// The visits that were made, with this one.
+        visits: u32,
+    },
+}
+
+macro_rules! kinds {
+    ($($status:literal $name:ident $text:literal,)*) => {
+        /// What is wrong with an input: the statuses of `capn.h` from 16 on.
+        #[non_exhaustive]
+        #[derive(Clone, Copy, Debug, PartialEq, Eq, Hash)]
+        pub enum Kind {
+            $(#[doc = $text] $name,)*
+            /// A status that this crate does not know.
+            Other(u32),
+        }
+
+        impl Kind {
+            fn of(status: capn_status) -> Self {
+                match status {
+                    $($status => Kind::$name,)*
+                    other => Kind::Other(other),
+                }
+            }
+
+            /// Its number in `capn.h`.
+            pub fn status(self) -> u32 {
+                match self {
+                    $(Kind::$name => $status,)*
+                    Kind::Other(status) => status,
+                }
+            }
+
+            /// Its name, as `TooDeep`.
+            pub fn name(self) -> &'static str {
+                match self {
+                    $(Kind::$name => stringify!($name),)*
+                    Kind::Other(_) => "Other",
+                }
+            }
+        }
+    };
+}
+
+kinds! {
+    16 NotWhole "The bytes are not whole words; at: how many bytes there are.",
+    17 BareTooLong "More words than a bare message may have; at: how many there are.",
+    32 PackedCut "The packed text ends inside a group; at: the offset of its tag.",
+    33 PackedTooLong "A group goes over the maximum of words; at: the offset of its tag.",
+    48 FrameEmpty "There are no bytes.",
+    49 TooManySegments "More segments are announced than a message may have; at: how many.",
+    50 TooManyWords "More words are announced than the limit; at: how many.",
+    51 FrameCut "The frame is cut.",
+    52 Trailing "Bytes follow the message; at: the offset of the first, of a packed text in the unpacked bytes.",
+    64 NoRoot "The first segment has no word for the root.",
+    65 RootKind "The root is a capability.",
+    66 Reserved "A pointer of a reserved kind.",
+    67 NoSegment "A far pointer names a segment that is not there.",
+    68 PadRange "A landing pad lies outside of its segment.",
+    69 BadPad "A landing pad is none.",
+    70 Range "An object lies outside of its segment.",
+    71 BadTag "The tag of a composite list is no struct pointer.",
+    72 TagOverrun "The rows of a composite list go over its words.",
+    73 TooDeep "An object lies deeper than the limit.",
+    74 OverBudget "The walk pays more than the budget.",
+    80 Capability "The value has a capability, so it has no canonical bytes; at: the index of the first.",
+}
+
+impl Error {
+    /// The error of a status that is no answer.
+    #[cold]
+    pub(crate) fn of(status: capn_status, report: &capn_report) -> Self {
+        let place = match status {
+            2 => return Error::Form,
+            3 | 4 => return Error::Limits,
+            0..=15 => return Error::Memory,
+            48 | 51 => Place::Nowhere,
+            64..=79 => Place::Slot {
+                segment: report.segment,
+                word: report.word,
+                paid: report.paid,
+                visits: report.visits,
+            },
+            _ => Place::At(report.at),
+        };
+        Error::Refused {
+            kind: Kind::of(status),
+            place,
+        }
+    }
+
+    /// A stream that ends inside of a frame.
+    pub(crate) fn frame_cut() -> Self {
+        Error::Refused {
+            kind: Kind::FrameCut,
+            place: Place::Nowhere,
+        }
+    }
+
+    /// Bytes that are not whole words.
+    pub(crate) fn not_whole(count: usize) -> Self {
+        Error::Refused {
+            kind: Kind::NotWhole,
+            place: Place::At(count as u64),
+        }
+    }
+
+    /// The kind of a refusal.
+    pub fn kind(&self) -> Option<Kind> {
+        match self {
+            Error::Refused { kind, .. } => Some(*kind),
+            _ => None,
+        }
+    }
+
+    /// The place of a refusal.
+    pub fn place(&self) -> Option<Place> {
+        match self {
+            Error::Refused { place, .. } => Some(*place),
+            _ => None,
+        }
+    }
+}
+
+impl fmt::Display for Error {
+    fn fmt(&self, f: &mut fmt::Formatter<'_>) -> fmt::Result {
+        match *self {
+            Error::Memory => f.write_str("out of memory"),
+            Error::Limits => f.write_str("a limit is out of its range"),
+            Error::Form => f.write_str("the form is none that the call takes"),
+            Error::Unexpected { wanted, found } => write!(f, "{wanted} expected, {found} found"),
+            Error::Refused { kind, place } => shown(f, kind, place),
+        }
+    }
+}
+
+/// The text of a refusal.
+fn shown(f: &mut fmt::Formatter<'_>, kind: Kind, place: Place) -> fmt::Result {
+    let at = match place {
+        Place::Nowhere => 0,
+        Place::At(at) => at,
+        Place::Slot {
+            segment,
+            word,
+            paid,
+            visits,
+        } => {
+            let name = kind.name();
+            return write!(
+                f,
+                "{name} at {segment}:{word}, paid {paid}, visits {visits}"
+            );
+        }
+    };
+    match kind {
+        Kind::NotWhole => write!(f, "bare: NotWhole({at})"),
+        Kind::BareTooLong => write!(f, "bare: TooLong({at})"),
+        Kind::PackedCut => write!(f, "packed: Cut at {at}"),
+        Kind::PackedTooLong => write!(f, "packed: TooLong at {at}"),
+        Kind::FrameEmpty => f.write_str("frame: Empty"),
+        Kind::TooManySegments => write!(f, "frame: TooManySegments({at})"),
+        Kind::TooManyWords => write!(f, "frame: TooManyWords({at})"),
+        Kind::FrameCut => f.write_str("frame: Cut"),
+        Kind::Trailing => write!(f, "trailing bytes at {at}"),
+        Kind::Capability => write!(f, "capability {at}"),
+        other => write!(f, "status {}", other.status()),
+    }
+}
+
+#[cfg(feature = "std")]
+impl std::error::Error for Error {}

@@ -1,0 +1,57 @@
+//! Cap'n Proto messages by a proved library, without a schema.
+//!
+//! What is proved is the library that `capn-sys` links; this crate is a layer over it, which is tested. It copies no
+//! message, and has `unsafe` in one file. A message is passed as its bytes and a [`Form`], or in segments
+//! ([`segments`]).
+//!
+//! ```
+//! use capn::{Form, Limits};
+//!
+//! // A message of one segment: its table, and a struct of two words, 5 and 0.
+//! let mut message = [0; 32];
+//! (message[4], message[12], message[16]) = (3, 2, 5);
+//! let limits = Limits::default();
+//!
+//! let checked = capn::check(&message, Form::Stream, &limits)?;
+//! assert_eq!((checked.paid, checked.visits), (3, 1));
+//! assert_eq!(capn::canonical(&message, Form::Stream, &limits)?.len(), 16);
+//!
+//! let index = capn::Index::new(&message, Form::Stream, &limits)?;
+//! assert_eq!(index.root().as_struct()?.get::<u64>(0, 0), 5);
+//!
+//! let refused = capn::check(&message[..20], Form::Stream, &limits).unwrap_err();
+//! assert_eq!(refused.to_string(), "frame: Cut");
+//! # Ok::<(), capn::Error>(())
+//! ```
+//!
+//! With the feature `std`, which is on, there is [`Reader`]; without it the crate needs `alloc` alone.
+#![no_std]
+#![deny(unsafe_code)]
+#![warn(missing_docs)]
+
+extern crate alloc;
+#[cfg(feature = "std")]
+extern crate std;
+
+#[allow(unsafe_code)]
+mod call;
+mod error;
+mod fields;
+mod index;
+mod limits;
+mod message;
+#[cfg(feature = "std")]
+mod reader;
+pub mod segments;
+mod stream;
+
+pub use error::{Error, Kind, Place};
+pub use fields::{Number, Numbers, Pointers, Rows, Struct};
+pub use index::{Index, Value};
+pub use limits::{Form, Limits, Tariff};
+pub use message::{
+    canonical, canonical_into, check, digest, is_canonical, pack, survey, unpack, Checked, Figures,
+};
+#[cfg(feature = "std")]
+pub use reader::{ReadError, Reader};
+pub use stream::{messages, Messages};

@@ -1,0 +1,69 @@
+//! Forms, tariffs and limits.
+
+/// How the bytes of a message are written.
+#[derive(Clone, Copy, Debug, Default, PartialEq, Eq, Hash)]
+pub enum Form {
+    /// A segment table, then the segments.
+    #[default]
+    Stream,
+    /// The packed text of such bytes.
+    Packed,
+    /// The words of one segment, with no table.
+    Bare,
+}
+
+/// How a walk counts what it pays.
+#[derive(Clone, Copy, Debug, Default, PartialEq, Eq, Hash)]
+pub enum Tariff {
+    /// Each struct and list pays a word beside its size.
+    #[default]
+    Strict,
+    /// Nothing beside it, as the traversal limit of the implementation in C++ counts.
+    Plain,
+}
+
+/// How much a call takes on. The root object has depth 1; walks pay words of 8 bytes.
+///
+/// ```
+/// let limits = capn::Limits { depth: 32, ..capn::Limits::default() };
+/// assert_eq!((limits.message_words, limits.budget), (8_388_608, 8_388_608));
+/// ```
+#[derive(Clone, Copy, Debug, PartialEq, Eq, Hash)]
+pub struct Limits {
+    /// The most words of a message that is not bare: 1 to 2^28.
+    pub message_words: u32,
+    /// The most words that a walk pays: 0 to 2^28.
+    pub budget: u32,
+    /// The most levels of objects: 1 to 256.
+    pub depth: u32,
+    /// How a walk counts what it pays.
+    pub tariff: Tariff,
+}
+
+impl Limits {
+    /// The usual limits: 64 MiB of message and of budget, a depth of 64, the strict tariff.
+    pub const fn usual() -> Self {
+        Limits {
+            message_words: 8_388_608,
+            budget: 8_388_608,
+            depth: 64,
+            tariff: Tariff::Strict,
+        }
+    }
+
+    #[inline]
+    pub(crate) fn raw(&self) -> capn_sys::capn_limits {
+        capn_sys::capn_limits {
+            message_words: self.message_words,
+            budget: self.budget,
+            depth: self.depth,
+            tariff: self.tariff as u32,
+        }
+    }
+}
+
+impl Default for Limits {
+    fn default() -> Self {
+        Self::usual()
+    }
+}

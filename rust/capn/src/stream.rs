@@ -1,0 +1,83 @@
+//! The messages of a stream in memory.
+use core::iter::FusedIterator;
+
+use crate::call::{self, First};
+use crate::{Error, Limits};
+
+/// Each message of a stream, in order, as its bytes. Each call on one of them takes it as a
+/// [`Form::Stream`](crate::Form).
+///
+/// ```
+/// use capn::{Form, Limits};
+///
+/// let stream = [[0, 0, 0, 0, 1, 0, 0, 0], [0; 8], [0, 0, 0, 0, 1, 0, 0, 0], [0; 8]].concat();
+/// for message in capn::messages(&stream, Limits::usual()) {
+///     assert_eq!(capn::check(message?, Form::Stream, &Limits::usual())?.visits, 1);
+/// }
+/// # Ok::<(), capn::Error>(())
+/// ```
+pub fn messages(stream: &[u8], limits: Limits) -> Messages<'_> {
+    Messages {
+        stream,
+        limits,
+        number: 0,
+        offset: 0,
+        next: 0,
+    }
+}
+
+/// The iterator of [`messages`]. It ends after an error: where a table is wrong, no one knows where the next one
+/// begins.
+#[derive(Clone, Debug)]
+pub struct Messages<'a> {
+    stream: &'a [u8],
+    limits: Limits,
+    number: u64,
+    offset: usize,
+    next: usize,
+}
+
+impl Messages<'_> {
+    /// The number of the message, or the error, that was given last, counted from 1.
+    pub fn number(&self) -> u64 {
+        self.number
+    }
+
+    /// Its offset in the stream.
+    pub fn offset(&self) -> u64 {
+        self.offset as u64
+    }
+}
+
+impl<'a> Iterator for Messages<'a> {
+    type Item = Result<&'a [u8], Error>;
+
+    #[inline]
+    fn next(&mut self) -> Option<Self::Item> {
+        let rest = self
+            .stream
+            .get(self.next..)
+            .filter(|rest| !rest.is_empty())?;
+        self.number += 1;
+        self.offset = self.next;
+        match call::first(rest, &self.limits.raw()) {
+            Ok(First::Whole(length)) => {
+                self.next += length;
+                Some(Ok(&rest[..length]))
+            }
+            Ok(First::Needs(_)) => Some(Err(self.ended(Error::frame_cut()))),
+            Err(error) => Some(Err(self.ended(error))),
+        }
+    }
+}
+
+impl Messages<'_> {
+    /// The error after which there is nothing more.
+    #[cold]
+    fn ended(&mut self, error: Error) -> Error {
+        self.next = self.stream.len();
+        error
+    }
+}
+
+impl FusedIterator for Messages<'_> {}

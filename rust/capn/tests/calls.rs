@@ -1,0 +1,357 @@
+//! The calls by hand.
+use capn::{segments, Error, Form, Index, Kind, Limits, Place, ReadError, Reader, Tariff, Value};
+use std::io::{self, Read, Write};
+use std::os::unix::net::UnixStream;
+
+const USUAL: Limits = Limits::usual();
+
+fn words(words: &[u64]) -> Vec<u8> {
+    words.iter().flat_map(|word| word.to_le_bytes()).collect()
+}
+
+fn framed(content: &[u64]) -> Vec<u8> {
+    let mut message = words(&[(content.len() as u64) << 32]);
+    message.extend(words(content));
+    message
+}
+
+fn one() -> Vec<u8> {
+    framed(&[2 << 32, 5, 0])
+}
+
+fn hostile() -> Vec<u8> {
+    framed(&[0x1_0000_ffff_fffc])
+}
+
+#[test]
+fn answers() {
+    let message = one();
+    let canonical = capn::canonical(&message, Form::Stream, &USUAL).unwrap();
+    assert_eq!(canonical, words(&[1 << 32, 5]));
+    let digest = capn::digest(&message, Form::Stream, &USUAL).unwrap();
+    assert_eq!(digest[..4], [0x6a, 0x3e, 0xfd, 0x90]);
+    let packed = capn::pack(&message).unwrap();
+    assert_eq!(packed, [0x10, 3, 0x10, 2, 1, 5, 0, 0]);
+    assert_eq!(capn::unpack(&packed, 4).unwrap(), message);
+    assert_eq!(
+        capn::canonical(&packed, Form::Packed, &USUAL).unwrap(),
+        canonical
+    );
+    assert_eq!(capn::digest(&canonical, Form::Bare, &USUAL), Ok(digest));
+    let figures = capn::survey(&message, Form::Stream, &USUAL).unwrap();
+    assert_eq!((figures.words, figures.segments, figures.depth), (3, 1, 1));
+    assert_eq!((figures.capability, figures.is_canonical), (None, false));
+    let capability = framed(&[1 << 48, 3 | 7 << 32]);
+    assert_eq!(
+        capn::survey(&capability, Form::Stream, &USUAL)
+            .unwrap()
+            .capability,
+        Some(7)
+    );
+}
+
+/// An object that three pointers lead to is written three times: the answer is longer than the message.
+#[test]
+fn a_longer_answer_is_appended() {
+    let shared = framed(&[3 << 48, 8 | 1 << 32, 4 | 1 << 32, 1 << 32, 7]);
+    let mut out = vec![1, 2, 3];
+    let paid = capn::canonical_into(&shared, Form::Stream, &USUAL, &mut out).unwrap();
+    assert_eq!((out.len(), paid), (3 + 56, 10));
+    assert_eq!(out[..3], [1, 2, 3]);
+    let was = out.clone();
+    let refused = capn::canonical_into(&hostile(), Form::Stream, &USUAL, &mut out);
+    assert_eq!(refused.unwrap_err().kind(), Some(Kind::TooDeep));
+    assert_eq!(out, was);
+}
+
+#[test]
+fn refusals_have_a_kind_a_place_and_the_text_of_the_program() {
+    let text = |message: &[u8], form| {
+        capn::canonical(message, form, &USUAL)
+            .unwrap_err()
+            .to_string()
+    };
+    let two = [one(), one()].concat();
+    assert_eq!(text(&two, Form::Stream), "trailing bytes at 32");
+    assert_eq!(text(&one()[..20], Form::Stream), "frame: Cut");
+    assert_eq!(text(&[], Form::Stream), "frame: Empty");
+    assert_eq!(
+        text(&[0xff; 8], Form::Stream),
+        "frame: TooManySegments(4294967296)"
+    );
+    assert_eq!(text(&[0; 9], Form::Bare), "bare: NotWhole(9)");
+    assert_eq!(text(&[0x10], Form::Packed), "packed: Cut at 0");
+    assert_eq!(
+        text(&hostile(), Form::Stream),
+        "TooDeep at 0:0, paid 128, visits 65"
+    );
+    assert_eq!(
+        text(&words(&[1 << 48, 3 | 7 << 32]), Form::Bare),
+        "capability 7"
+    );
+    let refused = capn::check(&hostile(), Form::Stream, &USUAL).unwrap_err();
+    let place = Place::Slot {
+        segment: 0,
+        word: 0,
+        paid: 128,
+        visits: 65,
+    };
+    assert_eq!(
+        (refused.kind(), refused.place()),
+        (Some(Kind::TooDeep), Some(place))
+    );
+    assert_eq!(
+        (Kind::TooDeep.name(), Kind::TooDeep.status()),
+        ("TooDeep", 73)
+    );
+    let source: &dyn std::error::Error = &refused;
+    assert!(source.source().is_none());
+
+    let none = Limits { depth: 0, ..USUAL };
+    assert_eq!(capn::check(&one(), Form::Stream, &none), Err(Error::Limits));
+    let low = Limits { budget: 2, ..USUAL };
+    assert!(capn::check(&one(), Form::Stream, &low).is_err());
+    let plain = Limits {
+        tariff: Tariff::Plain,
+        ..low
+    };
+    assert_eq!(capn::check(&one(), Form::Stream, &plain).unwrap().paid, 2);
+    assert_eq!(
+        Index::new(&[], Form::Packed, &USUAL).unwrap_err(),
+        Error::Form
+    );
+}
+
+#[test]
+fn a_stream_in_memory() {
+    let stream = [one(), one(), one()[..20].to_vec()].concat();
+    let mut messages = capn::messages(&stream, USUAL);
+    assert_eq!(messages.next(), Some(Ok(&one()[..])));
+    assert_eq!((messages.number(), messages.offset()), (1, 0));
+    assert_eq!(messages.next(), Some(Ok(&one()[..])));
+    let cut = messages.next().unwrap().unwrap_err();
+    assert_eq!((messages.number(), messages.offset()), (3, 64));
+    assert_eq!(cut.to_string(), "frame: Cut");
+    assert_eq!((messages.next(), messages.next()), (None, None));
+    assert_eq!(capn::messages(&[], USUAL).next(), None);
+}
+
+/// Gives at most so many bytes at a time, and before each of them no bytes, but an error that passes.
+struct Slow<'a> {
+    rest: &'a [u8],
+    most: usize,
+    calls: usize,
+}
+
+impl Read for Slow<'_> {
+    fn read(&mut self, to: &mut [u8]) -> io::Result<usize> {
+        self.calls += 1;
+        match self.calls % 3 {
+            1 => Err(io::ErrorKind::WouldBlock.into()),
+            2 => Err(io::ErrorKind::Interrupted.into()),
+            _ => {
+                let most = self.most.min(to.len());
+                self.rest.read(&mut to[..most])
+            }
+        }
+    }
+}
+
+#[test]
+fn a_reader_goes_on_after_each_error_of_its_input() {
+    let stream = [one(), framed(&[0]), one()].concat();
+    for most in 1..40 {
+        let input = Slow {
+            rest: &stream,
+            most,
+            calls: 0,
+        };
+        let mut reader = Reader::new(input, USUAL);
+        let mut got = Vec::new();
+        loop {
+            match reader.read() {
+                Ok(Some(message)) => got.push(message.to_vec()),
+                Ok(None) => break,
+                Err(ReadError::Io(why)) => assert_eq!(why.kind(), io::ErrorKind::WouldBlock),
+                Err(other) => panic!("{other}"),
+            }
+        }
+        assert_eq!(got, [one(), framed(&[0]), one()]);
+        assert_eq!((reader.number(), reader.offset()), (3, 48 + 32));
+    }
+}
+
+#[test]
+fn a_reader_says_where_a_stream_is_refused() {
+    let stream = [one(), one()[..20].to_vec()].concat();
+    let mut reader = Reader::new(&stream[..], USUAL);
+    assert!(reader.read().unwrap().is_some());
+    assert_eq!(
+        reader.read().unwrap_err().to_string(),
+        "message 2 at 32: frame: Cut"
+    );
+    let mut reader = Reader::new(&[0xff; 99][..], USUAL);
+    let text = "message 1 at 0: frame: TooManySegments(4294967296)";
+    assert_eq!(reader.read().unwrap_err().to_string(), text);
+    assert!(Reader::new(&[][..], USUAL).read().unwrap().is_none());
+}
+
+/// The peer waits for an answer to each message; what follows the messages is left in the socket.
+#[test]
+fn a_reader_of_a_socket_takes_no_byte_too_many() {
+    let (mut peer, socket) = UnixStream::pair().unwrap();
+    let sender = std::thread::spawn(move || {
+        for _ in 0..2 {
+            peer.write_all(&one()).unwrap();
+            peer.read_exact(&mut [0]).unwrap();
+        }
+        peer.write_all(b"more").unwrap();
+    });
+    let mut reader = Reader::new(&socket, USUAL);
+    for _ in 0..2 {
+        assert_eq!(reader.read().unwrap(), Some(&one()[..]));
+        (&socket).write_all(b"a").unwrap();
+    }
+    sender.join().unwrap();
+    let mut rest = String::new();
+    reader.into_inner().read_to_string(&mut rest).unwrap();
+    assert_eq!(rest, "more");
+}
+
+#[test]
+fn segments_at_any_address() {
+    let pad = words(&[1 << 32, 5]);
+    let odd = [&[0], &pad[..]].concat();
+    let root = words(&[2 | 1 << 32]);
+    for second in [&pad[..], &odd[1..]] {
+        let held: [&[u8]; 2] = [&root, second];
+        assert_eq!(segments::canonical(&held, &USUAL).unwrap(), pad);
+        assert_eq!(segments::survey(&held, &USUAL).unwrap().segments, 2);
+        let digest = capn::digest(&pad, Form::Bare, &USUAL);
+        assert_eq!(segments::digest(&held, &USUAL), digest);
+        let refused = segments::check(&[&root, &second[..9]], &USUAL).unwrap_err();
+        assert_eq!(refused.kind(), Some(Kind::NotWhole));
+        let refused = segments::check(&[&root], &USUAL).unwrap_err();
+        assert_eq!(refused.to_string(), "NoSegment at 0:0, paid 0, visits 1");
+    }
+    assert!(segments::check(&[], &USUAL).is_err());
+    let many: Vec<&[u8]> = (0..100).map(|_| &pad[..]).collect();
+    assert_eq!(segments::canonical(&many, &USUAL).unwrap(), pad);
+}
+
+#[test]
+fn fields_with_defaults_and_newer_lists() {
+    // A word, a text, and rows of a newer writer in place of numbers.
+    let message = framed(&[
+        1 << 32 | 3 << 48,
+        5 ^ 7,
+        2 << 2 | 1 | 0x22 << 32,
+        2 << 2 | 1 | 0x27 << 32,
+        0,
+        0x636261,
+        8 | 1 << 32 | 1 << 48,
+        3,
+        0,
+        4,
+        0,
+    ]);
+    let index = Index::new(&message, Form::Stream, &USUAL).unwrap();
+    let root = index.root().as_struct().unwrap();
+    assert_eq!(root.get::<u64>(0, 7), 5);
+    assert_eq!(
+        (root.get::<u64>(64, 7), root.get::<bool>(64, true)),
+        (7, true)
+    );
+    assert_eq!((root.get::<i8>(0, 0), root.get::<u16>(u32::MAX, 9)), (2, 9));
+    assert_eq!(root.slot(0).as_text().unwrap(), Some("abc"));
+    assert_eq!(root.slot(0).as_data().unwrap(), Some(&b"abc\0"[..]));
+    assert_eq!(root.slot(2).as_text().unwrap(), None);
+    let numbers = root.slot(1).as_list::<u16>().unwrap();
+    assert_eq!(numbers.collect::<Vec<_>>(), [3, 4]);
+    assert_eq!((numbers.get(1), numbers.get(2)), (Some(4), None));
+    assert_eq!(
+        root.slot(1)
+            .as_pointers()
+            .unwrap()
+            .filter(Value::is_null)
+            .count(),
+        2
+    );
+    assert_eq!(
+        root.slot(1)
+            .as_rows()
+            .unwrap()
+            .map(|row| row.get::<i32>(0, -1))
+            .sum::<i32>(),
+        -9
+    );
+    let unexpected = root.slot(1).as_text().unwrap_err();
+    assert_eq!(unexpected.to_string(), "text expected, rows found");
+    assert!(root.slot(0).as_struct().is_err() && root.slot(0).as_list::<u16>().is_err());
+    assert!(root.slot(1).as_list::<bool>().is_err());
+    assert_eq!(format!("{:?}", index.root()), "struct 8 bytes, 3 slots");
+}
+
+/// The kinds of lists, each in place of each.
+#[test]
+fn lists_in_place_of_others() {
+    let list = |width: u64| words(&[1 | width << 32 | 2 << 35, 0, 0]);
+    let row = |size: u64| {
+        let length = (size & 0xffff) + (size >> 16);
+        words(
+            &[
+                &[1 | 7 << 32 | (2 * length) << 35, 8 | size << 32][..],
+                &[0; 8],
+            ]
+            .concat(),
+        )
+    };
+    let found = [
+        list(0),
+        list(1),
+        list(2),
+        list(3),
+        list(4),
+        list(5),
+        list(6),
+        row(0),
+        row(1),
+        row(1 << 16),
+    ];
+    let taken = |of: fn(Value) -> Option<usize>| -> String {
+        let is = |message: &Vec<u8>| {
+            let index = Index::new(message, Form::Bare, &USUAL).expect("a message");
+            match of(index.root()) {
+                None => '.',
+                Some(2) => '1',
+                Some(count) => panic!("{count}"),
+            }
+        };
+        found.iter().map(is).collect()
+    };
+    assert_eq!(
+        taken(|it| Some(it.as_list::<bool>().ok()?.count())),
+        ".1........"
+    );
+    assert_eq!(
+        taken(|it| Some(it.as_list::<i8>().ok()?.count())),
+        "..1.....1."
+    );
+    assert_eq!(
+        taken(|it| Some(it.as_list::<u16>().ok()?.count())),
+        "...1....1."
+    );
+    assert_eq!(
+        taken(|it| Some(it.as_list::<f32>().ok()?.count())),
+        "....1...1."
+    );
+    assert_eq!(
+        taken(|it| Some(it.as_list::<f64>().ok()?.count())),
+        ".....1..1."
+    );
+    assert_eq!(
+        taken(|it| Some(it.as_pointers().ok()?.count())),
+        "......1..1"
+    );
+    assert_eq!(taken(|it| Some(it.as_rows().ok()?.count())), "1.11111111");
+}
