@@ -9,6 +9,7 @@ import (
 	"io"
 	"math/rand"
 	"os"
+	"strconv"
 	"strings"
 	"sync"
 	"testing"
@@ -17,7 +18,7 @@ import (
 func TestCalls(t *testing.T) {
 	source := rand.New(rand.NewSource(68))
 	for i := 0; i < 2000; i++ {
-		segment := bytesOf(laidOut(source, randomItem(source, 0), 1))[0]
+		segment := bytesOf(segmentsOf(source, randomItem(source, 0), 1))[0]
 		message, err := framed([][]byte{segment})
 		if err != nil {
 			t.Fatal(err)
@@ -89,6 +90,7 @@ func TestLongAnswer(t *testing.T) {
 }
 
 func TestRefusals(t *testing.T) {
+	outside, little := []byte("\x00\x00\x00\x00\x01\x00\x00\x00"), &Limits{9, 2, 9, Strict}
 	capability := []byte("\x00\x00\x00\x00\x00\x00\x01\x00" + "\x03\x00\x00\x00\x07\x00\x00\x00")
 	for _, one := range []struct {
 		err  error
@@ -105,10 +107,10 @@ func TestRefusals(t *testing.T) {
 		{second(Unpack(make([]byte, 2), 0)), ErrPackedTooLong, "packed: TooLong at 0", false},
 		{second(Survey(make([]byte, 2), Packed, nil)), ErrFrameCut, "frame: Cut", true},
 		{second(Canonical(capability, Bare, nil)), ErrCapability, "capability 7", false},
-		{second(Digest([]byte("\x00\x00\x00\x00\x01\x00\x00\x00"), Bare, nil)), ErrRange, "Range at 0:0, paid 0, visits 1", false},
+		{second(Digest(outside, Bare, nil)), ErrRange, "Range at 0:0, paid 0, visits 1", false},
 		{second(Check(small, Stream, &Limits{9, 9, 256, Tariff(1)})), 0, "", false},
-		{second(Check(small, Stream, &Limits{9, 2, 9, Strict})), ErrOverBudget, "OverBudget at 0:0, paid 0, visits 1", false},
-		{second(NewIndex(small, Stream, &Limits{9, 2, 9, Strict})), ErrOverBudget, "OverBudget at 0:0, paid 0, visits 1", false},
+		{second(Check(small, Stream, little)), ErrOverBudget, "OverBudget at 0:0, paid 0, visits 1", false},
+		{second(NewIndex(small, Stream, little)), ErrOverBudget, "OverBudget at 0:0, paid 0, visits 1", false},
 	} {
 		if one.kind == 0 {
 			if one.err != nil {
@@ -164,18 +166,10 @@ func TestHeader(t *testing.T) {
 			t.Errorf("no status %s", name)
 			continue
 		}
-		rest := strings.FieldsFunc(string(header)[at+len(line):at+len(line)+8], func(r rune) bool { return r < '0' || r > '9' })
-		if rest[0] != strings.TrimSpace(strings.TrimPrefix(itoa(uint32(kind)), "")) {
-			t.Errorf("%s is %s", name, rest[0])
+		if number := strconv.Itoa(int(kind)); !strings.HasPrefix(string(header)[at+len(line):], number) {
+			t.Errorf("%s is not %s", name, number)
 		}
 	}
-}
-
-func itoa(n uint32) string {
-	if n < 10 {
-		return string(rune('0' + n))
-	}
-	return itoa(n/10) + string(rune('0'+n%10))
 }
 
 func TestVersion(t *testing.T) {

@@ -1,6 +1,6 @@
 // Package capn checks, canonicalises, hashes and packs Cap'n Proto messages, without a schema, by proved code.
 //
-// It calls the library for C over cgo, on Linux and amd64; elsewhere, and without cgo, each call answers ErrUnsupported.
+// It calls the library for C by cgo, on Linux and amd64; elsewhere, and without cgo, each call answers ErrUnsupported.
 // The layer between is tested, not proved.
 //
 // Each call takes one message, its form, and limits; limits that are nil are the usual ones. A message that is refused

@@ -83,7 +83,7 @@ type Error struct {
 func (e *Error) Text() string {
 	switch {
 	case e.Kind.isOfWalk():
-		return fmt.Sprintf("%s at %d:%d, paid %d, visits %d", e.Kind, e.Segment, e.Word, e.Paid, e.Visits)
+		return fmt.Sprintf("%s at %d:%d, paid %d, visits %d", e.Kind.String(), e.Segment, e.Word, e.Paid, e.Visits)
 	case e.Kind == ErrNotWhole && e.ofWords:
 		return fmt.Sprintf("NotWhole(%d)", e.At)
 	}
@@ -101,7 +101,7 @@ func (e *Error) Text() string {
 	case ErrFrameCut:
 		return "frame: Cut"
 	case ErrTooManySegments, ErrTooManyWords:
-		return fmt.Sprintf("frame: %s(%d)", e.Kind, e.At)
+		return fmt.Sprintf("frame: %s(%d)", e.Kind.String(), e.At)
 	case ErrTrailing:
 		return fmt.Sprintf("trailing bytes at %d", e.At)
 	case ErrCapability:

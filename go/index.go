@@ -52,7 +52,7 @@ type Index struct {
 	checked Checked
 }
 
-// NewIndex makes the index of one message. A message of Packed is unpacked first. An index takes 24 bytes for each slot,
+// NewIndex makes the index of one message. A packed message is unpacked first. An index takes 24 bytes for each slot,
 // and as many more while it is made; there is at most one slot more than words were paid.
 func NewIndex(message []byte, form Form, limits *Limits) (*Index, error) {
 	l := limitsOf(limits)
@@ -223,9 +223,10 @@ func (v Value) At(i int) uint64 {
 	panic("capn: a list of " + v.kind.String() + " has no numbers")
 }
 
-// A field of data is stored XOR its default, so what reads one takes the default, and answers it where the struct is too
-// short for the field. The offset counts fields of that size from the start of the data, as slot.offset of a compiled
-// schema does: bits[32, 64) of `capnp compile -ocapnp` is Uint32(1, ..). Each panics if the offset is negative.
+// A field of data is stored XOR its default, so what reads one takes the default, and answers it where the struct is
+// too short for the field. The offset counts fields of that size from the start of the data, as slot.offset of a
+// compiled schema does: bits[32, 64) of `capnp compile -ocapnp` is Uint32(1, ..). Each panics if the offset is less
+// than 0.
 
 // Uint64 is a field of 64 bits without sign.
 func (v Value) Uint64(offset int, byDefault uint64) uint64 { return v.field(64, offset) ^ byDefault }

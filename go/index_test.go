@@ -78,7 +78,7 @@ func TestIndex(t *testing.T) {
 	source := rand.New(rand.NewSource(69))
 	for i := 0; i < 5000; i++ {
 		value := randomItem(source, 0)
-		segments := bytesOf(laidOut(source, value, 1+source.Intn(4)))
+		segments := bytesOf(segmentsOf(source, value, 1+source.Intn(4)))
 		message, err := framed(segments)
 		if err != nil {
 			t.Fatal(err)
@@ -109,8 +109,11 @@ func TestOtherKinds(t *testing.T) {
 		t.Fatal(err)
 	}
 	root := index.Root()
-	if root.Kind() != Capability || root.CapabilityIndex() != 7 || root.Len() != 0 || root.Kind().String() != "capability" {
+	if root.Kind() != Capability || root.CapabilityIndex() != 7 || root.Len() != 0 {
 		t.Fatal(root.Kind())
+	}
+	if root.Kind().String() != "capability" || ValueKind(11).String() != "ValueKind(11)" {
+		t.Fatal(root.Kind().String())
 	}
 	if (Value{}).Uint32(3, 5) != 5 || (Value{}).Bytes() != nil || (Value{}).Rows() != nil || (Value{}).Pointers() != nil {
 		t.Fatal("of no value")
@@ -130,12 +133,15 @@ func TestOtherKinds(t *testing.T) {
 	for _, one := range []struct {
 		bytes, text string
 		is          bool
-	}{{"abc\x00", "abc", true}, {"\x00", "", true}, {"", "", false}, {"abc", "", false}, {"\xff\x00", "", false}, {"a\x00b\x00", "a\x00b", true}} {
+	}{
+		{"abc\x00", "abc", true}, {"\x00", "", true}, {"", "", false}, {"abc", "", false}, {"\xff\x00", "", false},
+		{"a\x00b\x00", "a\x00b", true},
+	} {
 		list := &item{kind: 'l', code: 2, count: len(one.bytes), words: make([]uint64, (len(one.bytes)+7)/8)}
 		for i := range one.bytes {
 			list.words[i/8] |= uint64(one.bytes[i]) << (8 * (i % 8))
 		}
-		index, err := NewIndex(bytesOf(laidOut(rand.New(rand.NewSource(1)), list, 1))[0], Bare, nil)
+		index, err := NewIndex(bytesOf(segmentsOf(rand.New(rand.NewSource(1)), list, 1))[0], Bare, nil)
 		if err != nil {
 			t.Fatal(err)
 		}

@@ -72,8 +72,8 @@ type builder struct {
 	segments [][]uint64
 }
 
-// laidOut has the segments of a value. With more than one, each object may be in any, behind a pad.
-func laidOut(source *rand.Rand, root *item, segments int) [][]uint64 {
+// segmentsOf has the segments of a value. With more than one, each object may be in any, behind a pad.
+func segmentsOf(source *rand.Rand, root *item, segments int) [][]uint64 {
 	b := &builder{source, make([][]uint64, segments)}
 	b.segments[0] = []uint64{0}
 	b.put(0, 0, root)

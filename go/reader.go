@@ -21,8 +21,8 @@ const (
 	most = 65536
 )
 
-// NewReader makes a reader of a stream of Form Stream. MessageWords of the limits, of which nil are the usual ones, bounds
-// each message; nothing else is checked.
+// NewReader makes a reader of a stream, which is not packed. MessageWords of the limits, of which nil are the usual
+// ones, bounds each message; nothing else is checked.
 func NewReader(from io.Reader, limits *Limits) *Reader {
 	return &Reader{from: from, limits: limitsOf(limits), need: head}
 }

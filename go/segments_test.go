@@ -17,7 +17,7 @@ func TestSegments(t *testing.T) {
 	source := rand.New(rand.NewSource(66))
 	var stream, canonical []byte
 	for i := 0; i < 5000; i++ {
-		segments := bytesOf(laidOut(source, randomItem(source, 0), 2+source.Intn(4)))
+		segments := bytesOf(segmentsOf(source, randomItem(source, 0), 2+source.Intn(4)))
 		found, err := CanonicalSegments(segments, nil)
 		if err != nil {
 			t.Fatalf("%x: %v", segments, err)
@@ -83,7 +83,8 @@ func TestRefusedSegments(t *testing.T) {
 	if _, err := DigestSegments(append(make([][]byte, 4095), make([]byte, 8)), nil); !errors.Is(err, ErrNoRoot) {
 		t.Error(err)
 	}
-	if _, err := DigestSegments([][]byte{make([]byte, 8), make([]byte, 16)}, &Limits{2, 8, 8, Strict}); !errors.Is(err, ErrTooManyWords) {
+	long := [][]byte{make([]byte, 8), make([]byte, 16)}
+	if _, err := DigestSegments(long, &Limits{2, 8, 8, Strict}); !errors.Is(err, ErrTooManyWords) {
 		t.Error(err)
 	}
 }

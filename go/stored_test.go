@@ -171,8 +171,8 @@ func TestStored(t *testing.T) {
 	}
 }
 
-// Ten thousand generated messages, many of them hostile, are answered as the library answers them in C: CAPN_VECTORS names
-// the program that c/tests/vectors.c is.
+// Ten thousand generated messages, many of them hostile, are answered as the library answers them in C: CAPN_VECTORS
+// names the program that c/tests/vectors.c is.
 func TestGenerated(t *testing.T) {
 	program := os.Getenv("CAPN_VECTORS")
 	if program == "" {
@@ -183,7 +183,7 @@ func TestGenerated(t *testing.T) {
 	for i := 0; i < 10000; i++ {
 		segments := hostileWords(source)
 		if source.Intn(10) < 4 {
-			segments = laidOut(source, randomItem(source, 0), 1+source.Intn(4))
+			segments = segmentsOf(source, randomItem(source, 0), 1+source.Intn(4))
 		}
 		data, err := framed(bytesOf(segments))
 		if err != nil {

@@ -13,10 +13,12 @@ from ._refusal import Refusal, failure
 
 # How many bytes are asked of a file at a time at most, and for how many unpacked ones there is room.
 _PIECE = 65536
-# Bytes that any frame has at least, and how many are looked at in a file that can be wound back.
-_HEAD, _SEEN = 8, 8192
+# Bytes that any frame has at least, the first four of one with one segment, and how many bytes are looked at in a file
+# that can be wound back.
+_HEAD, _ONE, _SEEN = 8, bytes(4), 8192
 _report_type = ffi.typeof("capn_report *")
 _first, _unpack_some, _from_buffer = lib.capn_first, lib.capn_unpack_some, ffi.from_buffer
+_buffer = ffi.buffer
 _OK, _MEMORY, _FRAME_CUT = lib.CAPN_OK, lib.CAPN_MEMORY, lib.CAPN_FRAME_CUT
 _PACKED_CUT, _PACKED_TOO_LONG = lib.CAPN_PACKED_CUT, lib.CAPN_PACKED_TOO_LONG
 Form = Literal["stream", "packed"]
@@ -42,6 +44,11 @@ def _of_form(form: str) -> bool:
     if form not in ("stream", "packed"):
         raise ValueError(f"the form of a stream is 'stream' or 'packed', not {form!r}")
     return form == "packed"
+
+
+def _bytes_at(out: Any, size: int) -> bytes:
+    """A copy of the first bytes of a buffer."""
+    return bytes(_buffer(out, size))
 
 
 def _group(text: bytes) -> int:
@@ -164,147 +171,193 @@ class Splitter:
 class Messages(Iterator[bytes]):
     """The messages of a stream, one frame each; `messages` makes it. It goes on after an exception of the file."""
 
-    __slots__ = ("_splitter", "_read", "_held", "_need", "_over")
+    __slots__ = ("_splitter", "_read", "_report", "_bounds", "_held", "_need", "_over", "number", "offset")
+    number: int
+    """How many messages were handed out."""
+    offset: int
+    """Where the next one begins, in the unpacked bytes."""
 
     def __init__(self, read: Callable[[int], Any], splitter: Splitter) -> None:
         self._read, self._splitter = read, splitter
+        self._report, self._bounds = splitter._report, splitter._bounds
         # The bytes of the message that has begun, and how many it has at least.
         self._held: bytes | bytearray = b""
         self._need = _HEAD
         # What each call raises from now on: the end, or the refusal.
         self._over: Exception | None = None
+        self.number = self.offset = 0
 
     def __repr__(self) -> str:
         return f"<capn messages, {self.number} so far>"
 
-    @property
-    def number(self) -> int:
-        """How many messages were handed out."""
-        return self._splitter.number
-
-    @property
-    def offset(self) -> int:
-        """Where the next one begins, in the unpacked bytes."""
-        return self._splitter.offset
-
     def __next__(self) -> bytes:
+        if self._held or self._over is not None:
+            return self._any()
+        # As most messages are: of one segment, short, and read by two calls of the file.
+        read = self._read
+        head = read(_HEAD)
+        if type(head) is bytes and head[:4] == _ONE and len(head) == _HEAD:
+            report = self._report
+            if _first(head, _HEAD, self._bounds, report) == _FRAME_CUT:
+                need = report.length
+                if need <= _PIECE:
+                    self._held = head
+                    body = read(need - _HEAD)
+                    if type(body) is bytes and len(body) == need - _HEAD:
+                        # The frame of one segment is as long as its table says.
+                        self._held = b""
+                        self.number += 1
+                        self.offset += need
+                        return head + body
+                    self._came(body)
+                    return self._any()
+        self._came(head)
+        return self._any()
+
+    def _came(self, piece: Any) -> None:
+        """Holds what the file gave, or raises what it means that it gave nothing."""
+        if not piece:
+            self._stop(piece)
+        self._held += piece
+
+    def _any(self) -> bytes:
+        """The next message, of whatever shape, of which some bytes are held."""
         if self._over is not None:
             raise self._over
-        held, need, splitter = self._held, self._need, self._splitter
-        report = splitter._report
-        try:
-            while True:
-                if len(held) < need:
-                    piece = self._read(_asked(need, len(held)))
-                    if not piece:
-                        self._held = held
-                        self._stop(piece)
-                    held += piece
-                    if len(held) < need:
-                        continue
-                frame = held if type(held) is bytes else bytes(held)
-                status = _first(frame, len(frame), splitter._bounds, report)
-                if status == _OK:
-                    length = report.length
-                    held, need = b"", _HEAD
-                    if length < len(frame):
-                        # The file answered more than it was asked for.
-                        held, frame = frame[length:], frame[:length]
-                    splitter.number += 1
-                    splitter.offset += length
-                    return frame
-                if status != _FRAME_CUT:
-                    self._refuse(status)
+        report = self._report
+        while True:
+            have, need = len(self._held), self._need
+            if have < need:
+                missing = need - have
+                if missing > _PIECE:
+                    # Memory grows as bytes come.
+                    missing = min(missing, max(_PIECE, have))
+                self._came(self._read(missing))
+                continue
+            frame = bytes(self._held)
+            status = _first(frame, have, self._bounds, report)
+            if status == _OK:
                 need = report.length
-                if need > _PIECE:
-                    held = bytearray(held)
-        finally:
-            self._held, self._need = held, need
+                # What is left, if the file gave more than it was asked for.
+                self._held, self._need = frame[need:], _HEAD
+                self.number += 1
+                self.offset += need
+                return frame[:need]
+            if status != _FRAME_CUT:
+                self._refuse(status)
+            self._need = report.length
+            if self._need > _PIECE and type(self._held) is bytes:
+                self._held = bytearray(self._held)
 
     def _refuse(self, status: int) -> NoReturn:
-        self._splitter._refuse(status)
-        assert self._splitter._refusal is not None
-        self._over = self._splitter._refusal
+        splitter = self._splitter
+        splitter.number, splitter.offset = self.number, self.offset
+        splitter._refuse(status)
+        assert splitter._refusal is not None
+        self._over = splitter._refusal
         raise self._over
 
     def _stop(self, piece: Any) -> NoReturn:
-        """Raises what it means that the file has no bytes: there are none now, or it has ended."""
         if piece is None:
             raise BlockingIOError("the file has no bytes now, and has not ended")
-        if self._held:
-            self._refuse(_FRAME_CUT)
+        self._end()
         self._over = StopIteration()
         raise self._over
 
-
-def _asked(need: int, have: int) -> int:
-    """How many bytes are asked for at once, of those that are missing: so many that memory grows as bytes come."""
-    missing = need - have
-    return missing if missing <= _PIECE else min(missing, max(_PIECE, have))
+    def _end(self) -> None:
+        """Refuses a message that is cut."""
+        if self._held:
+            self._refuse(_FRAME_CUT)
 
 
 class _Packed(Messages):
-    """The same of a packed stream. A file that can be looked into before it is read has a message taken at once, else
-    it is read group by group."""
+    """The same of a packed stream. If a file can be looked into before it is read, a message is taken at once; else it
+    is read group by group. What is held is packed."""
 
-    __slots__ = ("_peek", "_ready")
+    __slots__ = ("_peek", "_ready", "_out", "_taken")
 
-    def __init__(self, read: Callable[[int], Any], peek: Callable[[], Any] | None, splitter: Splitter) -> None:
+    def __init__(self, read: Callable[[int], Any], peek: Callable[[int], Any] | None, splitter: Splitter) -> None:
         super().__init__(read, splitter)
-        self._peek = peek
-        # What a group had that is in several messages.
+        self._peek, self._out = peek, splitter._out
+        # Messages that a group ended all at once, and how many packed bytes came before what is held.
         self._ready: list[bytes] = []
+        self._taken = 0
 
     def __next__(self) -> bytes:
+        splitter, peek = self._splitter, self._peek
+        if peek is None or self._held or self._ready or splitter._held or splitter._text or self._over is not None:
+            return self._any()
+        # As most messages are: of one segment, short, and all of it can be seen.
+        seen, report, out = peek(1), self._report, self._out
+        if type(seen) is bytes and seen:
+            _unpack_some(seen, len(seen), out, _HEAD, report)
+            if report.length == _HEAD and _first(out, _HEAD, self._bounds, report) == _FRAME_CUT:
+                need = report.length
+                if need <= _PIECE and not out[0] and not out[1] and not out[2] and not out[3]:
+                    _unpack_some(seen, len(seen), out, need, report)
+                    if report.length == need:
+                        taken = report.at
+                        piece = self._read(taken)
+                        if piece and len(piece) == taken:
+                            self._taken += taken
+                            self.number += 1
+                            self.offset += need
+                            return _bytes_at(out, need)
+                        self._came(piece)
+        return self._any()
+
+    def _any(self) -> bytes:
         if self._over is not None:
             raise self._over
         splitter = self._splitter
         while not self._ready:
-            # Nothing of the message is unpacked: it is tried whole. What is held of it is packed.
             if self._peek is not None and not splitter._held and not splitter._text:
                 frame = self._at_once(self._peek)
                 if frame is not None:
+                    self.number += 1
+                    self.offset += len(frame)
                     return frame
             else:
-                piece = self._read(splitter.wanted if self._peek is None else self._fitting(self._peek()))
+                piece = self._read(splitter.wanted if self._peek is None else self._fitting(self._peek(1)))
                 if not piece:
                     self._stop(piece)
                 self._feed(piece)
-        return self._ready.pop(0)
+        frame = self._ready.pop(0)
+        self.number += 1
+        self.offset += len(frame)
+        return frame
 
     def _feed(self, text: bytes) -> None:
+        """Gives packed bytes to the splitter, and keeps its refusal."""
+        splitter = self._splitter
+        splitter.number, splitter.offset, splitter._taken = self.number, self.offset, self._taken
         try:
-            self._ready = self._splitter.feed(text)
+            self._ready = splitter.feed(text)
         except Refusal as refusal:
             self._over = refusal
             raise
+        finally:
+            self._taken = splitter._taken
 
-    def _stop(self, piece: Any) -> NoReturn:
-        if piece is None:
-            raise BlockingIOError("the file has no bytes now, and has not ended")
+    def _end(self) -> None:
+        held, self._held = bytes(self._held), b""
+        self._feed(held)
         try:
-            held, self._held = bytes(self._held), b""
-            self._splitter.feed(held)
             self._splitter.end()
         except Refusal as refusal:
             self._over = refusal
             raise
-        self._over = StopIteration()
-        raise self._over
 
-    def _at_once(self, peek: Callable[[], Any]) -> bytes | None:
+    def _at_once(self, peek: Callable[[int], Any]) -> bytes | None:
         """The next message, if what is held and what can be seen have all of it. Else takes what can be seen of it, or
-        gives to the splitter what it has of a long message, or of one that ends in a group."""
-        splitter, held, seen = self._splitter, bytes(self._held), peek()
-        report, out = splitter._report, splitter._out
+        gives to the splitter what it has of a long message, or of one that ends within a group."""
+        held, seen, report, out = bytes(self._held), peek(1), self._report, self._out
         if not seen:
             # Reading says whether the file has ended.
-            piece = self._read(1)
-            if not piece:
-                self._stop(piece)
-            held = self._held = held + piece
-        text = held + seen if held else seen
-        need = _HEAD
+            self._came(self._read(1))
+            held = bytes(self._held)
+        text = held + seen if held else bytes(seen)
+        need, status, taken = _HEAD, _OK, 0
         while need <= _PIECE:
             status = _unpack_some(text, len(text), out, need, report)
             if status not in (_OK, _PACKED_CUT, _PACKED_TOO_LONG):
@@ -313,15 +366,13 @@ class _Packed(Messages):
             if report.length < need:
                 taken = taken + _group(text[taken:taken + 10]) if status == _PACKED_TOO_LONG else len(text)
                 break
-            first = _first(out, need, splitter._bounds, report)
+            first = _first(out, need, self._bounds, report)
             if first == _OK:
-                if self._take(taken - len(held)):
-                    self._held = b""
-                    splitter._taken += taken
-                    splitter.number += 1
-                    splitter.offset += need
-                    return bytes(ffi.buffer(out, need))
-                return None
+                if not self._take(taken - len(held)):
+                    return None
+                self._held = b""
+                self._taken += taken
+                return _bytes_at(out, need)
             if first != _FRAME_CUT:
                 self._refuse(first)
             need = report.length
@@ -347,9 +398,9 @@ class _Packed(Messages):
         if not seen:
             return 1
         splitter = self._splitter
-        report, text = splitter._report, splitter._text + seen
+        report, text = self._report, splitter._text + seen
         room = min(splitter._need - len(splitter._held), _PIECE)
-        status = _unpack_some(text, len(text), splitter._out, room, report)
+        status = _unpack_some(text, len(text), self._out, room, report)
         if status not in (_OK, _PACKED_CUT, _PACKED_TOO_LONG):
             raise failure(status, report)
         taken: int = report.at
@@ -358,17 +409,18 @@ class _Packed(Messages):
         return taken - len(splitter._text)
 
 
-def _peeking(file: Any) -> Callable[[], Any] | None:
+def _peeking(file: Any) -> Callable[[int], Any] | None:
     """What looks at the next bytes of a file and takes none of them, if the file allows that."""
-    if callable(getattr(file, "peek", None)):
-        return lambda: file.peek(1)
+    look = getattr(file, "peek", None)
+    if callable(look):
+        return look  # type: ignore[no-any-return]
     try:
         if not file.seekable():
             return None
     except (AttributeError, ValueError):
         return None
 
-    def peek() -> Any:
+    def peek(least: int) -> Any:
         seen = file.read(_SEEN)
         if seen:
             file.seek(-len(seen), 1)
