@@ -18,7 +18,6 @@ _PIECE = 65536
 _HEAD, _ONE, _SEEN = 8, bytes(4), 8192
 _report_type = ffi.typeof("capn_report *")
 _first, _unpack_some, _from_buffer = lib.capn_first, lib.capn_unpack_some, ffi.from_buffer
-_buffer = ffi.buffer
 _OK, _MEMORY, _FRAME_CUT = lib.CAPN_OK, lib.CAPN_MEMORY, lib.CAPN_FRAME_CUT
 _PACKED_CUT, _PACKED_TOO_LONG = lib.CAPN_PACKED_CUT, lib.CAPN_PACKED_TOO_LONG
 Form = Literal["stream", "packed"]
@@ -44,11 +43,6 @@ def _of_form(form: str) -> bool:
     if form not in ("stream", "packed"):
         raise ValueError(f"the form of a stream is 'stream' or 'packed', not {form!r}")
     return form == "packed"
-
-
-def _bytes_at(out: Any, size: int) -> bytes:
-    """A copy of the first bytes of a buffer."""
-    return bytes(_buffer(out, size))
 
 
 def _group(text: bytes) -> int:
@@ -274,11 +268,13 @@ class _Packed(Messages):
     """The same of a packed stream. If a file can be looked into before it is read, a message is taken at once; else it
     is read group by group. What is held is packed."""
 
-    __slots__ = ("_peek", "_ready", "_out", "_taken")
+    __slots__ = ("_peek", "_ready", "_out", "_segments", "_words", "_taken")
 
     def __init__(self, read: Callable[[int], Any], peek: Callable[[int], Any] | None, splitter: Splitter) -> None:
         super().__init__(read, splitter)
+        # Where words are unpacked to, the first number that is there, and what has the bytes of it all.
         self._peek, self._out = peek, splitter._out
+        self._segments, self._words = ffi.cast("uint32_t *", splitter._out), ffi.buffer(splitter._out)
         # Messages that a group ended all at once, and how many packed bytes came before what is held.
         self._ready: list[bytes] = []
         self._taken = 0
@@ -293,7 +289,7 @@ class _Packed(Messages):
             _unpack_some(seen, len(seen), out, _HEAD, report)
             if report.length == _HEAD and _first(out, _HEAD, self._bounds, report) == _FRAME_CUT:
                 need = report.length
-                if need <= _PIECE and not out[0] and not out[1] and not out[2] and not out[3]:
+                if need <= _PIECE and not self._segments[0]:
                     _unpack_some(seen, len(seen), out, need, report)
                     if report.length == need:
                         taken = report.at
@@ -302,7 +298,7 @@ class _Packed(Messages):
                             self._taken += taken
                             self.number += 1
                             self.offset += need
-                            return _bytes_at(out, need)
+                            return self._words[0:need]  # type: ignore[no-any-return]
                         self._came(piece)
         return self._any()
 
@@ -372,7 +368,7 @@ class _Packed(Messages):
                     return None
                 self._held = b""
                 self._taken += taken
-                return _bytes_at(out, need)
+                return self._words[0:need]  # type: ignore[no-any-return]
             if first != _FRAME_CUT:
                 self._refuse(first)
             need = report.length
@@ -409,6 +405,43 @@ class _Packed(Messages):
         return taken - len(splitter._text)
 
 
+class _Ahead(Messages):
+    """The same of a stream that has nothing else: it is read in pieces, as many bytes as there are, up to 64 KiB."""
+
+    __slots__ = ("_ready", "_some")
+
+    def __init__(self, read: Callable[[int], Any], some: Callable[[int], Any], splitter: Splitter) -> None:
+        super().__init__(read, splitter)
+        # What reads as many bytes as there are, and does not tell none at the end from none now.
+        self._some = some
+        self._ready: deque[bytes] = deque()
+
+    def __next__(self) -> bytes:
+        if not self._ready:
+            self._more()
+        frame = self._ready.popleft()
+        self.number += 1
+        self.offset += len(frame)
+        return frame
+
+    def _more(self) -> None:
+        splitter = self._splitter
+        while not self._ready:
+            if self._over is not None:
+                raise self._over
+            piece = self._some(_PIECE) or self._read(1)
+            try:
+                if not piece:
+                    self._stop(piece)
+                self._ready.extend(splitter.feed(piece))
+            except Refusal as refusal:
+                self._over = refusal
+                raise
+
+    def _end(self) -> None:
+        self._splitter.end()
+
+
 def _peeking(file: Any) -> Callable[[int], Any] | None:
     """What looks at the next bytes of a file and takes none of them, if the file allows that."""
     look = getattr(file, "peek", None)
@@ -430,7 +463,12 @@ def _peeking(file: Any) -> Callable[[int], Any] | None:
 
 
 def messages(
-    file: Readable | Buffer, packed: bool = False, limits: Limits = _USUAL, *, form: Form | None = None
+    file: Readable | Buffer,
+    packed: bool = False,
+    limits: Limits = _USUAL,
+    *,
+    form: Form | None = None,
+    read_ahead: bool = False,
 ) -> Messages:
     """The messages of a stream that a binary file has, or that an object with a buffer is, one frame each.
 
@@ -438,7 +476,10 @@ def messages(
     which it ends. After an exception of the file, as `BlockingIOError` is, `next` goes on. No more is held than the
     message that has begun. `limits.message_words` bounds each message. A refusal comes when the messages before have
     been handed out, and has the `number` of its message and the `offset` at which that begins; each `next` after it
-    raises it again."""
+    raises it again.
+
+    With `read_ahead` up to 64 KiB are read at once, as many as there are, so that messages after this one may have been
+    taken off the file: faster, above all of packed streams."""
     is_packed = _of_form(form) if form is not None else bool(packed)
     if packed and not is_packed:
         raise ValueError("the form of a stream is 'stream', and packed is True")
@@ -451,6 +492,9 @@ def messages(
             kind = type(file).__name__
             raise TypeError(f"a stream is a file with a method read, or has a buffer, not {kind}") from None
         read = file.read
+    if read_ahead:
+        # `read` of a buffered file would wait until all are there.
+        return _Ahead(read, getattr(file, "read1", read), splitter)
     return _Packed(read, _peeking(file), splitter) if is_packed else Messages(read, splitter)
 
 
@@ -480,12 +524,17 @@ class Digests(Iterator[bytes]):
 
 
 def digests(
-    file: Readable | Buffer, packed: bool = False, limits: Limits = _USUAL, *, form: Form | None = None
+    file: Readable | Buffer,
+    packed: bool = False,
+    limits: Limits = _USUAL,
+    *,
+    form: Form | None = None,
+    read_ahead: bool = False,
 ) -> Digests:
     """The SHA-256 of the canonical bytes of each message of a stream, which is read as `messages` reads it.
 
     A refused message ends a loop; but `next` goes on with the message after it, unless the stream itself is refused."""
-    return Digests(messages(file, packed, limits, form=form), limits)
+    return Digests(messages(file, packed, limits, form=form, read_ahead=read_ahead), limits)
 
 
 class AsyncMessages(AsyncIterator[bytes]):

@@ -214,6 +214,21 @@ class AfterAnException(unittest.TestCase):
                     self.assertRaises(StopIteration, next, found)
                     self.assertRaises(StopIteration, next, found)
 
+    def test_a_pipe_that_does_not_block_and_is_read_ahead(self):
+        for buffering in 0, -1:
+            read, write = os.pipe()
+            os.set_blocking(read, False)
+            with open(read, "rb", buffering=buffering) as file, open(write, "wb", buffering=0) as other:
+                found = capn.messages(file, read_ahead=True)
+                self.assertRaises(BlockingIOError, next, found)
+                other.write(SMALL * 2 + SMALL[:9])
+                self.assertEqual([next(found), next(found)], [SMALL] * 2)
+                self.assertRaises(BlockingIOError, next, found)
+                other.write(SMALL[9:])
+                self.assertEqual(next(found), SMALL)
+                other.close()
+                self.assertRaises(StopIteration, next, found)
+
     def test_an_exception_of_the_file(self):
         for packed in False, True:
             s = capn.pack(SMALL) if packed else SMALL
@@ -253,6 +268,47 @@ class AfterAnException(unittest.TestCase):
         with self.assertRaises(capn.Refusal) as caught:
             capn.check(b"")
         self.assertEqual((caught.exception.number, caught.exception.offset), (None, None))
+
+
+class Ahead(unittest.TestCase):
+    """With `read_ahead` the answers are the same, as soon as they are there; what follows may be taken."""
+
+    def test_the_same_answers(self):
+        source = random.Random(67)
+        for _ in range(200):
+            frames = [b"".join(generated.pieces(archives.segments_of(source))) for _ in range(source.randint(0, 5))]
+            for packed in False, True:
+                data = b"".join(frames)
+                data = generated.packed(data) if packed else data
+                data = data[:source.randint(0, len(data))] if source.random() < 0.3 else data
+                ways = []
+                for found in (capn.messages(data, packed=packed), capn.messages(data, packed=packed, read_ahead=True),
+                              capn.messages(Pieces(data, source.choice([1, 9])), packed=packed, read_ahead=True)):
+                    got, refused = [], None
+                    try:
+                        got.extend(found)
+                    except capn.Refusal as refusal:
+                        refused = (str(refusal), refusal.number, refusal.offset)
+                        self.assertRaises(capn.Refusal, next, found)
+                    ways.append((got, refused, found.number, found.offset))
+                self.assertEqual(ways[0], ways[1])
+                self.assertEqual(ways[0], ways[2])
+
+    def test_it_waits_for_nothing(self):
+        for buffering in -1, 0:
+            near, far = socket.socketpair()
+            with near, far, far.makefile("rb", buffering=buffering) as file:
+                near.sendall(SMALL * 2 + SMALL[:9])
+                found = capn.messages(file, read_ahead=True)
+                self.assertEqual([in_time(next, found), in_time(next, found)], [SMALL] * 2)
+
+    def test_no_bytes_now(self):
+        found = capn.messages(Blocking([SMALL[:5], None, SMALL[5:] + SMALL, None]), read_ahead=True)
+        self.assertRaises(BlockingIOError, next, found)
+        self.assertEqual([next(found), next(found)], [SMALL] * 2)
+        self.assertRaises(BlockingIOError, next, found)
+        for _ in range(2):
+            self.assertRaises(StopIteration, next, found)
 
 
 class Digests(unittest.TestCase):
