@@ -429,7 +429,9 @@ class _Ahead(Messages):
         while not self._ready:
             if self._over is not None:
                 raise self._over
-            piece = self._some(_PIECE) or self._read(1)
+            piece = self._some(_PIECE)
+            if piece is not None and not piece:
+                piece = self._read(1)
             try:
                 if not piece:
                     self._stop(piece)
