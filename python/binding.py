@@ -60,6 +60,7 @@ DECLARED = """
                             capn_figures *figures, capn_report *report);
     capn_status capn_index(uint32_t form, const uint8_t *bytes, size_t size, const capn_limits *limits,
                            capn_entry *entries, size_t room, capn_report *report);
+    const char *capn_version(void);
 """
 
 binding = FFI()

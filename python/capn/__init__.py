@@ -1,27 +1,81 @@
 """Checks, canonicalises, hashes and packs Cap'n Proto messages, without a schema, by proved code.
 
-Each call takes any object that has a buffer, and one message in it. It raises `Refusal` where the program `capn`
-refuses, and `MemoryError` where memory runs out; `TypeError` and `ValueError` for arguments that are wrong in
-themselves, before any byte is read. Other threads run meanwhile, so nothing may change the bytes until it returns."""
+A call takes any object that has a buffer, and one message in it. It raises `Refusal` where the program `capn` refuses,
+and `MemoryError` where memory runs out; `TypeError` and `ValueError` for arguments that are wrong in themselves, before
+any byte is read.
+
+Other threads run meanwhile, and the library relies on bytes that stay as they are. So those of an object that may change,
+as a `bytearray`, a mapped file or an array does, are copied first; `bytes` are not, nor a view of them. With
+`in_place=True` nothing is copied, and the caller sees to it that nothing changes the bytes until the call returns: else
+the process may end, or an answer have bytes of others.
+
+`check`, `survey`, `canonical`, `is_canonical`, `digest`, `pack` and `unpack` take bytes; `read` makes a `Message` of them,
+whose root is a `Value`; `show` is its text; `messages`, `digests`, `amessages` and `Splitter` are for streams."""
 from ._calls import Checked, Surveyed, canonical, check, digest, is_canonical, pack, survey, unpack
+from ._capn import ffi as _ffi
+from ._capn import lib as _lib
 from ._limits import Limits
-from ._message import Message, read
+from ._message import (
+    Bits,
+    Body,
+    Bytes,
+    Capability,
+    List,
+    Message,
+    Null,
+    Numbers,
+    Object,
+    Pointers,
+    Row,
+    Rows,
+    Slots,
+    Struct,
+    Value,
+    Voids,
+    read,
+)
 from ._refusal import Refusal
-from ._stream import messages
+from ._show import show
+from ._stream import AsyncMessages, Digests, Messages, Splitter, amessages, digests, messages
+
+__version__: str = _ffi.string(_lib.capn_version()).decode()
 
 __all__ = [
+    "AsyncMessages",
+    "Bits",
+    "Body",
+    "Bytes",
+    "Capability",
     "Checked",
+    "Digests",
     "Limits",
+    "List",
     "Message",
+    "Messages",
+    "Null",
+    "Numbers",
+    "Object",
+    "Pointers",
     "Refusal",
+    "Row",
+    "Rows",
+    "Slots",
+    "Splitter",
+    "Struct",
     "Surveyed",
+    "Value",
+    "Voids",
+    "__version__",
+    "amessages",
     "canonical",
     "check",
     "digest",
+    "digests",
     "is_canonical",
     "messages",
     "pack",
     "read",
+    "show",
     "survey",
     "unpack",
 ]

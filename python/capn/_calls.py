@@ -2,20 +2,20 @@
 from __future__ import annotations
 
 from operator import index
-from typing import TYPE_CHECKING, Any, Callable, Literal, NamedTuple
+from typing import Any, Callable, Literal, NamedTuple
 
+from ._bytes import Buffer, taken
 from ._capn import ffi, lib
 from ._limits import Limits
 from ._refusal import failure
 
-if TYPE_CHECKING:
-    from _typeshed import ReadableBuffer
-
+# How the bytes of a message are written, as `capn --form` has it.
+Form = Literal["stream", "packed", "bare"]
 _FORMS: dict[str, int] = {"stream": lib.CAPN_STREAM, "packed": lib.CAPN_PACKED, "bare": lib.CAPN_BARE}
 _USUAL = Limits()
 # What `capn unpack` takes: the words of the usual limits, and those of the longest segment table.
 _USUAL_WORDS = 8388608 + 2049
-_new, _from_buffer, _report_type = ffi.new, ffi.from_buffer, ffi.typeof("capn_report *")
+_new, _report_type = ffi.new, ffi.typeof("capn_report *")
 _figures_type = ffi.typeof("capn_figures *")
 _room = ffi.new_allocator(should_clear_after_alloc=False)
 _room_type, _digest_type = ffi.typeof("uint8_t[]"), ffi.typeof("uint8_t[32]")
@@ -68,16 +68,6 @@ def _form(form: str) -> int:
     return _FORMS[form]
 
 
-def _buffer(data: ReadableBuffer) -> Any:
-    """The bytes of an object, in place; those of a view with gaps are copied together."""
-    try:
-        return data if type(data) is bytes else _from_buffer(data)
-    except BufferError:
-        return memoryview(data).tobytes()
-    except TypeError:
-        raise TypeError(f"a message is an object with a buffer, as bytes are, not {type(data).__name__}") from None
-
-
 def _laid_out(limits: Limits) -> Any:
     """Limits as the library lays them out."""
     if not isinstance(limits, Limits):
@@ -85,13 +75,13 @@ def _laid_out(limits: Limits) -> Any:
     return limits._laid_out  # type: ignore[attr-defined]
 
 
-def _taken(data: ReadableBuffer, form: str, limits: Limits) -> tuple[int, Any, Any]:
+def _taken(data: Buffer, form: str, limits: Limits, in_place: bool) -> tuple[int, Any, Any]:
     """What the library is given of the arguments: the number of the form, the bytes, the limits."""
     try:
-        given = data if type(data) is bytes else _from_buffer(data)
+        given = data if type(data) is bytes else taken(data, in_place)
         return _FORMS[form], given, limits._laid_out  # type: ignore[attr-defined]
-    except (KeyError, TypeError, BufferError, AttributeError):
-        return _form(form), _buffer(data), _laid_out(limits)
+    except (KeyError, TypeError, AttributeError):
+        return _form(form), taken(data, in_place), _laid_out(limits)
 
 
 def _filled(call: Callable[[Any, int, Any], int], room: int, of_words: bool = False) -> bytes:
@@ -110,9 +100,9 @@ def _filled(call: Callable[[Any, int, Any], int], room: int, of_words: bool = Fa
     return answer
 
 
-def _told(call: Callable[..., int], data: ReadableBuffer, form: str, limits: Limits, *out: Any) -> None:
+def _told(call: Callable[..., int], data: Buffer, form: str, limits: Limits, in_place: bool, *out: Any) -> None:
     """A call on one message, with the buffer that it writes into, if there is one."""
-    number, given, bounds = _taken(data, form, limits)
+    number, given, bounds = _taken(data, form, limits, in_place)
     report = _report()
     status = call(number, given, len(given), bounds, *out, report)
     if status != lib.CAPN_OK:
@@ -120,11 +110,9 @@ def _told(call: Callable[..., int], data: ReadableBuffer, form: str, limits: Lim
     _reports.append(report)
 
 
-def check(
-    data: ReadableBuffer, form: Literal["stream", "packed", "bare"] = "stream", limits: Limits = _USUAL
-) -> Checked:
+def check(data: Buffer, form: Form = "stream", limits: Limits = _USUAL, *, in_place: bool = False) -> Checked:
     """Whether one message is accepted within limits: what reading it costs, or a refusal."""
-    number, given, bounds = _taken(data, form, limits)
+    number, given, bounds = _taken(data, form, limits, in_place)
     report = _report()
     status = _capn_check(number, given, len(given), bounds, report)
     if status:
@@ -134,35 +122,31 @@ def check(
     return checked
 
 
-def survey(
-    data: ReadableBuffer, form: Literal["stream", "packed", "bare"] = "stream", limits: Limits = _USUAL
-) -> Surveyed:
+def survey(data: Buffer, form: Form = "stream", limits: Limits = _USUAL, *, in_place: bool = False) -> Surveyed:
     """What one message has and costs, within limits."""
     if form == "packed":
-        data, form = unpack(data, _laid_out(limits).message_words + 2049), "stream"
+        data, form = unpack(data, _laid_out(limits).message_words + 2049, in_place=in_place), "stream"
     figures = _new(_figures_type)
-    _told(lib.capn_survey, data, form, limits, figures)
+    _told(lib.capn_survey, data, form, limits, in_place, figures)
     capability = figures.capability if figures.has_capability else None
     return Surveyed(
         figures.words, figures.segments, figures.paid, figures.visits, figures.depth, capability,
         bool(figures.canonical))
 
 
-def canonical(
-    data: ReadableBuffer, form: Literal["stream", "packed", "bare"] = "stream", limits: Limits = _USUAL
-) -> bytes:
+def canonical(data: Buffer, form: Form = "stream", limits: Limits = _USUAL, *, in_place: bool = False) -> bytes:
     """The canonical bytes of one message: the same for equal values alone, whoever wrote the message, and in whatever
     form. At most 8 * (limits.budget + 1) of them."""
-    number, given, bounds = _taken(data, form, limits)
+    number, given, bounds = _taken(data, form, limits, in_place)
     size = len(given)
     # As long as the words that the message has: mostly enough. If it isn't, the call reports the length.
     room = 4 * size if form == "packed" else size
     return _filled(lambda *out: lib.capn_canonical(number, given, size, bounds, *out), room)
 
 
-def is_canonical(data: ReadableBuffer, limits: Limits = _USUAL) -> bool:
+def is_canonical(data: Buffer, limits: Limits = _USUAL, *, in_place: bool = False) -> bool:
     """Whether bytes, read bare, are the canonical bytes of their value. A refusal if they have none."""
-    given, bounds, report = _buffer(data), _laid_out(limits), _report()
+    given, bounds, report = taken(data, in_place), _laid_out(limits), _report()
     status = lib.capn_is_canonical(given, len(given), bounds, report)
     if status not in (lib.CAPN_OK, lib.CAPN_NOT_CANONICAL):
         raise failure(status, report)
@@ -170,27 +154,25 @@ def is_canonical(data: ReadableBuffer, limits: Limits = _USUAL) -> bool:
     return bool(status == lib.CAPN_OK)
 
 
-def digest(
-    data: ReadableBuffer, form: Literal["stream", "packed", "bare"] = "stream", limits: Limits = _USUAL
-) -> bytes:
+def digest(data: Buffer, form: Form = "stream", limits: Limits = _USUAL, *, in_place: bool = False) -> bytes:
     """The SHA-256 of the canonical bytes of one message, 32 bytes."""
     out = _new(_digest_type)
-    _told(lib.capn_hash, data, form, limits, out)
+    _told(lib.capn_hash, data, form, limits, in_place, out)
     return bytes(ffi.buffer(out))
 
 
-def pack(data: ReadableBuffer) -> bytes:
+def pack(data: Buffer, *, in_place: bool = False) -> bytes:
     """The packed text of whole words."""
-    given = _buffer(data)
+    given = taken(data, in_place)
     size = len(given)
     return _filled(lambda *out: lib.capn_pack(given, size, *out), size // 8 * 10, of_words=True)
 
 
-def unpack(data: ReadableBuffer, max_words: int = _USUAL_WORDS) -> bytes:
+def unpack(data: Buffer, max_words: int = _USUAL_WORDS, *, in_place: bool = False) -> bytes:
     """The words of a packed text, at most `max_words`, a number below 2^32."""
     most = index(max_words)
     if not 0 <= most < 1 << 32:
         raise ValueError(f"max_words is a number from 0 to {(1 << 32) - 1}, not {most}")
-    given = _buffer(data)
+    given = taken(data, in_place)
     size = len(given)
     return _filled(lambda *out: lib.capn_unpack(given, size, most, *out), min(4 * size, 8 * most))

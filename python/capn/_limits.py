@@ -1,7 +1,7 @@
 """How much a call takes on."""
 from __future__ import annotations
 
-from dataclasses import dataclass
+from dataclasses import dataclass, fields
 from operator import index
 from typing import Any, Literal
 
@@ -24,7 +24,10 @@ class Limits:
 
     def __post_init__(self) -> None:
         for name, (least, most) in _RANGES.items():
-            number = index(getattr(self, name))
+            number = getattr(self, name)
+            if isinstance(number, bool):
+                raise TypeError(f"{name} is a number, not {number}")
+            number = index(number)
             if not least <= number <= most:
                 raise ValueError(f"{name} is a number from {least} to {most}, not {number}")
             object.__setattr__(self, name, number)
@@ -32,9 +35,9 @@ class Limits:
             raise TypeError(f"tariff is a string, not {type(self.tariff).__name__}")
         if self.tariff not in _TARIFFS:
             raise ValueError(f"tariff is 'strict' or 'plain', not {self.tariff!r}")
-        fields = (self.message_words, self.budget, self.depth, _TARIFFS[self.tariff])
-        object.__setattr__(self, "_laid_out", ffi.new("const capn_limits *", fields))
+        numbers = (self.message_words, self.budget, self.depth, _TARIFFS[self.tariff])
+        object.__setattr__(self, "_laid_out", ffi.new("const capn_limits *", numbers))
 
     def __reduce__(self) -> tuple[Any, ...]:
         # What is laid out for the library is made again by whoever unpickles or copies.
-        return Limits, (self.message_words, self.budget, self.depth, self.tariff)
+        return type(self), tuple(getattr(self, one.name) for one in fields(self) if one.init)

@@ -1,45 +1,48 @@
 """Messages that are read in place, by an index of them."""
 from __future__ import annotations
 
-from typing import TYPE_CHECKING, Any, Iterator, Literal, Sequence, overload
+import builtins
+from array import array
+from operator import index
+from struct import pack, unpack
+from types import TracebackType
+from typing import Any, Iterator, Literal, Sequence, TypeVar, Union, overload
+from weakref import WeakValueDictionary
 
-from ._calls import _USUAL, _form, _laid_out, unpack
+from ._bytes import Buffer, no_buffer
+from ._calls import _USUAL, Form, _form, _laid_out, _room
+from ._calls import unpack as _unpacked
 from ._capn import ffi, lib
 from ._limits import Limits
-from ._refusal import failure
+from ._refusal import Refusal, failure
 
-if TYPE_CHECKING:
-    from _typeshed import ReadableBuffer
-
+_T = TypeVar("_T")
 _report_type, _entries_type = ffi.typeof("capn_report *"), ffi.typeof("capn_entry[]")
-_KINDS = {
-    lib.CAPN_KIND_NULL: "null",
-    lib.CAPN_KIND_STRUCT: "struct",
-    lib.CAPN_KIND_VOID: "void",
-    lib.CAPN_KIND_BITS: "bits",
-    lib.CAPN_KIND_BYTES: "bytes",
-    lib.CAPN_KIND_U16: "u16",
-    lib.CAPN_KIND_U32: "u32",
-    lib.CAPN_KIND_U64: "u64",
-    lib.CAPN_KIND_POINTERS: "pointers",
-    lib.CAPN_KIND_ROWS: "rows",
-    lib.CAPN_KIND_CAPABILITY: "capability",
-}
 # The entries for which there is room at once; if there are more, the library says how many.
 _FEW = 64
-# The format of a number, and its bytes.
-_NUMBERS = {"bytes": ("B", 1), "u16": ("H", 2), "u32": ("I", 4), "u64": ("Q", 8)}
+_WIDTHS = (8, 16, 32, 64)
 
 
 class Object:
-    """What is in a slot. Its `kind` is the word that `capn show` has for it."""
+    """What is in a slot. Its `kind` is the word that `capn show` has for it.
 
-    __slots__ = ("_message", "_entry", "_at", "kind")
+    Two objects are equal if they have the same value, as their canonical bytes would: data words of zero and null slots
+    at the end of a struct mean nothing. Such a comparison may read all that is below. No object has a hash."""
+
+    __slots__ = ("_message", "_entry", "_at")
 
     def __init__(self, message: Message, at: int) -> None:
         self._message, self._at = message, at
         self._entry = message._entries[at]
-        self.kind = _KINDS[self._entry.kind]
+
+    @property
+    def kind(self) -> str:
+        raise NotImplementedError
+
+    def __eq__(self, other: object) -> bool:
+        if not isinstance(other, (Object, Row)):
+            return NotImplemented
+        return _same(self, other)
 
     def __repr__(self) -> str:
         return f"<capn {self.kind}>"
@@ -49,6 +52,7 @@ class Null(Object):
     """A null pointer."""
 
     __slots__ = ()
+    kind: Literal["null"] = "null"
 
     def __bool__(self) -> bool:
         return False
@@ -58,35 +62,45 @@ class Capability(Object):
     """A capability, by its index."""
 
     __slots__ = ()
+    kind: Literal["capability"] = "capability"
 
     @property
     def index(self) -> int:
+        """Which of the capabilities that came beside the message it is."""
         return int(self._entry.count)
 
+    def __repr__(self) -> str:
+        return f"<capn capability {self.index}>"
 
-class _Items(Sequence[Any]):
+
+class _Items(Sequence[_T]):
     """A list of known length whose elements are made as they are asked for."""
 
     __slots__ = ()
 
-    def _item(self, i: int) -> Any:
+    def _item(self, i: int) -> _T:
         raise NotImplementedError
 
     @overload
-    def __getitem__(self, i: int) -> Any: ...
+    def __getitem__(self, i: int) -> _T: ...
     @overload
-    def __getitem__(self, i: slice) -> list[Any]: ...
-    def __getitem__(self, i: int | slice) -> Any:
+    def __getitem__(self, i: slice) -> Sequence[_T]: ...
+    def __getitem__(self, i: int | slice) -> _T | Sequence[_T]:
         if isinstance(i, slice):
             return [self._item(k) for k in range(*i.indices(len(self)))]
-        k = range(len(self))[i]
-        return self._item(k)
+        return self._item(range(len(self))[i])
 
-    def __iter__(self) -> Iterator[Any]:
+    def __iter__(self) -> Iterator[_T]:
         return map(self._item, range(len(self)))
 
+    def _is_list(self, other: object) -> bool:
+        """Whether the elements are those of a list or tuple; not of another object."""
+        if not isinstance(other, (list, tuple)):
+            return NotImplemented
+        return len(self) == len(other) and all(one == two for one, two in zip(self, other))
 
-class Slots(_Items):
+
+class Slots(_Items["Value"]):
     """The objects of some slots that stand beside each other."""
 
     __slots__ = ("_message", "_places")
@@ -97,180 +111,462 @@ class Slots(_Items):
     def __len__(self) -> int:
         return len(self._places)
 
-    def _item(self, i: int) -> Object:
+    def _item(self, i: int) -> Value:
         return self._message._object(self._places[i])
+
+    def __eq__(self, other: object) -> bool:
+        return self._is_list(list(other) if isinstance(other, Slots) else other)
+
+    def __repr__(self) -> str:
+        return f"<capn slots, {len(self)}>"
 
 
 class Body:
-    """The words of a struct or of a row, and its slots."""
+    """Words and slots: what a struct has, and a row of a list of structs.
 
-    __slots__ = ("words", "slots")
+    A field of data is stored XOR its default, so what reads one takes the default, and answers it where the struct is too
+    short for the field. `offset` counts fields of that size from the start of the data, as `slot.offset` of a compiled
+    schema does: `bits[32, 64)` of `capnp compile -ocapnp` is `uint(32, 1)`."""
+
+    __slots__ = ()
+    kind: Literal["struct"] = "struct"
     words: memoryview
     """Its data words, each a number below 2^64; `words.cast("B")` are their bytes."""
     slots: Slots
     """The objects of its pointers."""
 
-    def __init__(self, words: memoryview, slots: Slots) -> None:
-        self.words, self.slots = words, slots
+    def __init__(self) -> None:
+        raise TypeError("bodies are of messages that are read")
+
+    def uint(self, bits: builtins.int, offset: builtins.int, default: builtins.int = 0) -> builtins.int:
+        """A field without sign, of 8, 16, 32 or 64 bits; an enumerant is one of 16."""
+        if bits not in _WIDTHS:
+            raise ValueError(f"a number has 8, 16, 32 or 64 bits, not {bits!r}")
+        if not 0 <= default < 1 << bits:
+            raise ValueError(f"default is a number of {bits} bits, not {default}")
+        return self._field(bits, offset) ^ default
+
+    def int(self, bits: builtins.int, offset: builtins.int, default: builtins.int = 0) -> builtins.int:
+        """A field with a sign, of 8, 16, 32 or 64 bits."""
+        if bits not in _WIDTHS:
+            raise ValueError(f"a number has 8, 16, 32 or 64 bits, not {bits!r}")
+        half = 1 << bits - 1
+        if not -half <= default < half:
+            raise ValueError(f"default is a number of {bits} bits and a sign, not {default}")
+        found = self._field(bits, offset) ^ default & 2 * half - 1
+        return found - 2 * half if found & half else found
+
+    def float(self, bits: builtins.int, offset: builtins.int, default: builtins.float = 0.0) -> builtins.float:
+        """A field with a floating point, of 32 or 64 bits."""
+        if bits not in (32, 64):
+            raise ValueError(f"a number with a floating point has 32 or 64 bits, not {bits!r}")
+        number, same = ("<f", "<I") if bits == 32 else ("<d", "<Q")
+        stored = self._field(bits, offset) ^ unpack(same, pack(number, default))[0]
+        answer: float = unpack(number, pack(same, stored))[0]
+        return answer
+
+    def bool(self, offset: builtins.int, default: builtins.bool = False) -> builtins.bool:
+        """A bit."""
+        return bool(self._field(1, offset)) is not default
+
+    def text(self, i: builtins.int, default: str = "") -> str:
+        """The text of a slot, or the default where it is null or missing. A `ValueError` if another object is there, or
+        no text in UTF-8."""
+        if i < 0:
+            raise ValueError(f"a slot has a number from 0 on, not {i}")
+        found = self.slots[i] if i < len(self.slots) else None
+        if found is None or found.kind == "null":
+            return default
+        if found.kind != "bytes":
+            raise ValueError(f"slot {i} has no text, but {found!r}")
+        return found.text()
+
+    def _field(self, bits: builtins.int, offset: builtins.int) -> builtins.int:
+        """The bits of a field as they are stored, 0 where there are none."""
+        if offset < 0:
+            raise ValueError(f"an offset is a number from 0 on, not {offset}")
+        word, bit = divmod(bits * offset, 64)
+        return self.words[word] >> bit & (1 << bits) - 1 if word < len(self.words) else 0
 
 
-class Struct(Object):
-    """A struct."""
+class Row(Body):
+    """A row of a list of structs."""
 
     __slots__ = ("words", "slots")
 
+    def __init__(self, words: memoryview, slots: Slots) -> None:
+        self.words, self.slots = words, slots
+
+    def __eq__(self, other: object) -> bool:
+        if not isinstance(other, (Object, Row)):
+            return NotImplemented
+        return _same(self, other)
+
+    def __repr__(self) -> str:
+        return f"<capn row, {len(self.words)} words, {len(self.slots)} slots>"
+
+
+class Struct(Object, Body):
+    """A struct."""
+
+    __slots__ = ("words", "slots")
+    kind: Literal["struct"] = "struct"
+
     def __init__(self, message: Message, at: int) -> None:
-        super().__init__(message, at)
+        Object.__init__(self, message, at)
         entry = self._entry
         self.words = message._numbers(entry.offset, entry.words, "Q", 8)
         self.slots = Slots(message, message._below(at, entry.slots))
 
+    def __repr__(self) -> str:
+        return f"<capn struct, {len(self.words)} words, {len(self.slots)} slots>"
 
-class List(Object, _Items):
-    """A list: a sequence of its elements."""
+
+class List(Object, _Items[_T]):
+    """A list: a sequence of its elements. It also equals a `list` or `tuple` of what its elements equal."""
 
     __slots__ = ()
 
     def __len__(self) -> int:
         return int(self._entry.count)
 
+    def __eq__(self, other: object) -> bool:
+        return _same(self, other) if isinstance(other, (Object, Row)) else self._is_list(other)
 
-class Voids(List):
+    def __repr__(self) -> str:
+        return f"<capn {self.kind}, {len(self)}>"
+
+
+class Voids(List[None]):
     """A list of elements without size."""
 
     __slots__ = ()
+    kind: Literal["void"] = "void"
 
     def _item(self, i: int) -> None:
         return None
 
 
-class Bits(List):
+class Bits(List[bool]):
     """A list of bits, as booleans."""
 
     __slots__ = ()
+    kind: Literal["bits"] = "bits"
 
     def _item(self, i: int) -> bool:
         return bool(self._message._data[self._entry.offset + i // 8] >> i % 8 & 1)
 
+    def _stored(self) -> tuple[bytes, int]:
+        """The whole bytes, and the bits that are left."""
+        offset, count = self._entry.offset, len(self)
+        whole = offset + count // 8
+        rest = self._message._data[whole] & (1 << count % 8) - 1 if count % 8 else 0
+        return self._message._data[offset:whole].tobytes(), rest
 
-class Numbers(List):
-    """A list of numbers of 8, 16, 32 or 64 bits; `view` is a memoryview of them."""
+
+class _Numbers(List[int]):
+    """Numbers of one size, over the bytes of the message."""
 
     __slots__ = ("view",)
+    view: memoryview
+    """A memoryview of the numbers."""
 
     def __init__(self, message: Message, at: int) -> None:
         super().__init__(message, at)
-        self.view = message._numbers(self._entry.offset, self._entry.count, *_NUMBERS[self.kind])
+        form, size = _FORMATS[self._entry.kind]
+        self.view = message._numbers(self._entry.offset, self._entry.count, form, size)
 
     def _item(self, i: int) -> int:
-        return int(self.view[i])
+        return self.view[i]
 
     def __bytes__(self) -> bytes:
         return self.view.tobytes()
 
 
-class Pointers(List):
+class Bytes(_Numbers):
+    """A list of bytes: data, or a text. It also equals `bytes`; a slice of it is `bytes`."""
+
+    __slots__ = ()
+    kind: Literal["bytes"] = "bytes"
+
+    @overload
+    def __getitem__(self, i: int) -> int: ...
+    @overload
+    def __getitem__(self, i: slice) -> bytes: ...
+    def __getitem__(self, i: int | slice) -> int | bytes:
+        return self.view[i].tobytes() if isinstance(i, slice) else self.view[i]
+
+    def text(self) -> str:
+        """The text that it is, without the zero byte at its end. A `ValueError` if there is no such byte, or if the
+        others are not UTF-8."""
+        if not self.view or self.view[-1]:
+            raise ValueError("the last byte of a text is zero, and of this list of bytes it is not")
+        return self.view[:-1].tobytes().decode()
+
+    def __eq__(self, other: object) -> bool:
+        if isinstance(other, (bytes, bytearray, memoryview)):
+            return self.view == other
+        return super().__eq__(other)
+
+
+class Numbers(_Numbers):
+    """A list of numbers of 16, 32 or 64 bits, without sign. `view` is a memoryview of them; `view.cast("B").cast("h")`
+    has those of 16 with a sign, and `"i"`, `"q"`, `"f"`, `"d"` are for the others."""
+
+    __slots__ = ()
+
+    @property
+    def kind(self) -> Literal["u16", "u32", "u64"]:
+        """The size of the numbers."""
+        return _KINDS[self._entry.kind]  # type: ignore[no-any-return]
+
+
+class Pointers(List["Value"]):
     """A list of pointers: the object of each."""
 
     __slots__ = ("_slots",)
+    kind: Literal["pointers"] = "pointers"
 
     def __init__(self, message: Message, at: int) -> None:
         super().__init__(message, at)
         self._slots = Slots(message, message._below(at, self._entry.count))
 
-    def _item(self, i: int) -> Object:
+    def _item(self, i: int) -> Value:
         return self._slots._item(i)
 
 
-class Rows(List):
-    """A list of structs, each with its words and its slots."""
+class Rows(List[Row]):
+    """A list of structs, each a row with its words and its slots."""
 
     __slots__ = ("_places",)
+    kind: Literal["rows"] = "rows"
 
     def __init__(self, message: Message, at: int) -> None:
         super().__init__(message, at)
         self._places = message._below(at, self._entry.count * self._entry.slots)
 
-    def _item(self, i: int) -> Body:
+    def _item(self, i: int) -> Row:
         words, slots = self._entry.words, self._entry.slots
         # The rows come after the tag.
         begin = self._entry.offset + 8 + 8 * i * (words + slots)
         places = self._places[i * slots:(i + 1) * slots]
-        return Body(self._message._numbers(begin, words, "Q", 8), Slots(self._message, places))
+        return Row(self._message._numbers(begin, words, "Q", 8), Slots(self._message, places))
+
+    def __repr__(self) -> str:
+        return f"<capn rows, {len(self)} of {self._entry.words} words, {self._entry.slots} slots>"
 
 
-_CLASSES: dict[str, type[Object]] = {
-    "null": Null,
-    "struct": Struct,
-    "void": Voids,
-    "bits": Bits,
-    "bytes": Numbers,
-    "u16": Numbers,
-    "u32": Numbers,
-    "u64": Numbers,
-    "pointers": Pointers,
-    "rows": Rows,
-    "capability": Capability,
+Value = Union[Null, Struct, Voids, Bits, Bytes, Numbers, Pointers, Rows, Capability]
+"""What may be in a slot, told by its `kind` or its class."""
+
+_KINDS: Any = {lib.CAPN_KIND_U16: "u16", lib.CAPN_KIND_U32: "u32", lib.CAPN_KIND_U64: "u64"}
+# The format of a number, and its bytes.
+_FORMATS = {
+    lib.CAPN_KIND_BYTES: ("B", 1),
+    lib.CAPN_KIND_U16: ("H", 2),
+    lib.CAPN_KIND_U32: ("I", 4),
+    lib.CAPN_KIND_U64: ("Q", 8),
+}
+_CLASSES: Any = {
+    lib.CAPN_KIND_NULL: Null,
+    lib.CAPN_KIND_STRUCT: Struct,
+    lib.CAPN_KIND_VOID: Voids,
+    lib.CAPN_KIND_BITS: Bits,
+    lib.CAPN_KIND_BYTES: Bytes,
+    lib.CAPN_KIND_U16: Numbers,
+    lib.CAPN_KIND_U32: Numbers,
+    lib.CAPN_KIND_U64: Numbers,
+    lib.CAPN_KIND_POINTERS: Pointers,
+    lib.CAPN_KIND_ROWS: Rows,
+    lib.CAPN_KIND_CAPABILITY: Capability,
 }
 
 
+def _same(one: Any, other: Any) -> bool:
+    """Whether two objects or rows have the same value."""
+    left = [(one, other)]
+    while left:
+        one, other = left.pop()
+        kind = one.kind
+        if kind != other.kind:
+            return False
+        if kind == "struct":
+            # Zeros at the end mean nothing, and the bytes of a word follow each other from the least significant on.
+            if one.words.tobytes().rstrip(b"\0") != other.words.tobytes().rstrip(b"\0"):
+                return False
+            few, many = sorted((one.slots, other.slots), key=len)
+            left += zip(few, many)
+            if any(many[i].kind != "null" for i in range(len(few), len(many))):
+                return False
+        elif kind == "capability":
+            if one.index != other.index:
+                return False
+        elif kind == "bits":
+            if len(one) != len(other) or one._stored() != other._stored():
+                return False
+        elif kind != "null":
+            if len(one) != len(other):
+                return False
+            if kind in ("pointers", "rows"):
+                left += zip(one, other)
+            elif kind != "void" and one.view != other.view:
+                return False
+    return True
+
+
+class _Closed:
+    """The entries of a message that was closed: none."""
+
+    def __getitem__(self, at: int) -> Any:
+        raise ValueError("the message is closed")
+
+
 class Message:
-    """A message that was accepted within limits, and is read in place.
+    """A message that was accepted within limits, and is read in place: what is read comes from the bytes that were
+    passed, or from their copy. It holds them until it is closed, or until no object of it is left.
 
-    What is read comes from the very bytes that were passed: nothing may change them as long as the message or an object
-    of it is used."""
+    Two messages are equal if their roots are. A message has no hash."""
 
-    __slots__ = ("_data", "_entries", "paid")
+    __slots__ = ("_data", "_entries", "_places", "_views", "paid", "visits", "words")
     paid: int
     """Words that the walk paid."""
+    visits: int
+    """Slots that it visited, each as often as it was met; the root is one."""
+    words: int
+    """Words of its segments."""
 
-    def __init__(self, data: memoryview, entries: Any, paid: int) -> None:
-        self._data, self._entries, self.paid = data, entries, paid
+    def __init__(self, data: memoryview, entries: Any, paid: int, visits: int, words: int, in_place: bool) -> None:
+        self._data, self._entries, self.paid, self.visits, self.words = data, entries, paid, visits, words
+        # Of an entry with objects below its slots, where the entries of these slots are.
+        self._places: dict[int, Sequence[int]] = {}
+        # The views of bytes that are not ours, to be released when the message is closed.
+        self._views: WeakValueDictionary[int, memoryview] | None = WeakValueDictionary() if in_place else None
 
     @property
-    def root(self) -> Object:
+    def root(self) -> Value:
         """What the root's slot has."""
         return self._object(0)
 
-    def _object(self, at: int) -> Object:
-        return _CLASSES[_KINDS[self._entries[at].kind]](self, at)
+    def at(self, *way: int) -> Value | Row | None:
+        """What is at a way of numbers from the root, as `capn show --at` has it: of a struct a number means a slot, of a
+        list of pointers an element, of a list of structs a row. None if nothing is there."""
+        found: Value | Row = self.root
+        for step in way:
+            number = index(step)
+            if number < 0:
+                raise ValueError(f"a way has numbers from 0 on, not {number}")
+            below: Sequence[Value | Row] = ()
+            if found.kind == "struct":
+                below = found.slots
+            elif found.kind == "pointers" or found.kind == "rows":
+                below = found
+            if number >= len(below):
+                return None
+            found = below[number]
+        return found
+
+    def close(self) -> None:
+        """Lets go of the bytes. An object that was read before raises a `ValueError` from then on; so does a view of
+        bytes that were taken in place, which may be changed and released again. A `BufferError` if another object still
+        uses such a view."""
+        for view in list(self._views.values()) if self._views is not None else []:
+            view.release()
+        self._data.release()
+        self._entries = _Closed()
+        self._places = {}
+
+    def __enter__(self) -> Message:
+        self._entries[0]
+        return self
+
+    def __exit__(
+        self, kind: type[BaseException] | None, value: BaseException | None, traceback: TracebackType | None
+    ) -> None:
+        self.close()
+
+    def __eq__(self, other: object) -> bool:
+        if not isinstance(other, Message):
+            return NotImplemented
+        return _same(self.root, other.root)
+
+    def __repr__(self) -> str:
+        return f"<capn message, {self.words} words, {self.visits} slots>"
+
+    def _object(self, at: int) -> Value:
+        found: Value = _CLASSES[self._entries[at].kind](self, at)
+        return found
 
     def _numbers(self, offset: int, count: int, form: Any, size: int) -> memoryview:
-        return self._data[offset:offset + size * count].cast(form)
+        view = self._data[offset:offset + size * count].cast(form)
+        if self._views is not None:
+            self._views[id(view)] = view
+        return view
 
     def _below(self, at: int, count: int) -> Sequence[int]:
         """Where the entries of this number of slots are that come after an entry. Slots with nothing below them, as most
         have, need no list."""
-        at += 1
-        if self._entries[at - 1].span == count + 1:
-            return range(at, at + count)
-        places = []
-        for _ in range(count):
-            places.append(at)
-            at += self._entries[at].span
+        if self._entries[at].span == count + 1:
+            return range(at + 1, at + 1 + count)
+        places = self._places.get(at)
+        if places is None:
+            entries, next_one, places = self._entries, at + 1, array("I")
+            for _ in range(count):
+                places.append(next_one)
+                next_one += entries[next_one].span
+            self._places[at] = places
         return places
 
 
+def _segment_words(data: memoryview, form: int) -> int:
+    """The words of the segments of a message that was accepted."""
+    if form == lib.CAPN_BARE:
+        return len(data) // 8
+    segments = 1 + int.from_bytes(data[:4], "little")
+    return len(data) // 8 - (segments + 2) // 2
+
+
 def read(
-    data: ReadableBuffer, form: Literal["stream", "packed", "bare"] = "stream", limits: Limits = _USUAL
+    data: Buffer,
+    form: Form = "stream",
+    limits: Limits = _USUAL,
+    *,
+    most_slots: int | None = None,
+    in_place: bool = False,
 ) -> Message:
     """One message within limits, to be read in place: an index is made of it, and what is read follows no pointer. A
-    packed message is unpacked first. An index takes 24 bytes for each slot, and as many more while it is made; there is
-    at most one slot more than words were paid."""
+    packed message is unpacked first.
+
+    An index takes 24 bytes for each slot, and as many more while it is made; there is at most one slot more than words
+    were paid. With `most_slots` a message with more of them is a `Refusal` of the name "TooManySlots", which has their
+    number as `at`, before any index is made. With `in_place` nothing may change the bytes as long as the message or an
+    object of it is used."""
     bounds = _laid_out(limits)
-    if _form(form) == lib.CAPN_PACKED:
-        data, form = unpack(data, limits.message_words + 2049), "stream"
+    most = None if most_slots is None else index(most_slots)
+    if most is not None and most < 0:
+        raise ValueError(f"most_slots is a number from 0 on, or None, not {most}")
     number = _form(form)
-    view = memoryview(data)
-    bytes_of = view.cast("B") if view.c_contiguous else memoryview(view.tobytes())
-    given, report = ffi.from_buffer(bytes_of), ffi.new(_report_type)
-    room = _FEW
-    while True:
-        entries = ffi.new(_entries_type, room)
-        status = lib.capn_index(number, given, len(given), bounds, entries, room, report)
-        if status != lib.CAPN_NO_ROOM:
-            break
-        room = report.visits
+    if number == lib.CAPN_PACKED:
+        data, number, in_place = _unpacked(data, limits.message_words + 2049, in_place=in_place), lib.CAPN_STREAM, False
+    try:
+        view = memoryview(data)
+    except TypeError:
+        raise no_buffer(data) from None
+    in_place = in_place and type(view.obj) is not bytes
+    if not view.c_contiguous or not in_place and type(view.obj) is not bytes:
+        view, in_place = memoryview(view.tobytes()), False
+    elif view.format != "B" or view.ndim != 1:
+        view = view.cast("B")
+    report, room = ffi.new(_report_type), _FEW if most is None else min(most, _FEW)
+    with ffi.from_buffer(view) as given:
+        while True:
+            entries = _room(_entries_type, room)
+            status = lib.capn_index(number, given, len(given), bounds, entries, room, report)
+            if status != lib.CAPN_NO_ROOM:
+                break
+            room = report.visits
+            if most is not None and room > most:
+                raise Refusal(f"too many slots: {room}", "TooManySlots", at=room)
     if status != lib.CAPN_OK:
         raise failure(status, report)
-    return Message(bytes_of.toreadonly(), entries, report.paid)
+    words = _segment_words(view, number)
+    return Message(view.toreadonly(), entries, report.paid, report.visits, words, in_place)

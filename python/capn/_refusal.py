@@ -38,7 +38,11 @@ class Refusal(ValueError):
 
     `name` is the name of its status, as "Range" or "FrameCut". A refusal of the walk has a `place`, the segment and
     word of the slot at which it came, and what was `paid` and how many `visits` were made until then; the others have
-    none, and 0. `at` is the offset, count or index of a refusal that has one, or 0."""
+    none, and 0. `at` is the offset, count or index of a refusal that has one, or 0. Of a message of a stream, `number`
+    says which one it is, from 1 on, and `offset` where it begins, in the unpacked bytes; else both are None."""
+
+    number: int | None = None
+    offset: int | None = None
 
     def __init__(
         self, text: str, name: str, place: tuple[int, int] | None = None, paid: int = 0, visits: int = 0, at: int = 0
@@ -52,6 +56,12 @@ class Refusal(ValueError):
 
     def __str__(self) -> str:
         return str(self.args[0])
+
+    def _of_message(self, number: int, offset: int) -> Refusal:
+        """The same, of a message of a stream. A traceback tells it too."""
+        self.number, self.offset = number, offset
+        self.add_note(f"message {number} at {offset}")
+        return self
 
 
 def failure(status: int, report: Any, of_words: bool = False) -> Exception:

@@ -1,4 +1,6 @@
-"""What `capn.check` of a message of 32 bytes takes above an empty Python call, in nanoseconds: the shortest of many."""
+"""What calls of the package take, in nanoseconds: the shortest of many. The first three say what `capn.check` of a message
+of 32 bytes takes above an empty Python call."""
+import io
 import sys
 from time import perf_counter
 
@@ -6,26 +8,66 @@ import capn
 
 MESSAGE = bytes.fromhex("0000000003000000" "0000000002000000" "0500000000000000" "0000000000000000")
 CALLS, RUNS = 2000, 500
+# A message: a struct with a number, a text of 8 bytes and a list of 12 rows, each of a word and a text.
+ROWS = 12
+
+
+def longer():
+    """The bytes of that message."""
+    segment = [1 << 32 | 2 << 48, 7, 1 << 2 | 1 | 2 << 32 | 8 << 35, 1 << 2 | 1 | 7 << 32 | 2 * ROWS << 35]
+    segment += [int.from_bytes(b"abcdefg\0", "little"), ROWS << 2 | 1 << 32 | 1 << 48]
+    for row in range(ROWS):
+        # The texts come after all rows.
+        segment += [row, 2 * (ROWS - row) - 2 + row << 2 | 1 | 2 << 32 | 8 << 35]
+    segment += [int.from_bytes(b"written\0", "little")] * ROWS
+    return b"".join(word.to_bytes(8, "little") for word in [len(segment) << 32, *segment])
 
 
 def empty(data, form="stream", limits=None):
     """Takes what `check` takes, and does nothing."""
 
 
-def shortest(call, data):
+def shortest(call, data, calls=CALLS, runs=RUNS):
     least = float("inf")
-    for _ in range(RUNS):
+    for _ in range(runs):
         start = perf_counter()
-        for _ in range(CALLS):
+        for _ in range(calls):
             call(data)
-        least = min(least, (perf_counter() - start) / CALLS)
+        least = min(least, (perf_counter() - start) / calls)
     return least * 1e9
+
+
+def fields(data):
+    root = capn.read(data).root
+    return root.words[0], bytes(root.slots[0])
+
+
+def rows(data):
+    return [(row.words[0], bytes(row.slots[0])) for row in capn.read(data).root.slots[1]]
+
+
+def streamed(**options):
+    """What reads a stream of many messages, for each of them."""
+    message, count = longer(), 2000
+    data = capn.pack(message) * count if options.get("packed") else message * count
+    file = io.BufferedReader(io.BytesIO(data), 65536)
+
+    def read(_):
+        file.seek(0)
+        assert sum(1 for _ in capn.messages(file, **options)) == count
+
+    return shortest(read, None, calls=1, runs=30) / count
 
 
 def main():
     nothing = shortest(empty, MESSAGE)
     for name, data in ("bytes", MESSAGE), ("bytearray", bytearray(MESSAGE)), ("memoryview", memoryview(MESSAGE)):
         print(f"check, 32 bytes, {name}: {shortest(capn.check, data) - nothing:.0f} ns above an empty call")
+    message = longer()
+    for call in capn.check, capn.digest, capn.canonical, capn.survey, capn.read, fields, rows:
+        print(f"{call.__name__}, {len(message)} bytes: {shortest(call, message, 200, 100):.0f} ns")
+    for options in {}, {"packed": True}, {"read_ahead": True}, {"packed": True, "read_ahead": True}:
+        print(f"messages, {' '.join(options) or 'no option'}: {streamed(**options):.0f} ns a message")
 
 
 if __name__ == "__main__":

@@ -24,35 +24,44 @@ def blocks():
             block = []
 
 
+def programs():
+    """The programs of the page, each after what it goes on from. What comes before them is for a shell."""
+    found = list(blocks())
+    first = next(i for i, block in enumerate(found) if block.startswith("import sys"))
+    return found[first:first + 1] + [f"{found[first]}\n\n{block}" for block in found[first + 1:]]
+
+
 class Page(unittest.TestCase):
     def setUp(self):
-        _, self.check, self.verify, self.read, self.stream = blocks()
+        self.check, self.verify, self.read, self.stream = programs()
 
-    def run_on(self, message, more=""):
+    def run_on(self, message, program, more=""):
         with tempfile.TemporaryDirectory() as folder:
             (Path(folder) / "message").write_bytes(message)
             (Path(folder) / "messages").write_bytes(message * 2)
-            ran = subprocess.run([sys.executable, "-B", "-c", self.check + "\n" + more], cwd=folder,
+            ran = subprocess.run([sys.executable, "-B", "-c", f"{program}\n{more}"], cwd=folder,
                                  capture_output=True, check=False, text=True)
         return ran.returncode, ran.stdout + ran.stderr
 
     def test_check(self):
-        self.assertEqual(self.run_on(MESSAGE), (0, "reading it costs 3 words\n"))
-        self.assertEqual(self.run_on(MESSAGE[:-8]), (1, "refused: frame: Cut\n"))
-        self.assertEqual(self.run_on(MESSAGE * 2), (1, "refused: trailing bytes at 32\n"))
-        self.assertEqual(self.run_on(b""), (1, "refused: frame: Empty\n"))
-        self.assertEqual(self.run_on(bytes((1 << 20) + 1)), (1, "too long\n"))
+        self.assertEqual(self.run_on(MESSAGE, self.check), (0, "reading it costs 3 words\n"))
+        self.assertEqual(self.run_on(MESSAGE[:-8], self.check), (1, "refused: frame: Cut\n"))
+        self.assertEqual(self.run_on(MESSAGE * 2, self.check), (1, "refused: trailing bytes at 32\n"))
+        self.assertEqual(self.run_on(b"", self.check), (1, "refused: frame: Empty\n"))
+        self.assertEqual(self.run_on(bytes((1 << 20) + 1), self.check), (1, "too long\n"))
 
     def test_verify(self):
         digest = capn.digest(MESSAGE)
         for message, expected in (MESSAGE, True), (MESSAGE[:-8], False), (MESSAGE * 2, False), (b"", False):
             asked = f"print(is_signed({message!r}, {digest!r}), is_signed({message!r}, bytes(32)))"
-            status, wrote = self.run_on(MESSAGE, self.verify + "\n" + asked)
+            status, wrote = self.run_on(MESSAGE, self.verify, asked)
             self.assertEqual((status, wrote.splitlines()[-1]), (0, f"{expected} False"))
 
     def test_read(self):
-        self.assertEqual(self.run_on(TEXT, self.read), (0, "reading it costs 5 words\n5 b'abc'\n"))
-        self.assertEqual(self.run_on(MESSAGE, self.read), (0, "reading it costs 3 words\n"))
+        # The number is stored XOR 7.
+        self.assertEqual(self.run_on(TEXT, self.read), (0, "reading it costs 5 words\n2 abc\n"))
+        self.assertEqual(self.run_on(MESSAGE, self.read), (0, "reading it costs 3 words\n2 nobody\n"))
+        self.assertEqual(self.run_on(bytes(4) + b"\1" + bytes(11), self.read), (0, "reading it costs 0 words\n"))
 
     def test_stream(self):
         figures = capn.Surveyed(words=3, segments=1, paid=3, visits=1, depth=1, capability=None, canonical=False)

@@ -1,0 +1,152 @@
+//go:build cgo && linux && amd64
+
+package capn
+
+// #cgo pkg-config: capn
+// #include <capn.h>
+//
+// // Each call answers its report beside its status, so that Go has none on its heap.
+// typedef struct { capn_status status; capn_report report; } capn_told;
+// typedef struct { capn_status status; capn_report report; uint8_t digest[32]; } capn_hashed;
+// typedef struct { capn_status status; capn_report report; capn_figures figures; } capn_surveyed;
+//
+// static capn_told told_check(uint32_t form, const uint8_t *bytes, size_t size, capn_limits limits) {
+//     capn_told told;
+//     told.status = capn_check(form, bytes, size, &limits, &told.report);
+//     return told;
+// }
+// static capn_told told_canonical(uint32_t form, const uint8_t *bytes, size_t size, capn_limits limits, uint8_t *out,
+//                                 size_t room) {
+//     capn_told told;
+//     told.status = capn_canonical(form, bytes, size, &limits, out, room, &told.report);
+//     return told;
+// }
+// static capn_told told_is_canonical(const uint8_t *bytes, size_t size, capn_limits limits) {
+//     capn_told told;
+//     told.status = capn_is_canonical(bytes, size, &limits, &told.report);
+//     return told;
+// }
+// static capn_hashed told_hash(uint32_t form, const uint8_t *bytes, size_t size, capn_limits limits) {
+//     capn_hashed told;
+//     told.status = capn_hash(form, bytes, size, &limits, told.digest, &told.report);
+//     return told;
+// }
+// static capn_surveyed told_survey(uint32_t form, const uint8_t *bytes, size_t size, capn_limits limits) {
+//     capn_surveyed told;
+//     told.status = capn_survey(form, bytes, size, &limits, &told.figures, &told.report);
+//     return told;
+// }
+// static capn_told told_pack(const uint8_t *bytes, size_t size, uint8_t *out, size_t room) {
+//     capn_told told;
+//     told.status = capn_pack(bytes, size, out, room, &told.report);
+//     return told;
+// }
+// static capn_told told_unpack(const uint8_t *bytes, size_t size, uint32_t most, uint8_t *out, size_t room) {
+//     capn_told told;
+//     told.status = capn_unpack(bytes, size, most, out, room, &told.report);
+//     return told;
+// }
+// static capn_told told_unpack_some(const uint8_t *bytes, size_t size, uint8_t *out, size_t room) {
+//     capn_told told;
+//     told.status = capn_unpack_some(bytes, size, out, room, &told.report);
+//     return told;
+// }
+// static capn_told told_first(const uint8_t *bytes, size_t size, capn_limits limits) {
+//     capn_told told;
+//     told.status = capn_first(bytes, size, &limits, &told.report);
+//     return told;
+// }
+// static capn_told told_index(uint32_t form, const uint8_t *bytes, size_t size, capn_limits limits,
+//                             capn_entry *entries, size_t room) {
+//     capn_told told;
+//     told.status = capn_index(form, bytes, size, &limits, entries, room, &told.report);
+//     return told;
+// }
+import "C"
+
+import "unsafe"
+
+// The entries that the library writes are those that Go reads: each of these lines fails to compile if they differ.
+const (
+	_ = uint(unsafe.Sizeof(entry{}) - unsafe.Sizeof(C.capn_entry{}))
+	_ = uint(unsafe.Sizeof(C.capn_entry{}) - unsafe.Sizeof(entry{}))
+	_ = uint(unsafe.Offsetof(entry{}.kind) - unsafe.Offsetof(C.capn_entry{}.kind))
+	_ = uint(unsafe.Offsetof(C.capn_entry{}.kind) - unsafe.Offsetof(entry{}.kind))
+)
+
+func start(bytes []byte) *C.uint8_t {
+	if len(bytes) == 0 {
+		return nil
+	}
+	return (*C.uint8_t)(unsafe.Pointer(&bytes[0]))
+}
+
+func laidOut(l Limits) C.capn_limits {
+	return C.capn_limits{C.uint32_t(l.MessageWords), C.uint32_t(l.Budget), C.uint32_t(l.Depth), C.uint32_t(l.Tariff)}
+}
+
+func reported(r C.capn_report) report {
+	return report{uint64(r.length), uint64(r.at), uint32(r.paid), uint32(r.visits), uint32(r.segment), uint32(r.word)}
+}
+
+func callVersion() string { return C.GoString(C.capn_version()) }
+
+func callCheck(form Form, m []byte, l Limits) (uint32, report) {
+	told := C.told_check(C.uint32_t(form), start(m), C.size_t(len(m)), laidOut(l))
+	return uint32(told.status), reported(told.report)
+}
+
+func callCanonical(form Form, m []byte, l Limits, out []byte) (uint32, report) {
+	told := C.told_canonical(C.uint32_t(form), start(m), C.size_t(len(m)), laidOut(l), start(out), C.size_t(len(out)))
+	return uint32(told.status), reported(told.report)
+}
+
+func callIsCanonical(m []byte, l Limits) (uint32, report) {
+	told := C.told_is_canonical(start(m), C.size_t(len(m)), laidOut(l))
+	return uint32(told.status), reported(told.report)
+}
+
+func callHash(form Form, m []byte, l Limits) ([32]byte, uint32, report) {
+	told := C.told_hash(C.uint32_t(form), start(m), C.size_t(len(m)), laidOut(l))
+	return *(*[32]byte)(unsafe.Pointer(&told.digest)), uint32(told.status), reported(told.report)
+}
+
+func callSurvey(form Form, m []byte, l Limits) (Figures, uint32, report) {
+	told := C.told_survey(C.uint32_t(form), start(m), C.size_t(len(m)), laidOut(l))
+	f := told.figures
+	figures := Figures{
+		Words: uint32(f.words), Segments: uint32(f.segments), Paid: uint32(f.paid), Visits: uint32(f.visits),
+		Depth: uint32(f.depth), HasCapability: f.has_capability != 0, Capability: uint32(f.capability),
+		Canonical: f.canonical != 0,
+	}
+	return figures, uint32(told.status), reported(told.report)
+}
+
+func callPack(m, out []byte) (uint32, report) {
+	told := C.told_pack(start(m), C.size_t(len(m)), start(out), C.size_t(len(out)))
+	return uint32(told.status), reported(told.report)
+}
+
+func callUnpack(m []byte, most uint32, out []byte) (uint32, report) {
+	told := C.told_unpack(start(m), C.size_t(len(m)), C.uint32_t(most), start(out), C.size_t(len(out)))
+	return uint32(told.status), reported(told.report)
+}
+
+func callUnpackSome(m, out []byte) (uint32, report) {
+	told := C.told_unpack_some(start(m), C.size_t(len(m)), start(out), C.size_t(len(out)))
+	return uint32(told.status), reported(told.report)
+}
+
+func callFirst(m []byte, l Limits) (uint32, report) {
+	told := C.told_first(start(m), C.size_t(len(m)), laidOut(l))
+	return uint32(told.status), reported(told.report)
+}
+
+func callIndex(form Form, m []byte, l Limits, entries []entry) (uint32, report) {
+	var first *C.capn_entry
+	if len(entries) != 0 {
+		first = (*C.capn_entry)(unsafe.Pointer(&entries[0]))
+	}
+	told := C.told_index(C.uint32_t(form), start(m), C.size_t(len(m)), laidOut(l), first, C.size_t(len(entries)))
+	return uint32(told.status), reported(told.report)
+}

@@ -1,0 +1,245 @@
+//go:build cgo && linux && amd64
+
+package capn
+
+import (
+	"bytes"
+	"crypto/sha256"
+	"errors"
+	"io"
+	"math/rand"
+	"os"
+	"strconv"
+	"strings"
+	"sync"
+	"testing"
+)
+
+func TestCalls(t *testing.T) {
+	source := rand.New(rand.NewSource(68))
+	for i := 0; i < 2000; i++ {
+		segment := bytesOf(segmentsOf(source, randomItem(source, 0), 1))[0]
+		message, err := framed([][]byte{segment})
+		if err != nil {
+			t.Fatal(err)
+		}
+		packed, err := Pack(message)
+		if err != nil {
+			t.Fatal(err)
+		}
+		if words, err := Unpack(packed, uint32(len(message)/8)); err != nil || !bytes.Equal(words, message) {
+			t.Fatal(err)
+		}
+		canonical, err := Canonical(message, Stream, nil)
+		if err != nil {
+			t.Fatal(err)
+		}
+		if is, err := IsCanonical(canonical, nil); err != nil || !is {
+			t.Fatal(is, err)
+		}
+		is, err := IsCanonical(segment, nil)
+		if err != nil || is != bytes.Equal(segment, canonical) {
+			t.Fatal(is, err)
+		}
+		figures, err := Survey(message, Stream, nil)
+		if err != nil || figures.Canonical != is || int(figures.Words) != len(segment)/8 {
+			t.Fatal(figures, err)
+		}
+		for form, data := range map[Form][]byte{Stream: message, Packed: packed, Bare: segment} {
+			got, err := AppendCanonical([]byte("before"), data, form, nil)
+			if err != nil || string(got[:6]) != "before" || !bytes.Equal(got[6:], canonical) {
+				t.Fatal(got, err)
+			}
+			room := make([]byte, 3, 3+len(canonical)+i%2)
+			if got, err = AppendCanonical(room, data, form, nil); err != nil || !bytes.Equal(got[3:], canonical) {
+				t.Fatal(got, err)
+			}
+			if digest, err := Digest(data, form, nil); err != nil || digest != sha256.Sum256(canonical) {
+				t.Fatal(digest, err)
+			}
+			if same, err := Survey(data, form, nil); err != nil || same.Paid != figures.Paid || same.Visits != figures.Visits {
+				t.Fatal(same, err)
+			}
+			checked, err := Check(data, form, nil)
+			if err != nil || checked != (Checked{figures.Paid, figures.Visits}) {
+				t.Fatal(checked, err)
+			}
+		}
+	}
+}
+
+// An object that many pointers lead to is written for each: the canonical bytes are longer than the message.
+func TestLongAnswer(t *testing.T) {
+	const count = 500
+	words := []uint64{1 | 6<<32 | count<<35}
+	for i := 0; i < count; i++ {
+		words = append(words, 1|uint64(count-1-i)<<2|5<<32|8<<35)
+	}
+	segment := bytesOf([][]uint64{append(words, 1, 2, 3, 4, 5, 6, 7, 8)})[0]
+	got, err := AppendCanonical(make([]byte, 5), segment, Bare, nil)
+	if err != nil || len(got) != 5+8*(1+count+8*count) {
+		t.Fatal(len(got), err)
+	}
+	dst := make([]byte, 5, 50)
+	if got, err = AppendCanonical(dst, segment, Bare, &Limits{9, 3000, 9, Strict}); !errors.Is(err, ErrOverBudget) {
+		t.Fatal(err)
+	}
+	if &got[0] != &dst[0] || len(got) != 5 {
+		t.Fatal("another slice was answered")
+	}
+}
+
+func TestRefusals(t *testing.T) {
+	outside, little := []byte("\x00\x00\x00\x00\x01\x00\x00\x00"), &Limits{9, 2, 9, Strict}
+	capability := []byte("\x00\x00\x00\x00\x00\x00\x01\x00" + "\x03\x00\x00\x00\x07\x00\x00\x00")
+	for _, one := range []struct {
+		err  error
+		kind Kind
+		text string
+		cut  bool
+	}{
+		{second(Check(nil, Stream, nil)), ErrFrameEmpty, "frame: Empty", false},
+		{second(Check(make([]byte, 7), Stream, nil)), ErrFrameCut, "frame: Cut", true},
+		{second(Check(append(small[:32:32], 0), Stream, nil)), ErrTrailing, "trailing bytes at 32", false},
+		{second(Check(make([]byte, 9), Bare, nil)), ErrNotWhole, "bare: NotWhole(9)", false},
+		{second(Pack(make([]byte, 9))), ErrNotWhole, "NotWhole(9)", false},
+		{second(Check([]byte{1}, Packed, nil)), ErrPackedCut, "packed: Cut at 0", true},
+		{second(Unpack(make([]byte, 2), 0)), ErrPackedTooLong, "packed: TooLong at 0", false},
+		{second(Survey(make([]byte, 2), Packed, nil)), ErrFrameCut, "frame: Cut", true},
+		{second(Canonical(capability, Bare, nil)), ErrCapability, "capability 7", false},
+		{second(Digest(outside, Bare, nil)), ErrRange, "Range at 0:0, paid 0, visits 1", false},
+		{second(Check(small, Stream, &Limits{9, 9, 256, Tariff(1)})), 0, "", false},
+		{second(Check(small, Stream, little)), ErrOverBudget, "OverBudget at 0:0, paid 0, visits 1", false},
+		{second(NewIndex(small, Stream, little)), ErrOverBudget, "OverBudget at 0:0, paid 0, visits 1", false},
+	} {
+		if one.kind == 0 {
+			if one.err != nil {
+				t.Error(one.err)
+			}
+			continue
+		}
+		var refused *Error
+		if !errors.As(one.err, &refused) || refused.Text() != one.text || one.err.Error() != "capn: "+one.text {
+			t.Errorf("%v, not %s", one.err, one.text)
+		}
+		if !errors.Is(one.err, one.kind) || errors.Is(one.err, ErrTooDeep) || errors.Is(one.err, io.EOF) {
+			t.Errorf("%v is not its kind", one.err)
+		}
+		if errors.Is(one.err, io.ErrUnexpectedEOF) != one.cut {
+			t.Errorf("%v: whether it is cut", one.err)
+		}
+	}
+	deep := bytesOf([][]uint64{{1 << 48, 1 << 48, 1 << 48, 0}})[0]
+	if _, err := Check(deep, Bare, &Limits{9, 9, 2, Strict}); !errors.Is(err, ErrTooDeep) {
+		t.Error(err)
+	}
+	for _, limits := range []Limits{{}, {0, 1, 1, 0}, {1, 1, 0, 0}, {1, 1, 257, 0}, {1 << 29, 1, 1, 0}, {1, 1, 1, 2}} {
+		if _, err := Check(small, Stream, &limits); err != ErrLimits {
+			t.Error(limits, err)
+		}
+	}
+	if _, err := Check(small, Form(3), nil); err != ErrForm {
+		t.Error(err)
+	}
+}
+
+func second[T any](_ T, err error) error { return err }
+
+// Each status from 16 on that the header has is a kind with its name, and no other is.
+func TestHeader(t *testing.T) {
+	header, err := os.ReadFile("../c/capn.h")
+	if err != nil {
+		t.Fatal(err)
+	}
+	for kind, name := range names {
+		// As TooManyWords is written in C.
+		var inC strings.Builder
+		for _, letter := range name {
+			if letter < 'a' {
+				inC.WriteByte('_')
+			}
+			inC.WriteString(strings.ToUpper(string(letter)))
+		}
+		line := "    CAPN" + inC.String() + " = "
+		at := strings.Index(string(header), line)
+		if at < 0 {
+			t.Errorf("no status %s", name)
+			continue
+		}
+		if number := strconv.Itoa(int(kind)); !strings.HasPrefix(string(header)[at+len(line):], number) {
+			t.Errorf("%s is not %s", name, number)
+		}
+	}
+}
+
+func TestVersion(t *testing.T) {
+	version, err := os.ReadFile("../VERSION")
+	if err != nil || strings.TrimSpace(string(version)) != Version() {
+		t.Error(Version(), err)
+	}
+}
+
+func TestTogether(t *testing.T) {
+	var group sync.WaitGroup
+	for i := 0; i < 64; i++ {
+		group.Add(1)
+		go func(number byte) {
+			defer group.Done()
+			message := append([]byte{}, small...)
+			message[16] = number
+			want := sha256.Sum256(append([]byte{0, 0, 0, 0, 1, 0, 0, 0}, number, 0, 0, 0, 0, 0, 0, 0))
+			for n := 0; n < 200; n++ {
+				if digest, err := Digest(message, Stream, nil); err != nil || digest != want {
+					t.Error(digest, err)
+				}
+				index, err := NewIndex(small, Stream, nil)
+				if err != nil || index.Root().Uint64(0, 0) != 5 {
+					t.Error(err)
+				}
+			}
+		}(byte(i + 1))
+	}
+	group.Wait()
+}
+
+func BenchmarkCheck32(b *testing.B) {
+	b.ReportAllocs()
+	for i := 0; i < b.N; i++ {
+		if _, err := Check(small, Stream, nil); err != nil {
+			b.Fatal(err)
+		}
+	}
+}
+
+func BenchmarkDigest32(b *testing.B) {
+	b.ReportAllocs()
+	for i := 0; i < b.N; i++ {
+		if _, err := Digest(small, Stream, nil); err != nil {
+			b.Fatal(err)
+		}
+	}
+}
+
+func BenchmarkCanonical32(b *testing.B) {
+	b.ReportAllocs()
+	dst := make([]byte, 0, 64)
+	for i := 0; i < b.N; i++ {
+		if _, err := AppendCanonical(dst, small, Stream, nil); err != nil {
+			b.Fatal(err)
+		}
+	}
+}
+
+func BenchmarkNext(b *testing.B) {
+	b.ReportAllocs()
+	stream := bytes.Repeat(small, 10000)
+	reader := NewReader(bytes.NewReader(nil), nil)
+	for i := 0; i < b.N; i++ {
+		if i%10000 == 0 {
+			reader = NewReader(bytes.NewReader(stream), nil)
+		}
+		if _, err := reader.Next(); err != nil {
+			b.Fatal(err)
+		}
+	}
+}

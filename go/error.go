@@ -1,0 +1,148 @@
+package capn
+
+import (
+	"errors"
+	"fmt"
+	"io"
+)
+
+// ErrMemory says that memory was refused.
+var ErrMemory = errors.New("capn: out of memory")
+
+// ErrUnsupported says that the package was built without cgo, or not for Linux on amd64.
+var ErrUnsupported = errors.New("capn: the library is for linux and amd64, and needs cgo")
+
+// ErrForm says that a form is none of the three.
+var ErrForm = errors.New("capn: the form is none of the three")
+
+// ErrLimits says that a limit is out of its range, or that the tariff is none of the two.
+var ErrLimits = errors.New("capn: a limit is out of its range")
+
+// Kind is what is wrong with a message that is refused. It is an error that errors.Is compares others with.
+type Kind uint32
+
+const (
+	ErrNotWhole        Kind = 16 // the bytes are not whole words; At: how many bytes there are
+	ErrBareTooLong     Kind = 17 // At: how many words there are
+	ErrPackedCut       Kind = 32 // the packed text ends inside a group; At: the offset of the group's tag
+	ErrPackedTooLong   Kind = 33 // a group goes over the maximum of words; At: the offset of its tag
+	ErrFrameEmpty      Kind = 48 // there are no bytes
+	ErrTooManySegments Kind = 49 // At: how many are announced
+	ErrTooManyWords    Kind = 50 // At: how many are announced
+	ErrFrameCut        Kind = 51 // the frame is cut
+	ErrTrailing        Kind = 52 // bytes follow; At: the offset of the first, of Packed in the unpacked bytes
+	// The walk stopped at the slot that Segment and Word say.
+	ErrNoRoot     Kind = 64
+	ErrRootKind   Kind = 65
+	ErrReserved   Kind = 66
+	ErrNoSegment  Kind = 67
+	ErrPadRange   Kind = 68
+	ErrBadPad     Kind = 69
+	ErrRange      Kind = 70
+	ErrBadTag     Kind = 71
+	ErrTagOverrun Kind = 72
+	ErrTooDeep    Kind = 73
+	ErrOverBudget Kind = 74
+	// The value has a capability, so it has no canonical form; At: the index of the first.
+	ErrCapability Kind = 80
+)
+
+var names = map[Kind]string{
+	ErrNotWhole: "NotWhole", ErrBareTooLong: "BareTooLong", ErrPackedCut: "PackedCut", ErrPackedTooLong: "PackedTooLong",
+	ErrFrameEmpty: "FrameEmpty", ErrTooManySegments: "TooManySegments", ErrTooManyWords: "TooManyWords",
+	ErrFrameCut: "FrameCut", ErrTrailing: "Trailing", ErrNoRoot: "NoRoot", ErrRootKind: "RootKind",
+	ErrReserved: "Reserved", ErrNoSegment: "NoSegment", ErrPadRange: "PadRange", ErrBadPad: "BadPad", ErrRange: "Range",
+	ErrBadTag: "BadTag", ErrTagOverrun: "TagOverrun", ErrTooDeep: "TooDeep", ErrOverBudget: "OverBudget",
+	ErrCapability: "Capability",
+}
+
+// String is the name of a kind, as "Range".
+func (k Kind) String() string {
+	if name, found := names[k]; found {
+		return name
+	}
+	return fmt.Sprintf("Kind(%d)", uint32(k))
+}
+
+func (k Kind) Error() string { return "capn: " + k.String() }
+
+func (k Kind) isOfWalk() bool { return k >= ErrNoRoot && k <= ErrOverBudget }
+
+// Error is why a message is refused.
+type Error struct {
+	Kind          Kind
+	At            uint64 // the offset, count or index of a kind that has one, else 0
+	Segment, Word uint32 // of a refusal of the walk: the slot at which it came
+	Paid, Visits  uint32 // and what was paid and visited until then
+	Message       int64  // of a message of a stream: which one it is, from 1 on, else 0
+	Offset        int64  // and where it begins
+	ofWords       bool
+}
+
+// Text is what the program capn prints of it, without what comes before the colon.
+func (e *Error) Text() string {
+	switch {
+	case e.Kind.isOfWalk():
+		return fmt.Sprintf("%s at %d:%d, paid %d, visits %d", e.Kind.String(), e.Segment, e.Word, e.Paid, e.Visits)
+	case e.Kind == ErrNotWhole && e.ofWords:
+		return fmt.Sprintf("NotWhole(%d)", e.At)
+	}
+	switch e.Kind {
+	case ErrNotWhole:
+		return fmt.Sprintf("bare: NotWhole(%d)", e.At)
+	case ErrBareTooLong:
+		return fmt.Sprintf("bare: TooLong(%d)", e.At)
+	case ErrPackedCut:
+		return fmt.Sprintf("packed: Cut at %d", e.At)
+	case ErrPackedTooLong:
+		return fmt.Sprintf("packed: TooLong at %d", e.At)
+	case ErrFrameEmpty:
+		return "frame: Empty"
+	case ErrFrameCut:
+		return "frame: Cut"
+	case ErrTooManySegments, ErrTooManyWords:
+		return fmt.Sprintf("frame: %s(%d)", e.Kind.String(), e.At)
+	case ErrTrailing:
+		return fmt.Sprintf("trailing bytes at %d", e.At)
+	case ErrCapability:
+		return fmt.Sprintf("capability %d", e.At)
+	}
+	return fmt.Sprintf("status %d", uint32(e.Kind))
+}
+
+func (e *Error) Error() string {
+	if e.Message != 0 {
+		return fmt.Sprintf("capn: message %d at %d: %s", e.Message, e.Offset, e.Text())
+	}
+	return "capn: " + e.Text()
+}
+
+// Unwrap answers the kind, so that errors.Is(err, capn.ErrTooDeep) says whether it is that one.
+func (e *Error) Unwrap() error { return e.Kind }
+
+// Is says that what is cut is an unexpected end: errors.Is(err, io.ErrUnexpectedEOF).
+func (e *Error) Is(target error) bool {
+	return target == io.ErrUnexpectedEOF && (e.Kind == ErrFrameCut || e.Kind == ErrPackedCut)
+}
+
+// failure is the error of a status that is no answer.
+func failure(status uint32, r report) error {
+	switch status {
+	case unsupported:
+		return ErrUnsupported
+	case 2:
+		return ErrForm
+	case 3, 4:
+		return ErrLimits
+	case 8:
+		return ErrMemory
+	}
+	e := &Error{Kind: Kind(status), At: r.at}
+	if e.Kind.isOfWalk() {
+		e.Segment, e.Word, e.Paid, e.Visits = r.segment, r.word, r.paid, r.visits
+	}
+	return e
+}
+
+// unsupported is the status of each call of a package without the library. The library has no such status.
+const unsupported = 1 << 31

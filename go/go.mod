@@ -1,0 +1,3 @@
+module capn
+
+go 1.19

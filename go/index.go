@@ -1,0 +1,293 @@
+package capn
+
+import (
+	"encoding/binary"
+	"fmt"
+	"math"
+	"unicode/utf8"
+)
+
+// entry is what the pointer in a slot names, as the library lays it out.
+type entry struct {
+	offset       uint64
+	count, span  uint32
+	words, slots uint16
+	kind         uint32
+}
+
+// ValueKind is what a pointer names.
+type ValueKind uint32
+
+const (
+	Null       ValueKind = iota
+	Struct               // data words, then pointers
+	Voids                // a list of elements without size
+	Bits                 // of bits
+	Bytes                // of bytes
+	U16s                 // of numbers of 2 bytes
+	U32s                 // of 4
+	U64s                 // of 8
+	Pointers             // of pointers
+	Rows                 // of structs
+	Capability           // an index of a capability
+)
+
+var kindNames = [...]string{
+	"null", "struct", "void", "bits", "bytes", "u16", "u32", "u64", "pointers", "rows", "capability",
+}
+
+// String is the word that `capn show` has for a kind.
+func (k ValueKind) String() string {
+	if int(k) < len(kindNames) {
+		return kindNames[k]
+	}
+	return fmt.Sprintf("ValueKind(%d)", uint32(k))
+}
+
+// Index is a message that was accepted within limits, and is read in place: what is read of it follows no pointer. The
+// bytes of the message must not change as long as the index or a value of it is used.
+type Index struct {
+	bytes   []byte
+	entries []entry
+	checked Checked
+}
+
+// NewIndex makes the index of one message. A packed message is unpacked first. An index takes 24 bytes for each slot,
+// and as many more while it is made; there is at most one slot more than words were paid.
+func NewIndex(message []byte, form Form, limits *Limits) (*Index, error) {
+	l := limitsOf(limits)
+	if form == Packed {
+		words, err := Unpack(message, l.MessageWords+tableWords)
+		if err != nil {
+			return nil, err
+		}
+		message, form = words, Stream
+	}
+	entries := make([]entry, 64)
+	status, r := callIndex(form, message, l, entries)
+	if status == noRoom {
+		entries = make([]entry, r.visits)
+		status, r = callIndex(form, message, l, entries)
+	}
+	if status != ok {
+		return nil, failure(status, r)
+	}
+	return &Index{message, entries[:r.visits], Checked{r.paid, r.visits}}, nil
+}
+
+// Checked is what reading the message cost.
+func (x *Index) Checked() Checked { return x.checked }
+
+// Root is what the root's slot has.
+func (x *Index) Root() Value { return x.value(0) }
+
+// Value is what is in a slot, or a row of a list of structs, whose kind is Struct. The zero Value is a null one.
+type Value struct {
+	index        *Index
+	kind         ValueKind
+	count        uint32
+	words, slots uint16
+	offset       uint64
+	first        uint32 // the entry of its first slot
+	areAlone     bool   // whether its slots have nothing below them
+}
+
+func (x *Index) value(at uint32) Value {
+	e := &x.entries[at]
+	below := e.count
+	switch ValueKind(e.kind) {
+	case Struct:
+		below = uint32(e.slots)
+	case Rows:
+		below = e.count * uint32(e.slots)
+	}
+	return Value{x, ValueKind(e.kind), e.count, e.words, e.slots, e.offset, at + 1, e.span == below+1}
+}
+
+// Kind is what the value is.
+func (v Value) Kind() ValueKind { return v.kind }
+
+// Len is the number of elements or rows of a list, else 0.
+func (v Value) Len() int {
+	if v.kind < Voids || v.kind > Rows {
+		return 0
+	}
+	return int(v.count)
+}
+
+// DataWords is the number of data words of a struct or of each row, else 0.
+func (v Value) DataWords() int { return int(v.words) }
+
+// NumSlots is the number of pointers of a struct or of each row, else 0.
+func (v Value) NumSlots() int { return int(v.slots) }
+
+// CapabilityIndex is the index of a capability, else 0.
+func (v Value) CapabilityIndex() uint32 {
+	if v.kind != Capability {
+		return 0
+	}
+	return v.count
+}
+
+// next is the entry beside one.
+func (x *Index) next(at uint32) uint32 { return at + x.entries[at].span }
+
+// Slot is what slot i of a struct has: a null Value where the struct is shorter. It takes as long as there are slots
+// before it.
+func (v Value) Slot(i int) Value {
+	if v.kind != Struct || i < 0 || i >= int(v.slots) {
+		return Value{}
+	}
+	return v.child(uint32(i))
+}
+
+func (v Value) child(i uint32) Value {
+	at := v.first
+	if v.areAlone {
+		return v.index.value(at + i)
+	}
+	for ; i > 0; i-- {
+		at = v.index.next(at)
+	}
+	return v.index.value(at)
+}
+
+// Pointers are the elements of a list of pointers, each what its slot has.
+func (v Value) Pointers() []Value {
+	if v.kind != Pointers {
+		return nil
+	}
+	found, at := make([]Value, v.count), v.first
+	for i := range found {
+		found[i] = v.index.value(at)
+		at = v.index.next(at)
+	}
+	return found
+}
+
+// Rows are the structs of a list of structs.
+func (v Value) Rows() []Value {
+	if v.kind != Rows {
+		return nil
+	}
+	found, at := make([]Value, v.count), v.first
+	size := 8 * (uint64(v.words) + uint64(v.slots))
+	for i := range found {
+		// The rows come after the tag.
+		offset := v.offset + 8 + uint64(i)*size
+		found[i] = Value{v.index, Struct, 0, v.words, v.slots, offset, at, v.areAlone}
+		for k := uint16(0); k < v.slots; k++ {
+			at = v.index.next(at)
+		}
+	}
+	return found
+}
+
+// Bytes are the bytes of a list of bytes, in the message itself: nil of another value.
+func (v Value) Bytes() []byte {
+	if v.kind != Bytes {
+		return nil
+	}
+	end := v.offset + uint64(v.count)
+	return v.index.bytes[v.offset:end:end]
+}
+
+// Text is the text that a list of bytes is, without the zero byte at its end: false if there is no such byte, or if the
+// others are not UTF-8, or if it is no list of bytes.
+func (v Value) Text() (string, bool) {
+	b := v.Bytes()
+	if len(b) == 0 || b[len(b)-1] != 0 || !utf8.Valid(b) {
+		return "", false
+	}
+	return string(b[:len(b)-1]), true
+}
+
+// At is element i of a list of numbers without sign or of bits, which are 0 and 1. It panics if there is none.
+func (v Value) At(i int) uint64 {
+	if i < 0 || i >= v.Len() {
+		panic(fmt.Sprintf("capn: element %d of %d", i, v.Len()))
+	}
+	rest := v.index.bytes[v.offset:]
+	switch v.kind {
+	case Bits:
+		return uint64(rest[i/8] >> (i % 8) & 1)
+	case Bytes:
+		return uint64(rest[i])
+	case U16s:
+		return uint64(binary.LittleEndian.Uint16(rest[2*i:]))
+	case U32s:
+		return uint64(binary.LittleEndian.Uint32(rest[4*i:]))
+	case U64s:
+		return binary.LittleEndian.Uint64(rest[8*i:])
+	}
+	panic("capn: a list of " + v.kind.String() + " has no numbers")
+}
+
+// A field of data is stored XOR its default, so what reads one takes the default, and answers it where the struct is
+// too short for the field. The offset counts fields of that size from the start of the data, as slot.offset of a
+// compiled schema does: bits[32, 64) of `capnp compile -ocapnp` is Uint32(1, ..). Each panics if the offset is less
+// than 0.
+
+// Uint64 is a field of 64 bits without sign.
+func (v Value) Uint64(offset int, byDefault uint64) uint64 { return v.field(64, offset) ^ byDefault }
+
+// Uint32 is a field of 32 bits without sign.
+func (v Value) Uint32(offset int, byDefault uint32) uint32 {
+	return uint32(v.field(32, offset)) ^ byDefault
+}
+
+// Uint16 is a field of 16 bits without sign, or an enumerant.
+func (v Value) Uint16(offset int, byDefault uint16) uint16 {
+	return uint16(v.field(16, offset)) ^ byDefault
+}
+
+// Uint8 is a field of 8 bits without sign.
+func (v Value) Uint8(offset int, byDefault uint8) uint8 { return uint8(v.field(8, offset)) ^ byDefault }
+
+// Int64 is a field of 64 bits with a sign.
+func (v Value) Int64(offset int, byDefault int64) int64 {
+	return int64(v.field(64, offset)) ^ byDefault
+}
+
+// Int32 is a field of 32 bits with a sign.
+func (v Value) Int32(offset int, byDefault int32) int32 {
+	return int32(v.field(32, offset)) ^ byDefault
+}
+
+// Int16 is a field of 16 bits with a sign.
+func (v Value) Int16(offset int, byDefault int16) int16 {
+	return int16(v.field(16, offset)) ^ byDefault
+}
+
+// Int8 is a field of 8 bits with a sign.
+func (v Value) Int8(offset int, byDefault int8) int8 { return int8(v.field(8, offset)) ^ byDefault }
+
+// Float64 is a field of 64 bits with a floating point.
+func (v Value) Float64(offset int, byDefault float64) float64 {
+	return math.Float64frombits(v.field(64, offset) ^ math.Float64bits(byDefault))
+}
+
+// Float32 is a field of 32 bits with a floating point.
+func (v Value) Float32(offset int, byDefault float32) float32 {
+	return math.Float32frombits(uint32(v.field(32, offset)) ^ math.Float32bits(byDefault))
+}
+
+// Bool is a bit.
+func (v Value) Bool(offset int, byDefault bool) bool { return v.field(1, offset) != 0 != byDefault }
+
+// field has the bits of a field as they are stored, 0 where there are none.
+func (v Value) field(bits, offset int) uint64 {
+	if offset < 0 {
+		panic(fmt.Sprintf("capn: an offset is a number from 0 on, not %d", offset))
+	}
+	perWord := 64 / bits
+	word := offset / perWord
+	if v.kind != Struct || word >= int(v.words) {
+		return 0
+	}
+	stored := binary.LittleEndian.Uint64(v.index.bytes[v.offset+8*uint64(word):])
+	if bits == 64 {
+		return stored
+	}
+	return stored >> (offset % perWord * bits) & (1<<bits - 1)
+}

@@ -1,0 +1,41 @@
+//go:build !(cgo && linux && amd64)
+
+package capn
+
+import (
+	"bytes"
+	"testing"
+)
+
+func TestUnsupported(t *testing.T) {
+	message := make([]byte, 16)
+	errs := []error{}
+	_, err := Check(message, Stream, nil)
+	errs = append(errs, err)
+	_, err = Survey(message, Stream, nil)
+	errs = append(errs, err)
+	_, err = Canonical(message, Stream, nil)
+	errs = append(errs, err)
+	_, err = Digest(message, Stream, nil)
+	errs = append(errs, err)
+	_, err = IsCanonical(message, nil)
+	errs = append(errs, err)
+	_, err = Pack(message)
+	errs = append(errs, err)
+	_, err = Unpack(message, 9)
+	errs = append(errs, err)
+	_, err = NewIndex(message, Stream, nil)
+	errs = append(errs, err)
+	_, err = DigestSegments([][]byte{message}, nil)
+	errs = append(errs, err)
+	_, err = NewReader(bytes.NewReader(message), nil).Next()
+	errs = append(errs, err)
+	for i, err := range errs {
+		if err != ErrUnsupported {
+			t.Errorf("call %d: %v", i, err)
+		}
+	}
+	if Version() != "" {
+		t.Error(Version())
+	}
+}

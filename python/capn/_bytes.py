@@ -1,0 +1,51 @@
+"""Bytes as a call takes them: in place where nothing can change them, else copied."""
+from __future__ import annotations
+
+import sys
+from typing import TYPE_CHECKING, Any
+
+from ._capn import ffi
+
+if TYPE_CHECKING:
+    from _typeshed import ReadableBuffer as Buffer
+elif sys.version_info >= (3, 12):
+    from collections.abc import Buffer
+else:
+    # What has a buffer: Python has no name for that before 3.12.
+    Buffer = Any
+
+__all__ = ["Buffer", "copied", "no_buffer", "taken"]
+
+_from_buffer = ffi.from_buffer
+# From how many bytes on a view of `bytes` is read in place: a copy of fewer is made sooner.
+_SHORT = 4096
+
+
+def taken(data: Buffer, in_place: bool) -> Any:
+    """The bytes of an object, for a call. Of `bytes`, and of a view of `bytes`, they can't change, and are taken in
+    place; those of another object are copied, unless the caller says that nothing changes them."""
+    if type(data) is bytes:
+        return data
+    if not in_place:
+        if type(data) is bytearray:
+            return bytes(data)
+        if type(data) is not memoryview or data.nbytes < _SHORT or type(data.obj) is not bytes:
+            return copied(data)
+    try:
+        return _from_buffer(data)
+    except BufferError:
+        return copied(data)
+    except TypeError:
+        raise no_buffer(data) from None
+
+
+def copied(data: Buffer) -> bytes:
+    """A copy of the bytes of an object; those of a view with gaps are copied together."""
+    try:
+        return memoryview(data).tobytes()
+    except TypeError:
+        raise no_buffer(data) from None
+
+
+def no_buffer(data: object) -> TypeError:
+    return TypeError(f"a message is an object with a buffer, as bytes are, not {type(data).__name__}")

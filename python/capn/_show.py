@@ -1,0 +1,131 @@
+"""The text of a message, as `capn show` writes it."""
+from __future__ import annotations
+
+from typing import Any, Iterable, Iterator
+
+from ._bytes import Buffer
+from ._calls import _USUAL, Form
+from ._limits import Limits
+from ._message import Message, Object, Row, read
+
+_ESCAPED = {ord('"'): '\\"', ord("\\"): "\\\\", 0: "\\0"}
+
+
+def show(
+    message: Message | Object | Row | Buffer,
+    form: Form = "stream",
+    limits: Limits = _USUAL,
+    *,
+    text: bool = False,
+    json: bool = False,
+    at: Iterable[int] = (),
+) -> str:
+    """What `capn show` writes of one message that was read, of an object of it, or of bytes within limits. With `text`
+    a list of bytes that is a text is shown as one, as by `--text`; with `json` it is a line of JSON, as by `--json`; `at`
+    says which part is shown, by a way of numbers, as `--at` does.
+
+    It is the package's own, in Python, and not the proved text of the program."""
+    if text and json:
+        raise ValueError("json goes without text")
+    way = tuple(at)
+    if isinstance(message, (Object, Row)):
+        if way:
+            raise ValueError("at is a way from the root of a message")
+        found: Any = message
+    else:
+        found = (message if isinstance(message, Message) else read(message, form, limits)).at(*way)
+    if json:
+        return "".join(_json(found)) + "\n"
+    return "".join(_lines(found, text)) + "end\n"
+
+
+def _lines(found: Any, is_text: bool) -> Iterator[str]:
+    if found is None:
+        yield "none\n"
+        return
+    # What is left to show at each level: an iterator of it.
+    left: list[Iterator[Any]] = [iter((found,))]
+    while left:
+        one = next(left[-1], None)
+        if one is None:
+            left.pop()
+            continue
+        pad, kind = "  " * (len(left) - 1), one.kind
+        if kind == "null":
+            yield f"{pad}null\n"
+        elif kind == "struct":
+            yield f"{pad}struct {len(one.words)} {len(one.slots)}\n"
+            for word in one.words:
+                yield f"{pad}  word {word:016x}\n"
+            left.append(iter(one.slots))
+        elif kind == "capability":
+            yield f"{pad}capability {one.index}\n"
+        elif kind == "bytes" and is_text and (quoted := _quoted(one.view)) is not None:
+            yield f'{pad}bytes {len(one)} "{quoted}"\n'
+        else:
+            yield f"{pad}{kind} {len(one)}\n"
+            if kind == "pointers" or kind == "rows":
+                left.append(iter(one))
+            elif kind == "bits" and one:
+                yield f"{pad}  {_digits(one)}\n"
+            elif kind == "bytes" and one:
+                yield f"{pad}  {one.view.hex()}\n"
+            elif kind in ("u16", "u32", "u64"):
+                for number in one.view:
+                    yield f"{pad}  {number}\n"
+
+
+def _digits(bits: Any) -> str:
+    return "".join("1" if bit else "0" for bit in bits)
+
+
+def _quoted(view: memoryview) -> str | None:
+    """What is between the quotes of a text: bytes of printable ASCII, of which the last may be zero. None of others."""
+    most = len(view) - 1
+    if most < 0 or not all(0x20 <= byte <= 0x7E or byte == 0 and i == most for i, byte in enumerate(view)):
+        return None
+    return view.tobytes().decode("ascii").translate(_ESCAPED)
+
+
+def _json(found: Any) -> Iterator[str]:
+    if found is None:
+        return
+    # What is left to write at each level: an iterator of it, and what ends it.
+    left: list[tuple[Iterator[Any], str]] = [(iter((found,)), "")]
+    between = ""
+    while left:
+        inside, end = left[-1]
+        one = next(inside, None)
+        if one is None:
+            yield end
+            left.pop()
+            between = ","
+            continue
+        yield between
+        between, kind = ",", one.kind
+        if kind == "null":
+            yield "null"
+        elif kind == "struct":
+            words = ",".join(f'"{word:016x}"' for word in one.words)
+            yield f'{{"words":[{words}],"slots":['
+            left.append((iter(one.slots), "]}"))
+            between = ""
+        elif kind == "pointers" or kind == "rows":
+            yield f'{{"{kind}":['
+            left.append((iter(one), "]}"))
+            between = ""
+        else:
+            yield f'{{"{kind}":{_inside(one, kind)}}}'
+
+
+def _inside(one: Any, kind: str) -> str:
+    """What JSON has of a list without pointers, or of a capability."""
+    if kind == "bits":
+        return f'"{_digits(one)}"'
+    if kind == "bytes":
+        return f'"{one.view.hex()}"'
+    if kind == "u64":
+        return "[" + ",".join(f'"{number}"' for number in one.view) + "]"
+    if kind == "void":
+        return str(len(one))
+    return str(one.index) if kind == "capability" else "[" + ",".join(map(str, one.view)) + "]"

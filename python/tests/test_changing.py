@@ -1,0 +1,128 @@
+"""Bytes that change while a call runs: they are copied first, unless the caller says that they don't change."""
+import array
+import mmap
+import random
+import subprocess
+import sys
+import threading
+import unittest
+
+import capn
+from messages import bare, stream
+
+# One thread flips a pointer of a list of rows between one that is small and one that leads far out, while another thread
+# makes the call. Where a call reads the bytes in place, that ends the process within seconds.
+RACE = """
+import sys, threading, time
+import capn
+rows = 100_000
+tag = rows << 2 | 1 << 32
+lists = b"".join(((8 - i - 1) << 2 | 1 | 5 << 32 | 1 << 35).to_bytes(8, "little") for i in range(0))
+SMALL = (1 | 5 << 32 | 1 << 35).to_bytes(8, "little")
+LARGE = (1 << 28 | 1 | 5 << 32 | (1 << 20) << 35).to_bytes(8, "little")
+count = 4096
+data = bytearray((0).to_bytes(4, "little") + (1 + 2 * count).to_bytes(4, "little"))
+data += (1 | 6 << 32 | count << 35).to_bytes(8, "little")
+for i in range(count):
+    data += ((count - 1) << 2 | 1 | 5 << 32 | 1 << 35).to_bytes(8, "little")
+data += bytes(8 * count)
+kept = bytes(data)
+capn.check(kept)
+stop = time.monotonic() + float(sys.argv[1])
+
+def flip():
+    where = [16 + 8 * i for i in range(count)]
+    while time.monotonic() < stop:
+        for at in where[::7]:
+            data[at:at + 8] = LARGE
+            data[at:at + 8] = kept[at:at + 8]
+
+other = threading.Thread(target=flip)
+other.start()
+sys.setswitchinterval(1e-6)
+calls = [capn.canonical, capn.digest, capn.check, capn.survey, capn.read]
+while time.monotonic() < stop:
+    for call in calls:
+        try:
+            call(data, **eval(sys.argv[2]))
+        except capn.Refusal:
+            pass
+other.join()
+print("alive")
+"""
+MESSAGE = stream(bare(("struct", [5], [("list", 2, 4, b"abc" + bytes(5))])))
+
+
+class Changing(unittest.TestCase):
+    def test_a_race_ends_no_process(self):
+        ran = subprocess.run([sys.executable, "-B", "-c", RACE, "3", "{}"], capture_output=True, check=False, text=True)
+        self.assertEqual((ran.returncode, ran.stdout), (0, "alive\n"), ran.stderr)
+
+    def test_the_bytes_are_not_held_during_a_call(self):
+        # A list of pointers, all null: 16 MiB, so that another thread gets to run while the call does.
+        count = (1 << 21) - 1
+        data = bytearray(stream((1 | (6 | count << 3) << 32).to_bytes(8, "little") + bytes(8 * count)))
+        for call in capn.check, capn.survey, capn.canonical, capn.digest, capn.read:
+            done = threading.Event()
+            thread = threading.Thread(target=lambda call=call, done=done: (call(data), done.set()))
+            with memoryview(data):
+                pass
+            thread.start()
+            while not done.is_set():
+                data += b""
+                data.append(0)
+                data.pop()
+            thread.join()
+
+    def test_each_buffer_has_the_answer_of_its_bytes(self):
+        mapped = mmap.mmap(-1, len(MESSAGE))
+        mapped[:] = MESSAGE
+        gaps = bytearray(2 * len(MESSAGE))
+        gaps[::2] = MESSAGE
+        long = stream(bare(("pointers", [None] * 2000)))
+        for one in MESSAGE, long:
+            words = one[8:]
+            others = [bytearray(one), memoryview(one), memoryview(bytearray(one)), array.array("I", one),
+                      memoryview(one).cast("Q"), memoryview(b"x" + one)[1:], memoryview(bytearray(b"x" + one))[1:]]
+            if one is MESSAGE:
+                others += [mapped, memoryview(gaps)[::2]]
+            for data in others:
+                for in_place in False, True:
+                    with self.subTest(type=type(data), in_place=in_place):
+                        self.assertEqual(capn.check(data, in_place=in_place), capn.check(one))
+                        self.assertEqual(capn.survey(data, in_place=in_place), capn.survey(one))
+                        self.assertEqual(capn.canonical(data, in_place=in_place), capn.canonical(one))
+                        self.assertEqual(capn.digest(data, in_place=in_place), capn.digest(one))
+                        self.assertEqual(capn.pack(data, in_place=in_place), capn.pack(one))
+                        self.assertEqual(capn.unpack(capn.pack(data), in_place=in_place), one)
+                        self.assertEqual(capn.read(data, in_place=in_place), capn.read(one))
+            self.assertEqual(capn.is_canonical(bytearray(words), in_place=True), capn.is_canonical(words))
+            packed = capn.pack(one)
+            for in_place in False, True:
+                self.assertEqual(capn.survey(bytearray(packed), "packed", in_place=in_place), capn.survey(one))
+                self.assertEqual(capn.read(bytearray(packed), "packed", in_place=in_place), capn.read(one))
+
+    def test_none(self):
+        for data in b"", bytearray(), memoryview(b""), memoryview(bytearray()), array.array("Q"):
+            for call in capn.check, capn.survey, capn.canonical, capn.digest, capn.read:
+                for in_place in False, True:
+                    with self.assertRaisesRegex(capn.Refusal, "frame: Empty"):
+                        call(data, in_place=in_place)
+            self.assertEqual((capn.pack(data), capn.unpack(data)), (b"", b""))
+
+    def test_what_is_no_buffer(self):
+        for call in capn.check, capn.survey, capn.canonical, capn.digest, capn.read, capn.pack, capn.unpack:
+            for data in "text", 3, None, [1, 2], object():
+                for in_place in False, True:
+                    with self.assertRaisesRegex(TypeError, "a message is an object with a buffer"):
+                        call(data, in_place=in_place)
+
+    def test_a_view_that_was_released(self):
+        for data in memoryview(MESSAGE), memoryview(bytearray(MESSAGE)), memoryview(bytes(9000)):
+            data.release()
+            for in_place in False, True:
+                self.assertRaises(ValueError, capn.check, data, in_place=in_place)
+
+
+if __name__ == "__main__":
+    unittest.main()

@@ -1,0 +1,105 @@
+"""What `capn.show` writes is what the program writes: the stored cases, the model, and the program if it is built."""
+import random
+import re
+import subprocess
+import unittest
+
+import capn
+from test_program import PROGRAM
+from test_reading import archives, model
+from test_stored import STORED, digits
+
+RUN = re.compile(r"(?:run|archive) [0-9]+ show (.*)")
+NAMES = {"--budget": "budget", "--depth": "depth", "--message-words": "message_words", "--tariff": "tariff"}
+
+
+def ran(words, data):
+    """What a run of `show` writes, the line on standard error, and its exit status."""
+    form, options, bounds, words = "stream", {}, {}, list(words)
+    while words:
+        word = words.pop(0)
+        if word in ("--text", "--json"):
+            options[word[2:]] = True
+        elif word == "--form":
+            form = words.pop(0)
+        elif word == "--at":
+            options["at"] = list(map(int, words.pop(0).split(".")))
+        else:
+            value = words.pop(0)
+            bounds[NAMES[word]] = value if word == "--tariff" else int(value)
+    limits, out = capn.Limits(**bounds), ""
+    try:
+        if form == "bare":
+            out = capn.show(data, "bare", limits, **options)
+        else:
+            for frame in capn.messages(data, limits=limits, form=form):
+                out += capn.show(frame, limits=limits, **options)
+    except capn.Refusal as refusal:
+        return out.encode(), f"capn: {refusal}\n", 1
+    return out.encode(), "", 0
+
+
+class Shown(unittest.TestCase):
+    def test_stored(self):
+        lines = [(STORED / name).read_text().splitlines()[1::2] for name in ("stdin", "stdout")]
+        tried = 0
+        for case, stored in zip(*lines, strict=True):
+            found = RUN.fullmatch(case)
+            words = found[1].split() if found else []
+            # One has a message as its last word, and is a stored run of it.
+            if not found or not stored.startswith("status ") or stored.startswith("status 2"):
+                continue
+            with self.subTest(case=case):
+                out, error, status = ran(words[:-1], b"" if words[-1] == "-" else bytes.fromhex(words[-1]))
+                said = f", {error.strip()}" if error else ""
+                self.assertEqual(f"status {status}, {digits(out)}{said}", stored)
+                tried += 1
+        self.assertGreaterEqual(tried, 100)
+
+    def test_as_the_model_says(self):
+        source, accepted = random.Random(7), 0
+        for _ in range(3000):
+            line, data, wanted = archives.shown(source)
+            with self.subTest(line=line, data=data.hex()):
+                self.assertEqual(ran(line[1:], data), wanted)
+                accepted += wanted[2] == 0
+        self.assertGreater(accepted, 1000)
+
+    @unittest.skipUnless(PROGRAM, "there is no program")
+    def test_as_the_program_says(self):
+        source = random.Random(8)
+        for _ in range(300):
+            line, data, _ = archives.shown(source)
+            wrote = subprocess.run([PROGRAM, *line], input=data, capture_output=True, check=False)
+            with self.subTest(line=line, data=data.hex()):
+                self.assertEqual(ran(line[1:], data), (wrote.stdout, wrote.stderr.decode(), wrote.returncode))
+
+    def test_deep(self):
+        # 256 lists of structs, one in the other.
+        words = []
+        for level in range(256):
+            words += [1 | 7 << 32 | 1 << 35, 1 << 2 | 1 << 48]
+        data = b"".join(word.to_bytes(8, "little") for word in words + [0])
+        limits = capn.Limits(depth=256)
+        value = model.Walk([data], 8388608, 256, "strict").value
+        self.assertEqual(capn.show(data, "bare", limits), model.styled(value, "plain"))
+        self.assertEqual(capn.show(data, "bare", limits, json=True).count("rows"), 256)
+
+    def test_what_is_shown(self):
+        data = bytes.fromhex("0000000001000100" "0500000000000000" "010000001a000000" "6162000000000000")
+        message = capn.read(data, "bare")
+        plain, with_text = "struct 1 1\n  word 0000000000000005\n", '  bytes 3 "ab\\0"\n'
+        for one in message, data:
+            form = ("bare",) if one is data else ()
+            self.assertEqual(capn.show(one, *form, text=True), f"{plain}{with_text}end\n")
+            self.assertEqual(capn.show(one, *form, at=[0]), "bytes 3\n  616200\nend\n")
+        self.assertEqual(capn.show(message.root, text=True), f"{plain}{with_text}end\n")
+        self.assertEqual(capn.show(message.root.slots[0], json=True), '{"bytes":"616200"}\n')
+        self.assertRaises(ValueError, capn.show, message, text=True, json=True)
+        self.assertRaises(ValueError, capn.show, message.root, at=[0])
+        self.assertRaises(ValueError, capn.show, message, at=[-1])
+        self.assertRaises(TypeError, capn.show, "text")
+
+
+if __name__ == "__main__":
+    unittest.main()

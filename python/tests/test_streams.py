@@ -1,0 +1,502 @@
+"""Streams that come in pieces: what is handed out when, what is left unread, and what an exception leaves."""
+import asyncio
+import bz2
+import gzip
+import io
+import os
+import pickle
+import random
+import socket
+import subprocess
+import sys
+import tempfile
+import threading
+import unittest
+
+import capn
+from messages import stream
+from test_reading import Pieces, archives, generated, model
+
+SMALL = bytes.fromhex("0000000003000000" "0000000002000000" "0500000000000000" "0000000000000000")
+# Messages of one segment and of two, of no words, and one that is longer than a piece.
+SHAPES = [
+    SMALL,
+    stream(bytes(8), bytes(16)),
+    stream(b""),
+    stream((1 | (2 | 70_001 << 3) << 32).to_bytes(8, "little") + bytes(range(256)) * 273 + bytes(120)),
+]
+SECONDS = 20
+
+
+def in_time(call, *arguments):
+    """What a call answers, which another thread makes, if it answers in time."""
+    answers = []
+    thread = threading.Thread(target=lambda: answers.append(call(*arguments)), daemon=True)
+    thread.start()
+    thread.join(SECONDS)
+    return answers[0] if answers else "no answer"
+
+
+class Blocking:
+    """A file that gives pieces, and None where there are no bytes now. It raises what is an exception."""
+
+    def __init__(self, pieces):
+        self.pieces, self.read_at_all = list(pieces), 0
+
+    def read(self, size):
+        if not self.pieces:
+            return b""
+        piece = self.pieces.pop(0)
+        if piece is None or isinstance(piece, Exception):
+            if piece is not None:
+                raise piece
+            return None
+        if len(piece) > size:
+            self.pieces.insert(0, piece[size:])
+        self.read_at_all += len(piece[:size])
+        return piece[:size]
+
+
+class Peeking(Blocking):
+    """The same, which can be looked into, as far as one piece goes."""
+
+    def peek(self, size=0):
+        while self.pieces and self.pieces[0] == b"":
+            self.pieces.pop(0)
+        first = self.pieces[0] if self.pieces else b""
+        if isinstance(first, Exception):
+            self.pieces.pop(0)
+            raise first
+        return first or b""
+
+
+class AsSoonAsItIsThere(unittest.TestCase):
+    """A peer that waits for an answer before it sends more."""
+
+    def test_a_socket(self):
+        for buffering in -1, 0:
+            for packed in False, True:
+                with self.subTest(buffering=buffering, packed=packed):
+                    near, far = socket.socketpair()
+                    with near, far, far.makefile("rb", buffering=buffering) as file:
+                        found = capn.messages(file, packed=packed)
+                        for message in SHAPES + SHAPES[:2]:
+                            sent = capn.pack(message) if packed else message
+                            thread = threading.Thread(target=near.sendall, args=(sent,))
+                            thread.start()
+                            self.assertEqual(in_time(next, found), message)
+                            thread.join()
+
+    def test_two_messages_that_came_at_once(self):
+        near, far = socket.socketpair()
+        with near, far, far.makefile("rb") as file:
+            near.sendall(SMALL)
+            near.sendall(SMALL)
+            found = capn.messages(file)
+            self.assertEqual([in_time(next, found), in_time(next, found)], [SMALL, SMALL])
+            self.assertEqual((found.number, found.offset), (2, 64))
+
+    def test_a_pipe_of_a_process(self):
+        code = "import sys; o = sys.stdout.buffer; o.write(bytes.fromhex(sys.argv[1])); o.flush(); sys.stdin.read()"
+        for packed in False, True:
+            sent = capn.pack(SMALL) if packed else SMALL
+            with subprocess.Popen([sys.executable, "-c", code, sent.hex()], stdin=subprocess.PIPE,
+                                  stdout=subprocess.PIPE) as ran:
+                self.assertEqual(in_time(next, capn.messages(ran.stdout, packed=packed)), SMALL)
+                self.assertIsNone(ran.poll())
+                ran.stdin.close()
+
+
+class NoByteAfterIt(unittest.TestCase):
+    def files(self, data, folder):
+        """The ways in which a file has these bytes, with what says how many are left."""
+        path = os.path.join(folder, "file")
+        with open(path, "wb") as file:
+            file.write(data)
+        yield open(path, "rb")
+        yield open(path, "rb", buffering=0)
+        yield open(path, "rb", buffering=16)
+        yield io.BytesIO(data)
+        yield gzip.GzipFile(fileobj=io.BytesIO(gzip.compress(data)))
+        yield bz2.BZ2File(io.BytesIO(bz2.compress(data)))
+        for buffering in 0, -1:
+            read, write = os.pipe()
+            os.write(write, data)
+            os.close(write)
+            yield open(read, "rb", buffering=buffering)
+        yield Blocking([data])
+        yield Peeking([data[:9], data[9:11], data[11:]])
+
+    def test_what_follows_is_left(self):
+        after = b"HTTP/1.1 200 OK\r\n"
+        with tempfile.TemporaryDirectory() as folder:
+            for packed in False, True:
+                for shape, message in enumerate(SHAPES[:3]):
+                    sent = capn.pack(message) if packed else message
+                    for file in self.files(sent * 2 + after, folder):
+                        with self.subTest(packed=packed, shape=shape, file=type(file)):
+                            found = capn.messages(file, packed=packed)
+                            self.assertEqual(next(found), message)
+                            # Another reader may go on between two of them.
+                            self.assertEqual(next(capn.messages(file, packed=packed)), message)
+                            rest = b""
+                            while piece := file.read(100):
+                                rest += piece
+                            self.assertEqual(rest, after)
+                        getattr(file, "close", lambda: None)()
+
+    def test_a_long_message(self):
+        for packed in False, True:
+            sent = capn.pack(SHAPES[3]) if packed else SHAPES[3]
+            file = io.BytesIO(sent + b"after")
+            self.assertEqual(next(capn.messages(file, packed=packed)), SHAPES[3])
+            self.assertEqual(file.read(), b"after")
+            with tempfile.TemporaryFile() as file:
+                file.write(sent + b"after")
+                file.seek(0)
+                self.assertEqual(next(capn.messages(file, packed=packed)), SHAPES[3])
+                self.assertEqual(file.read(), b"after")
+
+    def test_a_refused_frame(self):
+        for packed in False, True:
+            wrong = bytes(4) + b"\xff" * 4
+            sent = capn.pack(wrong) if packed else wrong
+            file = io.BytesIO(sent + b"after")
+            with self.assertRaises(capn.Refusal):
+                next(capn.messages(file, packed=packed))
+            self.assertIn(file.read(), (b"after", sent + b"after"))
+
+    def test_a_group_that_two_messages_share(self):
+        # 256 words of zeros in one group: many messages of no words, and a part of one.
+        text = capn.pack(SMALL * 3 + stream(b"") * 10 + SMALL)
+        for file in io.BytesIO(text), Blocking([text]), Peeking([text]):
+            self.assertEqual(list(capn.messages(file, packed=True)), [SMALL] * 3 + [stream(b"")] * 10 + [SMALL])
+
+
+class AfterAnException(unittest.TestCase):
+    def taken(self, found, *wrong):
+        got, raised = [], 0
+        while True:
+            try:
+                got.append(next(found))
+            except wrong:
+                raised += 1
+            except StopIteration:
+                return got, raised
+
+    def test_no_bytes_now(self):
+        m = SHAPES[1]
+        for packed in False, True:
+            s = capn.pack(m) if packed else m
+            for kind in Blocking, Peeking:
+                pieces = [s[:5], None, s[5:], s, None, None, s[:1], None, s[1:], None]
+                with self.subTest(packed=packed, kind=kind):
+                    got, raised = self.taken(capn.messages(kind(pieces), packed=packed), BlockingIOError)
+                    self.assertEqual((got, raised), ([m] * 3, 5))
+                    got, _ = self.taken(capn.digests(kind(pieces), packed=packed), BlockingIOError)
+                    self.assertEqual(got, [capn.digest(m)] * 3)
+
+    def test_a_pipe_that_does_not_block(self):
+        for buffering in 0, -1:
+            for packed in False, True:
+                read, write = os.pipe()
+                os.set_blocking(read, False)
+                sent = capn.pack(SMALL) if packed else SMALL
+                with open(read, "rb", buffering=buffering) as file, open(write, "wb", buffering=0) as other:
+                    found = capn.messages(file, packed=packed)
+                    for part in sent[:3], sent[3:5], sent[5:-1]:
+                        other.write(part)
+                        self.assertRaises(BlockingIOError, next, found)
+                    other.write(sent[-1:])
+                    self.assertEqual(next(found), SMALL)
+                    self.assertRaises(BlockingIOError, next, found)
+                    other.close()
+                    self.assertRaises(StopIteration, next, found)
+                    self.assertRaises(StopIteration, next, found)
+
+    def test_a_pipe_that_does_not_block_and_is_read_ahead(self):
+        for buffering in 0, -1:
+            read, write = os.pipe()
+            os.set_blocking(read, False)
+            with open(read, "rb", buffering=buffering) as file, open(write, "wb", buffering=0) as other:
+                found = capn.messages(file, read_ahead=True)
+                self.assertRaises(BlockingIOError, next, found)
+                other.write(SMALL * 2 + SMALL[:9])
+                self.assertEqual([next(found), next(found)], [SMALL] * 2)
+                self.assertRaises(BlockingIOError, next, found)
+                other.write(SMALL[9:])
+                self.assertEqual(next(found), SMALL)
+                other.close()
+                self.assertRaises(StopIteration, next, found)
+
+    def test_an_exception_of_the_file(self):
+        for packed in False, True:
+            s = capn.pack(SMALL) if packed else SMALL
+            for kind in Blocking, Peeking:
+                for cut in range(1, len(s)):
+                    file = kind([s[:cut], TimeoutError(), s[cut:], s])
+                    got, raised = self.taken(capn.messages(file, packed=packed), TimeoutError)
+                    self.assertEqual((got, raised), ([SMALL] * 2, 1))
+
+    def test_a_refusal_stays(self):
+        data = SMALL + stream(b"") + b"\xff" * 8
+        for packed in False, True:
+            found = capn.messages(io.BytesIO(capn.pack(data) if packed else data), packed=packed)
+            self.assertEqual([next(found), next(found)], [SMALL, stream(b"")])
+            for _ in range(2):
+                with self.assertRaises(capn.Refusal) as caught:
+                    next(found)
+                refusal = caught.exception
+                self.assertEqual((refusal.number, refusal.offset), (3, 40))
+                self.assertEqual(str(refusal), "frame: TooManySegments(4294967296)")
+            self.assertIn("message 3 at 40", refusal.__notes__)
+            again = pickle.loads(pickle.dumps(refusal))
+            self.assertEqual((again.number, again.offset, again.args), (3, 40, refusal.args))
+
+    def test_a_cut_has_a_place(self):
+        for packed in False, True:
+            sent = capn.pack(SMALL * 2) if packed else SMALL * 2
+            found = capn.messages(io.BytesIO(sent[:-1]), packed=packed)
+            self.assertEqual(next(found), SMALL)
+            for _ in range(2):
+                with self.assertRaises(capn.Refusal) as caught:
+                    next(found)
+                self.assertEqual((caught.exception.number, caught.exception.offset), (2, 32))
+                self.assertEqual(caught.exception.name, "PackedCut" if packed else "FrameCut")
+
+    def test_a_refusal_of_one_call_has_none(self):
+        with self.assertRaises(capn.Refusal) as caught:
+            capn.check(b"")
+        self.assertEqual((caught.exception.number, caught.exception.offset), (None, None))
+
+
+class Ahead(unittest.TestCase):
+    """With `read_ahead` the answers are the same, as soon as they are there; what follows may be taken."""
+
+    def test_the_same_answers(self):
+        source = random.Random(67)
+        for _ in range(200):
+            frames = [b"".join(generated.pieces(archives.segments_of(source))) for _ in range(source.randint(0, 5))]
+            for packed in False, True:
+                data = b"".join(frames)
+                data = generated.packed(data) if packed else data
+                data = data[:source.randint(0, len(data))] if source.random() < 0.3 else data
+                ways = []
+                for found in (capn.messages(data, packed=packed), capn.messages(data, packed=packed, read_ahead=True),
+                              capn.messages(Pieces(data, source.choice([1, 9])), packed=packed, read_ahead=True)):
+                    got, refused = [], None
+                    try:
+                        got.extend(found)
+                    except capn.Refusal as refusal:
+                        refused = (str(refusal), refusal.number, refusal.offset)
+                        self.assertRaises(capn.Refusal, next, found)
+                    ways.append((got, refused, found.number, found.offset))
+                self.assertEqual(ways[0], ways[1])
+                self.assertEqual(ways[0], ways[2])
+
+    def test_it_waits_for_nothing(self):
+        for buffering in -1, 0:
+            near, far = socket.socketpair()
+            with near, far, far.makefile("rb", buffering=buffering) as file:
+                near.sendall(SMALL * 2 + SMALL[:9])
+                found = capn.messages(file, read_ahead=True)
+                self.assertEqual([in_time(next, found), in_time(next, found)], [SMALL] * 2)
+
+    def test_no_bytes_now(self):
+        found = capn.messages(Blocking([SMALL[:5], None, SMALL[5:] + SMALL, None]), read_ahead=True)
+        self.assertRaises(BlockingIOError, next, found)
+        self.assertEqual([next(found), next(found)], [SMALL] * 2)
+        self.assertRaises(BlockingIOError, next, found)
+        for _ in range(2):
+            self.assertRaises(StopIteration, next, found)
+
+
+class Digests(unittest.TestCase):
+    def test_it_goes_on_behind_a_refused_message(self):
+        wrong = stream(bytes.fromhex("0000000001000000"))
+        found = capn.digests(SMALL + wrong + SMALL)
+        self.assertEqual(next(found), capn.digest(SMALL))
+        with self.assertRaises(capn.Refusal) as caught:
+            next(found)
+        self.assertEqual((caught.exception.number, caught.exception.offset), (2, 32))
+        self.assertEqual(str(caught.exception), "Range at 0:0, paid 0, visits 1")
+        self.assertEqual((list(found), found.number), ([capn.digest(SMALL)], 3))
+
+    def test_limits(self):
+        found = capn.digests(SMALL, limits=capn.Limits(budget=2))
+        with self.assertRaisesRegex(capn.Refusal, "OverBudget"):
+            next(found)
+
+
+class Splitters(unittest.TestCase):
+    def test_feed_and_end(self):
+        splitter = capn.Splitter()
+        self.assertEqual(splitter.wanted, 8)
+        self.assertEqual(splitter.feed(SMALL[:8]), [])
+        self.assertEqual(splitter.wanted, 24)
+        self.assertEqual(splitter.feed(SMALL[8:] + SMALL + SMALL[:1]), [SMALL, SMALL])
+        self.assertEqual((splitter.number, splitter.offset), (2, 64))
+        with self.assertRaises(capn.Refusal) as caught:
+            splitter.end()
+        self.assertEqual((caught.exception.name, caught.exception.number, caught.exception.offset), ("FrameCut", 3, 64))
+        self.assertRaises(capn.Refusal, splitter.feed, b"")
+        empty = capn.Splitter("packed")
+        empty.end()
+        self.assertEqual(empty.feed(b""), [])
+        empty.end()
+
+    def test_what_comes_before_a_refusal_is_answered(self):
+        splitter = capn.Splitter()
+        self.assertEqual(splitter.feed(SMALL * 2 + b"\xff" * 8), [SMALL] * 2)
+        for call in lambda: splitter.feed(SMALL), splitter.end:
+            with self.assertRaises(capn.Refusal) as caught:
+                call()
+            self.assertEqual((caught.exception.name, caught.exception.number), ("TooManySegments", 3))
+
+    def test_any_pieces(self):
+        source = random.Random(65)
+        for _ in range(400):
+            frames = [b"".join(generated.pieces(archives.segments_of(source))) for _ in range(source.randint(0, 5))]
+            for form in "stream", "packed":
+                data = b"".join(frames)
+                data = generated.packed(data) if form == "packed" else data
+                if source.random() < 0.3:
+                    data = data[:source.randint(0, len(data))]
+                found, fault = model.messages(data, form, 8388608)
+                splitter, got, refused, at = capn.Splitter(form), [], None, 0
+                try:
+                    while at < len(data):
+                        size = source.choice([1, 2, 7, 8, 9, 100])
+                        got += splitter.feed(bytearray(data[at:at + size]))
+                        at += size
+                    splitter.end()
+                except capn.Refusal as refusal:
+                    refused = (str(refusal), refusal.number, refusal.offset)
+                self.assertEqual(got, [frame for _, frame, _ in found])
+                self.assertEqual(refused, fault)
+
+    def test_wanted_leaves_what_follows(self):
+        source = random.Random(66)
+        for _ in range(200):
+            frame = b"".join(generated.pieces(archives.segments_of(source)))
+            for form in "stream", "packed":
+                data = generated.packed(frame) if form == "packed" else frame
+                splitter, at, got = capn.Splitter(form), 0, []
+                while not got and at < len(data):
+                    size = splitter.wanted
+                    got = splitter.feed(data[at:at + size])
+                    at += size
+                self.assertEqual((got, at), ([frame], len(data)))
+
+    def test_arguments(self):
+        for form, wrong in ("bare", ValueError), (3, TypeError):
+            self.assertRaises(wrong, capn.Splitter, form)
+        self.assertRaises(TypeError, capn.Splitter, "stream", 3)
+        self.assertRaises(TypeError, capn.Splitter().feed, "text")
+        self.assertRegex(repr(capn.Splitter()), "^<capn splitter, 0 messages, 0 bytes held>$")
+
+
+class Awaited(unittest.TestCase):
+    def test_messages(self):
+        async def run(form):
+            reader, got = asyncio.StreamReader(), []
+            data = b"".join(SHAPES)
+            sent = capn.pack(data) if form == "packed" else data
+
+            async def feed():
+                for at in range(0, len(sent), 1000):
+                    reader.feed_data(sent[at:at + 1000])
+                    await asyncio.sleep(0)
+                reader.feed_eof()
+
+            task = asyncio.create_task(feed())
+            async for message in capn.amessages(reader, form=form):
+                got.append(message)
+            await task
+            return got
+
+        for form in "stream", "packed":
+            self.assertEqual(asyncio.run(run(form)), SHAPES)
+
+    def test_it_takes_no_byte_after_it_and_loses_none(self):
+        async def run(form):
+            reader = asyncio.StreamReader()
+            sent = capn.pack(SMALL) if form == "packed" else SMALL
+            found = capn.amessages(reader, form=form)
+            for part in sent[:3], sent[3:7]:
+                reader.feed_data(part)
+                with self.assertRaises(asyncio.TimeoutError):
+                    await asyncio.wait_for(anext(found), 0.02)
+            reader.feed_data(sent[7:] + b"after")
+            self.assertEqual(await asyncio.wait_for(anext(found), SECONDS), SMALL)
+            self.assertEqual(found.number, 1)
+            self.assertEqual(await reader.read(100), b"after")
+            reader.feed_data(sent[:-1])
+            reader.feed_eof()
+            with self.assertRaises(capn.Refusal) as caught:
+                await anext(found)
+            self.assertEqual((caught.exception.number, caught.exception.offset), (2, 32))
+
+        for form in "stream", "packed":
+            asyncio.run(run(form))
+
+
+class Files(unittest.TestCase):
+    def test_what_has_a_buffer_is_a_stream(self):
+        for data in SMALL * 2, bytearray(SMALL * 2), memoryview(SMALL * 2), memoryview(SMALL * 2).cast("Q"):
+            self.assertEqual(list(capn.messages(data)), [SMALL] * 2)
+        self.assertEqual(list(capn.messages(capn.pack(SMALL * 2), packed=True)), [SMALL] * 2)
+        self.assertEqual(list(capn.messages(capn.pack(SMALL * 2), form="packed")), [SMALL] * 2)
+
+    def test_arguments(self):
+        for file in "text", 3, None, [SMALL]:
+            self.assertRaises(TypeError, capn.messages, file)
+        self.assertRaises(ValueError, capn.messages, b"", True, form="stream")
+        self.assertRaises(ValueError, capn.messages, b"", form="bare")
+        self.assertRaises(TypeError, capn.messages, io.BytesIO(), limits=3)
+
+    def test_a_file_that_gives_more_than_it_is_asked_for(self):
+        class Generous:
+            pieces = [SMALL * 2 + SMALL[:5], SMALL[5:]]
+
+            def read(self, size):
+                return self.pieces.pop(0) if self.pieces else b""
+
+        for packed in False, True:
+            file = Generous()
+            if packed:
+                file.pieces = [capn.pack(SMALL * 3)]
+            self.assertEqual(list(capn.messages(file, packed=packed)), [SMALL] * 3)
+
+    def test_it_ends_once(self):
+        file = io.BytesIO()
+        found = capn.messages(file)
+        self.assertEqual(list(found), [])
+        file.write(SMALL)
+        file.seek(0)
+        self.assertEqual(list(found), [])
+
+    def test_memory_grows_as_bytes_come(self):
+        # A table announces 64 MiB, and little comes.
+        asked = []
+
+        class File:
+            def read(self, size):
+                asked.append(size)
+                return bytes(4) + (8388608).to_bytes(4, "little") if len(asked) == 1 else bytes(min(size, 100_000)) \
+                    if len(asked) < 6 else b""
+
+        with self.assertRaisesRegex(capn.Refusal, "frame: Cut"):
+            next(capn.messages(File()))
+        self.assertLessEqual(max(asked), 400_000)
+
+    def test_pieces_of_any_size(self):
+        for most in 1, 3, 64, 65536:
+            for packed in False, True:
+                data = b"".join(SHAPES)
+                sent = capn.pack(data) if packed else data
+                self.assertEqual(list(capn.messages(Pieces(sent, most), packed=packed)), SHAPES)
+
+
+if __name__ == "__main__":
+    unittest.main()

@@ -1,0 +1,149 @@
+"""The types that are declared: at run time, and for mypy, which reads the programs of the page too."""
+import inspect
+import os
+import shutil
+import subprocess
+import sys
+import tempfile
+import typing
+import unittest
+from pathlib import Path
+
+import capn
+from test_page import programs
+
+SITE = Path(capn.__file__).resolve().parents[1]
+# What a reader may do with each kind, and what mypy has to find wrong.
+KINDS = """
+import capn
+from typing import assert_type
+
+def told(value: capn.Value) -> str:
+    if value.kind == "null":
+        assert_type(value, capn.Null)
+        return "null"
+    if value.kind == "struct":
+        assert_type(value, capn.Struct)
+        return f"{value.words[0]} {value.slots[0].kind} {value.uint(8, 0)} {value.text(0)}"
+    if value.kind == "bytes":
+        assert_type(value, capn.Bytes)
+        assert_type(value[0:5], bytes)
+        return value.text()
+    if value.kind == "bits":
+        assert_type(value[0], bool)
+        return str(value[0])
+    if value.kind == "u16" or value.kind == "u32" or value.kind == "u64":
+        assert_type(value, capn.Numbers)
+        return str(value[0] + 1)
+    if value.kind == "void":
+        return str(len(value))
+    if value.kind == "pointers":
+        assert_type(value[0], capn.Value)
+        return told(value[0])
+    if value.kind == "rows":
+        assert_type(value[0], capn.Row)
+        return str(value[0].int(16, 1))
+    assert_type(value, capn.Capability)
+    return str(value.index)
+
+def matched(value: capn.Value) -> int:
+    match value:
+        case capn.Struct():
+            return len(value.words)
+        case capn.Bytes() | capn.Numbers():
+            return value.view[0]
+        case _:
+            return 0
+
+async def later(reader: "asyncio.StreamReader") -> list[bytes]:
+    return [message async for message in capn.amessages(reader)]
+
+import asyncio, io, socket, subprocess, array, mmap
+with socket.socket() as one, open("x", "rb") as file, capn.read(array.array("Q"), in_place=True) as message:
+    for source in (file, io.BytesIO(), one.makefile("rb")):
+        assert_type(next(capn.messages(source)), bytes)
+    assert_type(next(capn.messages(b"")), bytes)
+    assert_type(next(capn.digests(file, form="packed")), bytes)
+    assert_type(message.at(0, 1), capn.Value | capn.Row | None)
+    assert_type(capn.Splitter("packed").feed(bytearray()), list[bytes])
+    assert_type(capn.show(message, json=True, at=(0,)), str)
+"""
+WRONG = """
+import capn
+root = capn.read(b"").root
+root.words
+capn.check(b"", "framed")
+capn.check("text")
+capn.canonical(b"", in_place=3)
+"""
+
+
+def classes():
+    return [one for one in vars(capn).values() if inspect.isclass(one)]
+
+
+def functions():
+    """What is called of the package, and of its classes."""
+    for name in capn.__all__:
+        one = getattr(capn, name)
+        if inspect.isfunction(one):
+            yield one
+    for one in classes():
+        for name, inner in vars(one).items():
+            if inspect.isfunction(inner):
+                yield inner
+            elif isinstance(inner, property):
+                yield inner.fget
+
+
+class AtRunTime(unittest.TestCase):
+    def test_hints_are_found(self):
+        found = 0
+        for one in functions():
+            with self.subTest(one):
+                hints = typing.get_type_hints(one)
+                if one.__module__.startswith("capn"):
+                    self.assertIn("return", hints)
+                    found += 1
+        for one in classes():
+            with self.subTest(one):
+                typing.get_type_hints(one)
+        self.assertGreater(found, 60)
+        self.assertEqual(typing.get_type_hints(capn.check)["return"], capn.Checked)
+        self.assertEqual(typing.get_type_hints(capn.Message.root.fget)["return"], capn.Value)
+
+    def test_each_has_a_page(self):
+        for one in [*functions(), *classes()]:
+            if not one.__name__.startswith("_") and one.__module__.startswith("capn"):
+                self.assertTrue(inspect.getdoc(one), one)
+
+
+@unittest.skipUnless(shutil.which("mypy"), "there is no mypy")
+class ForMypy(unittest.TestCase):
+    def checked(self, *texts):
+        with tempfile.TemporaryDirectory() as folder:
+            paths = []
+            for number, written in enumerate(texts):
+                paths.append(Path(folder) / f"program_{number}.py")
+                paths[-1].write_text(written)
+            cache = os.path.join(tempfile.gettempdir(), f"capn-mypy-{os.getuid()}")
+            ran = subprocess.run(
+                ["mypy", "--strict", "--no-error-summary", "--cache-dir", cache, "--python-version",
+                 f"{sys.version_info[0]}.{sys.version_info[1]}", *paths],
+                env={**os.environ, "MYPYPATH": str(SITE)}, capture_output=True, check=False, text=True)
+        return ran.returncode, ran.stdout + ran.stderr
+
+    def test_the_kinds(self):
+        self.assertEqual(self.checked(KINDS), (0, ""))
+
+    def test_the_programs_of_the_page(self):
+        self.assertEqual(self.checked(*programs()), (0, ""))
+
+    def test_what_is_wrong(self):
+        status, wrote = self.checked(WRONG)
+        lines = [line for line in wrote.splitlines() if ": error:" in line]
+        self.assertEqual((status, sorted({line.split(":")[1] for line in lines})), (1, ["4", "5", "6", "7"]))
+
+
+if __name__ == "__main__":
+    unittest.main()
