@@ -73,6 +73,7 @@ test:
 	.ci/statuses
 	.ci/failures
 	.ci/library
+	release/installs
 	release/twice
 	release/proved
 
