@@ -261,9 +261,10 @@ template <class Call> buffer made(std::size_t room, Call call) {
     }
 }
 
-/* The room to begin with: canonical bytes are mostly no longer than the message. */
-inline std::size_t first_room(bytes message, form written) noexcept {
-    return written == form::packed ? 0 : message.size();
+/* The room to begin with, for a message of so many bytes: its canonical bytes are mostly no longer than it is, and never
+ * longer than the budget allows. */
+inline std::size_t first_room(std::size_t size, const limits &most) noexcept {
+    return std::min(size, 8 * (std::size_t{most.budget} + 1));
 }
 
 } // namespace detail
@@ -281,7 +282,8 @@ inline buffer canonical(bytes message, form written = form::stream, const limits
     const auto call = [&](std::uint8_t *out, std::size_t room, capn_report *report) {
         return capn_canonical(detail::number(written), message.u8(), message.size(), &most, out, room, report);
     };
-    return detail::made(detail::first_room(message, written), call);
+    /* Of a packed one the library says what is enough. */
+    return detail::made(written == form::packed ? 0 : detail::first_room(message.size(), most), call);
 }
 
 /* The SHA-256 of the canonical bytes of one message. */
@@ -327,7 +329,8 @@ inline buffer pack(bytes words) {
 
 /* The words of a packed text, at most `most_words`. */
 inline buffer unpack(bytes text, std::uint32_t most_words = 8388608 + 2049) {
-    return detail::made(4 * text.size(), [&](std::uint8_t *out, std::size_t room, capn_report *report) {
+    const std::size_t room = std::min(4 * text.size(), 8 * std::size_t{most_words});
+    return detail::made(room, [&](std::uint8_t *out, std::size_t room, capn_report *report) {
         return capn_unpack(text.u8(), text.size(), most_words, out, room, report);
     });
 }
@@ -338,10 +341,11 @@ public:
     segments(const capn_segment *first, std::size_t count) noexcept : first_(first), count_(count) {}
     const capn_segment *data() const noexcept { return first_; }
     std::size_t size() const noexcept { return count_; }
+    /* How many bytes the segments have; it may be a few less if they are more than a message can have. */
     std::size_t bytes_in_all() const noexcept {
-        std::size_t all = 0;
-        for (std::size_t i = 0; i < count_; i++) all += 8 * first_[i].count;
-        return all;
+        std::size_t words = 0;
+        for (std::size_t i = 0; i < count_ && words <= 1u << 28; i++) words += first_[i].count;
+        return 8 * words;
     }
 
 private:
@@ -350,7 +354,7 @@ private:
 };
 
 inline buffer canonical(segments message, const limits &most = {}) {
-    return detail::made(message.bytes_in_all(), [&](std::uint8_t *out, std::size_t room, capn_report *report) {
+    return detail::made(detail::first_room(message.bytes_in_all(), most), [&](std::uint8_t *out, std::size_t room, capn_report *report) {
         return capn_canonical_segments(message.data(), message.size(), &most, out, room, report);
     });
 }

@@ -133,8 +133,9 @@ pub(crate) fn unpack(
     out: &mut Vec<u8>,
 ) -> Result<capn_report, Error> {
     let (bytes, size) = (text.as_ptr(), text.len());
+    let hint = size.saturating_mul(4).min(8 * most_words as usize);
     unsafe {
-        appended(out, size.saturating_mul(4), |at, room, report| {
+        appended(out, hint, |at, room, report| {
             capn_sys::capn_unpack(bytes, size, most_words, at, room, report)
         })
     }
@@ -221,9 +222,9 @@ fn with_segments<T>(
 pub(crate) fn canonical_segments(
     segments: &[&[u8]],
     limits: &capn_limits,
+    hint: usize,
     out: &mut Vec<u8>,
 ) -> Result<capn_report, Error> {
-    let hint = segments.iter().map(|it| it.len()).sum();
     with_segments(segments, |first, count| unsafe {
         appended(out, hint, |at, room, report| {
             capn_sys::capn_canonical_segments(first, count, limits, at, room, report)

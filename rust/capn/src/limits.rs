@@ -51,6 +51,12 @@ impl Limits {
         }
     }
 
+    /// The room that canonical bytes begin with: they are mostly no longer than the message, and never than the budget
+    /// allows.
+    pub(crate) fn most_bytes(&self, size: usize) -> usize {
+        size.min(8 * (self.budget as usize + 1))
+    }
+
     #[inline]
     pub(crate) fn raw(&self) -> capn_sys::capn_limits {
         capn_sys::capn_limits {

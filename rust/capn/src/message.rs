@@ -87,10 +87,9 @@ pub fn canonical_into(
     out: &mut Vec<u8>,
 ) -> Result<u32, Error> {
     // Canonical bytes are mostly no longer than the message; of packed ones the library says what is enough.
-    let hint = if form == Form::Packed {
-        0
-    } else {
-        message.len()
+    let hint = match form {
+        Form::Packed => 0,
+        _ => limits.most_bytes(message.len()),
     };
     Ok(call::canonical(form, message, &limits.raw(), hint, out)?.paid)
 }

@@ -36,7 +36,11 @@ pub fn canonical_into(
     limits: &Limits,
     out: &mut Vec<u8>,
 ) -> Result<u32, Error> {
-    Ok(call::canonical_segments(segments, &limits.raw(), out)?.paid)
+    let size = segments
+        .iter()
+        .fold(0usize, |all, it| all.saturating_add(it.len()));
+    let hint = limits.most_bytes(size);
+    Ok(call::canonical_segments(segments, &limits.raw(), hint, out)?.paid)
 }
 
 /// The SHA-256 of the canonical bytes of a message.
@@ -91,10 +95,11 @@ mod framed {
     pub fn canonical_segments(
         segments: &[&[u8]],
         limits: &capn_limits,
+        hint: usize,
         out: &mut Vec<u8>,
     ) -> Result<capn_report, Error> {
         let message = framed(segments)?;
-        call::canonical(Form::Stream, &message, limits, message.len(), out)
+        call::canonical(Form::Stream, &message, limits, hint, out)
     }
 
     pub fn hash_segments(segments: &[&[u8]], limits: &capn_limits) -> Result<[u8; 32], Error> {
