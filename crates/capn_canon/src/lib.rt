@@ -22,6 +22,11 @@
 //! budget. The clauses `answered`, `equal`, `second` and `within` of `canonicalise` say so, in the definitions of
 //! `specs/Theorem.antt`; [`laws::theorem`] says it of all answers.
 //!
+//! For any message, limits and buffer, `canonical_into` succeeds if and only if the message denotes a value without
+//! capabilities within the limits and its canonical bytes have room. It writes exactly these; else it names the first
+//! refusal, and the buffer is as it was. No memory can run out. Its clauses `answered`, `written`, `refused` and
+//! `unchanged` say so, in the same file; [`laws::decision`] says that they leave one result.
+//!
 //! A tree and a message are laid out by one writer, over what they have in common: slots with their values.
 //!
 //! `layout` takes memory for the bytes that it answers. Where a growth is refused the answer is `Memory`.
