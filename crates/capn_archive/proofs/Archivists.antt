@@ -7,7 +7,7 @@ use Rattle.capn_serve.specs.declared.position.Position.{Position}
 use Rattle.capn_serve.specs.declared.fault.ServeFault.{ServeFault}
 use Rattle.capn_serve.specs.declared.fault.ServeFault.TheVariants as faults
 use Rattle.capn_serve.specs.Outgoing.{Outgoing, Adds, outgoing}
-use Rattle.capn_serve.specs.Service.{DoesService}
+use Rattle.capn_serve.specs.Service.{AddsOne}
 use Rattle.capn_archive.specs.Tally.{skipped}
 use Rattle.capn_archive.specs.Tasks.{AddsServed, Skips, refuses, serves, skipped_text}
 use Rattle.capn_archive.specs.declared.task.Archive.{Archive}
@@ -29,7 +29,7 @@ module _ (order : Archive) (tally : Tally) (at : Position) (frame : List ℕ) (m
   pub served_does : (after : Tally) (a b : Outgoing) (failed : Bool) (r : Ending)
       → AddsServed order.task order.limits tally at frame message a b failed r after
       → ((e : Refusal) → r ≡ stopped (faults.Refused e) → order.keep_going ≡ false)
-      → DoesService serves refuses (archivist order tally) at frame message a b failed r (archivist order after)
+      → AddsOne serves refuses (archivist order tally) at frame message a b failed r (archivist order after)
   served_does after a b failed (Ok u) (text, is, adds, fine) ends = (text, (refl, inl is), adds, fine)
   served_does after a b failed (Err faults.Memory) (inl none, fine) ends = (inl none, fine)
   served_does after a b failed (Err faults.Memory) (inr (text, t, count, is, adds), fine) ends =
@@ -48,7 +48,7 @@ module _ (order : Archive) (tally : Tally) (at : Position) (frame : List ℕ) (m
       → AddsServed order.task order.limits tally at frame message a (outgoing c old) failed
       (stopped (faults.Refused e)) mid
       → order.keep_going ≡ true → Skips order.task mid at frame message e old new r after
-      → DoesService serves refuses (archivist order tally) at frame message a (outgoing c new) failed r
+      → AddsOne serves refuses (archivist order tally) at frame message a (outgoing c new) failed r
       (archivist order after)
   skipped_does mid after a c old new failed e (Ok u) (refused, same, kept, fine) going (joined, is) = (
     skipped_text order.task at frame message e,

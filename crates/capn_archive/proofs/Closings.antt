@@ -1,5 +1,7 @@
 -- What is written at the end of a run, and the faults of a run over an archive.
-use Rattle.std.proofs.Common.{◌≡◌, ◌↔◌, ◌⊎◌, inl, inr, ℕ, List, Bool, true, false, Option, None, Some, OnOk, IsErrOf}
+use Rattle.std.proofs.Common.{◌≡◌, ◌≢◌, ◌↔◌, ◌⊎◌, inl, inr, ℕ, List, [], ◌∷◌, ◌++◌, Bool, true, false, Option, None}
+use Rattle.std.proofs.Common.{Some, OnOk, IsErrOf, IsErrAnd, length, codes, arith}
+use Rattle.std.specs.Fmt.{decimal}
 use Rattle.std.proofs.Common.{IsOkUnless, Result, Ok, Err, refl, ap, sym, subst, ◌∙◌}
 use Rattle.std.specs.Io.KnownBytes.{Appends}
 use Rattle.capn_words.specs.Watched.{HasBegun}
@@ -10,6 +12,11 @@ use Rattle.capn_archive.specs.declared.fault.ArchiveFault.TheVariants as faults
 use Rattle.capn_archive.specs.declared.tally.Skipped.{Skipped}
 use Rattle.capn_archive.specs.Finish.{fault_of, outcome_by}
 use Rattle.capn_archive.specs.inner.Closing.{PutsClosing}
+use Rattle.capn_archive.specs.ArchiveRun.{closing_by}
+use Rattle.capn_archive.specs.UniqRun as sieves
+use Rattle.capn_archive.specs.declared.needs.Needs.{Needs}
+use Rattle.capn_archive.specs.declared.task.Task.{Task}
+use Rattle.capn_archive.specs.declared.task.Task.TheVariants as tasks
 
 abbrev pub Served : Type 0
 Served = Result (Unit {0}) RunFault
@@ -41,6 +48,12 @@ told_io run_faults.Io is = refl
 told_io run_faults.InputTooLong is = absurd (cc)
 told_io (run_faults.Refused at r) is = absurd (cc)
 
+pub told_memory : (e : RunFault) → ended (Err (fault_of e)) ≡ Err faults.Memory → served (Err e) ≡ Err run_faults.Memory
+told_memory run_faults.Memory is = refl
+told_memory run_faults.Io is = absurd (cc)
+told_memory run_faults.InputTooLong is = absurd (cc)
+told_memory (run_faults.Refused at r) is = absurd (cc)
+
 pub same_io : (e : RunFault) (reader writer : Bool)
     → ((served (Err e) ≡ Err run_faults.Io) ↔ ((reader ≡ true) ⊎ (writer ≡ true)))
     → (ended (Err (fault_of e)) ≡ Err faults.Io) ↔ ((reader ≡ true) ⊎ (writer ≡ true))
@@ -64,11 +77,39 @@ closing_wrote text bytes old new failed (Ok u) same ok begun io only =
 closing_wrote text bytes old new failed (Err e) same ok begun io only =
     inr (only, subst (HasBegun old new) same begun, io.0 (ap stopped_by only))
 
+-- a text that goes on is not empty
+pub some_after : (xs ys : List ℕ) → ys ≢ [] → xs ++ ys ≢ []
+some_after [] ys some = some
+some_after (x ∷ xs) ys some = λ h. cc
+
+-- memory was refused for it
+pub closing_refused : (text : List ℕ) (old new : Option (List ℕ)) (failed : Bool) (r : Served) (fault : RunFault)
+    → IsErrAnd r (λ e. e ≡ fault) → fault ≡ run_faults.Memory → new ≡ old → failed ≡ false → text ≢ []
+    → PutsClosing text old new failed r
+closing_refused text old new failed (Ok u) fault told is same fine some = absurd told
+closing_refused text old new failed (Err e) fault told is same fine some = inl (told ∙ is, same, fine, some)
+
+-- the lines of `limits` are not empty, nor is that of a count
+pub limits_some : (task : Task) (needs : Needs) → task ≡ tasks.Limits → closing_by task needs ≢ []
+limits_some tasks.List needs is = absurd (cc)
+limits_some tasks.Digests needs is = absurd (cc)
+limits_some tasks.Canonical needs is = absurd (cc)
+limits_some tasks.Limits needs is = λ h. absurd (omega (arith, ap length h))
+
+pub count_some : (count : Bool) (kept served : ℕ) → count ≡ true → sieves.closing_by count kept served ≢ []
+count_some false kept served is = absurd (cc)
+count_some true kept served is =
+    some_after (decimal kept) (codes " of " ++ (decimal served ++ codes "\n")) (λ h. absurd (omega (arith, ap length h)))
+
 pub not_io : (skipped : Option Skipped) (messages : ℕ) → outcome_by skipped messages ≡ Err faults.Io → ⊥
 not_io None messages is = absurd (cc)
 not_io (Some s) messages is = absurd (cc)
 
-reader_fine : (reader writer : Bool) → ((served (Ok tt) ≡ Err run_faults.Io) ↔ ((reader ≡ true) ⊎ (writer ≡ true)))
+pub not_memory : (skipped : Option Skipped) (messages : ℕ) → outcome_by skipped messages ≡ Err faults.Memory → ⊥
+not_memory None messages is = absurd (cc)
+not_memory (Some s) messages is = absurd (cc)
+
+pub reader_fine : (reader writer : Bool) → ((served (Ok tt) ≡ Err run_faults.Io) ↔ ((reader ≡ true) ⊎ (writer ≡ true)))
     → reader ≡ true → ⊥
 reader_fine reader writer (to, from) failed = let k = from (inl failed) in absurd (cc)
 
@@ -77,6 +118,9 @@ pub neither : (reader before after : Bool)
     → (reader ≡ true) ⊎ (after ≡ true) → ⊥
 neither reader before after io fine (inl failed) = reader_fine reader before io failed
 neither reader before after io fine (inr failed) = let e : true ≡ false = sym failed ∙ fine in cc
+
+pub io_is_not_memory : ended (Err faults.Io) ≡ Err faults.Memory → ⊥
+io_is_not_memory is = absurd (cc)
 
 pub memory_is_not_io : ended (Err faults.Memory) ≡ Err faults.Io → ⊥
 memory_is_not_io is = absurd (cc)

@@ -1,5 +1,5 @@
 -- The end of a run over an input that writes something after its last message.
-use Rattle.std.proofs.Common.{◌≡◌, inl, inr, ℕ, ◌+◌, List, [], ◌++◌, length, take, Bool, true, false, Option}
+use Rattle.std.proofs.Common.{◌≡◌, ◌≢◌, inl, inr, ℕ, ◌+◌, List, [], ◌++◌, length, take, Bool, true, false, Option}
 use Rattle.std.proofs.Common.{None, Some, IfSome, Result, Ok, Err, refl, ap, sym, subst}
 use Rattle.std.proofs.Math.Seq.{take-length, take-append-add}
 use Rattle.std.specs.Io.KnownBytes.{Appends}
@@ -10,10 +10,13 @@ use Rattle.capn_canon.specs.declared.form.Form.TheVariants as forms
 use Rattle.capn_serve.specs.declared.fault.RunFault.{RunFault}
 use Rattle.capn_archive.specs.declared.fault.ArchiveFault.TheVariants as faults
 use Rattle.capn_archive.specs.inner.Closing.{PutsClosing}
-use Rattle.capn_archive.specs.Finish.{EndsAs, Finish, Finished, HasBegunClosing, fault_of, outcome}
+use Rattle.capn_archive.specs.Finish.{EndsAs, Finish, Finished, HasBegunClosing, HasClosing, fault_of, outcome}
 use Rattle.capn_serve.specs.Fold.{Fold, texts_of}
-use Rattle.capn_serve.specs.FormRun.{HasWritten, MessagesEnd, ServesMessages}
-use Rattle.capn_archive.proofs.Closings.{memory_is_not_io, neither, not_io, same_io, told_by}
+use Rattle.capn_serve.specs.StreamRun.{HasWrittenAll, IsAhead}
+use Rattle.capn_serve.specs.PackedRun.{HasWrittenAllPacked}
+use Rattle.capn_serve.specs.FormRun.{HasWritten, IsReadSoFar, MessagesEnd, ServesMessages, most_stream}
+use Rattle.capn_archive.proofs.Closings.{io_is_not_memory, memory_is_not_io, neither, not_io, not_memory}
+use Rattle.capn_archive.proofs.Closings.{reader_fine, same_io, told_by, told_memory}
 
 module _ {X : Type 0} (f : Fold X) (x : X) (finish : Finish X) (form : Form) where
   -- ---- a run that a fault ended
@@ -32,7 +35,14 @@ module _ {X : Type 0} (f : Fold X) (x : X) (finish : Finish X) (form : Form) whe
   finished_stopped a b c d reader writer e y run = record {
     exact = stopped_exact e y a c d run.exact;
     io = same_io e reader writer run.io;
-    begun = record { bytes = run.begun.bytes; read = run.begun.read; written = inl run.begun.written };
+    begun = record {
+      bytes = run.begun.bytes;
+      read = run.begun.read;
+      bounded = run.begun.bounded;
+      written = inl run.begun.written;
+    };
+    heard = run.heard;
+    memory = λ h. inl (run.memory (told_memory e h));
   }
 
   -- ---- the end after all messages
@@ -72,7 +82,29 @@ begun_text f x forms.Packed bytes c d (stream, begins, parts, rest, y, count, ar
 begun_text f x forms.Bare bytes c d (inl wrote) = ([], wrote)
 begun_text f x forms.Bare bytes c d (inr (text, y, count, writes, wrote)) = (take count text, wrote)
 
+-- what is written after something
+ahead_more : (P : List ℕ → Option (List ℕ) → Option (List ℕ) → Type 0) (bytes more : List ℕ)
+    (c m d : Option (List ℕ)) → IsAhead P bytes c m → Appends m d more → IsAhead P bytes c d
+ahead_more P bytes more c m d (before, piece, mid, first, is, small, written, wrote) after =
+    (before, piece, mid, first ++ more, is, small, written, Appends-trans mid m d first more wrote after)
+
+read_so_far : {X : Type 0} (f : Fold X) (x : X) (form : Form) (bytes more : List ℕ) (c m d : Option (List ℕ))
+    → IsReadSoFar f x form bytes c m → Appends m d more → IsReadSoFar f x form bytes c d
+read_so_far f x forms.Stream bytes more c m d (bound, ahead) wrote =
+    (bound, ahead_more (HasWrittenAll f x most_stream) bytes more c m d ahead wrote)
+read_so_far f x forms.Packed bytes more c m d (bound, ahead) wrote =
+    (bound, ahead_more (HasWrittenAllPacked f x most_stream) bytes more c m d ahead wrote)
+read_so_far f x forms.Bare bytes more c m d bound wrote = bound
+
 module _ {X : Type 0} (f : Fold X) (x : X) (finish : Finish X) (form : Form) where
+  -- all messages were served, and something is written after them
+  has_closing : (a b c m : Option (List ℕ)) (reader writer : Bool) (y : X)
+      → ServesMessages f x form a b c m reader writer (Ok tt) y → finish.closing y ≢ []
+      → HasClosing f x finish form a
+  has_closing None b c m reader writer y run some = (y, tt, some)
+  has_closing (Some input) b c m reader writer y run some =
+      let (text, are, before) = run.exact in (y, (text, are), some)
+
   -- the messages of an input were served, and something of a text was written after theirs
   begins_closing : (a b c m d : Option (List ℕ)) (reader writer : Bool) (y : X)
       → ServesMessages f x form a b c m reader writer (Ok tt) y → HasBegun m d (finish.closing y)
@@ -98,17 +130,20 @@ module _ {X : Type 0} (f : Fold X) (x : X) (finish : Finish X) (form : Form) (a 
     begun = record {
       bytes = run.begun.bytes;
       read = run.begun.read;
+      bounded = read_so_far f x form run.begun.bytes (finish.closing y) c m d run.begun.bounded wrote;
       written = inr (begins_closing f x finish form a b c m d reader before y run (
         length (finish.closing y),
         subst (Appends m d) (sym (take-length (finish.closing y))) wrote,
       ));
     };
+    heard = λ h. absurd (reader_fine reader before run.io h);
+    memory = λ h. absurd (not_memory (finish.skipped y) (f.place y).index h);
   }
 
   -- memory was refused for what is written at the end
-  unclosed : (d : Option (List ℕ)) (after : Bool) → d ≡ m → after ≡ false
+  unclosed : (d : Option (List ℕ)) (after : Bool) → d ≡ m → after ≡ false → finish.closing y ≢ []
       → Finished f x finish form a b c d reader after (Err faults.Memory)
-  unclosed d after same fine = record {
+  unclosed d after same fine some = record {
     exact = memory_exact f x finish form a c d;
     io = (
       λ h. absurd (memory_is_not_io h),
@@ -117,8 +152,11 @@ module _ {X : Type 0} (f : Fold X) (x : X) (finish : Finish X) (form : Form) (a 
     begun = record {
       bytes = run.begun.bytes;
       read = run.begun.read;
+      bounded = subst (IsReadSoFar f x form run.begun.bytes c) (sym same) run.begun.bounded;
       written = inl (subst (HasWritten f x form run.begun.bytes c) (sym same) run.begun.written);
     };
+    heard = λ h. absurd (reader_fine reader before run.io h);
+    memory = λ h. inr (has_closing f x finish form a b c m reader before y run some);
   }
 
   -- the writer failed within it
@@ -130,16 +168,20 @@ module _ {X : Type 0} (f : Fold X) (x : X) (finish : Finish X) (form : Form) (a 
     begun = record {
       bytes = run.begun.bytes;
       read = run.begun.read;
+      bounded = read_so_far f x form run.begun.bytes (take begun.0 (finish.closing y)) c m d run.begun.bounded
+          begun.1;
       written = inr (begins_closing f x finish form a b c m d reader before y run begun);
     };
+    heard = λ h. absurd (reader_fine reader before run.io h);
+    memory = λ h. absurd (io_is_not_memory h);
   }
 
   pub finished_unclosed : (d : Option (List ℕ)) (after : Bool) (fault : RunFault)
       → PutsClosing (finish.closing y) m d after (Err fault)
       → Finished f x finish form a b c d reader after (Err (fault_of fault))
-  finished_unclosed d after fault (inl (memory, same, fine)) =
+  finished_unclosed d after fault (inl (memory, same, fine, some)) =
       subst (λ (e : RunFault). Finished f x finish form a b c d reader after (Err (fault_of e))) (sym memory)
-      (unclosed d after same fine)
+      (unclosed d after same fine some)
   finished_unclosed d after fault (inr (io, begun, failed)) =
       subst (λ (e : RunFault). Finished f x finish form a b c d reader after (Err (fault_of e))) (sym io)
       (broken d after begun failed)

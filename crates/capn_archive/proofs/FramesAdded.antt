@@ -25,7 +25,7 @@ stopped fault = Err fault
 -- bytes are a text
 pub text_added : (text : List ℕ) (a b : Outgoing) (failed : Bool) (r : Ending) → AddsBytes text a b failed r
     → AddsText text a b failed r
-text_added text a b failed (Ok u) (adds, short, fine) = (adds, fine)
+text_added text a b failed (Ok u) (adds, short, fine) = (adds, fine, λ h. short)
 text_added text a b failed (Err faults.Memory) (none, short, fine) = ((0, none), fine)
 text_added text a b failed (Err faults.Io) (breaks, broken) = (breaks, broken)
 text_added text a b failed (Err (faults.Refused r)) none = absurd none
@@ -34,7 +34,8 @@ module _ (front back : List ℕ) where
   -- the second piece was added after the first
   pub both_added : (a b c : Outgoing) (failed : Bool) (r : Ending) → Adds a b front → AddsBytes back b c failed r
       → AddsText (front ++ back) a c failed r
-  both_added a b c failed (Ok u) first (second, short, fine) = (added_both a b c front back first second, fine)
+  both_added a b c failed (Ok u) first (second, short, fine) =
+      (added_both a b c front back first second, fine, λ h. short)
   both_added a b c failed (Err faults.Memory) first (none, short, fine) =
       let seam : front ++ [] ≡ take (length front) (front ++ back) =
       append-nil front ∙ sym (take-append_seam front back) in
@@ -63,7 +64,7 @@ module _ (limits : Bounds) (tally : Tally) (at : Position) (frame : List ℕ) (m
   pub frame_added : (answer : List ℕ) (price : ℕ) → AnswersMessage message limits answer price → (a b : Outgoing)
       (failed : Bool) (r : Ending) → AddsText (framed answer) a b failed r
       → AddsServed tasks.Canonical limits tally at frame message a b failed r tally
-  frame_added answer price is a b failed (Ok u) (adds, fine) =
+  frame_added answer price is a b failed (Ok u) (adds, fine, short) =
       (framed answer, (answer, price, is, refl, refl), adds, fine)
   frame_added answer price is a b failed (Err faults.Memory) ((count, adds), fine) =
       (inr (framed answer, tally, count, (answer, price, is, refl, refl), adds), fine)

@@ -6,3 +6,6 @@ pub mod BareChecks
 pub mod Closings
 pub mod Finishes
 pub mod Sieves
+pub mod OneArchive
+pub mod OneSieve
+pub mod OneWhole

@@ -58,7 +58,7 @@ module _ (s : Sifted) (frame : List ℕ) (message : List (List ℕ)) (a b : Outg
   -- what a message that is sifted writes was added, or a beginning of it
   pub sifted_added : (t : Sifted) (text : List ℕ) → Sifts s frame message text t → (r : Ending)
       → AddsText text a b failed r → TriesToSift s frame message a b failed r t
-  sifted_added t text is (Ok u) (adds, fine) = (text, is, adds, fine)
+  sifted_added t text is (Ok u) (adds, fine, short) = (text, is, adds, fine, short)
   sifted_added t text is (Err faults.Memory) ((count, adds), fine) = (inr (text, t, count, is, adds), fine)
   sifted_added t text is (Err faults.Io) ((count, breaks), broken) = ((text, t, count, is, breaks), broken)
   sifted_added t text is (Err (faults.Refused r)) none = absurd none
@@ -67,7 +67,7 @@ module _ (s : Sifted) (frame : List ℕ) (message : List (List ℕ)) (a b : Outg
   pub tried_does : (t : Sifted) (at : Position) (r : Ending) → TriesToSift s frame message a b failed r t
       → ((e : Refusal) → r ≡ stopped (faults.Refused e) → s.order.keep_going ≡ false)
       → DoesService serves refuses s at frame message a b failed r t
-  tried_does t at (Ok u) (text, is, adds, fine) ends = (text, inl is, adds, fine)
+  tried_does t at (Ok u) (text, is, adds, fine, short) ends = ((text, inl is, adds, fine), short)
   tried_does t at (Err faults.Memory) (inl none, fine) ends = (inl none, fine)
   tried_does t at (Err faults.Memory) (inr (text, u, count, is, adds), fine) ends =
       (inr (text, u, count, inl is, adds), fine)

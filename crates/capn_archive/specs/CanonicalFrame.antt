@@ -1,5 +1,5 @@
 -- Canonical bytes as a frame of one segment. (Page: serialization over a stream; canonicalization.)
-use Rattle.std.specs.Prelude.{◌≡◌, ℕ, ◌/◌, List, ◌∷◌, ◌++◌, length, take, Bool, true, false, Result, Ok, Err}
+use Rattle.std.specs.Prelude.{◌≡◌, ℕ, ◌/◌, ◌<◌, List, ◌∷◌, ◌++◌, length, take, Bool, true, false, Result, Ok, Err}
 use Rattle.capn_stream.specs.Frames.{entry}
 use Rattle.capn_serve.specs.declared.fault.ServeFault.{ServeFault}
 use Rattle.capn_serve.specs.declared.fault.ServeFault.TheVariants as faults
@@ -23,9 +23,11 @@ abbrev pub PutsFront : {E : Type 0} → List ℕ → List ℕ → List ℕ → R
 PutsFront text old new (Ok u) = new ≡ old ++ text
 PutsFront text old new (Err e) = (some : List ℕ) × (new ≡ old ++ some)
 
--- a text was added to what goes out; or memory was refused, and a beginning of it was; or the writer failed within it
+-- a text was added to what goes out, of which no more than 65,535 bytes are kept if no more were; or memory was refused,
+-- and a beginning of it was added; or the writer failed within it
 abbrev pub AddsText : List ℕ → Outgoing → Outgoing → Bool → Result (Unit {0}) ServeFault → Type 0
-AddsText text old new failed (Ok u) = Adds old new text × (failed ≡ false)
+AddsText text old new failed (Ok u) =
+    Adds old new text × (failed ≡ false) × (length old.kept < 65536 → length new.kept < 65536)
 AddsText text old new failed (Err faults.Memory) = ((count : ℕ) × Adds old new (take count text)) × (failed ≡ false)
 AddsText text old new failed (Err faults.Io) = ((count : ℕ) × Breaks old new count text) × (failed ≡ true)
 AddsText text old new failed (Err (faults.Refused r)) = ⊥

@@ -1,6 +1,7 @@
 -- A run over an input that writes something after its last message: the text of its input, how it ends, and what was
 -- written whatever it answers. (Own.)
-use Rattle.std.specs.Prelude.{◌≡◌, ◌⊎◌, ◌↔◌, ℕ, List, ◌++◌, Bool, true, Option, Some, None, IfSome, Result, Ok, Err}
+use Rattle.std.specs.Prelude.{◌≡◌, ◌≢◌, ◌⊎◌, ◌↔◌, ℕ, List, [], ◌++◌, Bool, true, Option, Some, None, IfSome, Result}
+use Rattle.std.specs.Prelude.{Ok, Err}
 use Rattle.std.specs.Io.KnownBytes.{Consumes, Appends}
 use Rattle.capn_words.specs.Watched.{HasBegun}
 use Rattle.capn_canon.specs.declared.form.Form.{Form}
@@ -10,7 +11,7 @@ use Rattle.capn_archive.specs.declared.fault.ArchiveFault.{ArchiveFault}
 use Rattle.capn_archive.specs.declared.fault.ArchiveFault.TheVariants as faults
 use Rattle.capn_archive.specs.declared.tally.Skipped.{Skipped}
 use Rattle.capn_serve.specs.Fold.{Fold}
-use Rattle.capn_serve.specs.FormRun.{AreMessages, HasWritten}
+use Rattle.capn_serve.specs.FormRun.{AreMessages, HasWritten, IsReadSoFar, KeepsUp, MayNeedMemory}
 
 -- how a run ends that has served all of its input: done, or with the numbers of the messages that it passed over
 abbrev pub outcome_by : Option Skipped → ℕ → Result (Unit {0}) ArchiveFault
@@ -61,10 +62,17 @@ module _ {X : Type 0} (f : Fold X) (x : X) (finish : Finish X) where
       (messages : List ℕ) × (y : X) × IfSome input (λ bytes. AreMessages f x form bytes messages (Ok tt) y)
       × HasBegun old new (messages ++ finish.closing y)
 
-  -- a reader gave some bytes, and a writer took a beginning of their text
+  -- the messages of an input were served, which ended with them, and something is written at the end
+  abbrev pub HasClosing : Form → Option (List ℕ) → Type 0
+  HasClosing form input = (y : X)
+      × IfSome input (λ bytes. (messages : List ℕ) × AreMessages f x form bytes messages (Ok tt) y)
+      × (finish.closing y ≢ [])
+
+  -- a reader gave some bytes, as far as is read, and a writer took a beginning of their text
   pub record Begins (form : Form) (a b c d : Option (List ℕ)) : Type 0 where
     pub bytes : List ℕ
     pub read : Consumes a b bytes
+    pub bounded : IsReadSoFar f x form bytes c d
     pub written : HasWritten f x form bytes c d ⊎ HasBegunClosing form a c d
 
   -- what a run did, over a reader (from a to b) and a writer (from c to d)
@@ -73,3 +81,5 @@ module _ {X : Type 0} (f : Fold X) (x : X) (finish : Finish X) where
     pub exact : IfSome a (EndsAs form c d r)
     pub io : (r ≡ Err faults.Io) ↔ ((reader_failed ≡ true) ⊎ (writer_failed ≡ true))
     pub begun : Begins form a b c d
+    pub heard : reader_failed ≡ true → KeepsUp f x form a b c d
+    pub memory : r ≡ Err faults.Memory → MayNeedMemory form a b ⊎ HasClosing form a

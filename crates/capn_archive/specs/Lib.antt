@@ -9,3 +9,4 @@ pub mod Finish
 pub mod ArchiveRun
 pub mod Sieve
 pub mod UniqRun
+pub mod Laws

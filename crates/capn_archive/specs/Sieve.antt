@@ -1,5 +1,5 @@
 -- Which messages a sieve keeps: those whose canonical bytes no message before them had, by their SHA-256. (Own.)
-use Rattle.std.specs.Prelude.{◌≡◌, ◌⊎◌, ℕ, ◌+◌, ◌-◌, ◌^◌, min, List, [], Bool, true, false, Option, None}
+use Rattle.std.specs.Prelude.{◌≡◌, ◌⊎◌, ℕ, ◌+◌, ◌-◌, ◌^◌, ◌<◌, min, List, [], length, Bool, true, false, Option, None}
 use Rattle.std.specs.Prelude.{Some, Result, Ok, Err}
 use Rattle.std.specs.BTreeSet.{BTreeSet, contains, insert_key}
 use Rattle.std.specs.Cmp.Lexicographic.{slice_cmp}
@@ -88,6 +88,7 @@ abbrev pub TriesToSift : Sifted → List ℕ → List (List ℕ) → Outgoing �
     → Sifted → Type 0
 TriesToSift s frame message old new failed (Ok u) t =
     (text : List ℕ) × Sifts s frame message text t × Adds old new text × (failed ≡ false)
+    × (length old.kept < 65536 → length new.kept < 65536)
 TriesToSift s frame message old new failed (Err faults.Memory) t =
     AddsBeginning (Sifts s frame message) old new × (failed ≡ false)
 TriesToSift s frame message old new failed (Err faults.Io) t =

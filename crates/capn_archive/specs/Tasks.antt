@@ -1,6 +1,5 @@
 -- What each task writes of a message and keeps of it, and when it refuses it. (Own.)
 use Rattle.std.specs.Prelude.{◌≡◌, ◌≢◌, ◌⊎◌, ℕ, List, [], ◌++◌, Bool, true, false, Option, Result, Ok, Err}
-use Rattle.std.specs.Prelude.{⊤}
 use Rattle.capn_words.specs.Message.{total}
 use Rattle.capn_walk.specs.Limits.{Bounds}
 use Rattle.capn_walk.specs.Accepted.{IsAccepted, paid}
@@ -25,12 +24,13 @@ use Rattle.capn_archive.specs.Digest.{IsDigestIfAny}
 use Rattle.capn_archive.specs.Lines.{digests_line, list_line, refused_line}
 use Rattle.capn_archive.specs.Tally.{counted, skipped}
 
--- what is found; or why it is not, by a property of the reason, unless memory was refused
-abbrev pub Finds : {T : Type 0} → (T → Type 0) → (Refusal → Type 0) → Result T ServeFault → Type 0
-Finds is isn't (Ok x) = is x
-Finds is isn't (Err faults.Memory) = ⊤
-Finds is isn't (Err faults.Io) = ⊥
-Finds is isn't (Err (faults.Refused r)) = isn't r × (r ≢ refusals.Memory)
+-- what is found; or why it is not, by a property of the reason, or that memory was refused, which is said only where
+-- this holds
+abbrev pub Finds : {T : Type 0} → (T → Type 0) → (Refusal → Type 0) → Type 0 → Result T ServeFault → Type 0
+Finds is isn't needs (Ok x) = is x
+Finds is isn't needs (Err faults.Memory) = needs
+Finds is isn't needs (Err faults.Io) = ⊥
+Finds is isn't needs (Err (faults.Refused r)) = isn't r × (r ≢ refusals.Memory)
 
 -- a message is refused: by its walk, and where its canonical bytes are needed, also for a capability
 abbrev pub IsRefusedBy : Task → List (List ℕ) → Bounds → Refusal → Type 0

@@ -6,7 +6,7 @@ ghost use Rattle.capn_archive.specs.Tasks as spec;
 ghost use Rattle.capn_archive.specs.Tasks.{AddsServed, Serves, Skips};
 ghost use Rattle.capn_archive.specs.declared.task.Task.TheVariants as tasks;
 ghost use Rattle.capn_serve.specs.Outgoing.{outgoing};
-ghost use Rattle.capn_serve.specs.Service.{DoesService};
+ghost use Rattle.capn_serve.specs.Service.{AddsOne};
 ghost use Rattle.capn_serve.specs.declared.position.Position.{Position};
 ghost use Rattle.capn_archive.specs.declared.tally.Tally.{Tally};
 
@@ -180,7 +180,7 @@ impl Archivist {
         writer: &mut Watched<W>,
     ) -> Result<(), ServeFault>
         requires { has_failed writer.old ≡ false }
-        ensures { DoesService spec.serves spec.refuses self.old at frame.now (S.message message.now)
+        ensures { AddsOne spec.serves spec.refuses self.old at frame.now (S.message message.now)
             (outgoing (W.contents (inner_of writer.old)) text.old.items)
             (outgoing (W.contents (inner_of writer.new)) text.new.items) (has_failed writer.new) result self.new }
     {

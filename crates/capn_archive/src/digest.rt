@@ -1,5 +1,6 @@
 //! The digest of a message.
 
+ghost use Rattle.capn_canon.specs.MemoryNeed.{MayNeedBytes};
 ghost use Rattle.capn_canon.specs.Refusal.{IsUnaccepted};
 ghost use Rattle.capn_archive.specs.Digest.{IsDigest, IsDigestIfAny, IsUndigested};
 ghost use Rattle.capn_archive.specs.Tasks.{Finds};
@@ -18,7 +19,7 @@ pub(crate) fn digest_of<S: Space, A: Allocator + Copy>(
     message: &S,
 ) -> Result<[u8; 32], ServeFault>
     ensures { Finds (λ digest. IsDigest (S.message message.now) limits digest)
-        (λ r. IsUndigested (S.message message.now) limits r) result }
+        (λ r. IsUndigested (S.message message.now) limits r) (MayNeedBytes (S.message message.now) limits) result }
 {
     let _budget = limits.budget();
     match canonical_of(alloc, message, limits) {
@@ -35,7 +36,7 @@ pub(crate) fn digest_if_any<S: Space, A: Allocator + Copy>(
     message: &S,
 ) -> Result<Option<[u8; 32]>, ServeFault>
     ensures { Finds (λ digest. IsDigestIfAny (S.message message.now) limits digest)
-        (λ r. IsUnaccepted (S.message message.now) limits r) result }
+        (λ r. IsUnaccepted (S.message message.now) limits r) (MayNeedBytes (S.message message.now) limits) result }
 {
     match digest_of(alloc, limits, message) {
         Ok(digest) => Ok(Some(digest)),

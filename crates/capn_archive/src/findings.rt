@@ -25,14 +25,14 @@ pub struct Findings {
     pub depth: u32,
 }
 
-/// What one survey finds of a message, and how deep it is; or why its walk refuses it.
+/// What one survey finds of a message, and how deep it is; or why its walk refuses it. It takes no memory.
 fn measure<S: Space, A: Allocator + Copy>(
     alloc: A,
     space: &S,
     limits: Limits,
 ) -> Result<Measured, ServeFault>
     ensures { Finds (λ m. IsSurvey (S.message space.now) limits m.survey × IsDepth (S.message space.now) limits m.depth)
-        (IsUnaccepted (S.message space.now) limits) result }
+        (IsUnaccepted (S.message space.now) limits) ⊥ result }
 {
     match survey_depth(alloc, space, limits) {
         Ok(measured) => Ok(measured),
@@ -50,7 +50,7 @@ fn find_not_canonical<S: Space, A: Allocator + Copy>(
     limits: Limits,
 ) -> Result<Findings, ServeFault>
     requires { (v : Value) → IsValueOf (S.message space.now) limits v → IsCanonical (S.message space.now) v → ⊥ }
-    ensures { Finds (AreFindings (S.message space.now) limits) (IsUnaccepted (S.message space.now) limits) result }
+    ensures { Finds (AreFindings (S.message space.now) limits) (IsUnaccepted (S.message space.now) limits) ⊥ result }
 {
     let measured = measure(alloc, space, limits)?;
     Ok(Findings {
@@ -70,7 +70,7 @@ fn find_in_segment<A: Allocator + Copy>(
     space: &Bare<'_>,
     limits: Limits,
 ) -> Result<Findings, ServeFault>
-    ensures { Finds (AreFindings (space.now ∷ []) limits) (IsUnaccepted (space.now ∷ []) limits) result }
+    ensures { Finds (AreFindings (space.now ∷ []) limits) (IsUnaccepted (space.now ∷ []) limits) ⊥ result }
 {
     let _segments = space.segments();
     match measure_canonical(space, limits) {
@@ -83,13 +83,13 @@ fn find_in_segment<A: Allocator + Copy>(
 }
 
 /// What is found of a message that is accepted within limits; or why it is refused, by its walk alone. A message of one
-/// segment is read as its bytes alone, which is faster.
+/// segment is read as its bytes alone, which is faster. It takes no memory.
 pub(crate) fn findings_of<S: Space, A: Allocator + Copy>(
     alloc: A,
     space: &S,
     limits: Limits,
 ) -> Result<Findings, ServeFault>
-    ensures { Finds (AreFindings (S.message space.now) limits) (IsUnaccepted (S.message space.now) limits) result }
+    ensures { Finds (AreFindings (S.message space.now) limits) (IsUnaccepted (S.message space.now) limits) ⊥ result }
 {
     match alone(space) {
         Some(bare) => find_in_segment(alloc, &bare, limits),

@@ -14,6 +14,7 @@ mod end_of_archive;
 mod fault;
 mod findings;
 mod head;
+pub mod laws;
 mod line;
 mod lines;
 mod needs;

@@ -121,11 +121,12 @@ module _ {X : Type 0} (f : Fold X) (x y : X) (a b c : Option (List ℕ)) where
   -- nothing was read, or what was is no segment
   pub runs_unread : (r w : Bool) (fault : RunFault) → w ≡ false → Unread (f.place x) a b r fault
       → RunsBare f x a b c c r w (Err fault) y
-  runs_unread r w fault good (inl (bytes, inl (h, inl memory))) = record {
+  runs_unread r w fault good (inl (bytes, inl (h, inl (memory, some)))) = record {
     exact = ends_unread c fault (inl memory);
     io = io_none r w fault h.fine good (λ e. let bad : faults.Memory ≡ faults.Io = sym memory ∙ e in cc);
     begun = begins_none bytes r h;
     heard = λ e. Appends-nil c;
+    memory = λ e. inl (bytes, h.read, some);
   }
   runs_unread r w fault good (inl (bytes, inl (h, inr (is, long)))) = record {
     exact = some_so a (λ input. most_input < length input) (EndsAs f x c c (Err fault) y)
@@ -133,18 +134,21 @@ module _ {X : Type 0} (f : Fold X) (x y : X) (a b c : Option (List ℕ)) where
     io = io_none r w fault h.fine good (λ e. let bad : faults.InputTooLong ≡ faults.Io = sym is ∙ e in cc);
     begun = begins_none bytes r h;
     heard = λ e. Appends-nil c;
+    memory = λ e. absurd (let bad : stopped faults.InputTooLong ≡ stopped faults.Memory = sym (ap stopped is) ∙ e in cc);
   }
   runs_unread r w fault good (inl (bytes, inr (read, bounded, broken, is))) = record {
     exact = ends_unread c fault (inr is);
     io = (λ h. inl broken, λ h. ap stopped is);
     begun = record { bytes = bytes; read = read; bounded = bounded; written = inl (Appends-nil c) };
     heard = λ e. Appends-nil c;
+    memory = λ e. absurd (let bad : stopped faults.Io ≡ stopped faults.Memory = sym (ap stopped is) ∙ e in cc);
   }
   runs_unread r w fault good (inr (bytes, all, why)) = record {
     exact = ends_none c r bytes fault all (inl why) (Appends-nil c);
     io = io_none r w fault all.given.fine good (known bytes fault (inl why));
     begun = begins_none bytes r all.given;
     heard = λ e. Appends-nil c;
+    memory = λ e. inr all.ended;
   }
 
   module _ {A : Type 0} (r w : Bool) (bytes : List ℕ) (input : Vec ℕ A)
@@ -186,6 +190,7 @@ module _ {X : Type 0} (f : Fold X) (x y : X) (a b c : Option (List ℕ)) where
       io = io_none r w fault all_given.given.fine good (known bytes fault why);
       begun = begins_so d (inl (nothing d kept none));
       heard = λ e. nothing d kept none;
+      memory = λ e. inr all_given.ended;
     }
 
     -- its message was not served to its end
@@ -200,12 +205,14 @@ module _ {X : Type 0} (f : Fold X) (x y : X) (a b c : Option (List ℕ)) where
       io = io_none r w faults.Memory all_given.given.fine good (λ e. cc);
       begun = begins_so d (beginning d kept words bare begun);
       heard = λ e. absurd (read_fine e);
+      memory = λ e. inr all_given.ended;
     }
     runs_unserved d kept faults.Io (inl (words, bare, ((text, mid, count, step, wrote), broken))) = record {
       exact = ends_unread d faults.Io (inr refl);
       io = (λ h. inr broken, λ h. refl);
       begun = begins_so d (inr (text, mid, count, (words, bare, step), wrote));
       heard = λ e. absurd (read_fine e);
+      memory = λ e. inr all_given.ended;
     }
     runs_unserved d kept faults.InputTooLong (inl (words, bare, none)) = absurd none
 
@@ -226,6 +233,7 @@ module _ {X : Type 0} (f : Fold X) (x y : X) (a b c : Option (List ℕ)) where
       io = sent_io ending io only;
       begun = begins_so e (inr (text, y, begun.0, (words, bare, step), begun.1));
       heard = λ h. absurd (read_fine h);
+      memory = λ h. inr all_given.ended;
     }
       where
         begun : (n : ℕ) × Breaks (sent c) (sent e) n text

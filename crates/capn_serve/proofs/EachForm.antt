@@ -26,7 +26,14 @@ module _ {X : Type 0} (f : Fold X) (x : X) where
   serves_stream a b c d reader writer r y run = record {
     exact = streamed_exact a c d r y run.exact;
     io = run.io;
-    begun = record { bytes = run.begun.bytes; read = run.begun.read; written = run.begun.written };
+    begun = record {
+      bytes = run.begun.bytes;
+      read = run.begun.read;
+      bounded = (run.begun.bounded, run.begun.lazy);
+      written = run.begun.written;
+    };
+    heard = run.heard;
+    memory = run.memory;
   }
 
   -- ---- the messages of a packed stream
@@ -44,7 +51,14 @@ module _ {X : Type 0} (f : Fold X) (x : X) where
   serves_packed a b c d reader writer r y run = record {
     exact = packed_exact a c d r y run.exact;
     io = run.io;
-    begun = record { bytes = run.begun.bytes; read = run.begun.read; written = run.begun.written };
+    begun = record {
+      bytes = run.begun.bytes;
+      read = run.begun.read;
+      bounded = (run.begun.bounded, run.begun.lazy);
+      written = run.begun.written;
+    };
+    heard = run.heard;
+    memory = run.memory;
   }
 
   -- ---- the message of a bare input
@@ -62,5 +76,12 @@ module _ {X : Type 0} (f : Fold X) (x : X) where
   serves_bare a b c d reader writer r y run = record {
     exact = bare_exact a c d r y run.exact;
     io = run.io;
-    begun = record { bytes = run.begun.bytes; read = run.begun.read; written = run.begun.written };
+    begun = record {
+      bytes = run.begun.bytes;
+      read = run.begun.read;
+      bounded = run.begun.bounded;
+      written = run.begun.written;
+    };
+    heard = run.heard;
+    memory = run.memory;
   }

@@ -1,12 +1,12 @@
 -- How a run over a packed stream ends.
-use Rattle.std.proofs.Common.{◌≡◌, ◌≢◌, ◌⊎◌, inl, inr, ℕ, ◌+◌, ◌-◌, ◌^◌, ◌<◌, ◌≤◌, min, List, [], ◌++◌, length, take}
-use Rattle.std.proofs.Common.{Bool, true, false, Option, None, Some, IfSome, Result, Ok, Err, refl, ap, sym, subst, ◌∙◌}
-use Rattle.std.proofs.Common.{append_assoc, arith, length-append, length-take-le}
+use Rattle.std.proofs.Common.{◌≡◌, ◌≢◌, ◌⊎◌, inl, inr, ℕ, ◌+◌, ◌-◌, ◌^◌, ◌<◌, ◌≤◌, min, List, [], ◌∷◌, ◌++◌, length}
+use Rattle.std.proofs.Common.{take, Bool, true, false, Option, None, Some, IfSome, Result, Ok, Err, refl, ap, sym, subst, ◌∙◌}
+use Rattle.std.proofs.Common.{append-nil, append_assoc, arith, length-append, length-take-le}
 use Rattle.std.proofs.Math.Seq.{take_all}
 use Rattle.std.proofs.lemmas.List.{take-append-le}
 use Rattle.std.proofs.lemmas.Grind.{flat_map-append}
 use Rattle.std.specs.Io.KnownBytes.{Appends, Consumes, IsAtEnd, Keeps}
-use Rattle.std.proofs.KnownBytes.{Consumes-nil, Consumes-trans, Consumes-kept}
+use Rattle.std.proofs.KnownBytes.{Appends-nil, Consumes-nil, Consumes-trans, Consumes-kept}
 use Rattle.capn_pack.specs.Packed.{text, content, texts, contents}
 use Rattle.capn_pack.specs.PackedPieces as packing
 use Rattle.capn_pack.specs.PackedPieces.{Splits}
@@ -17,17 +17,18 @@ use Rattle.capn_stream.specs.StreamPieces.{IsUnfinished}
 use Rattle.capn_stream.specs.FrameRefusal as frame_rules
 use Rattle.capn_stream.specs.declared.fault.FrameFault.{FrameFault}
 use Rattle.capn_stream.specs.declared.fault.FrameFault.TheVariants as frames
+use Rattle.capn_serve.specs.declared.position.Position.{Position}
 use Rattle.capn_serve.specs.declared.fault.RunFault.{RunFault}
 use Rattle.capn_serve.specs.declared.fault.RunFault.TheVariants as faults
 use Rattle.capn_serve.specs.Fold.{Fold, IsFolded, end_of, texts_of}
 use Rattle.capn_serve.specs.Outgoing.{sent}
 use Rattle.capn_serve.specs.ChunkRun.{Tells, TellsFront}
-use Rattle.capn_serve.specs.StreamRun.{Kept, has_more, taken_of}
-use Rattle.capn_serve.specs.PackedRun.{BeginsPacked, EndsPackedAs, HasEndedPacked, HasWrittenPacked, IsDuePacked}
-use Rattle.capn_serve.specs.PackedRun.{RunsPacked, cut_group, unless_more}
+use Rattle.capn_serve.specs.StreamRun.{IsAhead, Kept, has_more, taken_of}
+use Rattle.capn_serve.specs.PackedRun.{BeginsPacked, EndsPackedAs, HasEndedPacked, HasWrittenAllPacked}
+use Rattle.capn_serve.specs.PackedRun.{HasWrittenPacked, IsDuePacked, RunsPacked, cut_group, unless_more}
 use Rattle.capn_serve.specs.PackedChunkRun.{EndsPacked, HaltsPacked, HearsPacked, IsDueWithin, IsUnpacking}
 use Rattle.capn_serve.specs.PackedChunkRun.{Pending, TellsPacked, fresh}
-use Rattle.capn_serve.proofs.InputRead.{kept_all, read_end, read_past, taken_front, taken_more}
+use Rattle.capn_serve.proofs.InputRead.{kept_all, kept_end, kept_past, taken_front, taken_more}
 use Rattle.capn_serve.proofs.Sends.{adds_sent}
 use Rattle.capn_serve.proofs.More.{begun_front, tells_begun}
 use Rattle.capn_serve.proofs.PackedMore.{all_taken, begins_all, not_more, packed_more, packed_none, packed_stop}
@@ -72,6 +73,18 @@ split_after s tail words b =
       },
     )
 
+-- the end of an input is no reason to ask for memory
+pub end_unrefused : (at : Position) (e : FrameFault) (group : List ℕ) (offset : ℕ) → e ≢ frames.Memory
+    → end_of at e (cut_group at group offset) ≢ Err faults.Memory
+end_unrefused at frames.Empty [] offset other = λ h. cc
+end_unrefused at frames.Empty (b ∷ group) offset other = λ h. cc
+end_unrefused at frames.Cut [] offset other = λ h. cc
+end_unrefused at frames.Cut (b ∷ group) offset other = λ h. cc
+end_unrefused at frames.Memory group offset other = absurd (other refl)
+end_unrefused at (frames.TooManySegments n) group offset other = λ h. cc
+end_unrefused at (frames.TooManyWords n) group offset other = λ h. cc
+end_unrefused at frames.Failed group offset other = λ h. cc
+
 module _ {X : Type 0} (f : Fold X) (x : X) (limit : ℕ) where
   -- ---- a beginning was written
 
@@ -110,21 +123,71 @@ module _ {X : Type 0} (f : Fold X) (x : X) (limit : ℕ) where
   fronts_stop s c e false fault (stream, begins, halt) =
       (stream, begins, begun_front f x (taken_of limit stream) c e (halt.told refl))
 
+  -- all texts of what was told were written
+  written_all : (y : X) (bytes : List ℕ) (q : Pending) (c d : Option (List ℕ))
+      → TellsPacked f x (fresh limit) bytes q (sent c) (sent d) y → IsUnfinished q.rest f.most
+      → HasWrittenAllPacked f x limit bytes c d
+  written_all y bytes q c d told part = let all = told.told in (
+    told.stream,
+    q.group.rest,
+    told.len,
+    told.split,
+    omega (arith, told.size),
+    all.0,
+    q.rest,
+    y,
+    all.1,
+    part,
+    adds_sent c d (texts_of all.0) all.2,
+  )
+
+  -- all that was read was served
+  ahead_none : (y : X) (bytes : List ℕ) (q : Pending) (c d : Option (List ℕ))
+      → TellsPacked f x (fresh limit) bytes q (sent c) (sent d) y → IsUnfinished q.rest f.most
+      → IsAhead (HasWrittenAllPacked f x limit) bytes c d
+  ahead_none y bytes q c d told part = (
+    bytes,
+    [],
+    d,
+    [],
+    sym (append-nil bytes),
+    omega arith,
+    written_all y bytes q c d told part,
+    Appends-nil d,
+  )
+
+  -- a piece came after what was served
+  ahead_piece : (y : X) (bytes piece more : List ℕ) (q : Pending) (c d e : Option (List ℕ))
+      → TellsPacked f x (fresh limit) bytes q (sent c) (sent d) y → IsUnfinished q.rest f.most
+      → length piece ≤ 65536 → Appends d e more → IsAhead (HasWrittenAllPacked f x limit) (bytes ++ piece) c e
+  ahead_piece y bytes piece more q c d e told part small then_wrote =
+      (bytes, piece, d, more, refl, small, written_all y bytes q c d told part, then_wrote)
+
+  -- something was written where a run stopped
+  halt_wrote : (y : X) (q : Pending) (s : List ℕ) (d e : Option (List ℕ)) (failed : Bool) (fault : RunFault)
+      → HaltsPacked f y q s (sent d) (sent e) failed fault → (more : List ℕ) × Appends d e more
+  halt_wrote y q s d e true fault (stream, begins, halt) =
+      let front = halt.front refl in (take front.3 (texts_of front.0), front.5)
+  halt_wrote y q s d e false fault (stream, begins, halt) =
+      let front = begun_front f y (q.rest ++ taken_of q.left stream) d e (halt.told refl) in
+      (take front.3 (texts_of front.0), front.5)
+
   begins_packed : (most_packed : ℕ) (a b c d : Option (List ℕ)) (all s : List ℕ) → Consumes a b all
-      → length all ≤ most_packed + 1 → taken_of most_packed all ≡ s → Fronts s c d
-      → BeginsPacked f x most_packed limit a b c d
-  begins_packed most_packed a b c d all s read bound is front = record {
+      → length all ≤ most_packed + 1 → IsAhead (HasWrittenAllPacked f x limit) all c d
+      → taken_of most_packed all ≡ s → Fronts s c d → BeginsPacked f x most_packed limit a b c d
+  begins_packed most_packed a b c d all s read bound ahead is front = record {
     bytes = all;
     read = read;
     bounded = bound;
+    lazy = ahead;
     written = subst (λ (l : List ℕ). HasWrittenPacked f x limit l c d) (sym is) (wrote_front s c d front);
   }
 
-  begins_kept : (most_packed : ℕ) (a b c d : Option (List ℕ)) (kept : List ℕ) (is_longer : Bool)
-      → (bytes : List ℕ) × Kept most_packed a b kept is_longer bytes → Fronts kept c d
-      → BeginsPacked f x most_packed limit a b c d
-  begins_kept most_packed a b c d kept is_longer (bytes, k) front =
-      begins_packed most_packed a b c d bytes kept k.read k.bounded k.are front
+  begins_kept : (most_packed : ℕ) (a b c d : Option (List ℕ)) (kept bytes : List ℕ) (is_longer : Bool)
+      → Kept most_packed a b kept is_longer bytes → IsAhead (HasWrittenAllPacked f x limit) bytes c d
+      → Fronts kept c d → BeginsPacked f x most_packed limit a b c d
+  begins_kept most_packed a b c d kept bytes is_longer k ahead front =
+      begins_packed most_packed a b c d bytes kept k.read k.bounded ahead k.are front
 
   -- ---- how a run ends
 
@@ -173,7 +236,7 @@ module _ {X : Type 0} (f : Fold X) (x : X) (limit : ℕ) where
         adds_sent c d (texts_of all.0) all.2,
       )
 
-  due_unfinished : (y : X) (s : List ℕ) (q : Pending) (is_longer : Bool) (c d : Option (List ℕ))
+  pub due_unfinished : (y : X) (s : List ℕ) (q : Pending) (is_longer : Bool) (c d : Option (List ℕ))
       → TellsPacked f x (fresh limit) s q (sent c) (sent d) y → IsUnfinished q.rest f.most
       → (ending : Ending) × (text : List ℕ) × IsDuePacked f x limit s is_longer text ending y × Appends c d text
   due_unfinished y s q is_longer c d told (inl none) =
@@ -227,8 +290,9 @@ module _ {X : Type 0} (f : Fold X) (x : X) (limit : ℕ) where
       record {
         exact = ends_unread most_packed y a c d faults.Io (inr refl);
         io = (λ h. inl broken, λ h. refl);
-        begun = begins_packed most_packed a b2 c d bytes bytes here (omega (arith, count, short)) all
-            (fronts_told y bytes q c d told);
+        begun = begins_packed most_packed a b2 c d bytes bytes here (omega (arith, count, short))
+            (ahead_none y bytes q c d told part) all (fronts_told y bytes q c d told);
+        memory = λ h. absurd (cc);
         heard = λ h. (
           bytes,
           due.1,
@@ -250,7 +314,8 @@ module _ {X : Type 0} (f : Fold X) (x : X) (limit : ℕ) where
   pub packed_end : (most_packed : ℕ) → most_packed ≤ 2 ^ 64 - 1 → (y : X) (a b b2 c d : Option (List ℕ))
       (taken : ℕ) (q : Pending) (buf : List ℕ) (n : ℕ)
       (reader_failed writer_failed : Bool) (r : Ending) → reader_failed ≡ false → writer_failed ≡ false
-      → taken ≤ most_packed → HearsPacked f x limit a b taken q c d y → n ≡ 0 → Consumes b b2 (take n buf)
+      → taken ≤ most_packed → HearsPacked f x limit a b taken q c d y → IsUnfinished q.rest f.most → n ≡ 0
+      → Consumes b b2 (take n buf)
       × (n ≡ 0 → 0 < length buf → IsAtEnd b2) → 0 < length buf
       → EndsPacked (f.place y) q.group.rest q.group.offset q.rest f.most r
       → RunsPacked f x most_packed limit a b2 c d reader_failed writer_failed r y
@@ -259,17 +324,19 @@ module _ {X : Type 0} (f : Fold X) (x : X) (limit : ℕ) where
     read,
     count,
     told,
-  ) zero more some (e, other, refused, is, no_io) =
-      let kept = read_end most_packed a b b2 bytes buf n zero read more some (omega (arith, count, short)) in
+  ) part zero more some (e, other, refused, is, no_io) =
+      let kept = kept_end most_packed a b b2 bytes buf n zero read more some (omega (arith, count, short)) in
       let at = offset_is y bytes q c d told (omega (arith, count, short, fits)) in
       let ending : r ≡ end_of (f.place y) e (cut_group (f.place y) q.group.rest told.len) = is
       ∙ ap (λ (k : ℕ). end_of (f.place y) e (cut_group (f.place y) q.group.rest k)) at in
       let due = due_open y bytes q false r e c d told other refused ending in
       record {
-        exact = ends_kept most_packed y a b2 c d bytes false r kept (ended y bytes false c d r due);
+        exact = ends_kept most_packed y a b2 c d bytes false r (bytes, kept) (ended y bytes false c d r due);
         io = (λ h. absurd (no_io h), λ h. absurd (not_failed reader_failed writer_failed reader_fine writer_fine h));
-        begun = begins_kept most_packed a b2 c d bytes false kept (fronts_told y bytes q c d told);
+        begun = begins_kept most_packed a b2 c d bytes bytes false kept (ahead_none y bytes q c d told part)
+            (fronts_told y bytes q c d told);
         heard = λ h. absurd (not_failed reader_failed writer_failed reader_fine writer_fine (inl h));
+        memory = λ h. absurd (end_unrefused (f.place y) e q.group.rest q.group.offset other (sym is ∙ h));
       }
 
   -- a byte past the greatest number was read, after messages that were served
@@ -284,25 +351,30 @@ module _ {X : Type 0} (f : Fold X) (x : X) (limit : ℕ) where
   pub packed_long : (most_packed : ℕ) (y z : X) (a b b2 c d e : Option (List ℕ)) (taken : ℕ) (q r : Pending)
       (buf tail : List ℕ) (w k : ℕ)
       (reader_failed writer_failed : Bool) → reader_failed ≡ false → writer_failed ≡ false
-      → taken + w ≡ most_packed → w < k → taken + k ≤ most_packed + 1
-      → HearsPacked f x limit a b taken q c d y → Consumes b b2 (take k buf) → k ≤ length buf
+      → taken + w ≡ most_packed → w < k → taken + k ≤ most_packed + 1 → k ≤ 65536
+      → HearsPacked f x limit a b taken q c d y → IsUnfinished q.rest f.most → Consumes b b2 (take k buf) → k ≤ length buf
       → TellsPacked f y q (take w (buf ++ tail)) r (sent d) (sent e) z → IsUnfinished r.rest f.most
       → RunsPacked f x most_packed limit a b2 c e reader_failed writer_failed (Err faults.InputTooLong) z
   packed_long most_packed y z a b b2 c d e taken q r buf tail w k reader_failed writer_failed reader_fine writer_fine
-      full past bound (bytes, read, count, told) more within served part =
-      let kept = read_past most_packed a b b2 bytes buf k w read more within (omega (arith, count, full)) past
+      full past bound small (bytes, read, count, told) unfinished more within served part =
+      let kept = kept_past most_packed a b b2 bytes buf k w read more within (omega (arith, count, full)) past
       (omega (arith, count, bound)) in
       let front = subst (λ (l : List ℕ). TellsPacked f y q l r (sent d) (sent e) z)
       (take-append-le w buf tail (omega (arith, past, within))) served in
       let all = packed_more f x y (fresh limit) q bytes (take w buf) (sent c) (sent d) told z r (sent e) front in
       let due = due_long z (bytes ++ take w buf) r c e all part in
       record {
-        exact = ends_kept most_packed z a b2 c e (bytes ++ take w buf) true (Err faults.InputTooLong) kept
+        exact = ends_kept most_packed z a b2 c e (bytes ++ take w buf) true (Err faults.InputTooLong)
+            (bytes ++ take k buf, kept)
             (ended z (bytes ++ take w buf) true c e (stopped faults.InputTooLong) due);
         io = (λ h. absurd (cc), λ h. absurd (not_failed reader_failed writer_failed reader_fine writer_fine h));
-        begun = begins_kept most_packed a b2 c e (bytes ++ take w buf) true kept
+        begun = begins_kept most_packed a b2 c e (bytes ++ take w buf) (bytes ++ take k buf) true kept
+            (ahead_piece y bytes (take k buf) (texts_of front.told.0) q c d e told unfinished
+            (omega (arith, small, length-take-le k buf within))
+            (adds_sent d e (texts_of front.told.0) front.told.2))
             (fronts_told z (bytes ++ take w buf) r c e all);
         heard = λ h. absurd (not_failed reader_failed writer_failed reader_fine writer_fine (inl h));
+        memory = λ h. absurd (cc);
       }
 
   -- the run stopped within a chunk
@@ -342,16 +414,19 @@ module _ {X : Type 0} (f : Fold X) (x : X) (limit : ℕ) where
   pub packed_stopped : (most_packed : ℕ) (y z : X) (a b b2 c d e : Option (List ℕ)) (taken : ℕ) (q : Pending)
       (buf tail : List ℕ)
       (w k : ℕ) (reader_failed writer_failed : Bool) (fault : RunFault) → reader_failed ≡ false → taken ≤ most_packed
-      → w ≡ min k (most_packed - taken) → taken + k ≤ most_packed + 1
-      → HearsPacked f x limit a b taken q c d y → Consumes b b2 (take k buf) → k ≤ length buf
+      → w ≡ min k (most_packed - taken) → taken + k ≤ most_packed + 1 → k ≤ 65536 → 0 < k
+      → HearsPacked f x limit a b taken q c d y → IsUnfinished q.rest f.most → Consumes b b2 (take k buf)
+      → k ≤ length buf
       → HaltsPacked f y q (take w (buf ++ tail)) (sent d) (sent e) writer_failed fault
       → RunsPacked f x most_packed limit a b2 c e reader_failed writer_failed (Err fault) z
   packed_stopped most_packed y z a b b2 c d e taken q buf tail w k reader_failed writer_failed fault reader_fine short
-      least bound (bytes, read, count, told) more within stop =
+      least bound small some (bytes, read, count, told) unfinished more within stop =
       let all = Consumes-trans a b b2 bytes (take k buf) read more in
       let front = taken_front most_packed bytes buf taken w k count short least within in
       let part = subst (λ (p : List ℕ). HaltsPacked f y q p (sent d) (sent e) writer_failed fault)
       (take-append-le w buf tail (omega (arith, least, within))) stop in
+      let piece = halt_wrote y q (take w buf) d e writer_failed fault part in
+      let size = length-take-le k buf within in
       let whole = packed_stop f x y (fresh limit) q bytes (take w buf) (sent c) (sent d) told (sent e) writer_failed
       fault part in
       record {
@@ -362,9 +437,15 @@ module _ {X : Type 0} (f : Fold X) (x : X) (limit : ℕ) where
           λ h. ap stopped (whole.2.io.1 (writer_only reader_failed writer_failed reader_fine h)),
         );
         begun = begins_packed most_packed a b2 c e (bytes ++ take k buf) (bytes ++ take w buf) all
-            (omega (arith, count, bound, length-append bytes (take k buf), length-take-le k buf within)) front
-            (fronts_stop (bytes ++ take w buf) c e writer_failed fault whole);
+            (omega (arith, count, bound, length-append bytes (take k buf), size))
+            (ahead_piece y bytes (take k buf) piece.0 q c d e told unfinished (omega (arith, small, size)) piece.1)
+            front (fronts_stop (bytes ++ take w buf) c e writer_failed fault whole);
         heard = λ h. absurd (let g : true ≡ false = sym h ∙ reader_fine in cc);
+        memory = λ h. (
+          bytes ++ take k buf,
+          all,
+          omega (arith, some, length-append bytes (take k buf), size),
+        );
       }
 
   -- a chunk was served

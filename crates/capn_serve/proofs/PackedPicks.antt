@@ -27,13 +27,14 @@ use Rattle.capn_serve.specs.PackedChunkRun.{TellsPacked, fresh}
 use Rattle.capn_serve.specs.Outgoing.{sent}
 use Rattle.capn_serve.specs.StreamRun.{has_more, taken_of}
 use Rattle.capn_serve.proofs.InputRead.{read_end, read_past, taken_front}
-use Rattle.capn_serve.proofs.PackedEnds.{Fronts, due_long, due_open, fronts_stop, fronts_told, offset_is}
-use Rattle.capn_serve.proofs.PackedEnds.{split_after, taken_told, wrote_front}
+use Rattle.capn_serve.proofs.PackedEnds.{Fronts, due_long, due_open, due_unfinished, end_unrefused, fronts_stop}
+use Rattle.capn_serve.proofs.PackedEnds.{fronts_told, offset_is, split_after, taken_told, wrote_front}
 use Rattle.capn_serve.proofs.PackedMore.{begins_all, packed_more, packed_none, packed_stop}
 use Rattle.capn_serve.proofs.Sends.{adds_sent}
 use Rattle.capn_serve.proofs.Picks.{Ending, GoesAt, StopsAt, Writes, begins_so, done, ends_kept, ends_more, ends_unread}
-use Rattle.capn_serve.proofs.Picks.{enough_folded, folded_at, full_cases, full_known, io_none, lazy_piece}
-use Rattle.capn_serve.proofs.Picks.{settled_cases, settled_failed, settled_io, stopped, writer_only}
+use Rattle.capn_serve.proofs.Picks.{enough_folded, folded_at, full_cases, full_known, full_unrefused, io_none}
+use Rattle.capn_serve.proofs.Picks.{lazy_piece, settled_cases, settled_failed, settled_io, stopped, unheard}
+use Rattle.capn_serve.proofs.Picks.{writer_only}
 
 -- whatever comes after a packed stream is at the position of its last message, or says that it is too long
 goes_packed : (at : Position) (is_longer is_more : Bool) (group : List ℕ) (offset : ℕ)
@@ -115,20 +116,34 @@ module _ (most : ℕ) (p : Pick) where
         io = io_none most p forms.Packed r w done reader_fine writer_fine (λ h. cc);
         begun = begins_so most p forms.Packed a b c d bytes bytes read (omega (arith, count, short)) lazy all
             (wrote_so bytes c d (fronts_told f x most_taken y bytes q c d told));
+        heard = unheard r reader_fine;
+        memory = λ h. absurd (cc);
       }
 
   pub packed_unread : (y : Run Pick) (a b b2 c d : Option (List ℕ)) (taken : ℕ) (q : Pending)
       (reader_failed writer_failed : Bool) → reader_failed ≡ true → taken ≤ most_taken
-      → HearsPacked most p a b taken q c d y → Keeps b b2
+      → HearsPacked most p a b taken q c d y → IsUnfinished q.rest most → Keeps b b2
       → Picks most p forms.Packed a b2 c d reader_failed writer_failed (stopped faults.Io)
-  packed_unread y a b b2 c d taken q r w broken short (bytes, read, count, told, lazy) kept =
+  packed_unread y a b b2 c d taken q r w broken short (bytes, read, count, told, lazy) part kept =
       let here = Consumes-kept a b b2 bytes read kept in
       let all : taken_of most_taken bytes ≡ bytes = take_all most_taken bytes (omega (arith, count, short)) in
+      let due = due_unfinished f x most_taken y bytes q (has_more most_taken bytes) c d told part in
       record {
         exact = ends_unread most p forms.Packed a c d faults.Io (inr refl);
         io = (λ h. inl broken, λ h. refl);
         begun = begins_so most p forms.Packed a b2 c d bytes bytes here (omega (arith, count, short)) lazy all
             (wrote_so bytes c d (fronts_told f x most_taken y bytes q c d told));
+        heard = λ h. (
+          bytes,
+          due.1,
+          due.0,
+          y,
+          here,
+          subst (λ (l : List ℕ). IsDuePacked f x most_taken l (has_more most_taken bytes) due.1 due.0 y) (sym all)
+              due.2,
+          due.3,
+        );
+        memory = λ h. absurd (cc);
       }
 
   pub packed_end : (y : Run Pick) (a b b2 c d : Option (List ℕ)) (taken : ℕ) (q : Pending) (buf : List ℕ) (n : ℕ)
@@ -153,6 +168,8 @@ module _ (most : ℕ) (p : Pick) where
         begun = begins_so most p forms.Packed a b2 c d bytes bytes here (omega (arith, count, short)) lazy
             (take_all most_taken bytes (omega (arith, count, short)))
             (wrote_so bytes c d (fronts_told f x most_taken y bytes q c d told));
+        heard = unheard rf reader_fine;
+        memory = λ h. absurd (end_unrefused y.at e q.group.rest q.group.offset other (sym is ∙ h));
       }
 
   -- a byte past the greatest number was read
@@ -199,6 +216,8 @@ module _ (most : ℕ) (p : Pick) where
             (few bytes q c d y told unfinished before))
             front
             (wrote_so (bytes ++ take w buf) c e (fronts_told f x most_taken z (bytes ++ take w buf) r c e next));
+        heard = unheard rf reader_fine;
+        memory = λ h. absurd (full_unrefused (last p) z.at.index h);
       }
 
   -- what a packed stream comes to that stops so, with whatever more
@@ -277,12 +296,12 @@ module _ (most : ℕ) (p : Pick) where
   -- the run stopped within a chunk
   pub packed_stopped : (y : Run Pick) (a b b2 c d e : Option (List ℕ)) (taken : ℕ) (q : Pending) (buf tail : List ℕ)
       (w k : ℕ) (reader_failed writer_failed : Bool) (fault : RunFault) → reader_failed ≡ false → taken ≤ most_taken
-      → w ≡ min k (most_taken - taken) → taken + k ≤ most_taken + 1 → k ≤ 65536
+      → w ≡ min k (most_taken - taken) → taken + k ≤ most_taken + 1 → k ≤ 65536 → 0 < k
       → HearsPacked most p a b taken q c d y → y.at.index < last p → IsUnfinished q.rest most
       → Consumes b b2 (take k buf) → k ≤ length buf
       → HaltsPacked f y q (take w (buf ++ tail)) (sent d) (sent e) writer_failed fault
       → Picks most p forms.Packed a b2 c e reader_failed writer_failed (settled (last p) fault)
-  packed_stopped y a b b2 c d e taken q buf tail w k rf wf fault reader_fine short least bound small
+  packed_stopped y a b b2 c d e taken q buf tail w k rf wf fault reader_fine short least bound small some
       (bytes, read, count, told, lazy) before unfinished more within stop =
       let all = Consumes-trans a b b2 bytes (take k buf) read more in
       let front = taken_front most_taken bytes buf taken w k count short least within in
@@ -303,6 +322,8 @@ module _ (most : ℕ) (p : Pick) where
             (few bytes q c d y told unfinished before))
             front
             (wrote_so (bytes ++ take w buf) c e (fronts_stop f x most_taken (bytes ++ take w buf) c e wf fault whole));
+        heard = unheard rf reader_fine;
+        memory = λ h. (bytes ++ take k buf, all, omega (arith, some, length-append bytes (take k buf), size));
       }
 
   -- a chunk was served

@@ -190,6 +190,16 @@ module _ (most : ℕ) (p : Pick) where
 
 -- ---- the endings that this crate tells apart
 
+-- a reader that has not failed
+pub unheard : {P : Type 0} (r : Bool) → r ≡ false → r ≡ true → P
+unheard r fine h = absurd (let e : true ≡ false = sym h ∙ fine in cc)
+
+pub full_unrefused : (last index : ℕ) → full last index ≢ Err faults.Memory
+full_unrefused last index = elim (known (nat_lt index last)) [
+  | inl below ↦ rw below (λ h. cc)
+  | inr past ↦ rw past (λ h. cc)
+]
+
 pub full_known : (last index : ℕ) → full last index ≢ Err faults.Io
 full_known last index = elim (known (nat_lt index last)) [
   | inl below ↦ rw below (λ h. cc)

@@ -1,12 +1,12 @@
 -- A run over a stream that is read in chunks.
-use Rattle.std.proofs.Common.{◌≡◌, ◌≢◌, ◌⊎◌, inl, inr, ℕ, ◌+◌, ◌-◌, ◌<◌, ◌≤◌, ◌^◌, min, List, ◌++◌, length, take}
-use Rattle.std.proofs.Common.{Bool}
+use Rattle.std.proofs.Common.{◌≡◌, ◌≢◌, ◌⊎◌, inl, inr, ℕ, ◌+◌, ◌-◌, ◌<◌, ◌≤◌, ◌^◌, min, List, [], ◌++◌, length, take}
+use Rattle.std.proofs.Common.{Bool, append-nil}
 use Rattle.std.proofs.Common.{true, false, Option, None, Some, IfSome, Result, Ok, Err, refl, ap, sym, subst, ◌∙◌}
 use Rattle.std.proofs.Common.{arith, length-append, length-take-le}
 use Rattle.std.proofs.Math.Seq.{take-length, take_all}
 use Rattle.std.proofs.lemmas.List.{take-append-le}
 use Rattle.std.specs.Io.KnownBytes.{Appends, Consumes, IsAtEnd, Keeps}
-use Rattle.std.proofs.KnownBytes.{Consumes-trans, Consumes-kept}
+use Rattle.std.proofs.KnownBytes.{Appends-nil, Consumes-trans, Consumes-kept}
 use Rattle.capn_canon.specs.declared.refusal.Refusal.{Refusal}
 use Rattle.capn_stream.specs.StreamPieces.{IsUnfinished}
 use Rattle.capn_stream.specs.FrameRefusal as frame_rules
@@ -19,10 +19,10 @@ use Rattle.capn_serve.specs.declared.service.Run.{Run}
 use Rattle.capn_serve.specs.Fold.{Fold, AreParts, IsFolded, end_of, fold_of, texts_of}
 use Rattle.capn_serve.specs.Outgoing.{sent}
 use Rattle.capn_serve.specs.ChunkRun.{HasRoom, IsDueSo, Stops, Tells, TellsFront}
-use Rattle.capn_serve.specs.StreamRun.{Begins, EndsAs, EndsInput, HasEnded, HasWritten, Hears, IsDue, Kept, Runs}
-use Rattle.capn_serve.specs.StreamRun.{behind, has_more, start, taken_of}
+use Rattle.capn_serve.specs.StreamRun.{Begins, EndsAs, EndsInput, HasEnded, HasWritten, HasWrittenAll, Hears, IsAhead}
+use Rattle.capn_serve.specs.StreamRun.{IsDue, Kept, Runs, behind, has_more, start, taken_of}
 use Rattle.capn_serve.proofs.More.{begun_front, stops_more, tells_begun, tells_more}
-use Rattle.capn_serve.proofs.InputRead.{kept_all, read_end, read_past, taken_front, taken_more}
+use Rattle.capn_serve.proofs.InputRead.{kept_all, kept_end, kept_past, taken_front, taken_more}
 use Rattle.capn_serve.proofs.Next.{room_told}
 use Rattle.capn_serve.proofs.Sends.{adds_sent}
 
@@ -46,18 +46,49 @@ module _ {X : Type 0} (f : Fold X) (x : X) (limit : ℕ) where
       begun_front f x stream c d (tells_begun f x y stream rest (sent c) (sent d) told)
 
   -- whatever stopped a run, a beginning of the texts was written
-  pub stops_front : (stream : List ℕ) (c d : Option (List ℕ)) (failed : Bool) (fault : RunFault)
-      → Stops f x stream (sent c) (sent d) failed fault → TellsFront f x stream (sent c) (sent d)
-  stops_front stream c d true fault stop = stop.front refl
-  stops_front stream c d false fault stop = begun_front f x stream c d (stop.told refl)
+  pub stops_front : (z : X) (stream : List ℕ) (c d : Option (List ℕ)) (failed : Bool) (fault : RunFault)
+      → Stops f z stream (sent c) (sent d) failed fault → TellsFront f z stream (sent c) (sent d)
+  stops_front z stream c d true fault stop = stop.front refl
+  stops_front z stream c d false fault stop = begun_front f z stream c d (stop.told refl)
+
+  -- all that was read was served
+  ahead_none : (y : X) (bytes rest : List ℕ) (c d : Option (List ℕ)) → Tells f x bytes rest (sent c) (sent d) y
+      → IsUnfinished rest f.most → IsAhead (HasWrittenAll f x limit) bytes c d
+  ahead_none y bytes rest c d (parts, are, wrote) part = (
+    bytes,
+    [],
+    d,
+    [],
+    sym (append-nil bytes),
+    omega arith,
+    (parts, rest, y, are, part, adds_sent c d (texts_of parts) wrote),
+    Appends-nil d,
+  )
+
+  -- a piece came after what was served
+  ahead_piece : (y : X) (bytes rest piece more : List ℕ) (c d e : Option (List ℕ))
+      → Tells f x bytes rest (sent c) (sent d) y → IsUnfinished rest f.most → length piece ≤ 65536
+      → Appends d e more → IsAhead (HasWrittenAll f x limit) (bytes ++ piece) c e
+  ahead_piece y bytes rest piece more c d e (parts, are, wrote) part small then_wrote = (
+    bytes,
+    piece,
+    d,
+    more,
+    refl,
+    small,
+    (parts, rest, y, are, part, adds_sent c d (texts_of parts) wrote),
+    then_wrote,
+  )
 
   -- a beginning of the text was written
   begins_front : (a b c d : Option (List ℕ)) (all s : List ℕ) → Consumes a b all → length all ≤ limit + 1
-      → taken_of limit all ≡ s → TellsFront f x s (sent c) (sent d) → Begins f x limit a b c d
-  begins_front a b c d all s read bound is (parts, rest, y, count, are, wrote) = record {
+      → IsAhead (HasWrittenAll f x limit) all c d → taken_of limit all ≡ s → TellsFront f x s (sent c) (sent d)
+      → Begins f x limit a b c d
+  begins_front a b c d all s read bound ahead is (parts, rest, y, count, are, wrote) = record {
     bytes = all;
     read = read;
     bounded = bound;
+    lazy = ahead;
     written = (parts, rest, y, count, subst (λ (p : List ℕ). AreParts f x p parts rest y) (sym is) are, wrote);
   }
 
@@ -78,7 +109,7 @@ module _ {X : Type 0} (f : Fold X) (x : X) (limit : ℕ) where
     adds_sent c d (texts_of parts) wrote,
   )
 
-  due_unfinished : (y : X) (stream rest : List ℕ) (more : Option RunFault) (c d : Option (List ℕ))
+  pub due_unfinished : (y : X) (stream rest : List ℕ) (more : Option RunFault) (c d : Option (List ℕ))
       → Tells f x stream rest (sent c) (sent d) y → IsUnfinished rest f.most
       → (ending : Ending) × (text : List ℕ) × IsFolded f x stream more text ending y × Appends c d text
   due_unfinished y stream rest more c d told (inl none) =
@@ -107,13 +138,14 @@ module _ {X : Type 0} (f : Fold X) (x : X) (limit : ℕ) where
       subst (λ (m : Bool). HasEnded f x limit (taken_of limit all) m c d r y) (sym same.1)
       (subst (λ (xs : List ℕ). HasEnded f x limit xs is_longer c d r y) (sym same.0) h)
 
-  begins_kept : (a b c d : Option (List ℕ)) (kept : List ℕ) (is_longer : Bool)
-      → (bytes : List ℕ) × Kept limit a b kept is_longer bytes → HasWritten f x limit kept c d
-      → Begins f x limit a b c d
-  begins_kept a b c d kept is_longer (bytes, k) h = record {
+  begins_kept : (a b c d : Option (List ℕ)) (kept bytes : List ℕ) (is_longer : Bool)
+      → Kept limit a b kept is_longer bytes → IsAhead (HasWrittenAll f x limit) bytes c d
+      → HasWritten f x limit kept c d → Begins f x limit a b c d
+  begins_kept a b c d kept bytes is_longer k ahead h = record {
     bytes = bytes;
     read = k.read;
     bounded = k.bounded;
+    lazy = ahead;
     written = subst (λ (xs : List ℕ). HasWritten f x limit xs c d) (sym k.are) h;
   }
 
@@ -132,8 +164,9 @@ module _ {X : Type 0} (f : Fold X) (x : X) (limit : ℕ) where
       record {
         exact = ends_unread y a c d faults.Io (inr refl);
         io = (λ h. inl broken, λ h. refl);
-        begun = begins_front a b2 c d bytes bytes here (omega (arith, count, short)) all
-            (tells_front y bytes rest c d told);
+        begun = begins_front a b2 c d bytes bytes here (omega (arith, count, short))
+            (ahead_none y bytes rest c d told part) all (tells_front y bytes rest c d told);
+        memory = λ h. absurd (cc);
         heard = λ h. (
           bytes,
           due.1,
@@ -167,6 +200,11 @@ module _ {X : Type 0} (f : Fold X) (x : X) (limit : ℕ) where
       (ap (λ (g : RunFault). Err g) is) in
       inr (inr (due.0, y, due.1, due.2))
 
+  pub end_unrefused : (at : Position) (rest : List ℕ) (r : Ending) → EndsInput at rest f.most r
+      → r ≢ Err faults.Memory
+  end_unrefused at rest (Ok u) ends = λ h. cc
+  end_unrefused at rest (Err fault) ends = let is = ends.1 in λ h. cc
+
   pub end_known : (at : Position) (rest : List ℕ) (r : Ending) → EndsInput at rest f.most r → r ≢ Err faults.Io
   end_known at rest (Ok u) ends = λ h. cc
   end_known at rest (Err fault) ends = let is = ends.1 in λ h. cc
@@ -174,7 +212,7 @@ module _ {X : Type 0} (f : Fold X) (x : X) (limit : ℕ) where
   pub runs_end : (y : X) (a b b2 c d : Option (List ℕ)) (taken : ℕ) (rest buf : List ℕ) (n : ℕ)
       (reader_failed writer_failed : Bool) (r : Ending) → reader_failed ≡ false
       → writer_failed ≡ false → taken ≤ limit
-      → Hears f x a b taken rest c d y → n ≡ 0 → Consumes b b2 (take n buf)
+      → Hears f x a b taken rest c d y → IsUnfinished rest f.most → n ≡ 0 → Consumes b b2 (take n buf)
       × (n ≡ 0 → 0 < length buf → IsAtEnd b2) → 0 < length buf → EndsInput (f.place y) rest f.most r
       → Runs f x limit a b2 c d reader_failed writer_failed r y
   runs_end y a b b2 c d taken rest buf n reader_failed writer_failed r reader_fine writer_fine short (
@@ -182,14 +220,16 @@ module _ {X : Type 0} (f : Fold X) (x : X) (limit : ℕ) where
     read,
     count,
     told,
-  ) zero more some ends =
-      let kept = read_end limit a b b2 bytes buf n zero read more some (omega (arith, count, short)) in
+  ) part zero more some ends =
+      let kept = kept_end limit a b b2 bytes buf n zero read more some (omega (arith, count, short)) in
       let known = end_known (f.place y) rest r ends in
       record {
-        exact = ends_kept y a b2 c d bytes false r kept (ended y bytes rest c d r told ends);
+        exact = ends_kept y a b2 c d bytes false r (bytes, kept) (ended y bytes rest c d r told ends);
         io = (λ h. absurd (known h), λ h. absurd (not_failed reader_failed writer_failed reader_fine writer_fine h));
-        begun = begins_kept a b2 c d bytes false kept (written_front y bytes rest c d told);
+        begun = begins_kept a b2 c d bytes bytes false kept (ahead_none y bytes rest c d told part)
+            (written_front y bytes rest c d told);
         heard = λ h. absurd (not_failed reader_failed writer_failed reader_fine writer_fine (inl h));
+        memory = λ h. absurd (end_unrefused (f.place y) rest r ends h);
       }
 
   -- a byte past the greatest number was read, after messages that were served
@@ -204,14 +244,14 @@ module _ {X : Type 0} (f : Fold X) (x : X) (limit : ℕ) where
 
   pub runs_long : (y z : X) (a b b2 c d e : Option (List ℕ)) (taken : ℕ) (rest new buf tail : List ℕ) (w k : ℕ)
       (reader_failed writer_failed : Bool) → reader_failed ≡ false → writer_failed ≡ false → taken + w ≡ limit → w < k
-      → taken + k ≤ limit + 1
-      → Hears f x a b taken rest c d y → Consumes b b2 (take k buf) → k ≤ length buf
+      → taken + k ≤ limit + 1 → k ≤ 65536
+      → Hears f x a b taken rest c d y → IsUnfinished rest f.most → Consumes b b2 (take k buf) → k ≤ length buf
       → Tells f y (rest ++ take w (buf ++ tail)) new (sent d) (sent e) z
       → IsUnfinished new f.most
       → Runs f x limit a b2 c e reader_failed writer_failed (Err faults.InputTooLong) z
   runs_long y z a b b2 c d e taken rest new buf tail w k reader_failed writer_failed reader_fine writer_fine full past
-      bound (bytes, read, count, told) more within next part =
-      let kept = read_past limit a b b2 bytes buf k w read more within (omega (arith, count, full)) past
+      bound small (bytes, read, count, told) unfinished more within next part =
+      let kept = kept_past limit a b b2 bytes buf k w read more within (omega (arith, count, full)) past
       (omega (arith, count, bound)) in
       let part_told =
       subst (λ (p : List ℕ). Tells f y (rest ++ p) new (sent d) (sent e) z)
@@ -219,12 +259,17 @@ module _ {X : Type 0} (f : Fold X) (x : X) (limit : ℕ) where
       let all = tells_more f x y z bytes rest (take w buf) new (sent c) (sent d) (sent e) told part_told in
       let due = due_long z (bytes ++ take w buf) new c e all part in
       record {
-        exact = ends_kept z a b2 c e (bytes ++ take w buf) true (Err faults.InputTooLong) kept
+        exact = ends_kept z a b2 c e (bytes ++ take w buf) true (Err faults.InputTooLong)
+            (bytes ++ take k buf, kept)
             (inr (inr (due.0, z, due.1, due.2)));
         io = (λ h. absurd (cc), λ h. absurd (not_failed reader_failed writer_failed reader_fine writer_fine h));
-        begun = begins_kept a b2 c e (bytes ++ take w buf) true kept
+        begun = begins_kept a b2 c e (bytes ++ take w buf) (bytes ++ take k buf) true kept
+            (ahead_piece y bytes rest (take k buf) (texts_of part_told.0) c d e told unfinished
+            (omega (arith, small, length-take-le k buf within))
+            (adds_sent d e (texts_of part_told.0) part_told.2))
             (written_front z (bytes ++ take w buf) new c e all);
         heard = λ h. absurd (not_failed reader_failed writer_failed reader_fine writer_fine (inl h));
+        memory = λ h. absurd (cc);
       }
 
   -- the run stopped within a chunk
@@ -256,13 +301,17 @@ module _ {X : Type 0} (f : Fold X) (x : X) (limit : ℕ) where
 
   pub runs_stopped : (y z : X) (a b b2 c d e : Option (List ℕ)) (taken : ℕ) (rest buf tail : List ℕ) (w k : ℕ)
       (reader_failed writer_failed : Bool) (fault : RunFault) → reader_failed ≡ false → taken ≤ limit
-      → w ≡ min k (limit - taken) → taken + k ≤ limit + 1
-      → Hears f x a b taken rest c d y → Consumes b b2 (take k buf) → k ≤ length buf
+      → w ≡ min k (limit - taken) → taken + k ≤ limit + 1 → k ≤ 65536 → 0 < k
+      → Hears f x a b taken rest c d y → IsUnfinished rest f.most → Consumes b b2 (take k buf) → k ≤ length buf
       → Stops f y (rest ++ take w (buf ++ tail)) (sent d) (sent e) writer_failed fault
       → Runs f x limit a b2 c e reader_failed writer_failed (Err fault) z
   runs_stopped y z a b b2 c d e taken rest buf tail w k reader_failed writer_failed fault reader_fine short least bound
-      (bytes, read, count, told) more within stop =
+      small some (bytes, read, count, told) unfinished more within stop =
       let all = Consumes-trans a b b2 bytes (take k buf) read more in
+      let size = length-take-le k buf within in
+      let piece = stops_front y (rest ++ take w buf) d e writer_failed fault
+      (subst (λ (p : List ℕ). Stops f y (rest ++ p) (sent d) (sent e) writer_failed fault)
+      (take-append-le w buf tail (omega (arith, least, within))) stop) in
       let front = taken_front limit bytes buf taken w k count short least within in
       let part = subst (λ (p : List ℕ). Stops f y (rest ++ p) (sent d) (sent e) writer_failed fault)
       (take-append-le w buf tail (omega (arith, least, within))) stop in
@@ -274,9 +323,16 @@ module _ {X : Type 0} (f : Fold X) (x : X) (limit : ℕ) where
           λ h. ap (λ (g : RunFault). Err g) (whole.io.1 (writer_only reader_failed writer_failed reader_fine h)),
         );
         begun = begins_front a b2 c e (bytes ++ take k buf) (bytes ++ take w buf) all
-            (omega (arith, count, bound, length-append bytes (take k buf), length-take-le k buf within)) front
-            (stops_front (bytes ++ take w buf) c e writer_failed fault whole);
+            (omega (arith, count, bound, length-append bytes (take k buf), size))
+            (ahead_piece y bytes rest (take k buf) (take piece.3 (texts_of piece.0)) c d e told unfinished
+            (omega (arith, small, size)) piece.5) front
+            (stops_front x (bytes ++ take w buf) c e writer_failed fault whole);
         heard = λ h. absurd (let g : true ≡ false = sym h ∙ reader_fine in cc);
+        memory = λ h. (
+          bytes ++ take k buf,
+          all,
+          omega (arith, some, length-append bytes (take k buf), size),
+        );
       }
 
   -- a chunk was served

@@ -20,14 +20,15 @@ use Rattle.capn_serve.specs.PickRun.{EndsAs, HasWritten, Hears, IsPickedOf, Pick
 use Rattle.capn_serve.specs.Outgoing.{sent}
 use Rattle.capn_serve.specs.ChunkRun.{IsDueSo, Stops, Tells}
 use Rattle.capn_serve.specs.StreamRun as streams
-use Rattle.capn_serve.specs.StreamRun.{EndsInput, behind, taken_of}
+use Rattle.capn_serve.specs.StreamRun.{EndsInput, behind, has_more, taken_of}
 use Rattle.capn_serve.proofs.More.{stops_more, tells_more, tells_none}
 use Rattle.capn_serve.proofs.InputRead.{read_end, read_past, taken_front}
-use Rattle.capn_serve.proofs.RunEnds.{due_long, due_open, end_known, stops_front, written_front}
+use Rattle.capn_serve.proofs.RunEnds.{due_long, due_open, due_unfinished, end_known, end_unrefused, stops_front}
+use Rattle.capn_serve.proofs.RunEnds.{written_front}
 use Rattle.capn_serve.proofs.Sends.{adds_sent}
 use Rattle.capn_serve.proofs.Picks.{Ending, Writes, begins_so, done, ends_kept, ends_more, ends_unread, enough_folded}
-use Rattle.capn_serve.proofs.Picks.{enough_more, folded_at, folded_short, full_cases, full_known, goes_behind, io_none}
-use Rattle.capn_serve.proofs.Picks.{lazy_piece, settled_cases, settled_failed, settled_io, stopped}
+use Rattle.capn_serve.proofs.Picks.{enough_more, folded_at, folded_short, full_cases, full_known, full_unrefused, goes_behind}
+use Rattle.capn_serve.proofs.Picks.{io_none, lazy_piece, unheard, settled_cases, settled_failed, settled_io, stopped}
 use Rattle.capn_serve.proofs.Picks.{writer_only}
 
 module _ (most : ℕ) (p : Pick) where
@@ -90,20 +91,34 @@ module _ (most : ℕ) (p : Pick) where
         io = io_none most p forms.Stream r w done reader_fine writer_fine (λ h. cc);
         begun = begins_so most p forms.Stream a b c d bytes bytes read (omega (arith, count, short)) lazy all
             (wrote_front bytes rest c d y told);
+        heard = unheard r reader_fine;
+        memory = λ h. absurd (cc);
       }
 
   pub picks_unread : (y : Run Pick) (a b b2 c d : Option (List ℕ)) (taken : ℕ) (rest : List ℕ)
       (reader_failed writer_failed : Bool) → reader_failed ≡ true → taken ≤ most_taken
-      → Hears most p a b taken rest c d y → Keeps b b2
+      → Hears most p a b taken rest c d y → IsUnfinished rest most → Keeps b b2
       → Picks most p forms.Stream a b2 c d reader_failed writer_failed (stopped faults.Io)
-  picks_unread y a b b2 c d taken rest r w broken short (bytes, read, count, told, lazy) kept =
+  picks_unread y a b b2 c d taken rest r w broken short (bytes, read, count, told, lazy) part kept =
       let here = Consumes-kept a b b2 bytes read kept in
       let all : taken_of most_taken bytes ≡ bytes = take_all most_taken bytes (omega (arith, count, short)) in
+      let due = due_unfinished f x most_taken y bytes rest (behind (has_more most_taken bytes)) c d told part in
       record {
         exact = ends_unread most p forms.Stream a c d faults.Io (inr refl);
         io = (λ h. inl broken, λ h. refl);
         begun = begins_so most p forms.Stream a b2 c d bytes bytes here (omega (arith, count, short)) lazy all
             (wrote_front bytes rest c d y told);
+        heard = λ h. (
+          bytes,
+          due.1,
+          due.0,
+          y,
+          here,
+          subst (λ (l : List ℕ). streams.IsDue f x most_taken l (has_more most_taken bytes) due.1 due.0 y) (sym all)
+              due.2,
+          due.3,
+        );
+        memory = λ h. absurd (cc);
       }
 
   pub picks_end : (y : Run Pick) (a b b2 c d : Option (List ℕ)) (taken : ℕ) (rest buf : List ℕ) (n : ℕ)
@@ -125,6 +140,8 @@ module _ (most : ℕ) (p : Pick) where
         io = io_none most p forms.Stream rf wf r reader_fine writer_fine (end_known f x most_taken y.at rest r ends);
         begun = begins_so most p forms.Stream a b2 c d bytes bytes here (omega (arith, count, short)) lazy
             (take_all most_taken bytes (omega (arith, count, short))) (wrote_front bytes rest c d y told);
+        heard = unheard rf reader_fine;
+        memory = λ h. absurd (end_unrefused f x most_taken y.at rest r ends h);
       }
 
   -- a byte past the greatest number was read
@@ -171,6 +188,8 @@ module _ (most : ℕ) (p : Pick) where
             (lazy_piece most p forms.Stream bytes (take k buf) (omega (arith, size, small))
             (few bytes rest c d y told unfinished before))
             front (wrote_front (bytes ++ take w buf) new c e z served);
+        heard = unheard rf reader_fine;
+        memory = λ h. absurd (full_unrefused (last p) z.at.index h);
       }
 
   -- what was picked where the stream stops
@@ -221,12 +240,12 @@ module _ (most : ℕ) (p : Pick) where
   -- the run stopped within a chunk
   pub picks_stopped : (y : Run Pick) (a b b2 c d e : Option (List ℕ)) (taken : ℕ) (rest buf tail : List ℕ) (w k : ℕ)
       (reader_failed writer_failed : Bool) (fault : RunFault) → reader_failed ≡ false → taken ≤ most_taken
-      → w ≡ min k (most_taken - taken) → taken + k ≤ most_taken + 1 → k ≤ 65536
+      → w ≡ min k (most_taken - taken) → taken + k ≤ most_taken + 1 → k ≤ 65536 → 0 < k
       → Hears most p a b taken rest c d y → y.at.index < last p → IsUnfinished rest most
       → Consumes b b2 (take k buf) → k ≤ length buf
       → Stops f y (rest ++ take w (buf ++ tail)) (sent d) (sent e) writer_failed fault
       → Picks most p forms.Stream a b2 c e reader_failed writer_failed (settled (last p) fault)
-  picks_stopped y a b b2 c d e taken rest buf tail w k rf wf fault reader_fine short least bound small
+  picks_stopped y a b b2 c d e taken rest buf tail w k rf wf fault reader_fine short least bound small some
       (bytes, read, count, told, lazy) before unfinished more within stop =
       let all = Consumes-trans a b b2 bytes (take k buf) read more in
       let front = taken_front most_taken bytes buf taken w k count short least within in
@@ -246,7 +265,9 @@ module _ (most : ℕ) (p : Pick) where
             (few bytes rest c d y told unfinished before))
             front
             (λ l is. subst (λ (s : List ℕ). streams.HasWritten f x most_taken s c e) (sym is)
-            (stops_front f x most_taken (bytes ++ take w buf) c e wf fault whole));
+            (stops_front f x most_taken x (bytes ++ take w buf) c e wf fault whole));
+        heard = unheard rf reader_fine;
+        memory = λ h. (bytes ++ take k buf, all, omega (arith, some, length-append bytes (take k buf), size));
       }
 
   -- a chunk was served

@@ -1,3 +1,4 @@
 -- Lemmas that other crates may cite.
 pub mod Appending
 pub mod Adding
+pub mod OneServing

@@ -1,7 +1,7 @@
 -- A run over a bare input: what is written of the one message that it is, how it ends, and the state after it. (Own.)
 use Rattle.std.specs.Prelude.{◌≡◌, ◌⊎◌, ◌↔◌, ℕ, ◌+◌, ◌<◌, ◌≤◌, List, [], ◌∷◌, length, take, Bool, true}
 use Rattle.std.specs.Prelude.{false, Option, IfSome, Result, Ok, Err, Vec}
-use Rattle.std.specs.Io.KnownBytes.{Consumes, Appends}
+use Rattle.std.specs.Io.KnownBytes.{Consumes, Appends, IsAtEnd}
 use Rattle.capn_words.specs.Message.{IsBare, ReadsBare}
 use Rattle.capn_words.specs.declared.bare.BareFault.{BareFault}
 use Rattle.capn_canon.specs.declared.refusal.Refusal.{Refusal}
@@ -12,6 +12,7 @@ use Rattle.capn_serve.specs.declared.fault.RunFault.TheVariants as faults
 use Rattle.capn_serve.specs.Fold.{Fold}
 use Rattle.capn_serve.specs.Outgoing.{Outgoing, Adds}
 use Rattle.capn_serve.specs.ChunkRun.{AddsMessage}
+use Rattle.capn_serve.specs.StreamRun.{TakesBytes}
 use Rattle.capn_serve.specs.WholeInput.{most_input}
 
 -- bytes that are no segment are refused at a position, with the reason
@@ -73,3 +74,4 @@ module _ {X : Type 0} (f : Fold X) (x : X) where
     pub io : (r ≡ Err faults.Io) ↔ ((reader_failed ≡ true) ⊎ (writer_failed ≡ true))
     pub begun : Begins a b c d
     pub heard : reader_failed ≡ true → Appends c d []
+    pub memory : r ≡ Err faults.Memory → TakesBytes a b ⊎ IsAtEnd b

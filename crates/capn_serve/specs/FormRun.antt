@@ -1,13 +1,14 @@
 -- A run over an input in a form: what is written of its messages, how they end, and the state after them. (Own.)
-use Rattle.std.specs.Prelude.{◌≡◌, ◌⊎◌, ◌↔◌, ℕ, ◌-◌, ◌^◌, ◌≤◌, List, [], length, Bool, true, Option, IfSome}
+use Rattle.std.specs.Prelude.{◌≡◌, ◌⊎◌, ◌↔◌, ℕ, ◌+◌, ◌-◌, ◌^◌, ◌≤◌, List, [], length, Bool, true, Option, IfSome}
 use Rattle.std.specs.Prelude.{Result, Ok, Err}
-use Rattle.std.specs.Io.KnownBytes.{Consumes, Appends}
+use Rattle.std.specs.Io.KnownBytes.{Consumes, Appends, IsAtEnd}
 use Rattle.capn_canon.specs.declared.form.Form.{Form}
 use Rattle.capn_canon.specs.declared.form.Form.TheVariants as forms
 use Rattle.capn_serve.specs.declared.fault.RunFault.{RunFault}
 use Rattle.capn_serve.specs.declared.fault.RunFault.TheVariants as faults
 use Rattle.capn_serve.specs.Fold.{Fold}
 use Rattle.capn_serve.specs.StreamRun as streams
+use Rattle.capn_serve.specs.StreamRun.{IsAhead, TakesBytes}
 use Rattle.capn_serve.specs.PackedRun as packings
 use Rattle.capn_serve.specs.BareRun as bares
 use Rattle.capn_serve.specs.WholeInput.{most_input}
@@ -15,6 +16,12 @@ use Rattle.capn_serve.specs.WholeInput.{most_input}
 -- the most bytes that a stream may have
 abbrev pub most_stream : ℕ
 most_stream = 2 ^ 64 - 1
+
+-- where memory may be refused: some bytes were read, or all of a bare input, which may have none
+abbrev pub MayNeedMemory : Form → Option (List ℕ) → Option (List ℕ) → Type 0
+MayNeedMemory forms.Stream a b = TakesBytes a b
+MayNeedMemory forms.Packed a b = TakesBytes a b
+MayNeedMemory forms.Bare a b = TakesBytes a b ⊎ IsAtEnd b
 
 module _ {X : Type 0} (f : Fold X) (x : X) where
   -- the text of the messages of an input, how they end, and the state after them, by the form
@@ -45,11 +52,28 @@ module _ {X : Type 0} (f : Fold X) (x : X) where
       ⊎ ((e ≡ faults.Io)
       ⊎ ((text : List ℕ) × (z : X) × AreMessages form input text (Err e) z × Appends old new text))
 
-  -- a reader gave some bytes, and a writer took a beginning of the texts of the messages in them
+  -- how far is read: of a stream, at most one byte more than it may have, and no more than a piece of 65,536 bytes
+  -- beyond what was served and written; of a bare input, at most one byte more than it may have
+  abbrev pub IsReadSoFar : Form → List ℕ → Option (List ℕ) → Option (List ℕ) → Type 0
+  IsReadSoFar forms.Stream bytes old new = (length bytes ≤ most_stream + 1)
+      × IsAhead (streams.HasWrittenAll f x most_stream) bytes old new
+  IsReadSoFar forms.Packed bytes old new = (length bytes ≤ most_stream + 1)
+      × IsAhead (packings.HasWrittenAllPacked f x most_stream) bytes old new
+  IsReadSoFar forms.Bare bytes old new = length bytes ≤ most_input + 1
+
+  -- a reader gave some bytes, not more than that, and a writer took a beginning of the texts of the messages in them
   pub record BeginsMessages (form : Form) (a b c d : Option (List ℕ)) : Type 0 where
     pub bytes : List ℕ
     pub read : Consumes a b bytes
+    pub bounded : IsReadSoFar form bytes c d
     pub written : HasWritten form bytes c d
+
+  -- all texts of the messages in the bytes that a reader gave were written; of a bare input, which is served at its
+  -- end, nothing
+  abbrev pub KeepsUp : Form → Option (List ℕ) → Option (List ℕ) → Option (List ℕ) → Option (List ℕ) → Type 0
+  KeepsUp forms.Stream a b c d = streams.KeepsUp f x most_stream a b c d
+  KeepsUp forms.Packed a b c d = packings.KeepsUpPacked f x most_stream most_stream a b c d
+  KeepsUp forms.Bare a b c d = Appends c d []
 
   -- the messages of an input in a form were served, over a reader (from a to b) and a writer (from c to d)
   pub record ServesMessages (form : Form) (a b c d : Option (List ℕ)) (reader_failed writer_failed : Bool)
@@ -57,3 +81,5 @@ module _ {X : Type 0} (f : Fold X) (x : X) where
     pub exact : IfSome a (MessagesEnd form c d r y)
     pub io : (r ≡ Err faults.Io) ↔ ((reader_failed ≡ true) ⊎ (writer_failed ≡ true))
     pub begun : BeginsMessages form a b c d
+    pub heard : reader_failed ≡ true → KeepsUp form a b c d
+    pub memory : r ≡ Err faults.Memory → MayNeedMemory form a b

@@ -9,7 +9,8 @@ use Rattle.capn_serve.specs.declared.position.Position.{Position}
 use Rattle.capn_serve.specs.declared.fault.RunFault.{RunFault}
 use Rattle.capn_serve.specs.declared.fault.RunFault.TheVariants as faults
 use Rattle.capn_serve.specs.Fold.{Fold, Part, AreParts, IsFolded, texts_of}
-use Rattle.capn_serve.specs.StreamRun.{has_more, taken_of}
+use Rattle.capn_stream.specs.StreamPieces.{IsUnfinished}
+use Rattle.capn_serve.specs.StreamRun.{IsAhead, TakesBytes, has_more, taken_of}
 
 -- why no more bytes follow: there are too many, and else as it was
 abbrev pub unless_more : Bool → Option RunFault → Option RunFault
@@ -51,6 +52,13 @@ module _ {X : Type 0} (f : Fold X) (x : X) (limit : ℕ) where
       × (rest : List ℕ) × (y : X) × (count : ℕ) × AreParts f x (taken_of limit stream) parts rest y
       × Appends old new (take count (texts_of parts))
 
+  -- all texts of the whole messages were written in what the whole groups of these bytes unpack to, which is no more
+  -- than is taken; and what is left of that is no whole frame
+  abbrev pub HasWrittenAllPacked : List ℕ → Option (List ℕ) → Option (List ℕ) → Type 0
+  HasWrittenAllPacked bytes old new = (stream : List ℕ) × (group : List ℕ) × (offset : ℕ)
+      × packing.Splits bytes group [] stream offset × (length stream ≤ limit) × (parts : List Part) × (rest : List ℕ)
+      × (y : X) × AreParts f x stream parts rest y × IsUnfinished rest f.most × Appends old new (texts_of parts)
+
 -- a run that takes at most `most_packed` packed bytes, and at most `limit` of the bytes that they unpack to
 module _ {X : Type 0} (f : Fold X) (x : X) (most_packed limit : ℕ) where
   -- it has ended so over what it takes of a whole input
@@ -58,11 +66,13 @@ module _ {X : Type 0} (f : Fold X) (x : X) (most_packed limit : ℕ) where
   EndsPackedAs old new ending y input =
       HasEndedPacked f x limit (taken_of most_packed input) (has_more most_packed input) old new ending y
 
-  -- a reader gave some bytes, at most one more than are taken, and a writer took a beginning of their text
+  -- a reader gave some bytes, at most one more than are taken, and no more than a piece beyond what was served and
+  -- written; and a writer took a beginning of their text
   pub record BeginsPacked (a b c d : Option (List ℕ)) : Type 0 where
     pub bytes : List ℕ
     pub read : Consumes a b bytes
     pub bounded : length bytes ≤ most_packed + 1
+    pub lazy : IsAhead (HasWrittenAllPacked f x limit) bytes c d
     pub written : HasWrittenPacked f x limit (taken_of most_packed bytes) c d
 
   -- all of the text of the bytes that a reader gave was written
@@ -78,3 +88,4 @@ module _ {X : Type 0} (f : Fold X) (x : X) (most_packed limit : ℕ) where
     pub io : (r ≡ Err faults.Io) ↔ ((reader_failed ≡ true) ⊎ (writer_failed ≡ true))
     pub begun : BeginsPacked a b c d
     pub heard : reader_failed ≡ true → KeepsUpPacked a b c d
+    pub memory : r ≡ Err faults.Memory → TakesBytes a b

@@ -13,7 +13,7 @@ use Rattle.capn_serve.specs.Pick.{IsEnough, IsTooFew, first_run, last, pick_fold
 use Rattle.capn_serve.specs.Outgoing.{sent}
 use Rattle.capn_serve.specs.ChunkRun.{Tells}
 use Rattle.capn_serve.specs.StreamRun as streams
-use Rattle.capn_serve.specs.StreamRun.{has_more, taken_of}
+use Rattle.capn_serve.specs.StreamRun.{TakesBytes, has_more, taken_of}
 use Rattle.capn_serve.specs.PackedRun as packings
 use Rattle.capn_serve.specs.PackedChunkRun.{Pending, TellsPacked, fresh}
 
@@ -88,12 +88,19 @@ module _ (most : ℕ) (p : Pick) where
     pub lazy : IsLazy form bytes
     pub written : HasWritten form bytes c d
 
+  -- all that is picked of the bytes that a reader gave was written
+  abbrev pub KeepsUp : StreamForm → Option (List ℕ) → Option (List ℕ) → Option (List ℕ) → Option (List ℕ) → Type 0
+  KeepsUp forms.Stream a b c d = streams.KeepsUp (pick_fold most) (first_run p) most_taken a b c d
+  KeepsUp forms.Packed a b c d = packings.KeepsUpPacked (pick_fold most) (first_run p) most_taken most_taken a b c d
+
   -- what a run did, over a reader (from a to b) and a writer (from c to d)
   pub record Picks (form : StreamForm) (a b c d : Option (List ℕ)) (reader_failed writer_failed : Bool)
       (r : Result (Unit {0}) RunFault) : Type 0 where
     pub exact : IfSome a (EndsAs form c d r)
     pub io : (r ≡ Err faults.Io) ↔ ((reader_failed ≡ true) ⊎ (writer_failed ≡ true))
     pub begun : Begins form a b c d
+    pub heard : reader_failed ≡ true → KeepsUp form a b c d
+    pub memory : r ≡ Err faults.Memory → TakesBytes a b
 
   -- a reader gave bytes, in this number and no more pieces than needed, and the whole messages in them were looked at
   abbrev pub Hears : Option (List ℕ) → Option (List ℕ) → ℕ → List ℕ → Option (List ℕ) → Option (List ℕ) → Run Pick

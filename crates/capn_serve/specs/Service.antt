@@ -1,5 +1,5 @@
 -- What a service does with a message. (Own.)
-use Rattle.std.specs.Prelude.{◌≡◌, ℕ, List, [], ◌++◌, Bool, true, false, Result, Ok, Err}
+use Rattle.std.specs.Prelude.{◌≡◌, ℕ, ◌<◌, List, [], ◌++◌, length, Bool, true, false, Result, Ok, Err}
 use Rattle.capn_canon.specs.declared.refusal.Refusal.{Refusal}
 use Rattle.capn_serve.specs.declared.position.Position.{Position}
 use Rattle.capn_serve.specs.declared.fault.ServeFault.{ServeFault}
@@ -8,17 +8,28 @@ use Rattle.capn_serve.specs.Outgoing.{Outgoing, Adds, AddsBeginning, BreaksWithi
 
 -- A service added what the message writes, and went to its next state; or the message is refused, and nothing was
 -- added. Or memory was refused, before the text or within it; or the writer failed within it.
+abbrev pub AddsOne : {S : Type 0} → (S → Position → List ℕ → List (List ℕ) → List ℕ → S → Type 0)
+    → (S → Position → List ℕ → List (List ℕ) → Refusal → Type 0) → S → Position → List ℕ → List (List ℕ) → Outgoing
+    → Outgoing → Bool → Result (Unit {0}) ServeFault → S → Type 0
+AddsOne serves refuses s at frame message old new failed (Ok u) t =
+    (text : List ℕ) × serves s at frame message text t × Adds old new text × (failed ≡ false)
+AddsOne serves refuses s at frame message old new failed (Err (faults.Refused r)) t =
+    refuses s at frame message r × Adds old new [] × (failed ≡ false)
+AddsOne serves refuses s at frame message old new failed (Err faults.Memory) t =
+    AddsBeginning (serves s at frame message) old new × (failed ≡ false)
+AddsOne serves refuses s at frame message old new failed (Err faults.Io) t =
+    BreaksWithin (serves s at frame message) old new × (failed ≡ true)
+
+-- It does that, and no text grows because nothing writes it: after a message that was served less than 65,536 bytes are
+-- kept, if so few were before.
 abbrev pub DoesService : {S : Type 0} → (S → Position → List ℕ → List (List ℕ) → List ℕ → S → Type 0)
     → (S → Position → List ℕ → List (List ℕ) → Refusal → Type 0) → S → Position → List ℕ → List (List ℕ) → Outgoing
     → Outgoing → Bool → Result (Unit {0}) ServeFault → S → Type 0
 DoesService serves refuses s at frame message old new failed (Ok u) t =
-    (text : List ℕ) × serves s at frame message text t × Adds old new text × (failed ≡ false)
-DoesService serves refuses s at frame message old new failed (Err (faults.Refused r)) t =
-    refuses s at frame message r × Adds old new [] × (failed ≡ false)
-DoesService serves refuses s at frame message old new failed (Err faults.Memory) t =
-    AddsBeginning (serves s at frame message) old new × (failed ≡ false)
-DoesService serves refuses s at frame message old new failed (Err faults.Io) t =
-    BreaksWithin (serves s at frame message) old new × (failed ≡ true)
+    AddsOne serves refuses s at frame message old new failed (Ok u) t
+    × (length old.kept < 65536 → length new.kept < 65536)
+DoesService serves refuses s at frame message old new failed (Err fault) t =
+    AddsOne serves refuses s at frame message old new failed (Err fault) t
 
 -- What a service does that writes nothing itself: it appended what the message writes, and went to its next state; or
 -- the message is refused, or memory was, and the text is as it was.

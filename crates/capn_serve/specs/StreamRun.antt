@@ -1,7 +1,8 @@
 -- A run over a stream: the bytes that it takes, what it writes, how it ends, and the state after it. (Own.)
-use Rattle.std.specs.Prelude.{◌≡◌, ◌⊎◌, ◌↔◌, ℕ, ◌+◌, ◌≤◌, nat_lt, List, length, take, Bool, true, false, Option}
-use Rattle.std.specs.Prelude.{Some, None, IfSome, Result, Ok, Err}
+use Rattle.std.specs.Prelude.{◌≡◌, ◌⊎◌, ◌↔◌, ℕ, ◌+◌, ◌<◌, ◌≤◌, nat_lt, List, [], ◌++◌, length, take, Bool, true}
+use Rattle.std.specs.Prelude.{false, Option, Some, None, IfSome, Result, Ok, Err}
 use Rattle.std.specs.Io.KnownBytes.{Consumes, Appends, IsAtEnd}
+use Rattle.capn_stream.specs.StreamPieces.{IsUnfinished}
 use Rattle.capn_stream.specs.FrameRefusal as frame_rules
 use Rattle.capn_stream.specs.declared.fault.FrameFault.TheVariants as frames
 use Rattle.capn_canon.specs.declared.refusal.Refusal.TheVariants as refusals
@@ -39,6 +40,17 @@ pub record Kept (limit : ℕ) (old new : Option (List ℕ)) (kept : List ℕ) (i
   pub more : has_more limit bytes ≡ is_longer
   pub ended : is_longer ≡ false → IsAtEnd new
 
+-- a reader gave at least one byte
+abbrev pub TakesBytes : Option (List ℕ) → Option (List ℕ) → Type 0
+TakesBytes old new = (bytes : List ℕ) × Consumes old new bytes × (0 < length bytes)
+
+-- the last piece of these bytes has at most 65,536, and what this says of the bytes before it was written before it
+-- was read
+abbrev pub IsAhead : (List ℕ → Option (List ℕ) → Option (List ℕ) → Type 0) → List ℕ → Option (List ℕ)
+    → Option (List ℕ) → Type 0
+IsAhead Written bytes old new = (before : List ℕ) × (piece : List ℕ) × (mid : Option (List ℕ)) × (more : List ℕ)
+    × (bytes ≡ before ++ piece) × (length piece ≤ 65536) × Written before old mid × Appends mid new more
+
 module _ {X : Type 0} (f : Fold X) (x : X) (limit : ℕ) where
   -- the text and the ending of a run over these bytes, and the state after its messages
   abbrev pub IsDue : List ℕ → Bool → List ℕ → Result (Unit {0}) RunFault → X → Type 0
@@ -63,11 +75,18 @@ module _ {X : Type 0} (f : Fold X) (x : X) (limit : ℕ) where
   HasWritten bytes old new = (parts : List Part) × (rest : List ℕ) × (y : X) × (count : ℕ)
       × AreParts f x bytes parts rest y × Appends old new (take count (texts_of parts))
 
-  -- a reader gave some bytes, at most one more than are taken, and a writer took a beginning of their text
+  -- all texts of the whole messages in these bytes were written, and what is left is no whole frame
+  abbrev pub HasWrittenAll : List ℕ → Option (List ℕ) → Option (List ℕ) → Type 0
+  HasWrittenAll bytes old new = (parts : List Part) × (rest : List ℕ) × (y : X) × AreParts f x bytes parts rest y
+      × IsUnfinished rest f.most × Appends old new (texts_of parts)
+
+  -- a reader gave some bytes, at most one more than are taken, and no more than a piece beyond what was served and
+  -- written; and a writer took a beginning of their text
   pub record Begins (old_reader new_reader old_writer new_writer : Option (List ℕ)) : Type 0 where
     pub bytes : List ℕ
     pub read : Consumes old_reader new_reader bytes
     pub bounded : length bytes ≤ limit + 1
+    pub lazy : IsAhead HasWrittenAll bytes old_writer new_writer
     pub written : HasWritten (taken_of limit bytes) old_writer new_writer
 
   -- all of the text of the bytes that a reader gave was written
@@ -82,6 +101,7 @@ module _ {X : Type 0} (f : Fold X) (x : X) (limit : ℕ) where
     pub io : (r ≡ Err faults.Io) ↔ ((reader_failed ≡ true) ⊎ (writer_failed ≡ true))
     pub begun : Begins a b c d
     pub heard : reader_failed ≡ true → KeepsUp a b c d
+    pub memory : r ≡ Err faults.Memory → TakesBytes a b
 
 -- a reader gave bytes, in this number, and the whole messages in them were served
 abbrev pub Hears : {X : Type 0} → Fold X → X → Option (List ℕ) → Option (List ℕ) → ℕ → List ℕ → Option (List ℕ)

@@ -22,10 +22,11 @@ pub record HasGivenAll (old new : Option (List ℕ)) (failed : Bool) (bytes : Li
   pub within : length bytes ≤ most_input
   pub ended : IsAtEnd new
 
--- why an input was not read to its end: memory was refused, there are too many bytes, or the reader failed
+-- why an input was not read to its end: memory was refused for bytes that came, there are too many bytes, or the reader
+-- failed
 abbrev pub IsUntaken : Option (List ℕ) → Option (List ℕ) → Bool → RunFault → Type 0
 IsUntaken old new failed fault = (bytes : List ℕ)
-    × ((HasGiven old new failed bytes × ((fault ≡ faults.Memory)
+    × ((HasGiven old new failed bytes × (((fault ≡ faults.Memory) × (0 < length bytes))
     ⊎ ((fault ≡ faults.InputTooLong) × (most_input < length bytes))))
     ⊎ (Consumes old new bytes × (length bytes ≤ most_input + 1) × (failed ≡ true) × (fault ≡ faults.Io)))
 

@@ -39,12 +39,15 @@ pub line_added : (line : List ℕ) (p q r : Outgoing) (end : Ending) → q.taken
     → q.kept ≡ p.kept ++ line → p.failed ≡ false
     → served.Flushes (served.outgoing q.taken q.kept) (served.outgoing r.taken r.kept) r.failed end
     → AddsLine line p r end
-line_added line p q r (Ok u) taken failed kept fine ((w, wrote, is), short, good) = record {
-  written = w;
-  taken = subst (λ (c : Option (List ℕ)). Appends c r.taken w) taken wrote;
-  kept = is ∙ append-nil q.kept ∙ kept;
-  failed = good ∙ sym fine;
-}
+line_added line p q r (Ok u) taken failed kept fine ((w, wrote, is), short, good) = (
+  record {
+    written = w;
+    taken = subst (λ (c : Option (List ℕ)). Appends c r.taken w) taken wrote;
+    kept = is ∙ append-nil q.kept ∙ kept;
+    failed = good ∙ sym fine;
+  },
+  short,
+)
 line_added line p q r (Err faults.Io) taken failed kept fine (io, (count, wrote), broke) = (
   count,
   subst (λ (c : Option (List ℕ)). Appends c r.taken (take count (p.kept ++ line))) taken
@@ -59,8 +62,8 @@ module _ (m : List (List ℕ)) (limits : Bounds) where
 
   pub shown_line : (p q r : Outgoing) (end : Ending) → IsWritten m limits show_text p q
       → AddsLine (codes "end" ++ 10 ∷ []) q r end → AddsShown m limits p r end
-  shown_line p q r (Ok u) shown line =
-      (shown.value, shown.is, both p q r (show_text shown.value) (codes "end" ++ 10 ∷ []) shown.text line)
+  shown_line p q r (Ok u) shown (line, short) =
+      (shown.value, shown.is, both p q r (show_text shown.value) (codes "end" ++ 10 ∷ []) shown.text line, short)
   shown_line p q r (Err faults.Memory) shown line = inr (
     shown.value,
     shown.is,
@@ -124,8 +127,8 @@ module _ (m : List (List ℕ)) (limits : Bounds) where
     does_so : (end : Ending) → s ≡ message_texts kinds.Text limits → p.failed ≡ false → AddsShown m limits p q end
         → DoesService serves refuses (message_texts kinds.Text limits) at frame m old new q.failed end
         (message_texts kinds.Text limits)
-    does_so (Ok u) is fine (v, of, h) =
-        (ended_text v, ((v, of, refl), refl), adds (ended_text v) h, h.failed ∙ fine)
+    does_so (Ok u) is fine (v, of, h, short) =
+        ((ended_text v, ((v, of, refl), refl), adds (ended_text v) h, h.failed ∙ fine), λ few. short)
     does_so (Err faults.Memory) is fine (inl h) = (inl (adds [] h), h.failed ∙ fine)
     does_so (Err faults.Memory) is fine (inr (v, of, (count, h))) =
         (inr (ended_text v, message_texts kinds.Text limits, count, ((v, of, refl), refl), adds _ h), h.failed ∙ fine)

@@ -7,7 +7,7 @@ use Rattle.capn_serve.specs.declared.position.Position.{Position}
 use Rattle.capn_serve.specs.declared.fault.ServeFault.{ServeFault}
 use Rattle.capn_serve.specs.declared.fault.ServeFault.TheVariants as faults
 use Rattle.capn_serve.specs.Outgoing.{Outgoing, Adds, AddsBytes, Breaks, Flushes}
-use Rattle.capn_serve.specs.Service.{DoesService}
+use Rattle.capn_serve.specs.Service.{AddsOne, DoesService}
 use Rattle.capn_serve.proofs.Sends.{adds_more, adds_none, breaks_behind, breaks_less}
 
 abbrev Ending : Type 0
@@ -42,7 +42,7 @@ module _ {S : Type 0} (serves : S → Position → List ℕ → List (List ℕ) 
   pub does_add : (old new : Outgoing) (bytes : List ℕ) → serves s at frame message bytes t → (failed : Bool)
       (r : Ending) → AddsBytes bytes old new failed r
       → DoesService serves refuses s at frame message old new failed r t
-  does_add old new bytes served failed (Ok u) (adds, short, fine) = (bytes, served, adds, fine)
+  does_add old new bytes served failed (Ok u) (adds, short, fine) = ((bytes, served, adds, fine), λ h. short)
   does_add old new bytes served failed (Err faults.Memory) (none, short, fine) = (inl none, fine)
   does_add old new bytes served failed (Err faults.Io) ((count, breaks), broken) =
       ((bytes, t, count, served, breaks), broken)
@@ -50,10 +50,10 @@ module _ {S : Type 0} (serves : S → Position → List ℕ → List (List ℕ) 
 
   -- the message was served, and what was kept then was written if it was long
   pub does_then_flush : (a b c : Outgoing) (fine failed : Bool) (r : Ending)
-      → DoesService serves refuses s at frame message a b fine done t → Flushes b c failed r
+      → AddsOne serves refuses s at frame message a b fine done t → Flushes b c failed r
       → DoesService serves refuses s at frame message a c failed r t
   does_then_flush a b c fine failed (Ok u) (text, served, adds, is_fine) (none, short, still) =
-      (text, served, subst (Adds a c) (append-nil text) (adds_more a b c text [] adds none), still)
+      ((text, served, subst (Adds a c) (append-nil text) (adds_more a b c text [] adds none), still), λ h. short)
   does_then_flush a b c fine failed (Err faults.Io) (text, served, adds, is_fine) (io, (count, wrote), broken) =
       let rest = subst (λ (l : List ℕ). Appends b.taken c.taken (take count l)) (sym (append-nil b.kept)) wrote in
       let breaks = breaks_behind a b c text [] count adds rest in

@@ -45,7 +45,7 @@ module _ {S : Type 0} (serves : S → Position → List ℕ → List (List ℕ) 
       → Flushes (outgoing c new) (outgoing d kept) failed r
       → DoesService serves refuses s at frame message (outgoing c old) (outgoing d kept) failed r t
   does_flush d kept failed (Ok u) (text, served, joined) ((w, wrote, is), short, fine) =
-      (text, served, (w, wrote, is ∙ append-nil new ∙ joined), fine)
+      ((text, served, (w, wrote, is ∙ append-nil new ∙ joined), fine), λ h. short)
   does_flush d kept failed (Err faults.Io) (text, served, joined) (io, (count, wrote), broken) =
       ((text, t, count, served, subst (λ (l : List ℕ). Appends c d (take count l)) joined wrote), broken)
   does_flush d kept failed (Err faults.Memory) put (io, begun, broken) = absurd (cc)

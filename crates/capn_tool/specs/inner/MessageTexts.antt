@@ -1,5 +1,5 @@
 -- The service that writes something of each message of a stream, or of the one of a bare input.
-use Rattle.std.specs.Prelude.{◌≡◌, ◌⊎◌, ℕ, List, [], ◌∷◌, ◌++◌, codes, Result, Ok, Err}
+use Rattle.std.specs.Prelude.{◌≡◌, ◌⊎◌, ℕ, ◌<◌, List, [], ◌∷◌, ◌++◌, codes, length, Result, Ok, Err}
 use Rattle.capn_value.specs.Tree.{Tree}
 use Rattle.capn_value.specs.Text.{show_text}
 use Rattle.capn_walk.specs.Accepted.{IsValueOf}
@@ -43,9 +43,9 @@ served_fault (faults.NotWhole n) = serve_faults.Memory
 abbrev pub first_run : MessageText → Bounds → Run MessageTexts
 first_run piece limits = record { service = message_texts piece limits; at = start }
 
--- a line was added, or it broke off
+-- a line was added, and little is kept; or it broke off
 abbrev pub AddsLine : List ℕ → Outgoing → Outgoing → Result (Unit {0}) ServeFault → Type 0
-AddsLine line old new (Ok u) = Adds old new line
+AddsLine line old new (Ok u) = Adds old new line × (length new.kept < 65536)
 AddsLine line old new (Err serve_faults.Memory) = BreaksOff old new broken.Memory line
 AddsLine line old new (Err serve_faults.Io) = BreaksOff old new broken.Io line
 AddsLine line old new (Err (serve_faults.Refused r)) = ⊥
@@ -54,10 +54,11 @@ AddsLine line old new (Err (serve_faults.Refused r)) = ⊥
 abbrev pub ended_text : Tree → List ℕ
 ended_text v = show_text v ++ (codes "end" ++ 10 ∷ [])
 
--- the text of the value of a message and the line `end` were added, or broke off; or the message is refused, or memory
--- was, and nothing was added
+-- the text of the value of a message and the line `end` were added, and little is kept; or they broke off; or the
+-- message is refused, or memory was, and nothing was added
 abbrev pub AddsShown : List (List ℕ) → Bounds → Outgoing → Outgoing → Result (Unit {0}) ServeFault → Type 0
-AddsShown message limits old new (Ok u) = (v : Tree) × IsValueOf message limits v × Adds old new (ended_text v)
+AddsShown message limits old new (Ok u) =
+    (v : Tree) × IsValueOf message limits v × Adds old new (ended_text v) × (length new.kept < 65536)
 AddsShown message limits old new (Err serve_faults.Memory) =
     Adds old new []
     ⊎ ((v : Tree) × IsValueOf message limits v × BreaksOff old new broken.Memory (ended_text v))

@@ -83,7 +83,9 @@ returns-in-Ok-eq0 g c =
     c.chunks.run _ _ _ _ _ c.chunks.taken
     (pending c.chunks.packed.unpacker c.chunks.packed.framer c.chunks.packed.left)
     c.read.new.buf c.in-Ok-eq0.field-0 _ _ c.end_of_packed.result
-    (still_fine _ _ i.reader c.in-Ok-eq0.ensures.failed) i.writer i.within i.heard c.in-Ok-eq0.field-0-test
+    (still_fine _ _ i.reader c.in-Ok-eq0.ensures.failed) i.writer i.within i.heard
+    (subst (λ (m : ℕ). IsUnfinished c.chunks.packed.framer.rest m) i.listening.most i.listening.part)
+    c.in-Ok-eq0.field-0-test
     c.in-Ok-eq0.ensures.bytes (omega arith) ends
 
 pub returns-in_err-serve_packed-in-Ok : goal.returns-in_err-serve_packed-in-Ok
@@ -99,7 +101,9 @@ returns-in_err-serve_packed-in-Ok g c =
     (pending c.chunks.packed.unpacker c.chunks.packed.framer c.chunks.packed.left) c.read.new.buf
     (drop (c.min-room.result + 1) c.chunks.buffer) c.min-within.result c.in-Ok.count _ _
     c.in_err-serve_packed-in-Ok.field-0.0 (still_fine _ _ i.reader c.in-Ok.ensures.failed) i.within
-    (omega (arith, c.min-within.ensures)) (omega (arith, bound.0, room, c.min-room.ensures, i.within)) i.heard
+    (omega (arith, c.min-within.ensures)) (omega (arith, bound.0, room, c.min-room.ensures, i.within))
+    (omega (arith, bound.0, room, c.min-room.ensures)) (omega (arith, c.in-Ok.count-test)) i.heard
+    (subst (λ (m : ℕ). IsUnfinished c.chunks.packed.framer.rest m) i.listening.most i.listening.part)
     c.in-Ok.ensures.bytes.0 bound.0 c.in_err-serve_packed-in-Ok.ensures)
 
 pub returns-then-within-count : goal.returns-then-within-count
@@ -117,7 +121,10 @@ returns-then-within-count g c =
     (drop (c.min-room.result + 1) c.chunks.buffer) c.min-within.result c.in-Ok.count _ _
     (still_fine _ _ i.reader c.in-Ok.ensures.failed) served.2
     (omega (arith, i.within, c.min-within.ensures, c.if-within-count.true)) c.if-within-count.true
-    (omega (arith, bound.0, room, c.min-room.ensures, i.within)) i.heard c.in-Ok.ensures.bytes.0 bound.0 served.0
+    (omega (arith, bound.0, room, c.min-room.ensures, i.within))
+    (omega (arith, bound.0, room, c.min-room.ensures)) i.heard
+    (subst (λ (m : ℕ). IsUnfinished c.chunks.packed.framer.rest m) i.listening.most i.listening.part)
+    c.in-Ok.ensures.bytes.0 bound.0 served.0
     (subst (λ (m : ℕ). IsUnfinished packed.framer.rest m) served.1.most served.1.part)
 
 pub chunks-preserved : goal.chunks-preserved

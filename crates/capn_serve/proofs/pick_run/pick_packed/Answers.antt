@@ -69,7 +69,8 @@ returns-in-Err g c =
     let i = c.chunks.invariant in
     packed_unread c.args.most c.args.pick c.chunks.run _ _ _ _ _ c.chunks.taken
     (pending c.chunks.packed.unpacker c.chunks.packed.framer c.chunks.packed.left) _ _
-    (has_broken _ _ c.in-Err.ensures.failed) i.within i.heard c.in-Err.ensures.bytes
+    (has_broken _ _ c.in-Err.ensures.failed) i.within i.heard
+    (subst (λ (m : ℕ). IsUnfinished c.chunks.packed.framer.rest m) i.listening.most i.listening.part) c.in-Err.ensures.bytes
 
 pub returns-in-Ok-eq0 : goal.returns-in-Ok-eq0
 returns-in-Ok-eq0 g c =
@@ -95,7 +96,8 @@ returns-in-Err-serve_packed g c =
     (drop (c.min-room.result + 1) c.chunks.buffer) c.min-within.result c.in-Ok.count _ _ c.in-Err-serve_packed.fault
     (still_fine _ _ i.reader c.in-Ok.ensures.failed) i.within
     (omega (arith, c.min-within.ensures)) (omega (arith, bound.0, room, c.min-room.ensures, i.within))
-    (omega (arith, bound.0, room, c.min-room.ensures)) i.heard (rw (sym c.last-last.ensures) c.if-last-run.false)
+    (omega (arith, bound.0, room, c.min-room.ensures)) (omega (arith, c.in-Ok.count-test)) i.heard
+    (rw (sym c.last-last.ensures) c.if-last-run.false)
     (subst (λ (m : ℕ). IsUnfinished c.chunks.packed.framer.rest m) i.listening.most i.listening.part)
     c.in-Ok.ensures.bytes.0 bound.0 c.in-Err-serve_packed.ensures)
 

@@ -44,7 +44,8 @@ pub returns-in-Err : goal.returns-in-Err
 returns-in-Err g c =
     let i = c.chunks.invariant in
     picks_unread c.args.most c.args.pick c.chunks.run _ _ _ _ _ c.chunks.taken c.chunks.framer.rest _ _
-    (has_broken _ _ c.in-Err.ensures.failed) i.within i.heard c.in-Err.ensures.bytes
+    (has_broken _ _ c.in-Err.ensures.failed) i.within i.heard
+    (subst (λ (m : ℕ). IsUnfinished c.chunks.framer.rest m) i.listening.most i.listening.part) c.in-Err.ensures.bytes
 
 pub returns-in-Ok-eq0 : goal.returns-in-Ok-eq0
 returns-in-Ok-eq0 g c =
@@ -77,7 +78,8 @@ returns-in-Err-serve_chunk g c =
     (drop (c.min-room.result + 1) c.chunks.buffer) c.min-within.result c.in-Ok.count _ _ c.in-Err-serve_chunk.fault
     (still_fine _ _ i.reader c.in-Ok.ensures.failed) i.within
     (omega (arith, c.min-within.ensures)) (omega (arith, bound.0, room, c.min-room.ensures, i.within))
-    (omega (arith, bound.0, room, c.min-room.ensures)) i.heard (rw (sym c.last-last.ensures) c.if-last-run.false)
+    (omega (arith, bound.0, room, c.min-room.ensures)) (omega (arith, c.in-Ok.count-test)) i.heard
+    (rw (sym c.last-last.ensures) c.if-last-run.false)
     (subst (λ (m : ℕ). IsUnfinished c.chunks.framer.rest m) i.listening.most i.listening.part)
     c.in-Ok.ensures.bytes.0 bound.0 c.in-Err-serve_chunk.ensures)
 

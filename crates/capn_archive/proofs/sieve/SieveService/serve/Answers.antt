@@ -1,4 +1,4 @@
-use Rattle.std.proofs.Common.{[], inr, sym, subst, ◌∙◌}
+use Rattle.std.proofs.Common.{[], ◌<◌, length, inr, sym, subst, ◌∙◌}
 use Rattle.capn_words.specs.Watched.{inner_of, has_failed}
 use Rattle.capn_serve.specs.Outgoing.{Outgoing, Adds, outgoing}
 use Rattle.capn_serve.proofs.shared.Adding.{added_none}
@@ -15,12 +15,15 @@ returns-in-Err-Refused g c =
     (has_failed c.sift.new.writer) c.sift.new.self c.in-Err-Refused.field-0 c.in-Err-Refused.field-0-0
     c.in-Err-Refused.field-0-is c.in-Err-Refused.ensures in
     let same = c.self.view_is ∙ known.2 in (
-      [],
-      inr (passes_over c.self.inside.order c.self.inside.digests c.self.inside.served c.self.inside.skipped
-          c.args.self.now same c.args.at (g.S.Space.message c.args.message.now) c.in-Err-Refused.field-0-0
-          (subst (λ (s : Sifted). IsUndigested (g.S.Space.message c.args.message.now) s.order.limits
-          c.in-Err-Refused.field-0-0) (sym same) known.0)
-          c.if-self.true c.one_more.result c.one_more.ensures),
-      subst (λ (x : Outgoing). Adds old x []) (sym known.1) (added_none old),
-      known.3,
+      (
+        [],
+        inr (passes_over c.self.inside.order c.self.inside.digests c.self.inside.served c.self.inside.skipped
+            c.args.self.now same c.args.at (g.S.Space.message c.args.message.now) c.in-Err-Refused.field-0-0
+            (subst (λ (s : Sifted). IsUndigested (g.S.Space.message c.args.message.now) s.order.limits
+            c.in-Err-Refused.field-0-0) (sym same) known.0)
+            c.if-self.true c.one_more.result c.one_more.ensures),
+        subst (λ (x : Outgoing). Adds old x []) (sym known.1) (added_none old),
+        known.3,
+      ),
+      subst (λ (x : Outgoing). length old.kept < 65536 → length x.kept < 65536) (sym known.1) (λ h. h),
     )

@@ -1,0 +1,16 @@
+use Rattle.capn_archive.specs.ArchiveRun as archives
+use Rattle.capn_archive.specs.UniqRun as sieves
+use Rattle.capn_archive.proofs.OneArchive.{archive_one_way}
+use Rattle.capn_archive.proofs.OneSieve.{sieve_one_way}
+use Rattle.capn_archive.proofs.OneWhole.{one_whole}
+use Rattle.capn_archive.proofs.laws.one_text.Goals as goal
+
+pub returns-clause-archive : goal.returns-clause-archive
+returns-clause-archive c order input t u r s h k =
+    one_whole (archives.archive_fold order) (archive_one_way order) (archives.first_run order)
+    (archives.archive_finish order) order.form input t u r s h k
+
+pub returns-clause-uniq : goal.returns-clause-uniq
+returns-clause-uniq c order input t u r s h k =
+    one_whole (sieves.sieve_fold order) (sieve_one_way order) (sieves.first_run order) sieves.sieve_finish order.form
+    input t u r s h k
