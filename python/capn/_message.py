@@ -37,6 +37,7 @@ class Object:
 
     @property
     def kind(self) -> str:
+        """The word that `capn show` has for it."""
         raise NotImplementedError
 
     def __eq__(self, other: object) -> bool:

@@ -13,9 +13,10 @@ from ._refusal import Refusal, failure
 
 # How many bytes are asked of a file at a time at most, and for how many unpacked ones there is room.
 _PIECE = 65536
-# Bytes that any frame has at least, the first four of one with one segment, and how many bytes are looked at in a file
-# that can be wound back.
-_HEAD, _ONE, _SEEN = 8, bytes(4), 8192
+# Bytes by which a frame may be refused, bytes that it has at least, and its first ones if it has one segment.
+_COUNT, _HEAD, _ONE = 4, 8, bytes(4)
+# How many bytes are looked at in a file that can be wound back.
+_SEEN = 8192
 _report_type = ffi.typeof("capn_report *")
 _first, _unpack_some, _from_buffer = lib.capn_first, lib.capn_unpack_some, ffi.from_buffer
 _OK, _MEMORY, _FRAME_CUT = lib.CAPN_OK, lib.CAPN_MEMORY, lib.CAPN_FRAME_CUT
@@ -74,8 +75,8 @@ class Splitter:
     def __init__(self, form: Form = "stream", limits: Limits = _USUAL) -> None:
         self._packed, self._bounds = _of_form(form), _laid_out(limits)
         self._report = ffi.new(_report_type)
-        # The words of the message that has begun, and how many bytes it has at least.
-        self._held, self._need = bytearray(), _HEAD
+        # The bytes of the message that has begun, and how many say more about it.
+        self._held, self._need = bytearray(), _COUNT
         # The bytes of the group that has begun, and how many were unpacked before it.
         self._text, self._taken = b"", 0
         self._out = _room(_room_type, _PIECE) if self._packed else None
@@ -89,7 +90,7 @@ class Splitter:
     def wanted(self) -> int:
         """How many bytes may be fed next so that none is after the message that has begun, or, of a packed stream, after
         the group in which it ends: at least 1."""
-        return _group(self._text) - len(self._text) if self._packed else self._need - len(self._held)
+        return _group(self._text) - len(self._text) if self._packed else max(self._need, _HEAD) - len(self._held)
 
     def feed(self, data: Buffer) -> list[bytes]:
         """The messages that these bytes complete. They are copied."""
@@ -146,7 +147,7 @@ class Splitter:
                         found.append(bytes(held[at:end]))
                         self.number += 1
                         self.offset += end - at
-                        at, need = end, _HEAD
+                        at, need = end, _COUNT
                     elif status == _FRAME_CUT:
                         need = report.length
                     else:
@@ -174,9 +175,9 @@ class Messages(Iterator[bytes]):
     def __init__(self, read: Callable[[int], Any], splitter: Splitter) -> None:
         self._read, self._splitter = read, splitter
         self._report, self._bounds = splitter._report, splitter._bounds
-        # The bytes of the message that has begun, and how many it has at least.
+        # The bytes of the message that has begun, and how many say more about it.
         self._held: bytes | bytearray = b""
-        self._need = _HEAD
+        self._need = _COUNT
         # What each call raises from now on: the end, or the refusal.
         self._over: Exception | None = None
         self.number = self.offset = 0
@@ -222,7 +223,7 @@ class Messages(Iterator[bytes]):
         while True:
             have, need = len(self._held), self._need
             if have < need:
-                missing = need - have
+                missing = max(need, _HEAD) - have
                 if missing > _PIECE:
                     # Memory grows as bytes come.
                     missing = min(missing, max(_PIECE, have))
@@ -233,7 +234,7 @@ class Messages(Iterator[bytes]):
             if status == _OK:
                 need = report.length
                 # What is left, if the file gave more than it was asked for.
-                self._held, self._need = frame[need:], _HEAD
+                self._held, self._need = frame[need:], _COUNT
                 self.number += 1
                 self.offset += need
                 return frame[:need]
@@ -395,7 +396,7 @@ class _Packed(Messages):
             return 1
         splitter = self._splitter
         report, text = self._report, splitter._text + seen
-        room = min(splitter._need - len(splitter._held), _PIECE)
+        room = min(max(splitter._need, _HEAD) - len(splitter._held), _PIECE)
         status = _unpack_some(text, len(text), self._out, room, report)
         if status not in (_OK, _PACKED_CUT, _PACKED_TOO_LONG):
             raise failure(status, report)
