@@ -154,7 +154,7 @@ class Objects(unittest.TestCase):
         self.assertEqual((repr(row), repr(row.slots)), ("<capn row, 1 words, 2 slots>", "<capn slots, 2>"))
         self.assertIsInstance(row, capn.Body)
         message = capn.read(stream(bare(("struct", [1], [])), bytes(8)))
-        self.assertEqual(repr(message), "<capn message, 3 words, 1 slots>")
+        self.assertEqual(repr(message), "<capn message, 2 words paid, 1 slots>")
         self.assertEqual((message.words, message.visits, message.paid), (3, 1, 2))
         self.assertRaises(TypeError, capn.Body)
 
