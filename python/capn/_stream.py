@@ -19,6 +19,7 @@ _COUNT, _HEAD, _ONE = 4, 8, bytes(4)
 _SEEN = 8192
 _report_type = ffi.typeof("capn_report *")
 _first, _unpack_some, _from_buffer = lib.capn_first, lib.capn_unpack_some, ffi.from_buffer
+_buffer = ffi.buffer
 _OK, _MEMORY, _FRAME_CUT = lib.CAPN_OK, lib.CAPN_MEMORY, lib.CAPN_FRAME_CUT
 _PACKED_CUT, _PACKED_TOO_LONG = lib.CAPN_PACKED_CUT, lib.CAPN_PACKED_TOO_LONG
 Form = Literal["stream", "packed"]
@@ -137,21 +138,22 @@ class Splitter:
         """Takes the whole frames off what is held."""
         held, need, report, bounds, at = self._held, self._need, self._report, self._bounds, 0
         found: list[bytes] = []
-        status = _OK
-        if len(held) >= need:
+        status, have = _OK, len(held)
+        if have >= need:
             with _from_buffer("uint8_t[]", held) as base:
-                while len(held) - at >= need:
-                    status = _first(base + at, len(held) - at, bounds, report)
+                whole = _buffer(base)
+                while have - at >= need:
+                    status = _first(base + at, have - at, bounds, report)
                     if status == _OK:
                         end = at + report.length
-                        found.append(bytes(held[at:end]))
-                        self.number += 1
-                        self.offset += end - at
+                        found.append(whole[at:end])
                         at, need = end, _COUNT
                     elif status == _FRAME_CUT:
                         need = report.length
                     else:
                         break
+            self.number += len(found)
+            self.offset += at
             del held[:at]
             self._need = need
             if status not in (_OK, _FRAME_CUT, _MEMORY):
@@ -189,23 +191,24 @@ class Messages(Iterator[bytes]):
         if self._held or self._over is not None:
             return self._any()
         # As most messages are: of one segment, short, and read by two calls of the file.
-        read = self._read
+        read, report = self._read, self._report
         head = read(_HEAD)
-        if type(head) is bytes and head[:4] == _ONE and len(head) == _HEAD:
-            report = self._report
-            if _first(head, _HEAD, self._bounds, report) == _FRAME_CUT:
-                need = report.length
-                if need <= _PIECE:
+        if type(head) is bytes and head[:4] == _ONE and _first(head, len(head), self._bounds, report) == _FRAME_CUT:
+            # The frame of one segment is as long as its table says, of which all of these bytes are there.
+            size = report.length - _HEAD
+            if 0 < size <= _PIECE:
+                try:
+                    body = read(size)
+                except BaseException:
                     self._held = head
-                    body = read(need - _HEAD)
-                    if type(body) is bytes and len(body) == need - _HEAD:
-                        # The frame of one segment is as long as its table says.
-                        self._held = b""
-                        self.number += 1
-                        self.offset += need
-                        return head + body
-                    self._came(body)
-                    return self._any()
+                    raise
+                if type(body) is bytes and len(body) == size:
+                    self.number += 1
+                    self.offset += _HEAD + size
+                    return head + body
+                self._held = head
+                self._came(body)
+                return self._any()
         self._came(head)
         return self._any()
 
@@ -418,9 +421,10 @@ class _Ahead(Messages):
         self._ready: deque[bytes] = deque()
 
     def __next__(self) -> bytes:
-        if not self._ready:
+        ready = self._ready
+        if not ready:
             self._more()
-        frame = self._ready.popleft()
+        frame = ready.popleft()
         self.number += 1
         self.offset += len(frame)
         return frame
