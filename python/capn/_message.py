@@ -567,6 +567,8 @@ def read(
 
 def _viewed(data: Buffer, in_place: bool) -> tuple[memoryview, bool]:
     """A view of bytes that nothing can change, or of those of the caller's, and whether they are the caller's."""
+    if type(data) is bytearray and not in_place:
+        data = bytes(data)
     try:
         view = memoryview(data)
     except TypeError:

@@ -389,6 +389,17 @@ class HowMany(unittest.TestCase):
         self.assertRaises(ValueError, capn.read, data, most_slots=-1)
         self.assertRaises(TypeError, capn.read, data, most_slots=1.0)
 
+    def test_few_bytes_have_many_slots(self):
+        # Three lists of 193 pointers, all of the first two to the next: each is visited for each pointer to it.
+        count, words = 193, [1 | 6 << 32 | 193 << 35]
+        for _ in range(2):
+            words += [count - 1 - i << 2 | 1 | 6 << 32 | count << 35 for i in range(count)]
+        data = b"".join(word.to_bytes(8, "little") for word in [len(words) + count << 32, *words, *[0] * count])
+        self.assertEqual(len(data), 4648)
+        with self.assertRaisesRegex(capn.Refusal, "^too many slots: 7226500$"):
+            capn.read(data, most_slots=1 << 16)
+        self.assertEqual(capn.check(data).visits, 7226500)
+
     def test_a_refused_message_has_its_own_refusal(self):
         with self.assertRaisesRegex(capn.Refusal, "Range at 0:0"):
             capn.read(stream(bytes.fromhex("0000000001000000")), most_slots=0)
