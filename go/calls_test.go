@@ -105,7 +105,7 @@ func TestRefusals(t *testing.T) {
 		{second(Pack(make([]byte, 9))), ErrNotWhole, "NotWhole(9)", false},
 		{second(Check([]byte{1}, Packed, nil)), ErrPackedCut, "packed: Cut at 0", true},
 		{second(Unpack(make([]byte, 2), 0)), ErrPackedTooLong, "packed: TooLong at 0", false},
-		{second(Survey(make([]byte, 2), Packed, nil)), ErrFrameCut, "frame: Cut", true},
+		{second(Survey([]byte{0x10, 1}, Packed, nil)), ErrFrameCut, "frame: Cut", true},
 		{second(Canonical(capability, Bare, nil)), ErrCapability, "capability 7", false},
 		{second(Digest(outside, Bare, nil)), ErrRange, "Range at 0:0, paid 0, visits 1", false},
 		{second(Check(small, Stream, &Limits{9, 9, 256, Tariff(1)})), 0, "", false},

@@ -104,11 +104,11 @@ func TestIndex(t *testing.T) {
 }
 
 func TestOtherKinds(t *testing.T) {
-	index, err := NewIndex([]byte("\x03\x00\x00\x00\x07\x00\x00\x00"), Bare, nil)
+	index, err := NewIndex([]byte("\x00\x00\x00\x00\x00\x00\x01\x00"+"\x03\x00\x00\x00\x07\x00\x00\x00"), Bare, nil)
 	if err != nil {
 		t.Fatal(err)
 	}
-	root := index.Root()
+	root := index.Root().Slot(0)
 	if root.Kind() != Capability || root.CapabilityIndex() != 7 || root.Len() != 0 {
 		t.Fatal(root.Kind())
 	}

@@ -72,10 +72,13 @@ type builder struct {
 	segments [][]uint64
 }
 
-// segmentsOf has the segments of a value. With more than one, each object may be in any, behind a pad.
+// segmentsOf has the segments of a value. With more than one, each object may be in any, behind a pad. Each segment
+// begins with a word, since the reference implementation finds no object of no words in a segment without any.
 func segmentsOf(source *rand.Rand, root *item, segments int) [][]uint64 {
 	b := &builder{source, make([][]uint64, segments)}
-	b.segments[0] = []uint64{0}
+	for i := range b.segments {
+		b.segments[i] = []uint64{0}
+	}
 	b.put(0, 0, root)
 	return b.segments
 }
@@ -102,6 +105,10 @@ func (b *builder) put(segment, at int, value *item) {
 	b.segments[in] = append(b.segments[in], make([]uint64, size)...)
 	switch {
 	case in == segment:
+		if size == 0 && value.kind == 's' {
+			// With the offset 0 this would be a null pointer.
+			start = at
+		}
 		b.segments[segment][at] = pointer | uint64(uint32(start-at-1)<<2)
 	case b.source.Intn(3) > 0:
 		// A pad beside the object.

@@ -34,6 +34,9 @@ func blocks(t *testing.T, page string) []string {
 			inside = false
 		}
 	}
+	for i, block := range found {
+		found[i] = strings.TrimRight(block, "\n") + "\n"
+	}
 	return found
 }
 

@@ -9,22 +9,22 @@ type Reader struct {
 	limits Limits
 	held   []byte
 	have   int   // how many bytes of the message have come,
-	need   int   // and how many it has at least
+	need   int   // and how many say more about it
 	number int64 // messages that were answered
 	offset int64 // where the next one begins
 	over   error
 }
 
-// What any frame has at least, and how much memory a frame has that has merely been announced.
 const (
-	head = 8
-	most = 65536
+	count = 4     // bytes by which a frame may be refused
+	head  = 8     // bytes that it has at least
+	most  = 65536 // bytes of memory that a frame has that has merely been announced
 )
 
 // NewReader makes a reader of a stream, which is not packed. MessageWords of the limits, of which nil are the usual
 // ones, bounds each message; nothing else is checked.
 func NewReader(from io.Reader, limits *Limits) *Reader {
-	return &Reader{from: from, limits: limitsOf(limits), need: head}
+	return &Reader{from: from, limits: limitsOf(limits), need: count}
 }
 
 // Next is the next message, one frame. At the end of the stream it is io.EOF; of a stream that is cut an *Error that is
@@ -42,7 +42,7 @@ func (r *Reader) Next() ([]byte, error) {
 		switch Kind(status) {
 		case ok:
 			message := r.held[:r.have:r.have]
-			r.held, r.have, r.need = nil, 0, head
+			r.held, r.have, r.need = nil, 0, count
 			r.number++
 			r.offset += int64(len(message))
 			return message, nil
@@ -62,9 +62,13 @@ func (r *Reader) Offset() int64 { return r.offset }
 
 // fill reads until there are as many bytes as are needed. Memory grows as they come.
 func (r *Reader) fill() error {
+	wanted := r.need
+	if wanted < head {
+		wanted = head
+	}
 	for idle := 0; r.have < r.need; {
 		if r.have == len(r.held) {
-			size := r.need
+			size := wanted
 			if size > most && size > 2*r.have {
 				size = most
 				if size < 2*r.have {
@@ -74,11 +78,11 @@ func (r *Reader) fill() error {
 			r.held = append(make([]byte, 0, size), r.held[:r.have]...)[:size]
 		}
 		end := len(r.held)
-		if end > r.need {
-			end = r.need
+		if end > wanted {
+			end = wanted
 		}
-		count, err := r.from.Read(r.held[r.have:end])
-		r.have += count
+		came, err := r.from.Read(r.held[r.have:end])
+		r.have += came
 		switch {
 		case err == io.EOF && r.have < r.need:
 			if r.have == 0 {
@@ -88,7 +92,7 @@ func (r *Reader) fill() error {
 			return r.refuse(&Error{Kind: ErrFrameCut})
 		case err != nil && err != io.EOF && r.have < r.need:
 			return err
-		case count == 0:
+		case came == 0:
 			if idle++; idle == 100 {
 				return io.ErrNoProgress
 			}

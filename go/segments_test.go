@@ -17,7 +17,9 @@ func TestSegments(t *testing.T) {
 	source := rand.New(rand.NewSource(66))
 	var stream, canonical []byte
 	for i := 0; i < 5000; i++ {
-		segments := bytesOf(segmentsOf(source, randomItem(source, 0), 2+source.Intn(4)))
+		// The root is a struct, as the program wants it.
+		root := &item{kind: 's', words: randomWords(source, 1), below: []*item{randomItem(source, 1), randomItem(source, 1)}}
+		segments := bytesOf(segmentsOf(source, root, 2+source.Intn(4)))
 		found, err := CanonicalSegments(segments, nil)
 		if err != nil {
 			t.Fatalf("%x: %v", segments, err)
@@ -45,11 +47,13 @@ func TestSegments(t *testing.T) {
 	if err != nil {
 		t.Skip("there is no program capnp")
 	}
-	ran := exec.Command(program, "convert", "binary:canonical")
+	ran := exec.Command(program, "convert", "--quiet", "binary:canonical")
 	ran.Stdin = bytes.NewReader(stream)
+	var said bytes.Buffer
+	ran.Stderr = &said
 	wrote, err := ran.Output()
 	if err != nil {
-		t.Fatal(err)
+		t.Fatal(err, said.String())
 	}
 	if !bytes.Equal(wrote, canonical) {
 		t.Errorf("capnp wrote %d other bytes, of %d", len(wrote), len(canonical))

@@ -29,8 +29,10 @@ def taken(data: Buffer, in_place: bool) -> Any:
     if not in_place:
         if type(data) is bytearray:
             return bytes(data)
-        if type(data) is not memoryview or data.nbytes < _SHORT or type(data.obj) is not bytes:
+        if type(data) is not memoryview:
             return copied(data)
+        if data.nbytes < _SHORT or type(data.obj) is not bytes:
+            return data.tobytes()
     try:
         return _from_buffer(data)
     except BufferError:

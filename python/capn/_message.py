@@ -10,14 +10,14 @@ from typing import Any, Iterator, Literal, Sequence, TypeVar, Union, overload
 from weakref import WeakValueDictionary
 
 from ._bytes import Buffer, no_buffer
-from ._calls import _USUAL, Form, _form, _laid_out, _room
+from ._calls import _USUAL, Form, _form, _laid_out, _report, _reports, _room
 from ._calls import unpack as _unpacked
 from ._capn import ffi, lib
 from ._limits import Limits
 from ._refusal import Refusal, failure
 
 _T = TypeVar("_T")
-_report_type, _entries_type = ffi.typeof("capn_report *"), ffi.typeof("capn_entry[]")
+_entries_type = ffi.typeof("capn_entry[]")
 # The entries for which there is room at once; if there are more, the library says how many.
 _FEW = 64
 _WIDTHS = (8, 16, 32, 64)
@@ -37,6 +37,7 @@ class Object:
 
     @property
     def kind(self) -> str:
+        """The word that `capn show` has for it."""
         raise NotImplementedError
 
     def __eq__(self, other: object) -> bool:
@@ -427,20 +428,28 @@ class Message:
 
     Two messages are equal if their roots are. A message has no hash."""
 
-    __slots__ = ("_data", "_entries", "_places", "_views", "paid", "visits", "words")
+    __slots__ = ("_data", "_entries", "_form", "_places", "_views", "paid", "visits")
     paid: int
     """Words that the walk paid."""
     visits: int
     """Slots that it visited, each as often as it was met; the root is one."""
-    words: int
-    """Words of its segments."""
 
-    def __init__(self, data: memoryview, entries: Any, paid: int, visits: int, words: int, in_place: bool) -> None:
-        self._data, self._entries, self.paid, self.visits, self.words = data, entries, paid, visits, words
+    def __init__(self, data: memoryview, entries: Any, paid: int, visits: int, form: int, in_place: bool) -> None:
+        self._data, self._entries, self.paid, self.visits, self._form = data, entries, paid, visits, form
         # Of an entry with objects below its slots, where the entries of these slots are.
         self._places: dict[int, Sequence[int]] = {}
         # The views of bytes that are not ours, to be released when the message is closed.
         self._views: WeakValueDictionary[int, memoryview] | None = WeakValueDictionary() if in_place else None
+
+    @property
+    def words(self) -> int:
+        """Words of its segments."""
+        words = len(self._data) // 8
+        if self._form == lib.CAPN_BARE:
+            return words
+        # Of the segment table there are four bytes for the number of segments, and for each.
+        segments = 1 + int.from_bytes(self._data[:4], "little")
+        return words - (segments + 2) // 2
 
     @property
     def root(self) -> Value:
@@ -490,7 +499,7 @@ class Message:
         return _same(self.root, other.root)
 
     def __repr__(self) -> str:
-        return f"<capn message, {self.words} words, {self.visits} slots>"
+        return f"<capn message, {self.paid} words paid, {self.visits} slots>"
 
     def _object(self, at: int) -> Value:
         found: Value = _CLASSES[self._entries[at].kind](self, at)
@@ -517,14 +526,6 @@ class Message:
         return places
 
 
-def _segment_words(data: memoryview, form: int) -> int:
-    """The words of the segments of a message that was accepted."""
-    if form == lib.CAPN_BARE:
-        return len(data) // 8
-    segments = 1 + int.from_bytes(data[:4], "little")
-    return len(data) // 8 - (segments + 2) // 2
-
-
 def read(
     data: Buffer,
     form: Form = "stream",
@@ -540,33 +541,43 @@ def read(
     were paid. With `most_slots` a message with more of them is a `Refusal` of the name "TooManySlots", which has their
     number as `at`, before any index is made. With `in_place` nothing may change the bytes as long as the message or an
     object of it is used."""
-    bounds = _laid_out(limits)
-    most = None if most_slots is None else index(most_slots)
-    if most is not None and most < 0:
+    bounds, number = _laid_out(limits), _form(form)
+    most = -1 if most_slots is None else index(most_slots)
+    if most < 0 and most_slots is not None:
         raise ValueError(f"most_slots is a number from 0 on, or None, not {most}")
-    number = _form(form)
     if number == lib.CAPN_PACKED:
         data, number, in_place = _unpacked(data, limits.message_words + 2049, in_place=in_place), lib.CAPN_STREAM, False
+    view, in_place = _viewed(data, in_place)
+    given = data if type(data) is bytes else ffi.from_buffer(view)
+    report, room = _report(), _FEW if most < 0 else min(most, _FEW)
+    entries = _room(_entries_type, room)
+    status = lib.capn_index(number, given, len(given), bounds, entries, room, report)
+    if status == lib.CAPN_NO_ROOM:
+        room = report.visits
+        if 0 <= most < room:
+            raise Refusal(f"too many slots: {room}", "TooManySlots", at=room)
+        entries = _room(_entries_type, room)
+        status = lib.capn_index(number, given, len(given), bounds, entries, room, report)
+    if status != lib.CAPN_OK:
+        raise failure(status, report)
+    message = Message(view, entries, report.paid, report.visits, number, in_place)
+    _reports.append(report)
+    return message
+
+
+def _viewed(data: Buffer, in_place: bool) -> tuple[memoryview, bool]:
+    """A view of bytes that nothing can change, or of those of the caller's, and whether they are the caller's."""
+    if type(data) is bytearray and not in_place:
+        data = bytes(data)
     try:
         view = memoryview(data)
     except TypeError:
         raise no_buffer(data) from None
-    in_place = in_place and type(view.obj) is not bytes
-    if not view.c_contiguous or not in_place and type(view.obj) is not bytes:
-        view, in_place = memoryview(view.tobytes()), False
-    elif view.format != "B" or view.ndim != 1:
+    if type(data) is bytes:
+        return view, False
+    is_fixed = type(view.obj) is bytes
+    if not view.c_contiguous or not is_fixed and not in_place:
+        return memoryview(view.tobytes()), False
+    if view.format != "B" or view.ndim != 1:
         view = view.cast("B")
-    report, room = ffi.new(_report_type), _FEW if most is None else min(most, _FEW)
-    with ffi.from_buffer(view) as given:
-        while True:
-            entries = _room(_entries_type, room)
-            status = lib.capn_index(number, given, len(given), bounds, entries, room, report)
-            if status != lib.CAPN_NO_ROOM:
-                break
-            room = report.visits
-            if most is not None and room > most:
-                raise Refusal(f"too many slots: {room}", "TooManySlots", at=room)
-    if status != lib.CAPN_OK:
-        raise failure(status, report)
-    words = _segment_words(view, number)
-    return Message(view.toreadonly(), entries, report.paid, report.visits, words, in_place)
+    return view.toreadonly(), not is_fixed

@@ -13,11 +13,13 @@ from ._refusal import Refusal, failure
 
 # How many bytes are asked of a file at a time at most, and for how many unpacked ones there is room.
 _PIECE = 65536
-# Bytes that any frame has at least, the first four of one with one segment, and how many bytes are looked at in a file
-# that can be wound back.
-_HEAD, _ONE, _SEEN = 8, bytes(4), 8192
+# Bytes by which a frame may be refused, bytes that it has at least, and its first ones if it has one segment.
+_COUNT, _HEAD, _ONE = 4, 8, bytes(4)
+# How many bytes are looked at in a file that can be wound back.
+_SEEN = 8192
 _report_type = ffi.typeof("capn_report *")
 _first, _unpack_some, _from_buffer = lib.capn_first, lib.capn_unpack_some, ffi.from_buffer
+_buffer = ffi.buffer
 _OK, _MEMORY, _FRAME_CUT = lib.CAPN_OK, lib.CAPN_MEMORY, lib.CAPN_FRAME_CUT
 _PACKED_CUT, _PACKED_TOO_LONG = lib.CAPN_PACKED_CUT, lib.CAPN_PACKED_TOO_LONG
 Form = Literal["stream", "packed"]
@@ -74,8 +76,8 @@ class Splitter:
     def __init__(self, form: Form = "stream", limits: Limits = _USUAL) -> None:
         self._packed, self._bounds = _of_form(form), _laid_out(limits)
         self._report = ffi.new(_report_type)
-        # The words of the message that has begun, and how many bytes it has at least.
-        self._held, self._need = bytearray(), _HEAD
+        # The bytes of the message that has begun, and how many say more about it.
+        self._held, self._need = bytearray(), _COUNT
         # The bytes of the group that has begun, and how many were unpacked before it.
         self._text, self._taken = b"", 0
         self._out = _room(_room_type, _PIECE) if self._packed else None
@@ -89,7 +91,7 @@ class Splitter:
     def wanted(self) -> int:
         """How many bytes may be fed next so that none is after the message that has begun, or, of a packed stream, after
         the group in which it ends: at least 1."""
-        return _group(self._text) - len(self._text) if self._packed else self._need - len(self._held)
+        return _group(self._text) - len(self._text) if self._packed else max(self._need, _HEAD) - len(self._held)
 
     def feed(self, data: Buffer) -> list[bytes]:
         """The messages that these bytes complete. They are copied."""
@@ -136,21 +138,22 @@ class Splitter:
         """Takes the whole frames off what is held."""
         held, need, report, bounds, at = self._held, self._need, self._report, self._bounds, 0
         found: list[bytes] = []
-        status = _OK
-        if len(held) >= need:
+        status, have = _OK, len(held)
+        if have >= need:
             with _from_buffer("uint8_t[]", held) as base:
-                while len(held) - at >= need:
-                    status = _first(base + at, len(held) - at, bounds, report)
+                whole = _buffer(base)
+                while have - at >= need:
+                    status = _first(base + at, have - at, bounds, report)
                     if status == _OK:
                         end = at + report.length
-                        found.append(bytes(held[at:end]))
-                        self.number += 1
-                        self.offset += end - at
-                        at, need = end, _HEAD
+                        found.append(whole[at:end])
+                        at, need = end, _COUNT
                     elif status == _FRAME_CUT:
                         need = report.length
                     else:
                         break
+            self.number += len(found)
+            self.offset += at
             del held[:at]
             self._need = need
             if status not in (_OK, _FRAME_CUT, _MEMORY):
@@ -174,9 +177,9 @@ class Messages(Iterator[bytes]):
     def __init__(self, read: Callable[[int], Any], splitter: Splitter) -> None:
         self._read, self._splitter = read, splitter
         self._report, self._bounds = splitter._report, splitter._bounds
-        # The bytes of the message that has begun, and how many it has at least.
+        # The bytes of the message that has begun, and how many say more about it.
         self._held: bytes | bytearray = b""
-        self._need = _HEAD
+        self._need = _COUNT
         # What each call raises from now on: the end, or the refusal.
         self._over: Exception | None = None
         self.number = self.offset = 0
@@ -188,23 +191,24 @@ class Messages(Iterator[bytes]):
         if self._held or self._over is not None:
             return self._any()
         # As most messages are: of one segment, short, and read by two calls of the file.
-        read = self._read
+        read, report = self._read, self._report
         head = read(_HEAD)
-        if type(head) is bytes and head[:4] == _ONE and len(head) == _HEAD:
-            report = self._report
-            if _first(head, _HEAD, self._bounds, report) == _FRAME_CUT:
-                need = report.length
-                if need <= _PIECE:
+        if type(head) is bytes and head[:4] == _ONE and _first(head, len(head), self._bounds, report) == _FRAME_CUT:
+            # The frame of one segment is as long as its table says, of which all of these bytes are there.
+            size = report.length - _HEAD
+            if 0 < size <= _PIECE:
+                try:
+                    body = read(size)
+                except BaseException:
                     self._held = head
-                    body = read(need - _HEAD)
-                    if type(body) is bytes and len(body) == need - _HEAD:
-                        # The frame of one segment is as long as its table says.
-                        self._held = b""
-                        self.number += 1
-                        self.offset += need
-                        return head + body
-                    self._came(body)
-                    return self._any()
+                    raise
+                if type(body) is bytes and len(body) == size:
+                    self.number += 1
+                    self.offset += _HEAD + size
+                    return head + body
+                self._held = head
+                self._came(body)
+                return self._any()
         self._came(head)
         return self._any()
 
@@ -222,7 +226,7 @@ class Messages(Iterator[bytes]):
         while True:
             have, need = len(self._held), self._need
             if have < need:
-                missing = need - have
+                missing = max(need, _HEAD) - have
                 if missing > _PIECE:
                     # Memory grows as bytes come.
                     missing = min(missing, max(_PIECE, have))
@@ -233,7 +237,7 @@ class Messages(Iterator[bytes]):
             if status == _OK:
                 need = report.length
                 # What is left, if the file gave more than it was asked for.
-                self._held, self._need = frame[need:], _HEAD
+                self._held, self._need = frame[need:], _COUNT
                 self.number += 1
                 self.offset += need
                 return frame[:need]
@@ -395,7 +399,7 @@ class _Packed(Messages):
             return 1
         splitter = self._splitter
         report, text = self._report, splitter._text + seen
-        room = min(splitter._need - len(splitter._held), _PIECE)
+        room = min(max(splitter._need, _HEAD) - len(splitter._held), _PIECE)
         status = _unpack_some(text, len(text), self._out, room, report)
         if status not in (_OK, _PACKED_CUT, _PACKED_TOO_LONG):
             raise failure(status, report)
@@ -417,9 +421,10 @@ class _Ahead(Messages):
         self._ready: deque[bytes] = deque()
 
     def __next__(self) -> bytes:
-        if not self._ready:
+        ready = self._ready
+        if not ready:
             self._more()
-        frame = self._ready.popleft()
+        frame = ready.popleft()
         self.number += 1
         self.offset += len(frame)
         return frame

@@ -50,7 +50,7 @@ def streamed(**options):
     """What reads a stream of many messages, for each of them."""
     message, count = longer(), 2000
     data = capn.pack(message) * count if options.get("packed") else message * count
-    file = io.BufferedReader(io.BytesIO(data), 65536)
+    file = io.BufferedReader(io.BytesIO(data))
 
     def read(_):
         file.seek(0)

@@ -10,7 +10,7 @@ import capn
 
 PAGE = Path(__file__).resolve().parents[2] / "docs" / "PYTHON.md"
 MESSAGE = bytes.fromhex("0000000003000000" "0000000002000000" "0500000000000000" "0000000000000000")
-TEXT = bytes.fromhex("0000000004000000" "0000000001000100" "0500000000000000" "010000001a000000" "6162630000000000")
+TEXT = bytes.fromhex("0000000004000000" "0000000001000100" "0500000000000000" "0100000022000000" "6162630000000000")
 
 
 def blocks():
@@ -62,6 +62,10 @@ class Page(unittest.TestCase):
         self.assertEqual(self.run_on(TEXT, self.read), (0, "reading it costs 5 words\n2 abc\n"))
         self.assertEqual(self.run_on(MESSAGE, self.read), (0, "reading it costs 3 words\n2 nobody\n"))
         self.assertEqual(self.run_on(bytes(4) + b"\1" + bytes(11), self.read), (0, "reading it costs 0 words\n"))
+        # Of three bytes the last one is no zero.
+        status, wrote = self.run_on(TEXT.replace(b"\x22", b"\x1a"), self.read)
+        self.assertEqual(status, 1)
+        self.assertRegex(wrote, "\nrefused: the last byte of a text is zero")
 
     def test_stream(self):
         figures = capn.Surveyed(words=3, segments=1, paid=3, visits=1, depth=1, capability=None, canonical=False)

@@ -88,7 +88,7 @@ class Reading(unittest.TestCase):
 
     def test_in_place(self):
         data = bytearray.fromhex("0000000002000000" "0000000001000000" "0500000000000000")
-        root = capn.read(data).root
+        root = capn.read(data, in_place=True).root
         self.assertEqual(list(root.words), [5])
         data[16] = 6
         self.assertEqual(list(root.words), [6])
@@ -131,7 +131,7 @@ class Streams(unittest.TestCase):
 
     def test_arguments(self):
         with self.assertRaises(TypeError):
-            capn.messages(b"no file")
+            capn.messages("no file")
         with self.assertRaises(TypeError):
             capn.messages(io.BytesIO(), limits=3)
         with self.assertRaises(ValueError):

@@ -264,6 +264,41 @@ class AfterAnException(unittest.TestCase):
                 self.assertEqual((caught.exception.number, caught.exception.offset), (2, 32))
                 self.assertEqual(caught.exception.name, "PackedCut" if packed else "FrameCut")
 
+    def test_a_frame_is_refused_by_as_many_bytes_as_are_needed(self):
+        for written in "ffffffff0000000000", "0300000000000001ffffffff00000000", "00000000ffffffff", "0000000001":
+            data = bytes.fromhex(written)
+            for end in range(len(data) + 1):
+                found, fault = model.messages(data[:end], "stream", 8388608)
+                splitter = capn.Splitter()
+                ways = [capn.messages(Pieces(data[:end], most)) for most in (1, 3, 100)]
+                ways += [capn.messages(data[:end]), capn.messages(data[:end], read_ahead=True)]
+                for way in ways:
+                    with self.subTest(data=data[:end].hex()):
+                        self.told(fault, lambda way=way: list(way))
+                self.told(fault, lambda splitter=splitter, end=end: (splitter.feed(data[:end]), splitter.end()))
+
+    def told(self, fault, call):
+        if fault is None:
+            call()
+            return
+        with self.assertRaises(capn.Refusal) as caught:
+            call()
+        self.assertEqual((str(caught.exception), caught.exception.number, caught.exception.offset), fault)
+
+    def test_four_bytes_are_enough_to_refuse(self):
+        near, far = socket.socketpair()
+        with near, far, far.makefile("rb", buffering=0) as file:
+            near.sendall(b"\xff" * 4)
+            found = capn.messages(file)
+
+            def refused():
+                try:
+                    return next(found)
+                except capn.Refusal as refusal:
+                    return refusal.name
+
+            self.assertEqual(in_time(refused), "TooManySegments")
+
     def test_a_refusal_of_one_call_has_none(self):
         with self.assertRaises(capn.Refusal) as caught:
             capn.check(b"")

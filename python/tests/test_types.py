@@ -89,11 +89,11 @@ def functions():
         if inspect.isfunction(one):
             yield one
     for one in classes():
-        for name, inner in vars(one).items():
-            if inspect.isfunction(inner):
+        for inner in vars(one).values():
+            inner = inner.fget if isinstance(inner, property) else inner
+            # Those that Python makes for a dataclass or a tuple have no hints.
+            if inspect.isfunction(inner) and Path(inner.__code__.co_filename).parent == SITE / "capn":
                 yield inner
-            elif isinstance(inner, property):
-                yield inner.fget
 
 
 class AtRunTime(unittest.TestCase):
@@ -101,10 +101,8 @@ class AtRunTime(unittest.TestCase):
         found = 0
         for one in functions():
             with self.subTest(one):
-                hints = typing.get_type_hints(one)
-                if one.__module__.startswith("capn"):
-                    self.assertIn("return", hints)
-                    found += 1
+                self.assertIn("return", typing.get_type_hints(one))
+                found += 1
         for one in classes():
             with self.subTest(one):
                 typing.get_type_hints(one)
