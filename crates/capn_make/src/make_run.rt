@@ -6,7 +6,6 @@ ghost use Rattle.capn_make.specs.MakeRun.{TakesBytes, Made, StopsInTime};
 
 use crate::fault::MakeFault;
 use crate::input::make_input;
-use crate::laws::refusing;
 use crate::output::write_all;
 use capn_canon::Form;
 use capn_words::Watched;
@@ -49,7 +48,6 @@ pub fn make<R: Read, W: Write, A: Allocator + Copy>(
     ensures memory { IsErrOf result MakeFault.Memory
         → TakesBytes (R.remaining (inner_of reader.old)) (R.remaining (inner_of reader.new)) }
 {
-    refusing();
     let outcome = make_input(alloc, form, reader)?;
     write_all(writer, &outcome.text)?;
     outcome.ending
