@@ -80,10 +80,10 @@ follows_made input made place n more m later follows =
     let first = subst (λ vs. AreFirst vs input place.rest) one.1 m.first in
     let line = m.line ∙ ap line_after one.1 in
     inr (inr (
-    one.0,
-    place.rest ++ more,
-    first_on (one.0 ∷ []) input place.rest more first,
-    subst (λ k. Follows k (place.rest ++ more) (faults.NotText n)) line follows,
+      one.0,
+      place.rest ++ more,
+      first_on (one.0 ∷ []) input place.rest more first,
+      subst (λ k. Follows k (place.rest ++ more) (faults.NotText n)) line follows,
     ))
 
 lost_made : (form : Form) (input made : List ℕ) (place : Place) (n : ℕ) (more : List ℕ)
@@ -245,7 +245,6 @@ module _ (one : OneEnding) (form : Form) where
         → Ends form input (Err (faults.NotText n)) → IsNotLost input
     open_end n m (inl o) ends = may_go_on n m o.0 o.1 ends
     open_end n m (inr o) ends = after_one n m o.0 o.1 o.2 ends
-
 
     -- ---- by the fault of what was made
 

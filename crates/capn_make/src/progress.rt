@@ -60,10 +60,10 @@ fn is_lost(fault: MakeFault, cut: bool) -> bool
         MakeFault::NotText(_) => !cut,
         MakeFault::Memory
         | MakeFault::Io
+        | MakeFault::NoText
         | MakeFault::Misfit(_, _)
         | MakeFault::Capability(_, _)
-        | MakeFault::Another(_)
-        | MakeFault::NoText => false,
+        | MakeFault::Another(_) => false,
     }
 }
 

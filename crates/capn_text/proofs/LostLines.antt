@@ -1,7 +1,7 @@
 -- Lines that are none whatever follows, and lines that can still become one.
-use Rattle.std.proofs.Common.{◌≡◌, ◌+◌, ◌-◌, ◌*◌, ◌/◌, ◌≤◌, ◌<◌, ◌^◌, ℕ, zero, suc, Bool, true, false, cond}
+use Rattle.std.proofs.Common.{◌≡◌, ◌+◌, ◌*◌, ◌≤◌, ◌<◌, ◌^◌, ℕ, suc, Bool, true, false, cond}
 use Rattle.std.proofs.Common.{List, [], ◌∷◌, ◌++◌, length, replicate, Option, Some, None, codes}
-use Rattle.std.proofs.Common.{refl, sym, ap, subst, ◌∙◌, append_assoc, arith}
+use Rattle.std.proofs.Common.{refl, sym, ap, ◌∙◌, arith}
 use Rattle.std.specs.Prelude.{nat_lt}
 use Rattle.std.specs.Fmt.{decimal}
 use Rattle.std.proofs.lemmas.Fmt.{length-decimal-le}
@@ -9,10 +9,9 @@ use Rattle.std.proofs.lemmas.Bool.{ltb-true, ltb-false}
 use Rattle.std.proofs.lemmas.List.{length-append, append-nil, length-replicate}
 use Rattle.capn_value.specs.Text.{line, hex16}
 use Rattle.capn_text.specs.Streams.{few}
-use Rattle.capn_text.specs.inner.Stops.{LineFails, IsLineLost, IsLineOpen, stop_in}
+use Rattle.capn_text.specs.inner.Stops.{LineFails, IsLineLost, stop_in}
 use Rattle.capn_text.specs.inner.Tokens.{word_line_at, number_line_at}
 use Rattle.capn_text.specs.inner.Values.{Holds, head_at}
-use Rattle.capn_text.specs.declared.fault.Stop.{Stop}
 use Rattle.capn_text.specs.declared.fault.Stop.TheVariants as stops
 use Rattle.capn_text.specs.declared.heads.Leaf.TheVariants as leaves
 use Rattle.capn_text.specs.declared.heads.Name.{Name}

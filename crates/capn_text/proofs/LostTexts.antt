@@ -1,15 +1,15 @@
 -- Texts that are refused whatever follows, and texts that may go on.
-use Rattle.std.proofs.Common.{◌≡◌, ◌≢◌, ◌≤◌, ◌+◌, ◌-◌, ℕ, List, [], ◌∷◌, ◌++◌, length, take, Option, Some, None, inl, inr}
+use Rattle.std.proofs.Common.{◌≡◌, ◌≢◌, ◌≤◌, ◌+◌, ◌-◌, ℕ, List, [], ◌++◌, length, take, Option, Some, None, inl, inr}
 use Rattle.std.proofs.Common.{refl, sym, ap, subst, ◌∙◌, append_assoc, arith}
 use Rattle.std.proofs.Common.{Bool, true, false, cond}
 use Rattle.std.specs.Prelude.{nat_lt}
 use Rattle.std.proofs.lemmas.Bool.{cases_lt, ltb-true}
-use Rattle.std.proofs.lemmas.List.{append-nil, length-append}
+use Rattle.std.proofs.lemmas.List.{length-append}
 use Rattle.capn_value.specs.Tree.{Tree, nil}
 use Rattle.capn_value.specs.Cost.{height, most_height}
 use Rattle.capn_value.specs.Text.{show_text}
 use Rattle.capn_text.specs.Showable.{IsShowable}
-use Rattle.capn_text.specs.Streams.{end_line, ended_lines, ended_text, first_lines, IsFirstWrong, MayGoOn, Names, few}
+use Rattle.capn_text.specs.Streams.{end_line, ended_lines, ended_text, IsFirstWrong, MayGoOn, Names, few}
 use Rattle.capn_text.specs.inner.Stops.{Stops, IsLost, IsOpen, IsLineLost, LineFails, stop_in}
 use Rattle.capn_text.specs.declared.fault.Stop.{Stop}
 use Rattle.capn_text.specs.declared.fault.Stop.TheVariants as stops

@@ -1,6 +1,6 @@
 -- Rows of digits that are none, and what they can still become.
 use Rattle.std.proofs.Common.{◌≡◌, ◌+◌, ◌-◌, ◌*◌, ◌≤◌, ◌<◌, ◌==◌, ◌&&◌, ◌||◌, ℕ, zero, suc, Bool, true, false, cond}
-use Rattle.std.proofs.Common.{List, [], ◌∷◌, ◌++◌, length, replicate, Option, Some, None, codes}
+use Rattle.std.proofs.Common.{List, [], ◌∷◌, ◌++◌, length, replicate, Option, Some, None}
 use Rattle.std.proofs.Common.{refl, sym, ap, subst, ◌∙◌, append_assoc, arith, inl, inr}
 use Rattle.std.specs.Prelude.{nat_le, nat_lt}
 use Rattle.std.proofs.lemmas.Bool.{cases_lt, ne_eqb, ltb-true, ltb-false}
@@ -238,9 +238,12 @@ module _ {X : Type 0} (one : List ℕ → Option (X × List ℕ)) (level : ℕ) 
       let short = ltb-true (length t) few is in
       (none, refl, ([], t, refl, omega arith, full.0, full.1, full.2))
   by_length false n t is low none out full =
-      let long = ltb-false (length t) few is in
-      (none, refl, λ z. some_row n (t ++ z) ∙ ap (λ o. o >>= within n)
-      (unindented t z out (omega arith) (indent_at level (t ++ z)) refl))
+      let long = ltb-false (length t) few is in (
+        none,
+        refl,
+        λ z. some_row n (t ++ z) ∙ ap (λ o. o >>= within n)
+            (unindented t z out (omega arith) (indent_at level (t ++ z)) refl),
+      )
 
   pub row_unindented : (count : ℕ) (t : List ℕ) → level ≤ 600 → row_line_at one level count t ≡ None
       → indent_at level t ≡ None
@@ -264,9 +267,11 @@ bits_fill (suc n) [] rest size all = absurd (omega arith)
 bits_fill (suc n) (c ∷ cs) rest size all =
     let h = both_true (is_bit c) (are_all is_bit cs) all in
     let x = bit_one c (cs ++ rest) h.0 in
-    let xs = bits_fill n cs rest (omega arith) h.1 in
-    (x.0 ∷ xs.0, ap (λ (o : Option (Bool × List ℕ)). o >>= λ x. many bit_at n x.1 >>= λ xs. Some (x.0 ∷ xs.0, xs.1)) x.1
-    ∙ ap (λ (o : Option (List Bool × List ℕ)). o >>= λ xs. Some (x.0 ∷ xs.0, xs.1)) xs.1)
+    let xs = bits_fill n cs rest (omega arith) h.1 in (
+      x.0 ∷ xs.0,
+      ap (λ (o : Option (Bool × List ℕ)). o >>= λ x. many bit_at n x.1 >>= λ xs. Some (x.0 ∷ xs.0, xs.1)) x.1
+          ∙ ap (λ (o : Option (List Bool × List ℕ)). o >>= λ xs. Some (x.0 ∷ xs.0, xs.1)) xs.1,
+    )
 
 bit_read : (c : ℕ) (cs : List ℕ) (y : Bool × List ℕ) → bit_at (c ∷ cs) ≡ Some y → (is_bit c ≡ true) × (y.1 ≡ cs)
     × ((z : List ℕ) → bit_at (c ∷ z) ≡ Some (y.0, z))
@@ -319,9 +324,11 @@ bytes_fill (suc n) (c ∷ d ∷ cs) rest size all =
     let h = both_true (is_hex c) (is_hex d && are_all is_hex cs) all in
     let k = both_true (is_hex d) (are_all is_hex cs) h.1 in
     let x = byte_one c d (cs ++ rest) h.0 k.0 in
-    let xs = bytes_fill n cs rest (omega arith) k.1 in
-    (x.0 ∷ xs.0, ap (λ (o : Option (ℕ × List ℕ)). o >>= λ x. many byte_at n x.1 >>= λ xs. Some (x.0 ∷ xs.0, xs.1)) x.1
-    ∙ ap (λ (o : Option (List ℕ × List ℕ)). o >>= λ xs. Some (x.0 ∷ xs.0, xs.1)) xs.1)
+    let xs = bytes_fill n cs rest (omega arith) k.1 in (
+      x.0 ∷ xs.0,
+      ap (λ (o : Option (ℕ × List ℕ)). o >>= λ x. many byte_at n x.1 >>= λ xs. Some (x.0 ∷ xs.0, xs.1)) x.1
+          ∙ ap (λ (o : Option (List ℕ × List ℕ)). o >>= λ xs. Some (x.0 ∷ xs.0, xs.1)) xs.1,
+    )
 
 pub bytes_in : (n : ℕ) (ds z : List ℕ) (xs : List ℕ) (rest : List ℕ) → many byte_at n (ds ++ z) ≡ Some (xs, rest)
     → length ds ≤ 2 * n → are_all is_hex ds ≡ true

@@ -10,7 +10,9 @@ ghost use Rattle.capn_text.specs.declared.heads.Name.TheVariants as names;
 
 use crate::fault::Stop;
 use crate::heads::Leaf;
-use crate::tokens::{are_bits, are_hex, bit_at, byte_at, indent_at, number_line_at, pass, stop_in, word_line_at};
+use crate::tokens::{
+    are_bits, are_hex, bit_at, byte_at, indent_at, number_line_at, pass, stop_in, word_line_at,
+};
 use capn_value::{Items, Value};
 use std::alloc::Allocator;
 

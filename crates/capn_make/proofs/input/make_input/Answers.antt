@@ -73,12 +73,16 @@ returns-in-Some-2 g c =
     c.in_ok-count.count c.in_ok-count.ensures in
     let found = rw c.in-Some-2.is at c.in_ok-fault.ensures.found in
     let told = found r.bytes r.made_so_far in
-    let made = told [] in
-    (r.bytes, r.read, r.time, (
-      c.end.ensures r.bytes (subst (λ t. IsMadeSo c.args.form t c.find_refusal.new.self.made.items (Err c.in-Some-2.fault)) (append-nil r.bytes) made),
-      inr (λ more. c.end.ensures (r.bytes ++ more) (told more)),
-      r.fine,
-    ))
+    let made = told [] in (
+      r.bytes,
+      r.read,
+      r.time,
+      (
+        c.end.ensures r.bytes (subst (λ t. IsMadeSo c.args.form t c.find_refusal.new.self.made.items (Err c.in-Some-2.fault)) (append-nil r.bytes) made),
+        inr (λ more. c.end.ensures (r.bytes ++ more) (told more)),
+        r.fine,
+      ),
+    )
 
 pub chunks-preserved-then-tested-len : goal.chunks-preserved-then-tested-len
 chunks-preserved-then-tested-len g c =

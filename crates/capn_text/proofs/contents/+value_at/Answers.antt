@@ -3,7 +3,7 @@ use Rattle.std.proofs.lemmas.Result.{err_from_is_err_and}
 use Rattle.std.proofs.lemmas.List.{map_push}
 use Rattle.capn_value.specs.TreeOf.{tree_of, body_of}
 use Rattle.capn_text.specs.inner.Tokens.{many}
-use Rattle.capn_text.specs.inner.Values.{head_at, tree_at, row_at}
+use Rattle.capn_text.specs.inner.Values.{tree_at, row_at}
 use Rattle.capn_text.specs.declared.heads.Head.TheVariants as heads
 use Rattle.capn_text.proofs.Loops.{goes_on, is_done}
 use Rattle.capn_text.proofs.StopLaws.{passes_on, one_fails}

@@ -1,4 +1,4 @@
-use Rattle.std.proofs.Common.{◌≡◌, ◌∙◌, sym, refl, arith}
+use Rattle.std.proofs.Common.{sym, refl, arith}
 use Rattle.capn_text.specs.inner.Tokens.{indent_at, bit_at, is_bit}
 use Rattle.capn_text.proofs.LineStops.{bits_full}
 use Rattle.capn_text.proofs.StopLaws.{idle_none}

@@ -1,4 +1,4 @@
-use Rattle.std.proofs.Common.{◌≡◌, ◌∙◌, sym, refl, arith}
+use Rattle.std.proofs.Common.{sym, refl, arith}
 use Rattle.capn_text.specs.inner.Tokens.{indent_at, byte_at, is_hex}
 use Rattle.capn_text.proofs.LineStops.{bytes_full}
 use Rattle.capn_text.proofs.StopLaws.{idle_none}
