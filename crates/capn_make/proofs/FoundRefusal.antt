@@ -133,10 +133,16 @@ module _ (vs : List Tree) (all : AllByRecursion IsMakeable vs) (v : Tree) (shows
         (misfits m 1 is))),
     λ n same. cc,
   )
-  decided_by forms.Stream one None is (Some index) e =
-      (Err (faults.Capability (line_after vs) index), (vs, rest, begins_so, has_cap index (line_after vs) is e), λ n same. cc)
-  decided_by forms.Packed one None is (Some index) e =
-      (Err (faults.Capability (line_after vs) index), (vs, rest, begins_so, has_cap index (line_after vs) is e), λ n same. cc)
+  decided_by forms.Stream one None is (Some index) e = (
+    Err (faults.Capability (line_after vs) index),
+    (vs, rest, begins_so, has_cap index (line_after vs) is e),
+    λ n same. cc,
+  )
+  decided_by forms.Packed one None is (Some index) e = (
+    Err (faults.Capability (line_after vs) index),
+    (vs, rest, begins_so, has_cap index (line_after vs) is e),
+    λ n same. cc,
+  )
   decided_by forms.Bare one None is (Some index) e = (
     Err (faults.Capability 1 index),
     inr (inl (subst (λ us. IsTextRefused 1 (stream_text us ++ rest) (faults.Capability 1 index)) (sym (one refl))
@@ -145,12 +151,24 @@ module _ (vs : List Tree) (all : AllByRecursion IsMakeable vs) (v : Tree) (shows
   )
   decided_by forms.Stream one None is None e = (
     Ok tt,
-    (vs ++ v ∷ [], [], first_more vs v longer rest [] begins_so (record { fits = is; in_range = range; free = e }) refl, refl),
+    (
+      vs ++ v ∷ [],
+      [],
+      first_more vs v longer rest [] begins_so (record { fits = is; in_range = range; free = e })
+          refl,
+      refl,
+    ),
     λ n same. cc,
   )
   decided_by forms.Packed one None is None e = (
     Ok tt,
-    (vs ++ v ∷ [], [], first_more vs v longer rest [] begins_so (record { fits = is; in_range = range; free = e }) refl, refl),
+    (
+      vs ++ v ∷ [],
+      [],
+      first_more vs v longer rest [] begins_so (record { fits = is; in_range = range; free = e })
+          refl,
+      refl,
+    ),
     λ n same. cc,
   )
   decided_by forms.Bare one None is None e = (
@@ -282,7 +300,8 @@ module _ (one : OneEnding) (form : Form) where
         | inr (inl (n, index, is), so) ↦ (λ more. made_stays stays form input made more fault
             (subst (IsWhole input) (sym is) tt) so)
         | inr (inr m, so) ↦ (λ more. made_stays stays form input made more fault
-            (whole_to m.values input place.rest fault m.first (subst (λ n. IsWholeFrom n place.rest fault) m.line whole))
+            (whole_to m.values input place.rest fault m.first
+            (subst (λ n. IsWholeFrom n place.rest fault) m.line whole))
             so)
       ]
 

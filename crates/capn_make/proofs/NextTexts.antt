@@ -1,6 +1,7 @@
 -- The texts of an input, made one after the other: before the first, one more, and how that ends.
 use Rattle.std.specs.Prelude.{IfErr}
-use Rattle.std.proofs.Common.{◌≡◌, ◌≢◌, ◌⊎◌, Bool, true, false, inl, inr, ℕ, ◌+◌, ◌≤◌, List, [], ◌∷◌, ◌++◌, length, drop}
+use Rattle.std.proofs.Common.{◌≡◌, ◌≢◌, ◌⊎◌, Bool, true, false, inl, inr}
+use Rattle.std.proofs.Common.{ℕ, ◌+◌, ◌≤◌, List, [], ◌∷◌, ◌++◌, length, drop}
 use Rattle.std.proofs.Common.{Some, Result, Ok, Err, refl, sym, ap, ap₂, subst, ◌∙◌, append_assoc, arith, Vec}
 use Rattle.std.proofs.lemmas.List.{length-append}
 use Rattle.capn_value.specs.Tree.{Tree}
@@ -18,7 +19,8 @@ use Rattle.capn_text.specs.declared.fault.TextFault.TheVariants as texts
 use Rattle.capn_canon.specs.declared.form.Form.{Form}
 use Rattle.capn_canon.specs.declared.form.Form.TheVariants as forms
 use Rattle.capn_make.specs.MadeInput.{IsTextRefused, IsWrong, MakesEach}
-use Rattle.capn_make.specs.inner.RunParts.{HasMade, IsMadeSo, GoesOn, IsAfter, MakesNext, HasCapability, TellsCut, TellsEnd, is_cut}
+use Rattle.capn_make.specs.inner.RunParts.{HasMade, IsMadeSo, GoesOn, IsAfter}
+use Rattle.capn_make.specs.inner.RunParts.{MakesNext, HasCapability, TellsCut, TellsEnd, is_cut}
 use Rattle.capn_make.specs.inner.RunParts.{unread}
 use Rattle.capn_make.specs.declared.fault.MakeFault.{MakeFault}
 use Rattle.capn_make.specs.declared.fault.MakeFault.TheVariants as faults

@@ -118,7 +118,10 @@ encode_length (b ∷ bs) =
     omega arith
 
 hex16_length : (w : ℕ) → length (hex16 w) ≡ 16
-hex16_length w = let a = encode_length (to_be_bytes w64 w) in let b : length (to_be_bytes w64 w) ≡ 8 = refl in omega arith
+hex16_length w =
+    let a = encode_length (to_be_bytes w64 w) in
+    let b : length (to_be_bytes w64 w) ≡ 8 = refl in
+    omega arith
 
 module _ (level : ℕ) (low : level ≤ 600) where
   pub head_stop : (t : List ℕ) → head_at level t ≡ None → LineFails (stop_in t) (head_at level) t

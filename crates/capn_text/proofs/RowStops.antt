@@ -92,7 +92,8 @@ nibble_is c n e = nibble_is_by (nat_le 48 c && nat_le c 57) (nat_le 97 c && nat_
 
 pair_of : (p q : Option ℕ) (rest : List ℕ) (a b : ℕ) → p ≡ Some a → q ≡ Some b
     → pair_from p q rest ≡ Some (a * 16 + b, rest)
-pair_of p q rest a b e f = ap (λ (p : Option ℕ). pair_from p q rest) e ∙ ap (λ (q : Option ℕ). pair_from (Some a) q rest) f
+pair_of p q rest a b e f =
+    ap (λ (p : Option ℕ). pair_from p q rest) e ∙ ap (λ (q : Option ℕ). pair_from (Some a) q rest) f
 
 byte_one : (c d : ℕ) (rest : List ℕ) → is_hex c ≡ true → is_hex d ≡ true
     → (x : ℕ) × (byte_at (c ∷ d ∷ rest) ≡ Some (x, rest))
@@ -283,7 +284,8 @@ unfolding many
 bits_in n [] z xs rest e low = refl
 bits_in zero (c ∷ cs) z xs rest e low = absurd (omega arith)
 bits_in (suc n) (c ∷ cs) z xs rest e low =
-    let a = bind_some (bit_at (c ∷ (cs ++ z))) (λ x. many bit_at n x.1 >>= λ ys. Some (x.0 ∷ ys.0, ys.1)) (xs, rest) e in
+    let a = bind_some (bit_at (c ∷ (cs ++ z))) (λ x. many bit_at n x.1 >>= λ ys. Some (x.0 ∷ ys.0, ys.1))
+    (xs, rest) e in
     let b = bind_some (many bit_at n a.0.1) (λ ys. Some (a.0.0 ∷ ys.0, ys.1)) (xs, rest) a.2 in
     let r = bit_read c (cs ++ z) a.0 a.1 in
     are_both (is_bit c) (are_all is_bit cs) r.0
@@ -294,11 +296,16 @@ pub bits_all : (n : ℕ) (ds z : List ℕ) (xs : List Bool) (rest : List ℕ) �
     → (u : List ℕ) × (many bit_at n ds ≡ Some (xs, u)) × (rest ≡ u ++ z) × (1 * n < length ds → 0 < length u)
 unfolding many
 bits_all zero ds z xs rest e low =
-    let p = some_is ([], ds ++ z) (xs, rest) e in
-    (ds, ap (λ (y : List Bool × List ℕ). Some (y.0, ds)) p, sym (ap (λ (y : List Bool × List ℕ). y.1) p), λ h. omega arith)
+    let p = some_is ([], ds ++ z) (xs, rest) e in (
+      ds,
+      ap (λ (y : List Bool × List ℕ). Some (y.0, ds)) p,
+      sym (ap (λ (y : List Bool × List ℕ). y.1) p),
+      λ h. omega arith,
+    )
 bits_all (suc n) [] z xs rest e low = absurd (omega arith)
 bits_all (suc n) (c ∷ cs) z xs rest e low =
-    let a = bind_some (bit_at (c ∷ (cs ++ z))) (λ x. many bit_at n x.1 >>= λ ys. Some (x.0 ∷ ys.0, ys.1)) (xs, rest) e in
+    let a = bind_some (bit_at (c ∷ (cs ++ z))) (λ x. many bit_at n x.1 >>= λ ys. Some (x.0 ∷ ys.0, ys.1))
+    (xs, rest) e in
     let b = bind_some (many bit_at n a.0.1) (λ ys. Some (a.0.0 ∷ ys.0, ys.1)) (xs, rest) a.2 in
     let r = bit_read c (cs ++ z) a.0 a.1 in
     let more = bits_all n cs z b.0.0 b.0.1 (ap (many bit_at n) (sym r.1) ∙ b.1) (omega arith) in

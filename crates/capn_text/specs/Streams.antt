@@ -1,5 +1,6 @@
 -- Texts in a row, each followed by the line `end`, as a stream of messages is shown. (Own.)
-use Rattle.std.specs.Prelude.{ℕ, zero, suc, ◌≡◌, ◌≢◌, ◌⊎◌, ◌≤◌, ◌<◌, ◌+◌, List, [], ◌∷◌, ◌++◌, codes, cond, ◌==◌, length}
+use Rattle.std.specs.Prelude.{ℕ, zero, suc, ◌≡◌, ◌≢◌, ◌⊎◌, ◌≤◌, ◌<◌}
+use Rattle.std.specs.Prelude.{◌+◌, List, [], ◌∷◌, ◌++◌, codes, cond, ◌==◌, length}
 use Rattle.capn_value.specs.Tree.{Tree}
 use Rattle.capn_value.specs.InRange.{InRange}
 use Rattle.capn_value.specs.Cost.{height, most_height}

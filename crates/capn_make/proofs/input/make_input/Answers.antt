@@ -78,7 +78,8 @@ returns-in-Some-2 g c =
       r.read,
       r.time,
       (
-        c.end.ensures r.bytes (subst (λ t. IsMadeSo c.args.form t c.find_refusal.new.self.made.items (Err c.in-Some-2.fault)) (append-nil r.bytes) made),
+        c.end.ensures r.bytes (subst (λ t. IsMadeSo c.args.form t c.find_refusal.new.self.made.items
+            (Err c.in-Some-2.fault)) (append-nil r.bytes) made),
         inr (λ more. c.end.ensures (r.bytes ++ more) (told more)),
         r.fine,
       ),

@@ -109,7 +109,8 @@ returns-in-Err-Cut-clause-first g c n same =
     let stop = rw c.in-Err-Cut.field-0-is at c.in-Err-Cut.ensures in
     let t = c.args.text.now in
     subst (λ m. IsFirstWrong show_text m t)
-    (ap (λ m. m + 1) (sym c.lines_before-in-Err-Cut.ensures.exact) ∙ cut_named (c.lines_before-in-Err-Cut.result + 1) n same)
+    (ap (λ m. m + 1) (sym c.lines_before-in-Err-Cut.ensures.exact)
+    ∙ cut_named (c.lines_before-in-Err-Cut.result + 1) n same)
     (first_wrong show_text [] (λ w. sym (append-nil (show_text w))) t c.in-Err-Cut.left stop.0)
 
 pub returns-in-Err-Cut-clause-first_ended : goal.returns-in-Err-Cut-clause-first_ended
@@ -117,7 +118,8 @@ returns-in-Err-Cut-clause-first_ended g c n same =
     let stop = rw c.in-Err-Cut.field-0-is at c.in-Err-Cut.ensures in
     let t = c.args.text.now in
     subst (λ m. IsFirstWrong ended_text m t)
-    (ap (λ m. m + 1) (sym c.lines_before-in-Err-Cut.ensures.exact) ∙ cut_named (c.lines_before-in-Err-Cut.result + 1) n same)
+    (ap (λ m. m + 1) (sym c.lines_before-in-Err-Cut.ensures.exact)
+    ∙ cut_named (c.lines_before-in-Err-Cut.result + 1) n same)
     (first_wrong ended_text end_line (λ w. refl) t c.in-Err-Cut.left stop.0)
 
 pub returns-in-Err-Left-clause-lost : goal.returns-in-Err-Left-clause-lost
