@@ -1,16 +1,31 @@
 -- The texts of an input, made one after the other: before the first, one more, and how that ends.
-use Rattle.std.proofs.Common.{◌≡◌, ◌≢◌, inl, inr, ℕ, ◌+◌, ◌≤◌, List, [], ◌∷◌, ◌++◌, length, drop}
+use Rattle.std.specs.Prelude.{IfErr}
+use Rattle.std.proofs.Common.{◌≡◌, ◌≢◌, ◌⊎◌, Bool, true, false, inl, inr}
+use Rattle.std.proofs.Common.{ℕ, ◌+◌, ◌≤◌, List, [], ◌∷◌, ◌++◌, length, drop}
 use Rattle.std.proofs.Common.{Some, Result, Ok, Err, refl, sym, ap, ap₂, subst, ◌∙◌, append_assoc, arith, Vec}
 use Rattle.std.proofs.lemmas.List.{length-append}
 use Rattle.capn_value.specs.Tree.{Tree}
 use Rattle.capn_value.specs.Text.{show_text}
-use Rattle.capn_text.specs.Streams.{Place, end_line, ended_lines, stream_text}
+use Rattle.capn_value.specs.Cost.{height, most_height}
+use Rattle.capn_value.specs.Fits.{misfit}
+use Rattle.capn_value.specs.InRange.{InRange}
+use Rattle.capn_value.specs.declared.misfit.Misfit.{Misfit}
+use Rattle.capn_value.specs.declared.misfit.Misfit.TheVariants.{Tall}
+use Rattle.capn_text.specs.Showable.{IsShowable}
+use Rattle.capn_text.specs.Streams.{Place, end_line, ended_lines, ended_text, stream_text, IsFirstWrong, GoesTooDeep}
+use Rattle.capn_text.specs.Streams.{IsWrongAt, Names}
+use Rattle.capn_text.specs.declared.fault.TextFault.{TextFault}
+use Rattle.capn_text.specs.declared.fault.TextFault.TheVariants as texts
 use Rattle.capn_canon.specs.declared.form.Form.{Form}
 use Rattle.capn_canon.specs.declared.form.Form.TheVariants as forms
-use Rattle.capn_make.specs.MadeInput.{IsTextRefused, MakesEach}
-use Rattle.capn_make.specs.inner.RunParts.{HasMade, IsMadeSo, GoesOn, IsAfter, MakesNext}
+use Rattle.capn_make.specs.MadeInput.{IsTextRefused, IsWrong, MakesEach}
+use Rattle.capn_make.specs.inner.RunParts.{HasMade, IsMadeSo, GoesOn, IsAfter}
+use Rattle.capn_make.specs.inner.RunParts.{MakesNext, HasCapability, TellsCut, TellsEnd, is_cut}
+use Rattle.capn_make.specs.inner.RunParts.{unread}
 use Rattle.capn_make.specs.declared.fault.MakeFault.{MakeFault}
+use Rattle.capn_make.specs.declared.fault.MakeFault.TheVariants as faults
 use Rattle.capn_make.proofs.FirstTexts.{lines_append, first_more, made_more}
+use Rattle.capn_make.proofs.OneRefusal.{nil_front}
 
 -- ---- places
 
@@ -126,3 +141,57 @@ module _ (form : Form) (input : List ℕ) where
       subst (λ n. IsTextRefused n old.rest fault) h.line refused,
     ),
   )
+
+-- ---- why the next text is refused
+
+pub wrong_on : (line : ℕ) (rest more : List ℕ) (n : ℕ) → rest ≢ [] → IsWrongAt line (rest ++ more) n
+    → IsWrong line (rest ++ more) n
+wrong_on line rest more n some h =
+    record { some = λ e. some (nil_front rest more (sym e)); none = h.0; first = (h.1, h.2, h.3) }
+
+-- by the fault of reading it
+pub refused_text : (line : ℕ) (rest : List ℕ) (e : TextFault) → rest ≢ []
+    → ((n : ℕ) → Names e n → (v : Tree) (more : List ℕ) → IsShowable v → height v ≤ most_height
+    → rest ≢ show_text v ++ (end_line ++ more))
+    → ((n : ℕ) → Names e n → (k : ℕ) × (n + 1 ≡ line + k) × IsFirstWrong ended_text k rest)
+    → ((m : Misfit) → e ≡ texts.Misfit m → ((m ≡ Tall) × GoesTooDeep rest) ⊎ ((v : Tree) × (more : List ℕ)
+    × InRange v × IsShowable v × (height v ≤ most_height) × (rest ≡ show_text v ++ (end_line ++ more))
+    × (misfit v ≡ Some m)))
+    → (unread line e ≡ faults.Memory) ⊎ IsTextRefused line rest (unread line e)
+refused_text line rest texts.Memory some none first mis = inl refl
+refused_text line rest (texts.Line n) some none first mis =
+    inr (record { some = some; none = none n (inl refl); first = first n (inl refl) })
+refused_text line rest (texts.Cut n) some none first mis =
+    inr (record { some = some; none = none n (inr refl); first = first n (inr refl) })
+refused_text line rest (texts.Misfit m) some none first mis = inr (refl, mis m refl)
+
+-- a line of that fault
+pub named_line : (line : ℕ) (e : TextFault) (n : ℕ) → unread line e ≡ faults.NotText n
+    → (is_cut e ≡ true → e ≡ texts.Cut n) × (is_cut e ≡ false → e ≡ texts.Line n)
+named_line line texts.Memory n is = absurd cc
+named_line line (texts.Line k) n is = (λ b. absurd cc, λ b. cc)
+named_line line (texts.Cut k) n is = (λ b. cc, λ b. absurd cc)
+named_line line (texts.Misfit m) n is = absurd cc
+
+pub refused_next : (old new : Place) (fault : MakeFault) → new ≡ old
+    → (fault ≡ faults.Memory) ⊎ IsTextRefused old.line old.rest fault
+    → (fault ≡ faults.Memory) ⊎ ((HasCapability fault ⊎ (new ≡ old)) × IsTextRefused old.line old.rest fault)
+refused_next old new fault kept (inl memory) = inl memory
+refused_next old new fault kept (inr refused) = inr (inr kept, refused)
+
+-- after a wrong line the place is the same
+pub kept_for : (A : Type 0) (form : Form) (old new : Place) (fault : MakeFault) (n : ℕ)
+    → MakesNext {A = A} form old new (Err fault) → fault ≡ faults.NotText n → new ≡ old
+kept_for A form old new fault n (inl memory) is = let same = sym memory ∙ is in absurd cc
+kept_for A form old new fault n (inr (inl c, refused)) is = let same = sym c.2 ∙ is in absurd cc
+kept_for A form old new fault n (inr (inr same, refused)) is = same
+
+-- what follows the one text, told as of a place
+pub end_tells : (place : Place) (cut : Bool) (r : Result (Unit {0}) MakeFault) → (place.line ≡ 1 → ⊥)
+    → IfErr r (λ e. TellsEnd place cut e) → IfErr r (λ e. TellsCut forms.Bare place cut e)
+end_tells place cut (Ok u) later h = tt
+end_tells place cut (Err e) later h =
+    λ n is. (λ b. inr (refl, later, (h n is).0 b), λ b. inr (refl, later, (h n is).1 b))
+
+pub not_text_is : (m n : ℕ) → faults.NotText m ≡ faults.NotText n → m ≡ n
+not_text_is m n e = cc

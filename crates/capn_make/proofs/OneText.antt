@@ -23,12 +23,12 @@ line_more v vs =
     omega arith
 
 -- at the first line no text is made
-none_at : (vs : List Tree) (line : ℕ) → line ≡ line_after vs → line ≡ 1 → vs ≡ []
+pub none_at : (vs : List Tree) (line : ℕ) → line ≡ line_after vs → line ≡ 1 → vs ≡ []
 none_at [] line is first = refl
 none_at (v ∷ vs) line is first = let more = line_more v vs in absurd (omega arith)
 
 -- after it one is
-one_at : (vs : List Tree) (line : ℕ) → line ≡ line_after vs → (line ≡ 1 → ⊥) → length vs ≤ 1
+pub one_at : (vs : List Tree) (line : ℕ) → line ≡ line_after vs → (line ≡ 1 → ⊥) → length vs ≤ 1
     → (v : Tree) × (vs ≡ v ∷ [])
 one_at [] line is later few = absurd (later is)
 one_at (v ∷ []) line is later few = (v, refl)
@@ -50,7 +50,7 @@ module _ (input : List ℕ) (place : Place) (made : List ℕ) (h : HasMade forms
   none_yet first = none_at h.values place.line h.line first
 
   -- before the first text, that is all of the input
-  whole_input : h.values ≡ [] → input ≡ place.rest
+  pub whole_input : h.values ≡ [] → input ≡ place.rest
   whole_input none = h.first.are ∙ ap (λ vs. stream_text vs ++ place.rest) none
 
   -- there is no text
@@ -89,7 +89,7 @@ module _ (input : List ℕ) (place : Place) (made : List ℕ) (h : HasMade forms
       inr (inr h, inr (inr (one.0, place.rest, first, subst (λ n. Follows n place.rest fault) line follows)))
 
 -- after a text the line is not the first
-later_line : (v : Tree) (old new : Place) → old.rest ≡ show_text v ++ (end_line ++ new.rest)
+pub later_line : (v : Tree) (old new : Place) → old.rest ≡ show_text v ++ (end_line ++ new.rest)
     → new.line + ended_lines new.rest ≡ old.line + ended_lines old.rest → old.line ≡ 1 → new.line ≡ 1 → ⊥
 later_line v old new is counted first again =
     let a = ap ended_lines is ∙ lines_append (show_text v) (end_line ++ new.rest) in

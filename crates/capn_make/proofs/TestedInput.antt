@@ -1,5 +1,5 @@
 -- An input that is made, and tested, as it grows.
-use Rattle.std.proofs.Common.{◌≡◌, ◌≢◌, inl, inr, ℕ, ◌*◌, ◌≤◌, List, [], ◌++◌, length, take, drop, Bool, false}
+use Rattle.std.proofs.Common.{◌≡◌, ◌≢◌, inl, inr, ℕ, ◌+◌, ◌*◌, ◌≤◌, List, [], ◌++◌, length, take, drop, Bool, false}
 use Rattle.std.proofs.Common.{Option, Ok, Err, refl, sym, ap, subst, ◌∙◌, append_assoc, arith}
 use Rattle.std.proofs.lemmas.Bool.{cases_lt}
 use Rattle.std.proofs.lemmas.List.{append-nil, length-append, take-append-drop, take-append-le}
@@ -8,10 +8,11 @@ use Rattle.std.proofs.KnownBytes.{Consumes-trans}
 use Rattle.capn_text.specs.Streams.{Place, stream_text}
 use Rattle.capn_canon.specs.declared.form.Form.{Form}
 use Rattle.capn_canon.specs.declared.form.Form.TheVariants as forms
-use Rattle.capn_make.specs.Endings.{IsWhole, IsRefusedForGood}
-use Rattle.capn_make.specs.MakeRun.{AreInTime}
+use Rattle.capn_text.specs.Streams.{few}
+use Rattle.capn_make.specs.Endings.{IsWhole, IsRefusedForGood, IsLostForGood}
 use Rattle.capn_make.specs.Laws.{RefusalStays, OneEnding}
-use Rattle.capn_make.specs.inner.RunParts.{HasMade, HasTested, HasNotRead, ReadsChunk}
+use Rattle.capn_make.specs.MakeRun.{AreInTime}
+use Rattle.capn_make.specs.inner.RunParts.{HasMade, HasTested, HasNotRead, IsNotYet, ReadsChunk}
 use Rattle.capn_make.specs.declared.fault.MakeFault.{MakeFault}
 use Rattle.capn_make.specs.declared.fault.MakeFault.TheVariants as faults
 use Rattle.capn_make.proofs.NextTexts.{none_left}
@@ -29,10 +30,19 @@ nothing_refused one forms.Bare h =
     subst (λ f. IsWhole [] f) (sym same) h.2
 
 pub none_tested : OneEnding → (form : Form) → HasTested form 0 [] []
-none_tested one form = record { front = []; more = []; are = refl; size = refl; not_yet = nothing_refused one form }
+none_tested one form = record {
+  front = [];
+  more = [];
+  are = refl;
+  size = refl;
+  not_yet = (
+    nothing_refused one form,
+    λ n far good. let none : length {A = ℕ} [] ≡ 0 = refl in absurd (omega arith),
+  );
+}
 
 -- all was tested that is there
-pub all_tested : (form : Form) (input rest : List ℕ) → (IsRefusedForGood form input → ⊥)
+pub all_tested : (form : Form) (input rest : List ℕ) → IsNotYet form input
     → HasTested form (length rest) input rest
 all_tested form input rest not_yet = record {
   front = input;
@@ -109,18 +119,25 @@ module _ (stays : RefusalStays) (form : Form) (tested : ℕ) (a b c : Option (Li
   -- What is left is not much more than was tested of it. So all that was read is no more than in time, with the bytes
   -- of one more call.
   in_time : (more : List ℕ) → length more ≤ 65536 → AreInTime form (input ++ more)
-  in_time more few n good = elim (cases_lt n (length h.front)) [
-    | inl less ↦
-        (let cut = ap (λ t. t ++ more) h.are ∙ append_assoc h.front h.more more in
-        let same = ap (take n) cut ∙ take-append-le n h.front (h.more ++ more) (omega arith) in
-        let all = stays form (take n h.front) (drop n h.front) (subst (IsRefusedForGood form) same good) in
-        absurd (h.not_yet (subst (IsRefusedForGood form) (take-append-drop n h.front) all)))
-    | inr further ↦
-        (let size = h.size in
-        let all = length-append input more in
-        let within = left_within form input made (record { rest = rest; line = line }) m in
-        omega arith)
-  ]
+  in_time more small n =
+      let cut = ap (λ t. t ++ more) h.are ∙ append_assoc h.front h.more more in
+      let size = h.size in
+      let all = length-append input more in
+      let within = left_within form input made (record { rest = rest; line = line }) m in (
+        λ good. elim (cases_lt n (length h.front)) [
+          | inl less ↦
+              (let same = ap (take n) cut ∙ take-append-le n h.front (h.more ++ more) (omega arith) in
+              let all = stays form (take n h.front) (drop n h.front) (subst (IsRefusedForGood form) same good) in
+              absurd (h.not_yet.0 (subst (IsRefusedForGood form) (take-append-drop n h.front) all)))
+          | inr further ↦ omega arith
+        ],
+        λ lost. elim (cases_lt (length h.front) (n + few)) [
+          | inl further ↦ omega arith
+          | inr far ↦
+              (let same = ap (take n) cut ∙ take-append-le n h.front (h.more ++ more) (omega arith) in
+              absurd (h.not_yet.1 n (omega arith) (subst (IsLostForGood form) same lost)))
+        ],
+      )
 
   -- the reader failed, or memory was refused
   pub failed_at : (fault : MakeFault) → ReadsChunk b c failed rest new (Err fault)

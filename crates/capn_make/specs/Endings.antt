@@ -1,5 +1,5 @@
 -- How an input of texts ends, and when it is refused whatever follows it. (Own.)
-use Rattle.std.specs.Prelude.{◌≤◌, ℕ, ⊤, List, [], ◌∷◌, Result, Ok, Err}
+use Rattle.std.specs.Prelude.{◌≤◌, ℕ, ⊤, List, [], ◌∷◌, ◌++◌, Result, Ok, Err}
 use Rattle.capn_value.specs.Tree.{Tree}
 use Rattle.capn_text.specs.Streams.{ended_lines}
 use Rattle.capn_canon.specs.declared.form.Form.{Form}
@@ -36,3 +36,7 @@ IsWhole input faults.NoText = ⊥
 -- an input is refused by what is complete in it, and so whatever follows it
 abbrev pub IsRefusedForGood : Form → List ℕ → Type 0
 IsRefusedForGood form input = (fault : MakeFault) × Ends form input (Err fault) × IsWhole input fault
+
+-- whatever follows an input, it ends with one fault
+abbrev pub IsLostForGood : Form → List ℕ → Type 0
+IsLostForGood form input = (fault : MakeFault) × ((more : List ℕ) → Ends form (input ++ more) (Err fault))

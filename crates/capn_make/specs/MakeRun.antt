@@ -4,12 +4,13 @@ use Rattle.std.specs.Prelude.{IfSome, Result, Ok, Err}
 use Rattle.std.specs.Io.KnownBytes.{Appends, Consumes}
 use Rattle.capn_words.specs.Watched.{HasBegun}
 use Rattle.capn_value.specs.Tree.{Tree}
+use Rattle.capn_text.specs.Streams.{few}
 use Rattle.capn_canon.specs.Layout.{canon}
 use Rattle.capn_canon.specs.declared.form.Form.{Form}
 use Rattle.capn_canon.specs.declared.form.Form.TheVariants as forms
 use Rattle.capn_make.specs.WrittenValue.{AreMade}
 use Rattle.capn_make.specs.MadeInput.{AreFirst, Makes}
-use Rattle.capn_make.specs.Endings.{IsRefusedForGood}
+use Rattle.capn_make.specs.Endings.{IsRefusedForGood, IsLostForGood}
 use Rattle.capn_make.specs.declared.fault.MakeFault.{MakeFault}
 use Rattle.capn_make.specs.declared.fault.MakeFault.TheVariants as faults
 
@@ -47,9 +48,12 @@ pub record Made (form : Form) (a b c d : Option (List ℕ)) (reader_failed write
   -- if the reader failed, nothing was written
   pub unread : reader_failed ≡ true → Appends c d []
 
--- If the first n of these bytes are refused whatever follows, there are at most four times as many and 65,536 more.
+-- If the first n of these bytes are refused whatever follows, there are at most four times as many and 65,536 more. If
+-- they end with one fault whatever follows, also by a line without its end, so many hold of 2,048 bytes more than n:
+-- only a line of digits is longer.
 abbrev pub AreInTime : Form → List ℕ → Type 0
-AreInTime form bytes = (n : ℕ) → IsRefusedForGood form (take n bytes) → length bytes ≤ 4 * n + 65536
+AreInTime form bytes = (n : ℕ) → (IsRefusedForGood form (take n bytes) → length bytes ≤ 4 * n + 65536)
+    × (IsLostForGood form (take n bytes) → length bytes ≤ 4 * (n + few) + 65536)
 
 -- the bytes that were read are no more than that
 abbrev pub StopsInTime : Form → Option (List ℕ) → Option (List ℕ) → Type 0

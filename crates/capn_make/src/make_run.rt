@@ -6,7 +6,6 @@ ghost use Rattle.capn_make.specs.MakeRun.{TakesBytes, Made, StopsInTime};
 
 use crate::fault::MakeFault;
 use crate::input::make_input;
-use crate::laws::refusing;
 use crate::output::write_all;
 use capn_canon::Form;
 use capn_words::Watched;
@@ -29,9 +28,9 @@ use std::io::{Read, Write};
 ///
 /// An input that is refused whatever follows isn't read to its end: if n bytes are enough to refuse it, by a text that
 /// is there with its line `end`, by one that goes too deep, or by a wrong line with its line end, at most
-/// 4 n + 65,536 bytes are taken. To test for that, an unfinished text is read again each time there are four times as
-/// many bytes of it. A wrong line without its line end may be the beginning of one that isn't wrong, so a single line
-/// is read however long it is.
+/// 4 n + 65,536 bytes are taken. A line is refused before its end, too, once it can't become one that may stand there:
+/// then n is counted with 2,048 bytes more, since only a line of the digits of a list is longer. To test for that, an
+/// unfinished text is read again each time there are four times as many bytes of it.
 pub fn make<R: Read, W: Write, A: Allocator + Copy>(
     alloc: A,
     form: Form,
@@ -49,7 +48,6 @@ pub fn make<R: Read, W: Write, A: Allocator + Copy>(
     ensures memory { IsErrOf result MakeFault.Memory
         → TakesBytes (R.remaining (inner_of reader.old)) (R.remaining (inner_of reader.new)) }
 {
-    refusing();
     let outcome = make_input(alloc, form, reader)?;
     write_all(writer, &outcome.text)?;
     outcome.ending

@@ -1,8 +1,8 @@
 //! The next text of an input, and what is written of its value.
 
-ghost use Rattle.std.specs.Prelude.{◌≡◌, ◌≢◌, [], None, Some, IsErrOf};
+ghost use Rattle.std.specs.Prelude.{◌≡◌, ◌≢◌, [], None, Some, IfErr, IsErrOf};
 ghost use Rattle.capn_make.specs.inner.RunParts as spec;
-ghost use Rattle.capn_make.specs.inner.RunParts.{IsAfter, MakesNext, MakesValue};
+ghost use Rattle.capn_make.specs.inner.RunParts.{IsAfter, MakesNext, MakesValue, TellsNext};
 
 use crate::fault::MakeFault;
 use crate::written_value::piece_of;
@@ -18,7 +18,18 @@ pub(crate) fn unread(line: u64, fault: TextFault) -> MakeFault
     match fault {
         TextFault::Memory => MakeFault::Memory,
         TextFault::Line(n) => MakeFault::NotText(n),
+        TextFault::Cut(n) => MakeFault::NotText(n),
         TextFault::Misfit(misfit) => MakeFault::Misfit(line, misfit),
+    }
+}
+
+/// Whether the fault of a text is that of an unfinished one, which more bytes may take away.
+fn is_cut(fault: TextFault) -> bool
+    ensures { result ≡ spec.is_cut fault }
+{
+    match fault {
+        TextFault::Cut(_) => true,
+        TextFault::Memory | TextFault::Line(_) | TextFault::Misfit(_) => false,
     }
 }
 
@@ -38,20 +49,26 @@ fn made<A: Allocator + Copy>(
     }
 }
 
-/// What is written of the value of the next text, or nothing at the end of the input.
+/// What is written of the value of the next text, or nothing at the end of the input. After a wrong line `cut` says
+/// whether more bytes may make it another.
 pub(crate) fn next_piece<A: Allocator + Copy>(
     alloc: A,
     form: Form,
     texts: &mut Texts,
+    cut: &mut bool,
 ) -> Result<Option<Vec<u8, A>>, MakeFault>
     ensures after { IsAfter texts.old texts.new }
     ensures made { MakesNext form texts.old texts.new result }
+    ensures cut { IfErr result (λ e. TellsNext texts.new cut.new e) }
     ensures memory { IsErrOf result MakeFault.Memory → texts.old.rest ≢ [] }
 {
     let line = texts.line();
     match texts.read_next(alloc) {
         Ok(Some(tree)) => Ok(Some(made(alloc, form, line, tree)?)),
         Ok(None) => Ok(None),
-        Err(fault) => Err(unread(line, fault)),
+        Err(fault) => {
+            *cut = is_cut(fault);
+            Err(unread(line, fault))
+        }
     }
 }

@@ -1,7 +1,8 @@
 //! How far an input is made that comes piece by piece.
 
-ghost use Rattle.std.specs.Prelude.{◌≡◌, ◌≢◌, ◌≤◌, ℕ, List, [], length, drop, true, false, IfOk, IsErrOf, OnErr};
-ghost use Rattle.capn_make.specs.inner.RunParts.{GoesOn, HasMade, IsMadeSo, IsWholeFrom, TellsRefusal};
+ghost use Rattle.std.specs.Prelude.{◌≡◌, ◌≢◌, ◌≤◌, ℕ, List, [], length, drop, true, false, IfOk, IfErr, IsErrOf, OnErr};
+ghost use Rattle.capn_make.specs.inner.RunParts as spec;
+ghost use Rattle.capn_make.specs.inner.RunParts.{GoesOn, HasMade, IsMadeSo, IsWholeFrom, TellsCut, TellsRefusal};
 ghost use Rattle.capn_make.specs.MadeInput.{Makes};
 
 use crate::fault::MakeFault;
@@ -39,8 +40,7 @@ fn drop_front<A: Allocator>(bytes: &mut Vec<u8, A>, count: usize)
     bytes.truncate(len - count);
 }
 
-/// Whether what a fault is about is complete in what is left, from a line on. A wrong line without its line end may be
-/// the beginning of one that isn't wrong.
+/// Whether what a fault is about is complete in what is left, from a line on.
 fn is_whole(rest: &[u8], line: u64, fault: MakeFault) -> bool
     ensures whole { result ≡ true → IsWholeFrom line rest.now fault }
     ensures cut { result ≡ false → IsWholeFrom line rest.now fault → ⊥ }
@@ -52,19 +52,37 @@ fn is_whole(rest: &[u8], line: u64, fault: MakeFault) -> bool
     }
 }
 
+/// Whether a fault is that of a wrong line that isn't cut: it is wrong whatever follows, though its end may be to come.
+fn is_lost(fault: MakeFault, cut: bool) -> bool
+    ensures { result ≡ spec.is_lost fault cut }
+{
+    match fault {
+        MakeFault::NotText(_) => !cut,
+        MakeFault::Memory
+        | MakeFault::Io
+        | MakeFault::NoText
+        | MakeFault::Misfit(_, _)
+        | MakeFault::Capability(_, _)
+        | MakeFault::Another(_) => false,
+    }
+}
+
 impl<A: Allocator + Copy> Progress<A> {
-    /// Makes the texts that are complete by now, and keeps what is left. Answers how the input ends if nothing follows.
-    fn go_on(&mut self, alloc: A, form: Form) -> Result<(), MakeFault>
+    /// Makes the texts that are complete by now, and keeps what is left. Answers how the input ends if nothing follows,
+    /// and after a wrong line, by `cut`, whether more bytes may make it another.
+    fn go_on(&mut self, alloc: A, form: Form, cut: &mut bool) -> Result<(), MakeFault>
         ensures made { (input : List ℕ)
             → HasMade form input (record { rest = self.old.rest.items; line = self.old.line }) self.old.made.items
             → GoesOn form input (record { rest = self.new.rest.items; line = self.new.line }) self.new.made.items
             result }
+        ensures cut { IfErr result (λ e. TellsCut form
+            (record { rest = self.new.rest.items; line = self.new.line }) cut.new e) }
         ensures memory { IsErrOf result MakeFault.Memory → self.old.rest.items ≢ [] }
     {
         let Some(mut texts) = Texts::from_line(&self.rest, self.line) else {
             return Err(MakeFault::Memory);
         };
-        let ending = make_texts(alloc, form, &mut texts, &mut self.made);
+        let ending = make_texts(alloc, form, &mut texts, &mut self.made, cut);
         let line = texts.line();
         let count = self.rest.len() - texts.left();
         drop_front(&mut self.rest, count);
@@ -86,12 +104,15 @@ impl<A: Allocator + Copy> Progress<A> {
         ensures memory { OnErr result (self.old.rest.items ≢ []) }
     {
         refusing();
-        match self.go_on(alloc, form) {
+        let mut cut = false;
+        match self.go_on(alloc, form, &mut cut) {
             Ok(()) => Ok(None),
             Err(fault) => match fault {
                 MakeFault::Memory => Err(AllocError),
                 other => {
                     if is_whole(&self.rest, self.line, other) {
+                        Ok(Some(other))
+                    } else if is_lost(other, cut) {
                         Ok(Some(other))
                     } else {
                         Ok(None)
@@ -120,7 +141,8 @@ impl<A: Allocator + Copy> Progress<A> {
             → Makes form input outcome.text.items outcome.ending) }
         ensures memory { OnErr result (self.rest.items ≢ []) }
     {
-        match self.go_on(alloc, form) {
+        let mut cut = false;
+        match self.go_on(alloc, form, &mut cut) {
             Ok(()) => Ok(self.end(form, Ok(()))),
             Err(fault) => match fault {
                 MakeFault::Memory => Err(AllocError),

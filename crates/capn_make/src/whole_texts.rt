@@ -1,8 +1,8 @@
 //! The texts that are complete in what is left of an input.
 
-ghost use Rattle.std.specs.Prelude.{◌≡◌, ◌≢◌, ℕ, List, [], IsErrOf};
+ghost use Rattle.std.specs.Prelude.{◌≡◌, ◌≢◌, ℕ, List, [], IfErr, IsErrOf};
 ghost use Rattle.capn_canon.specs.declared.form.Form.TheVariants as forms;
-ghost use Rattle.capn_make.specs.inner.RunParts.{EndsOne, GoesOn, HasMade, IsAfter};
+ghost use Rattle.capn_make.specs.inner.RunParts.{EndsOne, GoesOn, HasMade, IsAfter, TellsCut, TellsEnd};
 
 use crate::fault::MakeFault;
 use crate::next_text::next_piece;
@@ -16,22 +16,25 @@ fn make_each<A: Allocator + Copy>(
     form: Form,
     texts: &mut Texts,
     made: &mut Vec<u8, A>,
+    cut: &mut bool,
 ) -> Result<(), MakeFault>
     requires framed { form ≡ forms.Bare → ⊥ }
     ensures after { IsAfter texts.old texts.new }
     ensures made { (input : List ℕ) → HasMade form input texts.old made.old.items
         → GoesOn form input texts.new made.new.items result }
+    ensures cut { IfErr result (λ e. TellsCut form texts.new cut.new e) }
     ensures memory { IsErrOf result MakeFault.Memory → texts.old.rest ≢ [] }
 {
-    'texts: while let Some(piece) = next_piece(alloc, form, texts)? {
+    'texts: while let Some(piece) = next_piece(alloc, form, texts, cut)? {
         made.extend_from_slice(&piece)?;
     }
     Ok(())
 }
 
 /// Refuses what follows the one text, by its first line. What comes after that line isn't looked at.
-fn end_of_one(texts: &Texts) -> Result<(), MakeFault>
-    ensures { EndsOne texts.now result }
+fn end_of_one(texts: &Texts, cut: &mut bool) -> Result<(), MakeFault>
+    ensures end { EndsOne texts.now result }
+    ensures cut { IfErr result (λ e. TellsEnd texts.now cut.new e) }
 {
     if texts.is_done() {
         return Ok(());
@@ -39,6 +42,7 @@ fn end_of_one(texts: &Texts) -> Result<(), MakeFault>
     if texts.begins() {
         Err(MakeFault::Another(texts.line()))
     } else {
+        *cut = texts.may_begin();
         Err(MakeFault::NotText(texts.line()))
     }
 }
@@ -48,18 +52,20 @@ fn make_first<A: Allocator + Copy>(
     alloc: A,
     texts: &mut Texts,
     made: &mut Vec<u8, A>,
+    cut: &mut bool,
 ) -> Result<(), MakeFault>
     requires first { texts.old.line ≡ 1 }
     ensures after { IsAfter texts.old texts.new }
     ensures made { (input : List ℕ) → HasMade forms.Bare input texts.old made.old.items
         → GoesOn forms.Bare input texts.new made.new.items result }
+    ensures cut { IfErr result (λ e. TellsCut forms.Bare texts.new cut.new e) }
     ensures memory { IsErrOf result MakeFault.Memory → texts.old.rest ≢ [] }
 {
-    let Some(piece) = next_piece(alloc, Form::Bare, texts)? else {
+    let Some(piece) = next_piece(alloc, Form::Bare, texts, cut)? else {
         return Err(MakeFault::NoText);
     };
     made.extend_from_slice(&piece)?;
-    end_of_one(texts)
+    end_of_one(texts, cut)
 }
 
 /// Makes the one text, unless it is made already, and refuses what follows it.
@@ -67,17 +73,19 @@ fn make_one<A: Allocator + Copy>(
     alloc: A,
     texts: &mut Texts,
     made: &mut Vec<u8, A>,
+    cut: &mut bool,
 ) -> Result<(), MakeFault>
     ensures after { IsAfter texts.old texts.new }
     ensures made { (input : List ℕ) → HasMade forms.Bare input texts.old made.old.items
         → GoesOn forms.Bare input texts.new made.new.items result }
+    ensures cut { IfErr result (λ e. TellsCut forms.Bare texts.new cut.new e) }
     ensures memory { IsErrOf result MakeFault.Memory → texts.old.rest ≢ [] }
 {
     // A text has two lines or more: at the first line none is made.
     if texts.line() == 1 {
-        return make_first(alloc, texts, made);
+        return make_first(alloc, texts, made, cut);
     }
-    end_of_one(texts)
+    end_of_one(texts, cut)
 }
 
 /// Makes the next texts, as far as a form takes them, and answers how the input ends whose rest they are.
@@ -86,15 +94,17 @@ pub(crate) fn make_texts<A: Allocator + Copy>(
     form: Form,
     texts: &mut Texts,
     made: &mut Vec<u8, A>,
+    cut: &mut bool,
 ) -> Result<(), MakeFault>
     ensures after { IsAfter texts.old texts.new }
     ensures made { (input : List ℕ) → HasMade form input texts.old made.old.items
         → GoesOn form input texts.new made.new.items result }
+    ensures cut { IfErr result (λ e. TellsCut form texts.new cut.new e) }
     ensures memory { IsErrOf result MakeFault.Memory → texts.old.rest ≢ [] }
 {
     match form {
-        Form::Stream => make_each(alloc, Form::Stream, texts, made),
-        Form::Packed => make_each(alloc, Form::Packed, texts, made),
-        Form::Bare => make_one(alloc, texts, made),
+        Form::Stream => make_each(alloc, Form::Stream, texts, made, cut),
+        Form::Packed => make_each(alloc, Form::Packed, texts, made, cut),
+        Form::Bare => make_one(alloc, texts, made, cut),
     }
 }

@@ -27,7 +27,7 @@ exact_front front y lines =
     ap (λ n. first_lines n (front ++ y)) k ∙ lines 0 y ∙ append-nil front
 
 -- a value that goes on with whole lines
-completed : (room : ℕ) (front y : List ℕ) (v : Tree) → tree_at room 0 (front ++ y) ≡ Some (v, [])
+pub completed : (room : ℕ) (front y : List ℕ) (v : Tree) → tree_at room 0 (front ++ y) ≡ Some (v, [])
     → (show_text v ≡ front ++ y) × IsShowable v
 completed room front y v e =
     let p = tree_takes room 0 (front ++ y) v [] e in

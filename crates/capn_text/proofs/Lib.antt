@@ -15,9 +15,12 @@ pub mod FirstLine
 pub mod WholeLines
 pub mod LineBytes
 pub mod StopLaws
+pub mod LostLines
+pub mod RowStops
 pub mod LineStops
 pub mod TreeStops
 pub mod PartStops
 pub mod FirstWrong
 pub mod WrongOrDeep
+pub mod LostTexts
 pub mod WhateverFollows

@@ -24,7 +24,12 @@ module _ {X : Type 0} (read : List ℕ → Option (X × List ℕ)) (room : ℕ)
     (stop : (t : List ℕ) → read t ≡ None → Stops (λ r. read) room t (length t)) where
   pub line_fails : (e : Stop) (t : List ℕ) → LineFails e read t → FailsAt (λ r. read) room e t
   line_fails stops.Memory t h = tt
-  line_fails (stops.Left n) t h = subst (λ m. Stops (λ r. read) room t m) (sym h.1) (stop t h.0)
+  line_fails (stops.Left n) t h = (subst (λ m. Stops (λ r. read) room t m) (sym h.1) (stop t h.0), λ r z low. h.2 z)
+  line_fails (stops.Cut n) t h =
+      let o = h.2 in (
+        subst (λ m. Stops (λ r. read) room t m) (sym h.1) (stop t h.0),
+        (o.0, o.1, o.2, o.3, o.4, o.5, λ r low. o.6),
+      )
   line_fails stops.Deep t h = absurd h
 
 -- ---- words and numbers

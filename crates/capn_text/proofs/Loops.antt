@@ -37,6 +37,10 @@ module _ {X : Type 0} (one : List ℕ → Option (X × List ℕ)) (front : List 
       let k : count - i ≡ suc (count - (i + 1)) = omega arith in
       let next : with_front front (many one (count - i) text) ≡ None = rw (k, h) refl in
       sym so_far ∙ next
+  ends (stops.Cut n) lt h so_far =
+      let k : count - i ≡ suc (count - (i + 1)) = omega arith in
+      let next : with_front front (many one (count - i) text) ≡ None = rw (k, h) refl in
+      sym so_far ∙ next
   ends stops.Deep lt h so_far =
       let k : count - i ≡ suc (count - (i + 1)) = omega arith in
       let next : with_front front (many one (count - i) text) ≡ None = rw (k, h) refl in

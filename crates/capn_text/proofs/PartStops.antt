@@ -1,14 +1,16 @@
 -- Where the parts of a value stop, as the code reads them.
 use Rattle.std.proofs.Common.{◌≡◌, ◌+◌, ◌-◌, ◌^◌, ◌<◌, ◌≤◌, ℕ, zero, suc, List, [], ◌++◌, length, Option}
-use Rattle.std.proofs.Common.{Some, None}
+use Rattle.std.proofs.Common.{Some, None, Bool, true, false, cond, append_assoc}
+use Rattle.std.specs.Prelude.{nat_lt}
+use Rattle.std.proofs.lemmas.Bool.{ltb-true}
 use Rattle.std.proofs.Common.{map, refl, sym, ap, subst, ◌∙◌, arith}
 use Rattle.std.specs.Prelude.{Result, Ok, Err, IfErr}
 use Rattle.std.specs.Int.{from_bool}
 use Rattle.capn_value.specs.NumberWidth.{bit, byte, pair, quad, oct}
 use Rattle.capn_value.specs.Tree.{Tree, node, numbers, links, rows, Trees}
 use Rattle.capn_value.specs.TreeOf.{trees, rows_from}
-use Rattle.capn_text.specs.Streams.{first_lines, ended_lines}
-use Rattle.capn_text.specs.inner.Stops.{Stops, Deepens, FailsAt, GivesAt, LineFails}
+use Rattle.capn_text.specs.Streams.{first_lines, ended_lines, few}
+use Rattle.capn_text.specs.inner.Stops.{Stops, Deepens, FailsAt, GivesAt, IsLineLost, LineFails, stop_in}
 use Rattle.capn_text.specs.inner.Tokens.{◌>>=◌, Gives, Fails, byte_at, bit_at, many, word_line_at}
 use Rattle.capn_text.specs.inner.Tokens.{row_line_at}
 use Rattle.capn_text.specs.inner.Values.{Holds, head_at, leaf_at, body_at, row_of, row_at, content_at, low_at, tree_at}
@@ -149,10 +151,8 @@ module _ (level : ℕ) where
   from m s v h zero low = absurd (omega arith)
   from m s v h (suc r) low = h r (omega arith)
 
-  one_higher : (m : ℕ) (e : Stop) (t : List ℕ) → FailsAt headed m e t → FailsAt (tree_by level) (suc m) e t
-  unfolding tree_at
-  one_higher m stops.Memory t h = tt
-  one_higher m (stops.Left n) t h = (
+  stops_higher : (m n : ℕ) (t : List ℕ) → Stops headed m t n → Stops (tree_by level) (suc m) t n
+  stops_higher m n t h = (
     h.0,
     h.1,
     h.2,
@@ -160,6 +160,15 @@ module _ (level : ℕ) where
     (h.4.0, h.4.1, h.4.2, from m (h.0 ++ h.4.1) (Some (h.4.2, [])) h.4.3),
     λ r z low same. from m (h.0 ++ z) None (λ k least. h.5 k z least same) r low,
   )
+
+  one_higher : (m : ℕ) (e : Stop) (t : List ℕ) → FailsAt headed m e t → FailsAt (tree_by level) (suc m) e t
+  unfolding tree_at
+  one_higher m stops.Memory t h = tt
+  one_higher m (stops.Left n) t h =
+      (stops_higher m n t h.0, λ r z low. from m (t ++ z) None (λ k least. h.1 k z least) r low)
+  one_higher m (stops.Cut n) t h =
+      let o = h.1 in
+      (stops_higher m n t h.0, (o.0, o.1, o.2, o.3, o.4, o.5, from m (o.0 ++ o.4) (Some (o.5, [])) o.6))
   one_higher m stops.Deep t h =
       (h.0, h.1, h.2, (h.3.0, h.3.1, h.3.2, from (suc m) (h.0 ++ h.3.1) (Some (h.3.2, [])) h.3.3), h.4)
 
@@ -198,6 +207,42 @@ tree_line_fails room level t none =
       (are_none, w.0, w.1, λ r low. w.2 r),
       λ r z low same. no_head r level z (head_same level t z none same),
     )
+
+-- where such a line stops
+of_stop : (b : Bool) (n : ℕ) (P : Stop → Type 0) → (b ≡ true → P (stops.Cut n)) → P (stops.Left n)
+    → P (cond b (stops.Cut n) (stops.Left n))
+of_stop true n P cut left = cut refl
+of_stop false n P cut left = left
+
+-- a line that stops so is lost, or short
+short_or_lost : {X : Type 0} (read : List ℕ → Option (X × List ℕ)) (t : List ℕ) (e : Stop) → e ≡ stop_in t
+    → LineFails e read t → (P : Stop → Type 0) → (length t ≤ few → P (stops.Cut (length t)))
+    → (IsLineLost read t → P (stops.Left (length t))) → P e
+short_or_lost read t stops.Memory is h P cut left =
+    absurd (of_stop (nat_lt (length t) few) (length t) (λ s. stops.Memory ≡ s → ⊥) (λ b e. cc) (λ e. cc) is)
+short_or_lost read t (stops.Left n) is h P cut left = subst (λ m. P (stops.Left m)) (sym h.1) (left h.2)
+short_or_lost read t (stops.Cut n) is h P cut left =
+    subst (λ m. P (stops.Cut m)) (sym h.1) (cut (of_stop (nat_lt (length t) few) (length t)
+    (λ s. stops.Cut n ≡ s → length t ≤ few) (λ b e. let low = ltb-true (length t) few b in omega arith)
+    (λ e. absurd cc) is))
+short_or_lost read t stops.Deep is h P cut left = absurd h
+
+line_none : {X : Type 0} (read : List ℕ → Option (X × List ℕ)) (t : List ℕ) (e : Stop) → e ≡ stop_in t
+    → LineFails e read t → read t ≡ None
+line_none read t stops.Memory is h =
+    absurd (of_stop (nat_lt (length t) few) (length t) (λ s. stops.Memory ≡ s → ⊥) (λ b e. cc) (λ e. cc) is)
+line_none read t (stops.Left n) is h = h.0
+line_none read t (stops.Cut n) is h = h.0
+line_none read t stops.Deep is h = absurd h
+
+pub tree_line_stops : (room level : ℕ) (e : Stop) (t : List ℕ) → e ≡ stop_in t → LineFails e (head_at level) t
+    → FailsAt (tree_by level) room e t
+tree_line_stops room level e t is h =
+    let w = tree_full level in
+    let stop = tree_line_fails room level t (line_none (head_at level) t e is h) in
+    short_or_lost (head_at level) t e is h (λ s. FailsAt (tree_by level) room s t)
+    (λ short. (stop, ([], t, refl, short, w.0, w.1, λ r low. w.2 r)))
+    (λ lost. (stop, λ r z low. no_head r level (t ++ z) (lost z)))
 
 -- it goes too deep
 pub low_gives : {X : Type 0} (view : X → Tree × List ℕ) (result : Result X Stop) (room level : ℕ) (t after : List ℕ)
@@ -252,14 +297,31 @@ module _ (level : ℕ) where
   row_line_fails room t e =
       row_stops room t (λ r z same. ap (λ o. o >>= λ k. row_of (tree_at r) level k.0 k.1) (head_same level t z e same))
 
+  pub row_line_stops : (room : ℕ) (e : Stop) (t : List ℕ) → e ≡ stop_in t → LineFails e (head_at level) t
+      → FailsAt (row_by level) room e t
+  unfolding row_at
+  row_line_stops room e t is h =
+      let w = row_full level in
+      let stop = row_line_fails room t (line_none (head_at level) t e is h) in
+      short_or_lost (head_at level) t e is h (λ s. FailsAt (row_by level) room s t)
+      (λ short. (stop, ([], t, refl, short, w.0, w.1, λ r low. w.2 r)))
+      (λ lost. (stop, λ r z low. ap (λ o. o >>= λ k. row_of (tree_at r) level k.0 k.1) (lost z)))
+
   -- a line of another kind
   pub row_kind_fails : (room : ℕ) (t after : List ℕ) (h : Head) → head_at level t ≡ Some (h, after)
-      → ((r : ℕ) (y : List ℕ) → row_of (tree_at r) level h y ≡ None) → Stops (row_by level) room t (length t)
+      → ((r : ℕ) (y : List ℕ) → row_of (tree_at r) level h y ≡ None)
+      → FailsAt (row_by level) room (stops.Left (length t)) t
   unfolding row_at
-  row_kind_fails room t after h e other =
-      row_stops room t (λ r z same.
-      let p = head_again_same t z after h e same in
-      ap (λ o. o >>= λ k. row_of (tree_at r) level k.0 k.1) p.1 ∙ other r p.0)
+  row_kind_fails room t after h e other = (
+    row_stops room t (λ r z same.
+        let p = head_again_same t z after h e same in
+        ap (λ o. o >>= λ k. row_of (tree_at r) level k.0 k.1) p.1 ∙ other r p.0),
+    λ r z low.
+        let p = head_local level 0 t h after e in
+        ap (λ s. row_at (tree_at r) level s) (ap (λ s. s ++ z) p.1 ∙ append_assoc p.0 after z)
+        ∙ ap (λ o. o >>= λ k. row_of (tree_at r) level k.0 k.1) (p.3 0 (after ++ z) (omega arith))
+        ∙ other r (after ++ z),
+  )
 
   row_body_fails : (room : ℕ) (t after : List ℕ) (h : Head) (w s : ℕ) → h ≡ heads.Struct w s
       → head_at level t ≡ Some (h, after) → (e : Stop) → FailsAt (body_by level w s) room e after

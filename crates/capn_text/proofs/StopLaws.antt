@@ -6,7 +6,7 @@ use Rattle.capn_text.specs.declared.fault.Stop.{Stop}
 use Rattle.capn_text.specs.declared.fault.Stop.TheVariants as stops
 use Rattle.capn_text.specs.inner.Tokens.{◌>>=◌, many, FailsIdly}
 use Rattle.capn_text.specs.Streams.{first_lines, ended_lines}
-use Rattle.capn_text.specs.inner.Stops.{AreLines, GoesOn, Stops, FailsAt}
+use Rattle.capn_text.specs.inner.Stops.{AreLines, GoesOn, Stops, IsLost, IsOpen, FailsAt}
 use Rattle.capn_text.proofs.Steps.{bind_some, some_is, then}
 use Rattle.capn_text.proofs.WholeLines.{are_none, are_both, first_front}
 
@@ -86,18 +86,39 @@ module _ {X Y : Type 0} (f : Reads X) (g : X → Reads Y) (room : ℕ) where
             ∙ second.2 r,
       )
 
-  -- the first fails
-  pub first_fails : ((r : ℕ) → Local f r) → ((x : X) → Full (g x)) → (e : Stop) (t : List ℕ) → FailsAt f room e t
-      → FailsAt (both f g) room e t
-  first_fails near fulls stops.Memory t h = tt
-  first_fails near fulls (stops.Left n) t h = (
+  stops_first : Local f room → ((x : X) → Full (g x)) → (n : ℕ) (t : List ℕ) → Stops f room t n
+      → Stops (both f g) room t n
+  stops_first near fulls n t h = (
     h.0,
     h.1,
     h.2,
     h.3,
-    goes_on_first room (near room) fulls h.0 h.4,
+    goes_on_first room near fulls h.0 h.4,
     λ r z low same. ap (λ o. o >>= λ x. g x.0 r x.1) (h.5 r z low same),
   )
+
+  open_first : Local f room → ((x : X) → Full (g x)) → (t : List ℕ) → IsOpen f room t → IsOpen (both f g) room t
+  open_first near fulls t h =
+      let second = fulls h.5 in (
+        h.0,
+        h.1,
+        h.2,
+        h.3,
+        h.4 ++ second.0,
+        second.1,
+        λ r low. ap (both f g r) (sym (append_assoc h.0 h.4 second.0))
+            ∙ ap (λ o. o >>= λ x. g x.0 r x.1) (past f room (h.0 ++ h.4) h.5 near h.6 r second.0 low)
+            ∙ second.2 r,
+      )
+
+  -- the first fails
+  pub first_fails : ((r : ℕ) → Local f r) → ((x : X) → Full (g x)) → (e : Stop) (t : List ℕ) → FailsAt f room e t
+      → FailsAt (both f g) room e t
+  first_fails near fulls stops.Memory t h = tt
+  first_fails near fulls (stops.Left n) t h =
+      (stops_first (near room) fulls n t h.0, λ r z low. ap (λ o. o >>= λ x. g x.0 r x.1) (h.1 r z low))
+  first_fails near fulls (stops.Cut n) t h =
+      (stops_first (near room) fulls n t h.0, open_first (near room) fulls t h.1)
   first_fails near fulls stops.Deep t h = (
     h.0,
     h.1,
@@ -106,11 +127,10 @@ module _ {X Y : Type 0} (f : Reads X) (g : X → Reads Y) (room : ℕ) where
     λ z. ap (λ o. o >>= λ x. g x.0 room x.1) (h.4 z),
   )
 
-  -- the second fails
-  pub second_fails : Local f room → (t : List ℕ) (x : X) (after : List ℕ) → f room t ≡ Some (x, after) → (e : Stop)
-      → FailsAt (g x) room e after → FailsAt (both f g) room e t
-  second_fails near t x after is stops.Memory h = tt
-  second_fails near t x after is (stops.Left n) h =
+  -- the second, after what the first read
+  stops_second : Local f room → (t : List ℕ) (x : X) (after : List ℕ) → f room t ≡ Some (x, after) → (n : ℕ)
+      → Stops (g x) room after n → Stops (both f g) room t n
+  stops_second near t x after is n h =
       let p = near t x after is in (
         p.0 ++ h.0,
         h.1,
@@ -124,8 +144,38 @@ module _ {X Y : Type 0} (f : Reads X) (g : X → Reads Y) (room : ℕ) where
               ∙ ap (λ o. o >>= λ y. g y.0 r y.1) (p.3 r (h.0 ++ h.4.1) (omega arith)) ∙ h.4.3 r low,
         ),
         λ r z low same. ap (λ s. both f g r s) (append_assoc p.0 h.0 z)
-            ∙ ap (λ o. o >>= λ y. g y.0 r y.1) (p.3 r (h.0 ++ z) low) ∙ h.5 r z low same,
+            ∙ ap (λ o. o >>= λ y. g y.0 r y.1) (p.3 r (h.0 ++ z) (omega arith)) ∙ h.5 r z low same,
       )
+
+  lost_second : Local f room → (t : List ℕ) (x : X) (after : List ℕ) → f room t ≡ Some (x, after)
+      → IsLost (g x) room after → IsLost (both f g) room t
+  lost_second near t x after is h r z low =
+      let p = near t x after is in
+      ap (λ s. both f g r s) (ap (λ s. s ++ z) p.1 ∙ append_assoc p.0 after z)
+      ∙ ap (λ o. o >>= λ y. g y.0 r y.1) (p.3 r (after ++ z) (omega arith)) ∙ h r z low
+
+  open_second : Local f room → (t : List ℕ) (x : X) (after : List ℕ) → f room t ≡ Some (x, after)
+      → IsOpen (g x) room after → IsOpen (both f g) room t
+  open_second near t x after is h =
+      let p = near t x after is in (
+        p.0 ++ h.0,
+        h.1,
+        then t p.0 h.0 after h.1 p.1 h.2,
+        h.3,
+        h.4,
+        h.5,
+        λ r low. ap (λ s. both f g r s) (append_assoc p.0 h.0 h.4)
+            ∙ ap (λ o. o >>= λ y. g y.0 r y.1) (p.3 r (h.0 ++ h.4) (omega arith)) ∙ h.6 r low,
+      )
+
+  -- the second fails
+  pub second_fails : Local f room → (t : List ℕ) (x : X) (after : List ℕ) → f room t ≡ Some (x, after) → (e : Stop)
+      → FailsAt (g x) room e after → FailsAt (both f g) room e t
+  second_fails near t x after is stops.Memory h = tt
+  second_fails near t x after is (stops.Left n) h =
+      (stops_second near t x after is n h.0, lost_second near t x after is h.1)
+  second_fails near t x after is (stops.Cut n) h =
+      (stops_second near t x after is n h.0, open_second near t x after is h.1)
   second_fails near t x after is stops.Deep h =
       let p = near t x after is in (
         p.0 ++ h.0,
@@ -243,19 +293,24 @@ module _ {X : Type 0} (read : List ℕ → Option (X × List ℕ)) (show : X →
 pub idle_none : {Y : Type 0} (e : Stop) (r : Option Y) → FailsIdly e r → r ≡ None
 idle_none stops.Memory r h = absurd h
 idle_none (stops.Left n) r h = h
+idle_none (stops.Cut n) r h = h
 idle_none stops.Deep r h = h
 
 -- where the height is no matter, it is none at all
-pub any_room : {X : Type 0} (f : List ℕ → Option (X × List ℕ)) (room : ℕ) (e : Stop) (t : List ℕ)
-    → FailsAt (λ r. f) 0 e t
-    → FailsAt (λ r. f) room e t
-any_room f room stops.Memory t h = tt
-any_room f room (stops.Left n) t h = (
-  h.0,
-  h.1,
-  h.2,
-  h.3,
-  (h.4.0, h.4.1, h.4.2, λ r low. h.4.3 0 (omega arith)),
-  λ r z low same. h.5 0 z (omega arith) same,
-)
-any_room f room stops.Deep t h = (h.0, h.1, h.2, (h.3.0, h.3.1, h.3.2, λ r low. h.3.3 1 (omega arith)), h.4)
+module _ {X : Type 0} (f : List ℕ → Option (X × List ℕ)) (room : ℕ) where
+  any_stops : (t : List ℕ) (n : ℕ) → Stops (λ r. f) 0 t n → Stops (λ r. f) room t n
+  any_stops t n h = (
+    h.0,
+    h.1,
+    h.2,
+    h.3,
+    (h.4.0, h.4.1, h.4.2, λ r low. h.4.3 0 (omega arith)),
+    λ r z low same. h.5 0 z (omega arith) same,
+  )
+
+  pub any_room : (e : Stop) (t : List ℕ) → FailsAt (λ r. f) 0 e t → FailsAt (λ r. f) room e t
+  any_room stops.Memory t h = tt
+  any_room (stops.Left n) t h = (any_stops t n h.0, λ r z low. h.1 0 z (omega arith))
+  any_room (stops.Cut n) t h =
+      (any_stops t n h.0, (h.1.0, h.1.1, h.1.2, h.1.3, h.1.4, h.1.5, λ r low. h.1.6 0 (omega arith)))
+  any_room stops.Deep t h = (h.0, h.1, h.2, (h.3.0, h.3.1, h.3.2, λ r low. h.3.3 1 (omega arith)), h.4)

@@ -1,6 +1,6 @@
 //! Values with what they hold.
 
-ghost use Rattle.std.specs.Prelude.{◌≡◌, ◌+◌, ◌*◌, ◌<◌, ◌^◌, map, IfErr};
+ghost use Rattle.std.specs.Prelude.{◌≡◌, ◌+◌, ◌*◌, ◌≤◌, map, IfErr};
 ghost use Rattle.capn_value.specs.TreeOf.{tree_of, body_of};
 ghost use Rattle.capn_text.specs.inner.Tokens as tokens;
 ghost use Rattle.capn_text.specs.inner.Tokens.{Gives};
@@ -23,7 +23,7 @@ pub fn value_at<'t, A: Allocator + Copy>(
     level: u32,
     text: &'t [u8],
 ) -> Result<(Value<A>, &'t [u8]), Stop>
-    requires { level + 2 * room < 2 ^ 32 }
+    requires { level + 2 * room ≤ 600 }
     ensures { GivesAt (λ x. (tree_of x.0, x.1.now)) result (λ r. values.tree_at r level) room text.now }
 {
     let (head, rest) = head_at(level, text)?;
@@ -57,7 +57,7 @@ fn content_at<'t, A: Allocator + Copy>(
     head: Head,
     text: &'t [u8],
 ) -> Result<(Value<A>, &'t [u8]), Stop>
-    requires level { level + 2 + 2 * room < 2 ^ 32 }
+    requires level { level + 2 + 2 * room ≤ 600 }
     requires head { Holds head }
     ensures { GivesAt (λ x. (tree_of x.0, x.1.now)) result
         (λ r. values.content_at (values.tree_at r) level head) room text.now }
@@ -94,7 +94,7 @@ fn body_at<'t, A: Allocator + Copy>(
     slots: u64,
     text: &'t [u8],
 ) -> Result<(Body<A>, &'t [u8]), Stop>
-    requires { level + 1 + 2 * room < 2 ^ 32 }
+    requires { level + 1 + 2 * room ≤ 600 }
     ensures { GivesAt (λ x. (body_of x.0, x.1.now)) result
         (λ r. values.body_at (values.tree_at r) level words slots) room text.now }
 {
@@ -116,7 +116,7 @@ fn values_at<'t, A: Allocator + Copy>(
     count: u64,
     text: &'t [u8],
 ) -> Result<(Vec<Value<A>, A>, &'t [u8]), Stop>
-    requires { level + 2 * room < 2 ^ 32 }
+    requires { level + 2 * room ≤ 600 }
     ensures { GivesAt (λ x. (map tree_of x.0.items, x.1.now)) result
         (λ r. tokens.many (values.tree_at r level) count) room text.now }
 {
@@ -139,7 +139,7 @@ fn row_at<'t, A: Allocator + Copy>(
     level: u32,
     text: &'t [u8],
 ) -> Result<(Body<A>, &'t [u8]), Stop>
-    requires { level + 1 + 2 * room < 2 ^ 32 }
+    requires { level + 1 + 2 * room ≤ 600 }
     ensures { GivesAt (λ x. (body_of x.0, x.1.now)) result (λ r. values.row_at (values.tree_at r) level) room text.now }
 {
     let (head, rest) = head_at(level, text)?;
@@ -159,7 +159,7 @@ fn rows_at<'t, A: Allocator + Copy>(
     count: u64,
     text: &'t [u8],
 ) -> Result<(Vec<Body<A>, A>, &'t [u8]), Stop>
-    requires { level + 1 + 2 * room < 2 ^ 32 }
+    requires { level + 1 + 2 * room ≤ 600 }
     ensures { GivesAt (λ x. (map body_of x.0.items, x.1.now)) result
         (λ r. tokens.many (values.row_at (values.tree_at r) level) count) room text.now }
 {

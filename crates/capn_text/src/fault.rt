@@ -12,8 +12,10 @@ pub enum TextFault {
     /// A growth was refused.
     Memory,
     /// The first line, counted from 1, that doesn't go on with the text of a value. A line that is missing is the one
-    /// after the last.
+    /// after the last. [`crate::Texts`] answers so where that holds whatever follows.
     Line(u64),
+    /// The first line that doesn't go on if nothing follows. More bytes may make the text that of a value.
+    Cut(u64),
     /// The text is that of a value that fits into no message, or goes deeper than any that fits (`Tall`), whatever
     /// follows.
     Misfit(Misfit),
@@ -27,6 +29,8 @@ pub enum Stop {
     /// A line doesn't go on: the one that begins where this many bytes of the text are left. Within a line, any place
     /// on it.
     Left(usize),
+    /// A line is unfinished, which begins where this many bytes are left.
+    Cut(usize),
     /// A value is deeper than any that fits.
     Deep,
 }

@@ -1,13 +1,14 @@
 //! The first line of a value.
 
-ghost use Rattle.std.specs.Prelude.{◌≡◌, IfOk, IfErr, length};
+ghost use Rattle.std.specs.Prelude.{◌≡◌, ◌≤◌, IfOk, IfErr};
 ghost use Rattle.capn_text.specs.inner.Tokens.{GivesIdly};
 ghost use Rattle.capn_text.specs.inner.Values as values;
 ghost use Rattle.capn_text.specs.inner.Values.{Holds};
-ghost use Rattle.capn_text.specs.declared.fault.Stop.TheVariants as stops;
+ghost use Rattle.capn_text.specs.inner.Stops as spec;
+ghost use Rattle.capn_text.specs.inner.Stops.{GivesLine};
 
 use crate::fault::Stop;
-use crate::tokens::{decimal_at, indent_at, pass, skip};
+use crate::tokens::{decimal_at, indent_at, pass, skip, stop_in};
 
 /// A list whose elements hold no other value, by the kind of its elements.
 #[derive(Clone, Copy)]
@@ -41,13 +42,14 @@ pub enum Head {
 
 /// The first line at the front of the text, at a level.
 pub fn head_at(level: u32, text: &[u8]) -> Result<(Head, &[u8]), Stop>
-    ensures value { GivesIdly (λ x. (x.0, x.1.now)) result (values.head_at level text.now) }
+    requires { level ≤ 600 }
+    ensures value { GivesLine (λ x. (x.0, x.1.now)) result (values.head_at level) text.now }
     ensures holds { IfOk result (λ x. Holds x.0) }
-    ensures place { IfErr result (λ e. e ≡ stops.Left (length text.now)) }
+    ensures place { IfErr result (λ e. e ≡ spec.stop_in text.now) }
 {
     match head_in_line(level, text) {
         Ok((head, rest)) => Ok((head, rest)),
-        Err(_) => Err(Stop::Left(text.len())),
+        Err(_) => Err(stop_in(text)),
     }
 }
 

@@ -1,16 +1,18 @@
 //! Lists whose elements hold no other value.
 
-ghost use Rattle.std.specs.Prelude.{◌≡◌, ◌+◌, ◌≤◌, ◌<◌, ◌^◌};
+ghost use Rattle.std.specs.Prelude.{◌≡◌, ◌+◌, ◌≤◌, None};
 ghost use Rattle.capn_value.specs.TreeOf.{tree_of};
 ghost use Rattle.capn_text.specs.inner.Tokens as tokens;
 ghost use Rattle.capn_text.specs.inner.Tokens.{Gives};
-ghost use Rattle.capn_text.specs.inner.Stops.{GivesAt, GivesLine};
+ghost use Rattle.capn_text.specs.inner.Stops.{GivesAt, GivesLine, LineFails};
 ghost use Rattle.capn_text.specs.inner.Values as values;
 ghost use Rattle.capn_text.specs.declared.heads.Name.TheVariants as names;
 
 use crate::fault::Stop;
 use crate::heads::Leaf;
-use crate::tokens::{bit_at, byte_at, indent_at, number_line_at, pass, word_line_at};
+use crate::tokens::{
+    are_bits, are_hex, bit_at, byte_at, indent_at, number_line_at, pass, stop_in, word_line_at,
+};
 use capn_value::{Items, Value};
 use std::alloc::Allocator;
 
@@ -23,7 +25,7 @@ pub fn leaf_at<'t, A: Allocator>(
     count: u64,
     text: &'t [u8],
 ) -> Result<(Value<A>, &'t [u8]), Stop>
-    requires level { level + 1 < 2 ^ 32 }
+    requires level { level + 1 ≤ 600 }
     requires number { count ≤ values.greatest_number (names.Leaf leaf) }
     ensures { GivesAt (λ x. (tree_of x.0, x.1.now)) result (λ r. values.leaf_at level leaf count) 0 text.now }
 {
@@ -52,19 +54,39 @@ pub fn leaf_at<'t, A: Allocator>(
     }
 }
 
+/// Where the reading of a line of bits stops that is none: whether it can still become one.
+fn stop_in_bits(level: u32, count: u64, text: &[u8]) -> Stop
+    requires level { level ≤ 600 }
+    requires none { tokens.row_line_at tokens.bit_at level count text.now ≡ None }
+    ensures { LineFails result (tokens.row_line_at tokens.bit_at level count) text.now }
+{
+    match indent_at(level, text) {
+        Ok(digits) => {
+            if digits.len() as u64 <= count && are_bits(digits) {
+                Stop::Cut(text.len())
+            } else {
+                Stop::Left(text.len())
+            }
+        }
+        Err(_) => stop_in(text),
+    }
+}
+
 fn bits_at<A: Allocator>(
     alloc: A,
     level: u32,
     count: u64,
     text: &[u8],
 ) -> Result<(Vec<bool, A>, &[u8]), Stop>
+    requires { level ≤ 600 }
     ensures { GivesLine (λ x. (x.0.items, x.1.now)) result (tokens.row_line_at tokens.bit_at level count) text.now }
 {
     match bits_in_line(alloc, level, count, text) {
         Ok((items, rest)) => Ok((items, rest)),
         Err(Stop::Memory) => Err(Stop::Memory),
-        Err(Stop::Left(_)) => Err(Stop::Left(text.len())),
-        Err(Stop::Deep) => Err(Stop::Left(text.len())),
+        Err(Stop::Left(_)) => Err(stop_in_bits(level, count, text)),
+        Err(Stop::Cut(_)) => Err(stop_in_bits(level, count, text)),
+        Err(Stop::Deep) => Err(stop_in_bits(level, count, text)),
     }
 }
 
@@ -103,19 +125,40 @@ fn bit_digits_at<A: Allocator>(
     Ok((items, rest))
 }
 
+/// The same for a line of bytes.
+fn stop_in_bytes(level: u32, count: u64, text: &[u8]) -> Stop
+    requires level { level ≤ 600 }
+    requires none { tokens.row_line_at tokens.byte_at level count text.now ≡ None }
+    ensures { LineFails result (tokens.row_line_at tokens.byte_at level count) text.now }
+{
+    match indent_at(level, text) {
+        Ok(digits) => {
+            let bytes = digits.len() - digits.len() / 2;
+            if bytes as u64 <= count && are_hex(digits) {
+                Stop::Cut(text.len())
+            } else {
+                Stop::Left(text.len())
+            }
+        }
+        Err(_) => stop_in(text),
+    }
+}
+
 fn bytes_at<A: Allocator>(
     alloc: A,
     level: u32,
     count: u64,
     text: &[u8],
 ) -> Result<(Vec<u8, A>, &[u8]), Stop>
+    requires { level ≤ 600 }
     ensures { GivesLine (λ x. (x.0.items, x.1.now)) result (tokens.row_line_at tokens.byte_at level count) text.now }
 {
     match bytes_in_line(alloc, level, count, text) {
         Ok((items, rest)) => Ok((items, rest)),
         Err(Stop::Memory) => Err(Stop::Memory),
-        Err(Stop::Left(_)) => Err(Stop::Left(text.len())),
-        Err(Stop::Deep) => Err(Stop::Left(text.len())),
+        Err(Stop::Left(_)) => Err(stop_in_bytes(level, count, text)),
+        Err(Stop::Cut(_)) => Err(stop_in_bytes(level, count, text)),
+        Err(Stop::Deep) => Err(stop_in_bytes(level, count, text)),
     }
 }
 
@@ -160,6 +203,7 @@ fn pairs_at<A: Allocator>(
     count: u64,
     text: &[u8],
 ) -> Result<(Vec<u16, A>, &[u8]), Stop>
+    requires { level ≤ 600 }
     ensures { GivesAt (λ x. (x.0.items, x.1.now)) result
         (λ r. tokens.many (tokens.number_line_at 65535 level) count) 0 text.now }
 {
@@ -179,6 +223,7 @@ fn quads_at<A: Allocator>(
     count: u64,
     text: &[u8],
 ) -> Result<(Vec<u32, A>, &[u8]), Stop>
+    requires { level ≤ 600 }
     ensures { GivesAt (λ x. (x.0.items, x.1.now)) result
         (λ r. tokens.many (tokens.number_line_at 4294967295 level) count) 0 text.now }
 {
@@ -198,6 +243,7 @@ fn octs_at<A: Allocator>(
     count: u64,
     text: &[u8],
 ) -> Result<(Vec<u64, A>, &[u8]), Stop>
+    requires { level ≤ 600 }
     ensures { GivesAt (λ x. (x.0.items, x.1.now)) result
         (λ r. tokens.many (tokens.number_line_at 18446744073709551615 level) count) 0 text.now }
 {
@@ -218,6 +264,7 @@ pub fn words_at<A: Allocator>(
     count: u64,
     text: &[u8],
 ) -> Result<(Vec<u64, A>, &[u8]), Stop>
+    requires { level ≤ 600 }
     ensures { GivesAt (λ x. (x.0.items, x.1.now)) result
         (λ r. tokens.many (tokens.word_line_at level) count) 0 text.now }
 {

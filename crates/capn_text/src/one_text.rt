@@ -1,6 +1,6 @@
 //! The tree of one text.
 
-ghost use Rattle.std.specs.Prelude.{◌≡◌, ◌≢◌, ◌⊎◌, ◌≤◌, ◌+◌, ◌++◌, ℕ, List, [], IfOk, IfErr};
+ghost use Rattle.std.specs.Prelude.{◌≡◌, ◌≢◌, ◌⊎◌, ◌≤◌, ◌+◌, ◌++◌, ℕ, List, [], length, IfOk, IfErr, OnOk, OnErr};
 ghost use Rattle.std.specs.Prelude.{MatchResult, Some, None, true, false};
 ghost use Rattle.capn_value.specs.Tree as trees;
 ghost use Rattle.capn_value.specs.TreeOf.{tree_of};
@@ -14,13 +14,15 @@ ghost use Rattle.capn_text.specs.Showable.{IsShowable};
 ghost use Rattle.capn_text.specs.inner.Values as values;
 ghost use Rattle.capn_text.specs.inner.Tokens.{strip};
 ghost use Rattle.capn_text.specs.Streams.{end_line, ended_lines, ended_text, BeginsAs};
-ghost use Rattle.capn_text.specs.Streams.{IsFirstWrong, GoesTooDeep};
+ghost use Rattle.capn_text.specs.Streams.{IsFirstWrong, GoesTooDeep, MayGoOn, Names, few};
+ghost use Rattle.capn_text.specs.inner.Stops.{IsLineLost};
 ghost use Rattle.capn_text.specs.declared.fault.TextFault.TheVariants as faults;
 
 use crate::contents::value_at;
 use crate::fault::{Stop, TextFault};
 use crate::heads::head_at;
 use crate::lines::lines_before;
+use crate::tokens::is_short;
 use capn_value::{MOST_HEIGHT, Misfit, Tree, Value};
 use std::alloc::Allocator;
 
@@ -48,13 +50,31 @@ pub fn read<A: Allocator + Copy>(alloc: A, text: &[u8]) -> Result<Tree<A>, TextF
         ((m ≡ Tall) × GoesTooDeep text.now) ⊎ ((v : trees.Tree) × InRange v × IsShowable v
         × (height v ≤ most_height) × (text.now ≡ show_text v) × (misfit v ≡ Some m))) }
 {
-    let (value, rest) = first_value(alloc, text)?;
+    let (value, rest) = match first_value(alloc, text) {
+        Ok((value, rest)) => (value, rest),
+        Err(fault) => return Err(ended(fault)),
+    };
     if has_more(rest) {
         drop(value);
         return Err(TextFault::Line(lines_before(text, rest.len()) + 1));
     }
     let tree = fitting(value)?;
     Ok(tree)
+}
+
+// The fault of a text to which nothing follows.
+fn ended(fault: TextFault) -> TextFault
+    ensures memory { fault ≡ faults.Memory → result ≡ faults.Memory }
+    ensures line { (n : ℕ) → result ≡ faults.Line n → Names fault n }
+    ensures first { Names fault 1 → result ≡ faults.Line 1 }
+    ensures misfit { (m : Misfit) → result ≡ faults.Misfit m → fault ≡ faults.Misfit m }
+{
+    match fault {
+        TextFault::Memory => TextFault::Memory,
+        TextFault::Line(n) => TextFault::Line(n),
+        TextFault::Cut(n) => TextFault::Line(n),
+        TextFault::Misfit(misfit) => TextFault::Misfit(misfit),
+    }
 }
 
 /// Whether any bytes are left.
@@ -82,43 +102,60 @@ pub fn first_value<A: Allocator + Copy>(
         text.now ≡ show_text v ++ rest →
         MatchResult result (λ x. (tree_of x.0 ≡ v) × (x.1.now ≡ rest)) (λ e. e ≡ faults.Memory) }
     // A line that is refused is one of these bytes, or the one after their last.
-    ensures place { IfErr result (λ e. (n : ℕ) → e ≡ faults.Line n → (1 ≤ n) × (n ≤ ended_lines text.now + 1)) }
+    ensures place { IfErr result (λ e. (n : ℕ) → Names e n → (1 ≤ n) × (n ≤ ended_lines text.now + 1)) }
     // Except for line 1, nothing is answered and no memory needed before the first line is that of a value.
     ensures begins { IfOk result (λ x. (v : trees.Tree) × BeginsAs text.now v) }
-    ensures begun { IfErr result (λ e. e ≢ faults.Line 1 → (v : trees.Tree) × BeginsAs text.now v) }
+    ensures begun { IfErr result (λ e. (Names e 1 → ⊥) → (v : trees.Tree) × BeginsAs text.now v) }
     // A line that is refused is the first that doesn't go on with a text, also where each text has its end.
-    ensures first { IfErr result (λ e. (n : ℕ) → e ≡ faults.Line n → IsFirstWrong show_text n text.now) }
-    ensures first_ended { IfErr result (λ e. (n : ℕ) → e ≡ faults.Line n → IsFirstWrong ended_text n text.now) }
+    ensures first { IfErr result (λ e. (n : ℕ) → Names e n → IsFirstWrong show_text n text.now) }
+    ensures first_ended { IfErr result (λ e. (n : ℕ) → Names e n → IsFirstWrong ended_text n text.now) }
+    // It is so whatever follows, or all but few bytes at the end can go on.
+    ensures lost { IfErr result (λ e. (n : ℕ) → e ≡ faults.Line n → (more : List ℕ) →
+        IsFirstWrong ended_text n (text.now ++ more)) }
+    ensures none { IfErr result (λ e. (n : ℕ) → e ≡ faults.Line n → (more : List ℕ) → (v : trees.Tree)
+        (rest : List ℕ) → IsShowable v → height v ≤ most_height → text.now ++ more ≢ show_text v ++ rest) }
+    ensures open { IfErr result (λ e. (n : ℕ) → e ≡ faults.Cut n → MayGoOn text.now) }
     // So is the line after what was read, if there is one, or no end.
     ensures more { IfOk result (λ x. x.1.now ≢ [] →
         IsFirstWrong show_text (ended_lines (show_text (tree_of x.0)) + 1) text.now) }
-    ensures no_end { IfOk result (λ x. strip end_line x.1.now ≡ None →
-        IsFirstWrong ended_text (ended_lines (show_text (tree_of x.0)) + 1) text.now) }
+    ensures no_end { IfOk result (λ x. (more : List ℕ) → strip end_line (x.1.now ++ more) ≡ None →
+        IsFirstWrong ended_text (ended_lines (show_text (tree_of x.0)) + 1) (text.now ++ more)) }
     // A misfit says that the text goes too deep, whatever follows.
     ensures tall { IfErr result (λ e. (m : Misfit) → e ≡ faults.Misfit m → m ≡ Tall) }
     ensures deep { IfErr result (λ e. (m : Misfit) → e ≡ faults.Misfit m → GoesTooDeep text.now) }
 {
     // No memory is needed if the first line is that of no value.
-    if has_no_head(text) {
-        return Err(TextFault::Line(1));
+    if let Err(fault) = first_line(text) {
+        return Err(fault);
     }
     match value_at(alloc, MOST_HEIGHT, 0, text) {
         Ok((value, rest)) => Ok((value, rest)),
         Err(Stop::Memory) => Err(TextFault::Memory),
         Err(Stop::Left(left)) => Err(TextFault::Line(lines_before(text, left) + 1)),
+        Err(Stop::Cut(left)) => Err(TextFault::Cut(lines_before(text, left) + 1)),
         Err(Stop::Deep) => Err(TextFault::Misfit(Misfit::Tall)),
     }
 }
 
-/// Whether the first line is that of no value.
-pub fn has_no_head(text: &[u8]) -> bool
-    ensures none { result ≡ true → values.head_at 0 text.now ≡ None }
-    ensures other { result ≡ true → (v : trees.Tree) → BeginsAs text.now v → ⊥ }
-    ensures some { result ≡ false → (v : trees.Tree) × BeginsAs text.now v }
+/// Whether the first line is that of a value, or why not.
+pub fn first_line(text: &[u8]) -> Result<(), TextFault>
+    ensures some { OnOk result ((v : trees.Tree) × BeginsAs text.now v) }
+    ensures other { OnErr result ((v : trees.Tree) → BeginsAs text.now v → ⊥) }
+    ensures none { OnErr result (values.head_at 0 text.now ≡ None) }
+    ensures line { IfErr result (λ e. Names e 1) }
+    // It is that of none whatever follows, or few bytes at its end may make it one.
+    ensures lost { IfErr result (λ e. e ≡ faults.Line 1 → IsLineLost (values.head_at 0) text.now) }
+    ensures open { IfErr result (λ e. e ≡ faults.Cut 1 → length text.now ≤ few) }
 {
     match head_at(0, text) {
-        Ok(_) => false,
-        Err(_) => true,
+        Ok(_) => Ok(()),
+        Err(_) => {
+            if is_short(text) {
+                Err(TextFault::Cut(1))
+            } else {
+                Err(TextFault::Line(1))
+            }
+        }
     }
 }
 

@@ -12,12 +12,14 @@ ghost use Rattle.capn_value.specs.declared.misfit.Misfit.{Misfit};
 ghost use Rattle.capn_value.specs.declared.misfit.Misfit.TheVariants.{Tall};
 ghost use Rattle.capn_text.specs.Showable.{IsShowable};
 ghost use Rattle.capn_text.specs.Streams.{end_line, ended_lines, ended_text, BeginsAs, IsFirstWrong, GoesTooDeep};
+ghost use Rattle.capn_text.specs.Streams.{IsWrongAt, MayGoOn, Names, few};
 ghost use Rattle.capn_text.specs.declared.fault.TextFault.TheVariants as faults;
 
 use crate::fault::TextFault;
+use crate::heads::head_at;
 use crate::lines::lines_before;
-use crate::one_text::{first_value, fitting, has_more, has_no_head};
-use crate::tokens::skip;
+use crate::one_text::{first_line, first_value, fitting, has_more};
+use crate::tokens::{is_short, skip};
 use capn_value::Tree;
 use std::alloc::Allocator;
 use std::marker::Model;
@@ -90,7 +92,23 @@ impl<'t> Texts<'t> {
         ensures begun { result ≡ true → (v : trees.Tree) × BeginsAs self.now.rest v }
         ensures other { result ≡ false → (v : trees.Tree) → BeginsAs self.now.rest v → ⊥ }
     {
-        !has_no_head(self.rest)
+        match first_line(self.rest) {
+            Ok(()) => true,
+            Err(_) => false,
+        }
+    }
+
+    /// Whether more bytes may make the first line of what is left that of a value, which it isn't yet: then few are
+    /// left. Takes no memory.
+    pub fn may_begin(&self) -> bool
+        ensures lost { result ≡ false → ((v : trees.Tree) → BeginsAs self.now.rest v → ⊥) →
+            (more : List ℕ) (v : trees.Tree) → BeginsAs (self.now.rest ++ more) v → ⊥ }
+        ensures open { result ≡ true → length self.now.rest ≤ few }
+    {
+        match head_at(0, self.rest) {
+            Ok(_) => false,
+            Err(_) => is_short(self.rest),
+        }
     }
 
     /// The tree of the next text, or none at the end of the input.
@@ -114,22 +132,26 @@ impl<'t> Texts<'t> {
         // After a refusal nothing has changed.
         ensures kept { OnErr result (self.new ≡ self.old) }
         // Where a line is refused, no text of a value of at most 256 levels, fit or not, comes next with its end.
-        ensures line { IfErr result (λ e. (n : ℕ) → e ≡ faults.Line n → (v : trees.Tree) (rest : List ℕ) →
+        ensures line { IfErr result (λ e. (n : ℕ) → Names e n → (v : trees.Tree) (rest : List ℕ) →
             IsShowable v → height v ≤ most_height → self.old.rest ≢ show_text v ++ (end_line ++ rest)) }
         // That line is not before the text, and not after the line that follows the last.
-        ensures place { IfErr result (λ e. (n : ℕ) → e ≡ faults.Line n →
+        ensures place { IfErr result (λ e. (n : ℕ) → Names e n →
             (self.old.line ≤ n) × (n ≤ self.old.line + ended_lines self.old.rest)) }
         // After the text of a value of at most 256 levels, fit or not, the line refused is the one at which its end
         // is missing.
         ensures end { (v : trees.Tree) (rest : List ℕ) → IsShowable v → height v ≤ most_height →
             self.old.rest ≡ show_text v ++ rest →
-            IfErr result (λ e. (n : ℕ) → e ≡ faults.Line n → n ≡ self.old.line + ended_lines (show_text v)) }
+            IfErr result (λ e. (n : ℕ) → Names e n → n ≡ self.old.line + ended_lines (show_text v)) }
         // Except for the next line, nothing is refused and no memory needed before that line is the first of a value.
-        ensures begun { IfErr result (λ e. e ≢ faults.Line self.old.line →
+        ensures begun { IfErr result (λ e. (Names e self.old.line → ⊥) →
             (v : trees.Tree) × BeginsAs self.old.rest v) }
         // A line that is refused is the first that doesn't go on with a text and its end.
-        ensures first { IfErr result (λ e. (n : ℕ) → e ≡ faults.Line n →
+        ensures first { IfErr result (λ e. (n : ℕ) → Names e n →
             (k : ℕ) × (n + 1 ≡ self.old.line + k) × IsFirstWrong ended_text k self.old.rest) }
+        // With `Line` it is refused whatever follows. With `Cut` all but few bytes at the end can go on.
+        ensures lost { IfErr result (λ e. (n : ℕ) → e ≡ faults.Line n → (more : List ℕ) →
+            IsWrongAt self.old.line (self.old.rest ++ more) n) }
+        ensures open { IfErr result (λ e. (n : ℕ) → e ≡ faults.Cut n → MayGoOn self.old.rest) }
         // A misfit is that of the value of at most 256 levels whose text comes next with its end, or the text goes
         // too deep, whatever follows.
         ensures misfit { IfErr result (λ e. (m : Misfit) → e ≡ faults.Misfit m →
@@ -147,7 +169,7 @@ impl<'t> Texts<'t> {
         let line = self.line + lines_before(self.rest, after.len());
         let Some(rest) = skip(after, b"end\n") else {
             drop(value);
-            return Err(TextFault::Line(line));
+            return Err(end_fault(line, after));
         };
         let tree = fitting(value)?;
         self.rest = rest;
@@ -158,14 +180,33 @@ impl<'t> Texts<'t> {
 
 // The same fault, where the text begins at this line.
 fn counted_from(line: u64, fault: TextFault) -> TextFault
-    requires { (n : ℕ) → fault ≡ faults.Line n → line + (n - 1) < 2 ^ 64 }
+    requires { (n : ℕ) → Names fault n → line + (n - 1) < 2 ^ 64 }
     ensures memory { fault ≡ faults.Memory → result ≡ faults.Memory }
     ensures placed { (n : ℕ) → result ≡ faults.Line n → (k : ℕ) × (fault ≡ faults.Line k) × (n ≡ line + (k - 1)) }
-    ensures first { fault ≡ faults.Line 1 → result ≡ faults.Line line }
+    ensures cut { (n : ℕ) → result ≡ faults.Cut n → (k : ℕ) × (fault ≡ faults.Cut k) × (n ≡ line + (k - 1)) }
+    ensures named { (n : ℕ) → Names result n → (k : ℕ) × Names fault k × (n ≡ line + (k - 1)) }
+    ensures first { Names fault 1 → Names result line }
     ensures misfit { (m : Misfit) → result ≡ faults.Misfit m → fault ≡ faults.Misfit m }
 {
     match fault {
         TextFault::Line(n) => TextFault::Line(line + n.saturating_sub(1)),
-        other => other,
+        TextFault::Cut(n) => TextFault::Cut(line + n.saturating_sub(1)),
+        TextFault::Memory => TextFault::Memory,
+        TextFault::Misfit(misfit) => TextFault::Misfit(misfit),
+    }
+}
+
+// Why a text that is followed by this on a line isn't taken: another line than `end` is there, or too little of one.
+fn end_fault(line: u64, after: &[u8]) -> TextFault
+    ensures named { (n : ℕ) → Names result n → n ≡ line }
+    ensures line { (n : ℕ) → result ≡ faults.Line n → 4 ≤ length after.now }
+    ensures cut { (n : ℕ) → result ≡ faults.Cut n → length after.now ≤ 4 }
+    ensures other { (m : Misfit) → result ≡ faults.Misfit m → ⊥ }
+    ensures memory { result ≡ faults.Memory → ⊥ }
+{
+    if after.len() < 4 {
+        TextFault::Cut(line)
+    } else {
+        TextFault::Line(line)
     }
 }

@@ -1,8 +1,10 @@
 //! What is within a line, read from left to right: what was read, and the bytes after it.
 
-ghost use Rattle.std.specs.Prelude.{◌≡◌, ◌≤◌, ◌<◌, MatchOption, IfOk, IfSome, Some, None};
+ghost use Rattle.std.specs.Prelude.{◌≡◌, ◌≤◌, ◌<◌, nat_lt, length, MatchOption, IfOk, IfSome, Some, None};
+ghost use Rattle.capn_text.specs.Streams.{few};
 ghost use Rattle.capn_text.specs.inner.Tokens as tokens;
 ghost use Rattle.capn_text.specs.inner.Tokens.{Gives, GivesIdly};
+ghost use Rattle.capn_text.specs.inner.Stops as spec;
 ghost use Rattle.capn_text.specs.inner.Stops.{GivesLine};
 
 use crate::fault::Stop;
@@ -103,6 +105,34 @@ pub fn byte_at(text: &[u8]) -> Result<(u8, &[u8]), Stop>
     Ok((a * 16 + b, rest))
 }
 
+/// Whether all of these bytes are hexadecimal digits in lower case.
+pub fn are_hex(text: &[u8]) -> bool
+    ensures { result ≡ tokens.are_all tokens.is_hex text.now }
+{
+    let mut rest = text;
+    while let [c, after @ ..] = rest {
+        let (b'0'..=b'9' | b'a'..=b'f') = *c else {
+            return false;
+        };
+        rest = after;
+    }
+    true
+}
+
+/// Whether all of these bytes are digits of bits.
+pub fn are_bits(text: &[u8]) -> bool
+    ensures { result ≡ tokens.are_all tokens.is_bit text.now }
+{
+    let mut rest = text;
+    while let [c, after @ ..] = rest {
+        let (b'0' | b'1') = *c else {
+            return false;
+        };
+        rest = after;
+    }
+    true
+}
+
 fn nibble(c: u8) -> Option<u8>
     ensures value { result ≡ tokens.nibble c }
     ensures within { IfSome result (λ d. d < 16) }
@@ -147,15 +177,38 @@ pub fn word_at(text: &[u8]) -> Result<(u64, &[u8]), Stop>
     Ok((u64::from_be_bytes(bytes), rest))
 }
 
+/// Only a line of the digits of a list has more bytes than this.
+const FEW: usize = 2048;
+
+/// Whether a text has fewer bytes.
+pub fn is_short(text: &[u8]) -> bool
+    ensures { result ≡ nat_lt (length text.now) few }
+{
+    text.len() < FEW
+}
+
+/// Where the reading of a line stops that is none, and never a long one.
+pub fn stop_in(text: &[u8]) -> Stop
+    ensures { result ≡ spec.stop_in text.now }
+{
+    if is_short(text) {
+        Stop::Cut(text.len())
+    } else {
+        Stop::Left(text.len())
+    }
+}
+
 /// The line of a data word.
 pub fn word_line_at(level: u32, text: &[u8]) -> Result<(u64, &[u8]), Stop>
+    requires { level ≤ 600 }
     ensures { GivesLine (λ x. (x.0, x.1.now)) result (tokens.word_line_at level) text.now }
 {
     match word_in_line(level, text) {
         Ok((word, rest)) => Ok((word, rest)),
         Err(Stop::Memory) => Err(Stop::Memory),
-        Err(Stop::Left(_)) => Err(Stop::Left(text.len())),
-        Err(Stop::Deep) => Err(Stop::Left(text.len())),
+        Err(Stop::Left(_)) => Err(stop_in(text)),
+        Err(Stop::Cut(_)) => Err(stop_in(text)),
+        Err(Stop::Deep) => Err(stop_in(text)),
     }
 }
 
@@ -172,12 +225,13 @@ fn word_in_line(level: u32, text: &[u8]) -> Result<(u64, &[u8]), Stop>
 
 /// The line of a number up to the greatest.
 pub fn number_line_at(greatest: u64, level: u32, text: &[u8]) -> Result<(u64, &[u8]), Stop>
+    requires { level ≤ 600 }
     ensures value { GivesLine (λ x. (x.0, x.1.now)) result (tokens.number_line_at greatest level) text.now }
     ensures within { IfOk result (λ x. x.0 ≤ greatest) }
 {
     match number_in_line(greatest, level, text) {
         Ok((number, rest)) => Ok((number, rest)),
-        Err(_) => Err(Stop::Left(text.len())),
+        Err(_) => Err(stop_in(text)),
     }
 }
 

@@ -113,6 +113,45 @@ fn one_byte_a_call(rt: HostRuntime) {
     }
 }
 
+/// Forms, texts, a line without an end after them, and why that is refused.
+const LONG: [(Form, &[u8], &[u8], MakeFault); 9] = [
+    (Form::Stream, b"", b"y", MakeFault::NotText(1)),
+    (Form::Packed, b"null\nend\n", b"y", MakeFault::NotText(3)),
+    (Form::Bare, b"null\nend\n", b"n", MakeFault::NotText(3)),
+    (Form::Stream, b"", b"0", MakeFault::NotText(1)),
+    (Form::Stream, b"null\n", b"e", MakeFault::NotText(2)),
+    (
+        Form::Stream,
+        b"bytes 9999999\n  ",
+        b"77F7",
+        MakeFault::NotText(2),
+    ),
+    (Form::Stream, b"bytes 9\n  ", b"7", MakeFault::NotText(2)),
+    (
+        Form::Packed,
+        b"bits 9999999\n  ",
+        b"2",
+        MakeFault::NotText(2),
+    ),
+    (
+        Form::Bare,
+        b"struct 1 1\n  word 0000000000000005\n  bits 9\n    ",
+        b"1",
+        MakeFault::NotText(4),
+    ),
+];
+
+#[test]
+fn line_without_end(rt: HostRuntime) {
+    for (form, text, again, fault) in LONG {
+        for most in [65_536, 1_000] {
+            let (outcome, taken) = run(rt.alloc(), form, text, again, most);
+            assert!(rt; outcome == Err(fault), "{fault}");
+            assert!(rt; taken <= 4 * (text.len() + 2_060) + most, "{taken}");
+        }
+    }
+}
+
 /// A text that ends. Some of its lines would be wrong, were they cut.
 const GOOD: &[u8] = b"struct 1 1\n  word 0000000000000005\n  bytes 3\n    616263\nend\n";
 

@@ -174,7 +174,7 @@ fn stream_fault(alloc: Global, input: &[u8]) -> Option<(u64, TextFault)> {
 
 /// Streams of texts that are refused, the line at which the refused text begins, and why.
 const REFUSED_STREAMS: [(&[u8], u64, TextFault); 7] = [
-    (b"null\nend\nnull\n", 3, TextFault::Line(4)),
+    (b"null\nend\nnull\n", 3, TextFault::Cut(4)),
     (b"null\nend\nnull\nnull\nend\n", 3, TextFault::Line(4)),
     (b"null\nend\nbits 2\n  10\nEnd\n", 3, TextFault::Line(5)),
     (b"null\nend\nbits 2\n  12\nend\n", 3, TextFault::Line(4)),
@@ -184,7 +184,7 @@ const REFUSED_STREAMS: [(&[u8], u64, TextFault); 7] = [
         TextFault::Misfit(Misfit::Long),
     ),
     (b"null\nend\nvoid 4294967295\nEnd\n", 3, TextFault::Line(4)),
-    (b"capability 1\n", 1, TextFault::Line(2)),
+    (b"capability 1\n", 1, TextFault::Cut(2)),
 ];
 
 #[test]

@@ -1,19 +1,19 @@
 -- What the parts of a run do.
-use Rattle.std.specs.Prelude.{◌≡◌, ◌≢◌, ◌⊎◌, ◌≤◌, ◌<◌, ⊤, ℕ, ◌+◌, List, [], ◌++◌, length, Bool, true, false}
+use Rattle.std.specs.Prelude.{◌≡◌, ◌≢◌, ◌⊎◌, ◌≤◌, ◌<◌, ⊤, ℕ, ◌+◌, List, [], ◌++◌, length, take, Bool, true, false, not}
 use Rattle.std.specs.Prelude.{Option, Some, None, Result, Ok, Err, Vec}
 use Rattle.std.specs.Io.KnownBytes.{Consumes, IsAtEnd}
 use Rattle.capn_value.specs.Tree.{Tree}
 use Rattle.capn_value.specs.FirstCap.{first_cap}
 use Rattle.capn_value.specs.Text.{show_text}
-use Rattle.capn_text.specs.Streams.{Place, end_line, ended_lines}
+use Rattle.capn_text.specs.Streams.{Place, end_line, ended_lines, MayGoOn, few}
 use Rattle.capn_text.specs.declared.fault.TextFault.{TextFault}
 use Rattle.capn_text.specs.declared.fault.TextFault.TheVariants as texts
 use Rattle.capn_canon.specs.declared.form.Form.{Form}
 use Rattle.capn_canon.specs.declared.form.Form.TheVariants as forms
 use Rattle.capn_make.specs.WrittenValue.{IsMakeable, IsWrittenValue, AreMade}
-use Rattle.capn_make.specs.MadeInput.{AreFirst, IsTextRefused, IsNotOne, Follows, Makes, MakesEach, MakesOne}
+use Rattle.capn_make.specs.MadeInput.{AreFirst, IsTextRefused, IsWrong, IsNotOne, Follows, Makes, MakesEach, MakesOne}
 use Rattle.capn_make.specs.MadeInput.{line_after}
-use Rattle.capn_make.specs.Endings.{IsWhole, IsRefusedForGood}
+use Rattle.capn_make.specs.Endings.{IsRefusedForGood, IsLostForGood}
 use Rattle.capn_make.specs.declared.fault.MakeFault.{MakeFault}
 use Rattle.capn_make.specs.declared.fault.MakeFault.TheVariants as faults
 
@@ -60,6 +60,36 @@ GoesOn form input place made (Ok u) = HasMade form input place made × IsMadeSo 
 GoesOn form input place made (Err fault) = (fault ≡ faults.Memory)
     ⊎ ((HasCapability fault ⊎ HasMade form input place made) × IsMadeSo form input made (Err fault))
 
+-- Whatever follows, line n is wrong at a place: no text goes on with it; or, after the one text that is asked for, it
+-- begins none.
+abbrev pub IsLostAt : Form → Place → ℕ → Type 0
+IsLostAt form place n =
+    ((form ≡ forms.Bare → place.line ≡ 1) × ((more : List ℕ) → IsWrong place.line (place.rest ++ more) n))
+    ⊎ ((form ≡ forms.Bare) × (place.line ≡ 1 → ⊥)
+    × ((more : List ℕ) → Follows place.line (place.rest ++ more) (faults.NotText n)))
+
+-- all that is left but few bytes at its end goes on; or, after the one text that is asked for, few bytes are left
+abbrev pub IsOpenAt : Form → Place → Type 0
+IsOpenAt form place = ((form ≡ forms.Bare → place.line ≡ 1) × MayGoOn place.rest)
+    ⊎ ((form ≡ forms.Bare) × (place.line ≡ 1 → ⊥) × (length place.rest ≤ few))
+
+-- whether a wrong line at a place may become another by what follows
+abbrev pub TellsCut : Form → Place → Bool → MakeFault → Type 0
+TellsCut form place cut fault = (n : ℕ) → fault ≡ faults.NotText n
+    → (cut ≡ true → IsOpenAt form place) × (cut ≡ false → IsLostAt form place n)
+
+-- whether one of the next text may
+abbrev pub TellsNext : Place → Bool → MakeFault → Type 0
+TellsNext place cut fault = (n : ℕ) → fault ≡ faults.NotText n
+    → (cut ≡ true → MayGoOn place.rest)
+    × (cut ≡ false → (more : List ℕ) → IsWrong place.line (place.rest ++ more) n)
+
+-- what follows the one text may
+abbrev pub TellsEnd : Place → Bool → MakeFault → Type 0
+TellsEnd place cut fault = (n : ℕ) → fault ≡ faults.NotText n
+    → (cut ≡ true → length place.rest ≤ few)
+    × (cut ≡ false → (more : List ℕ) → Follows place.line (place.rest ++ more) (faults.NotText n))
+
 -- what a fault is about is complete in what is left, from a line on
 abbrev pub IsWholeFrom : ℕ → List ℕ → MakeFault → Type 0
 IsWholeFrom line rest faults.Memory = ⊤
@@ -70,28 +100,52 @@ IsWholeFrom line rest (faults.Capability n index) = ⊤
 IsWholeFrom line rest (faults.Another n) = ⊤
 IsWholeFrom line rest faults.NoText = ⊥
 
--- An input is refused whatever follows, and this was made of it; or it isn't, and so it is made up to a place.
-abbrev pub TellsRefusal : Form → List ℕ → Place → List ℕ → Option MakeFault → Type 0
-TellsRefusal form input place made (Some fault) = IsMadeSo form input made (Err fault) × IsWhole input fault
-TellsRefusal form input place made None = HasMade form input place made × (IsRefusedForGood form input → ⊥)
+-- whether a fault is that of a wrong line that isn't cut
+abbrev pub is_lost : MakeFault → Bool → Bool
+is_lost faults.Memory cut = false
+is_lost faults.Io cut = false
+is_lost (faults.NotText n) cut = not cut
+is_lost (faults.Misfit n m) cut = false
+is_lost (faults.Capability n index) cut = false
+is_lost (faults.Another n) cut = false
+is_lost faults.NoText cut = false
 
--- This many of the bytes that are left were tested, with all before them: they are not refused whatever follows.
+-- An input is not refused by what is complete in it; nor do its first n bytes end with one fault whatever follows,
+-- where few bytes or more come after them.
+abbrev pub IsNotYet : Form → List ℕ → Type 0
+IsNotYet form input = (IsRefusedForGood form input → ⊥)
+    × ((n : ℕ) → n + few ≤ length input → IsLostForGood form (take n input) → ⊥)
+
+-- Whatever follows an input, this is made of it and so it ends; or it is made up to a place, and not refused for good.
+abbrev pub TellsRefusal : Form → List ℕ → Place → List ℕ → Option MakeFault → Type 0
+TellsRefusal form input place made (Some fault) = (more : List ℕ) → IsMadeSo form (input ++ more) made (Err fault)
+TellsRefusal form input place made None = HasMade form input place made × IsNotYet form input
+
+-- This many of the bytes that are left were tested, with all before them: they are not refused for good.
 pub record HasTested (form : Form) (tested : ℕ) (input rest : List ℕ) : Type 0 where
   pub front : List ℕ
   pub more : List ℕ
   pub are : input ≡ front ++ more
   pub size : length front + length rest ≡ length input + tested
-  pub not_yet : IsRefusedForGood form front → ⊥
+  pub not_yet : IsNotYet form front
 
--- this was made of all bytes of a reader, or of some that are refused whatever follows
+-- this was made of all bytes of a reader, or of some, whatever follows
 abbrev pub EndsMaking : Form → Option (List ℕ) → Bool → List ℕ → List ℕ → Result (Unit {0}) MakeFault → Type 0
-EndsMaking form b failed bytes text ending =
-    Makes form bytes text ending × (IsAtEnd b ⊎ IsRefusedForGood form bytes) × (failed ≡ false)
+EndsMaking form b failed bytes text ending = Makes form bytes text ending
+    × (IsAtEnd b ⊎ ((more : List ℕ) → Makes form (bytes ++ more) text ending)) × (failed ≡ false)
+
+-- whether the fault of a text is that of an unfinished one
+abbrev pub is_cut : TextFault → Bool
+is_cut texts.Memory = false
+is_cut (texts.Line n) = false
+is_cut (texts.Cut n) = true
+is_cut (texts.Misfit m) = false
 
 -- why the next text, from a line on, is not read
 abbrev pub unread : ℕ → TextFault → MakeFault
 unread line texts.Memory = faults.Memory
 unread line (texts.Line n) = faults.NotText n
+unread line (texts.Cut n) = faults.NotText n
 unread line (texts.Misfit m) = faults.Misfit line m
 
 -- what is written of a value whose text begins at a line, or why there is nothing

@@ -1,7 +1,7 @@
 -- Where reading stops: after whole lines that go on, on a line that doesn't. (Own.)
 use Rattle.std.specs.Prelude.{ℕ, suc, ◌≡◌, ◌≤◌, ◌+◌, List, [], ◌++◌, length, Option, Some, None, Result, Ok, Err}
-use Rattle.std.specs.Prelude.{⊤}
-use Rattle.capn_text.specs.Streams.{first_lines, ended_lines}
+use Rattle.std.specs.Prelude.{⊤, nat_lt, cond}
+use Rattle.capn_text.specs.Streams.{first_lines, ended_lines, few}
 use Rattle.capn_text.specs.declared.fault.Stop.{Stop}
 use Rattle.capn_text.specs.declared.fault.Stop.TheVariants as stops
 
@@ -27,10 +27,20 @@ module _ {X : Type 0} (read : ℕ → List ℕ → Option (X × List ℕ)) (room
   Deepens text = (front : List ℕ) × (rest : List ℕ) × (text ≡ front ++ rest)
       × GoesOn read (suc room) front × ((z : List ℕ) → read room (front ++ z) ≡ None)
 
+  -- nothing is read from a text whatever follows it
+  abbrev pub IsLost : List ℕ → Type 0
+  IsLost text = (r : ℕ) (z : List ℕ) → room ≤ r → read r (text ++ z) ≡ None
+
+  -- all of a text but few bytes at its end can be completed
+  abbrev pub IsOpen : List ℕ → Type 0
+  IsOpen text = (front : List ℕ) × (last : List ℕ) × (text ≡ front ++ last) × (length last ≤ few)
+      × (y : List ℕ) × (x : X) × ((r : ℕ) → room ≤ r → read r (front ++ y) ≡ Some (x, []))
+
   -- why nothing is read from a text
   abbrev pub FailsAt : Stop → List ℕ → Type 0
   FailsAt stops.Memory text = ⊤
-  FailsAt (stops.Left n) text = Stops text n
+  FailsAt (stops.Left n) text = Stops text n × IsLost text
+  FailsAt (stops.Cut n) text = Stops text n × IsOpen text
   FailsAt stops.Deep text = Deepens text
 
 -- what a function returned, seen by `view`, is what is read, or it says where reading stops
@@ -39,13 +49,28 @@ abbrev pub GivesAt : {X Y : Type 0} → (X → Y × List ℕ) → Result X Stop 
 GivesAt view (Ok x) read room text = read room text ≡ Some (view x)
 GivesAt view (Err e) read room text = FailsAt read room e text
 
+-- nothing is read from the line at the front whatever follows
+abbrev pub IsLineLost : {X : Type 0} → (List ℕ → Option (X × List ℕ)) → List ℕ → Type 0
+IsLineLost read text = (z : List ℕ) → read (text ++ z) ≡ None
+
+-- all of it but few bytes at its end can be completed
+abbrev pub IsLineOpen : {X : Type 0} → (List ℕ → Option (X × List ℕ)) → List ℕ → Type 0
+IsLineOpen {X} read text = (front : List ℕ) × (last : List ℕ) × (text ≡ front ++ last) × (length last ≤ few)
+    × (y : List ℕ) × (x : X) × (read (front ++ y) ≡ Some (x, []))
+
 -- why nothing is read from the line at the front
-abbrev pub LineFails : {Y : Type 0} → Stop → (List ℕ → Option Y) → List ℕ → Type 0
+abbrev pub LineFails : {X : Type 0} → Stop → (List ℕ → Option (X × List ℕ)) → List ℕ → Type 0
 LineFails stops.Memory read text = ⊤
-LineFails (stops.Left n) read text = (read text ≡ None) × (n ≡ length text)
+LineFails (stops.Left n) read text = (read text ≡ None) × (n ≡ length text) × IsLineLost read text
+LineFails (stops.Cut n) read text = (read text ≡ None) × (n ≡ length text) × IsLineOpen read text
 LineFails stops.Deep read text = ⊥
 
 -- what a function returned, seen by `view`, is what is read from the line at the front
-abbrev pub GivesLine : {X Y : Type 0} → (X → Y) → Result X Stop → (List ℕ → Option Y) → List ℕ → Type 0
+abbrev pub GivesLine : {X Y : Type 0} → (X → Y × List ℕ) → Result X Stop → (List ℕ → Option (Y × List ℕ)) → List ℕ
+    → Type 0
 GivesLine view (Ok x) read text = read text ≡ Some (view x)
 GivesLine view (Err e) read text = LineFails e read text
+
+-- where a line stops that is shorter than any that is long, or isn't
+abbrev pub stop_in : List ℕ → Stop
+stop_in text = cond (nat_lt (length text) few) (stops.Cut (length text)) (stops.Left (length text))

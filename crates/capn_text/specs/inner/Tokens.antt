@@ -1,7 +1,7 @@
 -- Reading what is within a line, from left to right: what was read, and the bytes after it. (Own.)
 use Rattle.std.specs.Prelude.{◌≡◌, ℕ, zero, suc, ◌+◌, ◌-◌, ◌*◌, ◌^◌, List, [], ◌∷◌, Option, Some, None, Result, Ok}
 use Rattle.std.specs.Prelude.{Err, Bool}
-use Rattle.std.specs.Prelude.{nat_lt, nat_le, ◌==◌, ◌&&◌, cond, codes, ⊤}
+use Rattle.std.specs.Prelude.{nat_lt, nat_le, ◌==◌, ◌&&◌, ◌||◌, cond, codes, ⊤}
 use Rattle.std.specs.Int.{from_be_bytes, w64}
 use Rattle.capn_text.specs.declared.fault.Stop.{Stop}
 use Rattle.capn_text.specs.declared.fault.Stop.TheVariants as stops
@@ -16,6 +16,7 @@ None >>= f = None
 abbrev pub Fails : {Y : Type 0} → Stop → Option Y → Type 0
 Fails stops.Memory read = ⊤
 Fails (stops.Left n) read = read ≡ None
+Fails (stops.Cut n) read = read ≡ None
 Fails stops.Deep read = read ≡ None
 
 abbrev pub Gives : {X Y : Type 0} → (X → Y) → Result X Stop → Option Y → Type 0
@@ -26,6 +27,7 @@ Gives view (Err e) read = Fails e read
 abbrev pub FailsIdly : {Y : Type 0} → Stop → Option Y → Type 0
 FailsIdly stops.Memory read = ⊥
 FailsIdly (stops.Left n) read = read ≡ None
+FailsIdly (stops.Cut n) read = read ≡ None
 FailsIdly stops.Deep read = read ≡ None
 
 abbrev pub GivesIdly : {X Y : Type 0} → (X → Y) → Result X Stop → Option Y → Type 0
@@ -96,6 +98,18 @@ unfoldable pub number_line_at : ℕ → ℕ → List ℕ → Option (ℕ × List
 number_line_at greatest level text =
     indent_at level text >>= λ line. decimal_at line >>= λ n. strip (10 ∷ []) n.1
     >>= λ rest. cond (nat_le n.0 greatest) (Some (n.0, rest)) None
+
+-- whether all of these bytes are such digits
+abbrev pub are_all : (ℕ → Bool) → List ℕ → Bool
+are_all is [] = Bool.true
+are_all is (c ∷ cs) = is c && are_all is cs
+
+-- whether a byte is a hexadecimal digit in lower case, or a bit's
+abbrev pub is_hex : ℕ → Bool
+is_hex c = (nat_le 48 c && nat_le c 57) || (nat_le 97 c && nat_le c 102)
+
+abbrev pub is_bit : ℕ → Bool
+is_bit c = (c == 49) || (c == 48)
 
 -- one line of n items, and no line for none
 unfoldable pub row_line_at : {X : Type 0} → (List ℕ → Option (X × List ℕ)) → ℕ → ℕ → List ℕ → Option (List X × List ℕ)

@@ -1,9 +1,9 @@
-use Rattle.std.proofs.Common.{[], length, ap, ◌∙◌, inl, inr, arith}
+use Rattle.std.proofs.Common.{[], ◌++◌, Err, length, ap, subst, ◌∙◌, inl, inr, arith}
 use Rattle.std.proofs.lemmas.Result.{err_from_is_err_and}
 use Rattle.std.proofs.KnownBytes.{Consumes-nil}
-use Rattle.capn_make.specs.Endings.{IsRefusedForGood}
+use Rattle.std.proofs.lemmas.List.{append-nil}
+use Rattle.capn_make.specs.inner.RunParts.{IsMadeSo}
 use Rattle.capn_make.proofs.NextTexts.{none_made}
-use Rattle.capn_make.proofs.FoundRefusal.{so_ends}
 use Rattle.capn_make.proofs.TestedInput.{none_tested, all_tested, failed_at, read_at, refused_at, refused_for}
 use Rattle.capn_make.proofs.input.make_input.Goals as goal
 
@@ -73,9 +73,17 @@ returns-in-Some-2 g c =
     c.in_ok-count.count c.in_ok-count.ensures in
     let found = rw c.in-Some-2.is at c.in_ok-fault.ensures.found in
     let told = found r.bytes r.made_so_far in
-    let good : IsRefusedForGood c.args.form r.bytes =
-    (c.in-Some-2.fault, so_ends c.args.form r.bytes _ _ told.0, told.1) in
-    (r.bytes, r.read, r.time, (c.end.ensures r.bytes told.0, inr good, r.fine))
+    let made = told [] in (
+      r.bytes,
+      r.read,
+      r.time,
+      (
+        c.end.ensures r.bytes (subst (λ t. IsMadeSo c.args.form t c.find_refusal.new.self.made.items
+            (Err c.in-Some-2.fault)) (append-nil r.bytes) made),
+        inr (λ more. c.end.ensures (r.bytes ++ more) (told more)),
+        r.fine,
+      ),
+    )
 
 pub chunks-preserved-then-tested-len : goal.chunks-preserved-then-tested-len
 chunks-preserved-then-tested-len g c =

@@ -20,11 +20,10 @@ returns-in_err-outcome-clause-stops g c =
 pub returns-in_err-write_all-clause-made : goal.returns-in_err-write_all-clause-made
 returns-in_err-write_all-clause-made g c =
     let read = c.in_ok-outcome.ensures in
-    let law = c.refusing.ensures in
     let p = err_from_is_err_and c.from_residual-in_err-write_all.result c.from_residual-in_err-write_all.ensures.1 in
     let begun = rw c.deref.ensures.value at c.in_err-write_all.ensures.begun in
-    rw (p.1, p.2) (part_written law.stays law.one law.ends c.args.form read.0 _ _ _ _ _ _ read.1 read.3.1 read.3.2
-    c.in_ok-outcome.outcome.text.items c.in_ok-outcome.outcome.ending read.3.0 c.in_err-write_all.field-0.0 begun
+    rw (p.1, p.2) (part_written c.args.form read.0 _ _ _ _ _ _ read.1 read.3.2 c.in_ok-outcome.outcome.text.items
+    c.in_ok-outcome.outcome.ending read.3.0 read.3.1 c.in_err-write_all.field-0.0 begun
     c.in_err-write_all.ensures.broken c.in_err-write_all.ensures.only)
 
 pub returns-in_err-write_all-clause-stops : goal.returns-in_err-write_all-clause-stops
@@ -35,10 +34,9 @@ returns-in_err-write_all-clause-stops g c =
 pub returns-clause-made : goal.returns-clause-made
 returns-clause-made g c =
     let read = c.in_ok-outcome.ensures in
-    let law = c.refusing.ensures in
     let written = rw c.deref.ensures.value at c.in_ok-write_all.ensures.ok in
-    all_written law.stays law.one law.ends c.args.form read.0 _ _ _ _ _ _ read.1 read.3.1 read.3.2
-    c.in_ok-outcome.outcome.text.items c.in_ok-outcome.outcome.ending read.3.0 written c.in_ok-write_all.ensures.fine
+    all_written c.args.form read.0 _ _ _ _ _ _ read.1 read.3.2 c.in_ok-outcome.outcome.text.items
+    c.in_ok-outcome.outcome.ending read.3.0 read.3.1 written c.in_ok-write_all.ensures.fine
 
 pub returns-clause-stops : goal.returns-clause-stops
 returns-clause-stops g c =

@@ -1,4 +1,4 @@
-use Rattle.std.proofs.Common.{◌≡◌, ℕ, ◌++◌, Err, ap, sym, subst, ◌∙◌}
+use Rattle.std.proofs.Common.{◌≡◌, inl, ℕ, ◌++◌, Err, ap, sym, subst, ◌∙◌}
 use Rattle.std.proofs.lemmas.Result.{err_from_is_err_and}
 use Rattle.capn_make.specs.inner.RunParts.{HasMade}
 use Rattle.capn_make.specs.declared.fault.MakeFault.TheVariants as faults
@@ -54,3 +54,12 @@ pub returns-in_err-extend_from_slice-clause-memory : goal.returns-in_err-extend_
 returns-in_err-extend_from_slice-clause-memory g c = λ refused.
     let next = rw c.in-Some.is at c.in_ok-piece.ensures.made in
     left_before c.args.texts.now c.texts.texts c.texts.invariant.after (text_left next.0 _ _ next.2)
+
+pub returns-in_err-piece-clause-cut : goal.returns-in_err-piece-clause-cut
+returns-in_err-piece-clause-cut g c =
+    let p = err_from_is_err_and c.from_residual.result c.from_residual.ensures.1 in
+    rw (p.1, p.2) (λ n is.
+    let t = c.in_err-piece.ensures.cut n is in (
+      λ cut. inl (λ b. absurd (c.requires.framed b), t.0 cut),
+      λ cut. inl (λ b. absurd (c.requires.framed b), t.1 cut),
+    ))

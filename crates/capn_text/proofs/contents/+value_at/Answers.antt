@@ -3,13 +3,13 @@ use Rattle.std.proofs.lemmas.Result.{err_from_is_err_and}
 use Rattle.std.proofs.lemmas.List.{map_push}
 use Rattle.capn_value.specs.TreeOf.{tree_of, body_of}
 use Rattle.capn_text.specs.inner.Tokens.{many}
-use Rattle.capn_text.specs.inner.Values.{head_at, tree_at, row_at}
+use Rattle.capn_text.specs.inner.Values.{tree_at, row_at}
 use Rattle.capn_text.specs.declared.heads.Head.TheVariants as heads
 use Rattle.capn_text.proofs.Loops.{goes_on, is_done}
-use Rattle.capn_text.proofs.StopLaws.{idle_none, passes_on, one_fails}
+use Rattle.capn_text.proofs.StopLaws.{passes_on, one_fails}
 use Rattle.capn_text.proofs.TreeStops.{tree_by, row_by, tree_local, tree_full, row_local, row_full}
 use Rattle.capn_text.proofs.PartStops.{words_fail, slots_fail, struct_fails, links_fail, rows_fail, leaf_gives}
-use Rattle.capn_text.proofs.PartStops.{tree_line_fails, low_gives, content_gives, row_line_fails, row_kind_fails}
+use Rattle.capn_text.proofs.PartStops.{tree_line_stops, low_gives, content_gives, row_line_stops, row_kind_fails}
 use Rattle.capn_text.proofs.PartStops.{row_gives}
 use Rattle.capn_text.proofs.ValueOfParts.{node_read, links_read, rows_read}
 use Rattle.capn_text.proofs.contents.+value_at.Goals as goal
@@ -58,8 +58,8 @@ content_at-returns-in_err-rows-in-Rows g t c =
 pub value_at-returns-in_err-head : goal.value_at-returns-in_err-head
 value_at-returns-in_err-head g t c =
     let p = err_from_is_err_and c.from_residual.result c.from_residual.ensures.1 in
-    let none = idle_none c.in_err-head.field-0.0 (head_at c.args.level c.args.text.now) c.in_err-head.ensures.value in
-    rw (p.1, p.2, c.in_err-head.ensures.place) (tree_line_fails c.args.room c.args.level c.args.text.now none)
+    rw (p.1, p.2) (tree_line_stops c.args.room c.args.level c.in_err-head.field-0.0 c.args.text.now
+    c.in_err-head.ensures.place c.in_err-head.ensures.value)
 
 pub value_at-returns-then-room-eq0 : goal.value_at-returns-then-room-eq0
 value_at-returns-then-room-eq0 g t c =
@@ -97,8 +97,8 @@ body_at-returns-in_err-slots g t c =
 pub row_at-returns-in_err-head : goal.row_at-returns-in_err-head
 row_at-returns-in_err-head g t c =
     let p = err_from_is_err_and c.from_residual.result c.from_residual.ensures.1 in
-    let none = idle_none c.in_err-head.field-0.0 (head_at c.args.level c.args.text.now) c.in_err-head.ensures.value in
-    rw (p.1, p.2, c.in_err-head.ensures.place) (row_line_fails c.args.level c.args.room c.args.text.now none)
+    rw (p.1, p.2) (row_line_stops c.args.level c.args.room c.in_err-head.field-0.0 c.args.text.now
+    c.in_err-head.ensures.place c.in_err-head.ensures.value)
 
 pub row_at-returns-in-Null : goal.row_at-returns-in-Null
 row_at-returns-in-Null g t c =

@@ -1,12 +1,10 @@
-use Rattle.std.proofs.Common.{refl}
 use Rattle.capn_text.proofs.leaves.bytes_at.Goals as goal
 
-pub returns-in-Err-Left : goal.returns-in-Err-Left
-returns-in-Err-Left g c =
-    let none = rw c.in-Err-Left.field-0-is at c.in-Err-Left.ensures in
-    (none, refl)
+pub stop_in_bytes-requires-clause-none : goal.stop_in_bytes-requires-clause-none
+stop_in_bytes-requires-clause-none g c = rw c.in-Err-Left.field-0-is at c.in-Err-Left.ensures
 
-pub returns-in-Err-Deep : goal.returns-in-Err-Deep
-returns-in-Err-Deep g c =
-    let none = rw c.in-Err-Deep.field-0-is at c.in-Err-Deep.ensures in
-    (none, refl)
+pub stop_in_bytes-requires-in-Err-Cut-clause-none : goal.stop_in_bytes-requires-in-Err-Cut-clause-none
+stop_in_bytes-requires-in-Err-Cut-clause-none g c = rw c.in-Err-Cut.field-0-is at c.in-Err-Cut.ensures
+
+pub stop_in_bytes-requires-in-Err-Deep-clause-none : goal.stop_in_bytes-requires-in-Err-Deep-clause-none
+stop_in_bytes-requires-in-Err-Deep-clause-none g c = rw c.in-Err-Deep.field-0-is at c.in-Err-Deep.ensures

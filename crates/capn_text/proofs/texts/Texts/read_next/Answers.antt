@@ -1,13 +1,16 @@
-use Rattle.std.proofs.Common.{◌+◌, ◌++◌, Some, inl, ap, sym, ◌∙◌, arith}
+use Rattle.std.proofs.Common.{◌+◌, ◌++◌, [], Some, inl, ap, subst, ◌∙◌, arith}
+use Rattle.std.proofs.lemmas.List.{append-nil}
 use Rattle.std.proofs.lemmas.Result.{err_from_is_err_and}
 use Rattle.capn_value.specs.TreeOf.{tree_of}
 use Rattle.capn_value.specs.Text.{show_text}
 use Rattle.capn_value.proofs.shared.Fitting.{fit_parts}
-use Rattle.capn_text.specs.Streams.{end_line, ended_lines, Place}
+use Rattle.capn_text.specs.Streams.{end_line, ended_lines, ended_text, IsFirstWrong, Place}
+use Rattle.capn_text.specs.inner.Tokens.{strip}
+use Rattle.capn_text.proofs.LostTexts.{names_no_memory, no_end_on, end_none, open_end}
 use Rattle.capn_text.proofs.ShowableValues.{showable-fit}
 use Rattle.capn_text.proofs.LineCounts.{lines_within}
 use Rattle.capn_text.proofs.FittingText.{fits_not}
-use Rattle.capn_text.proofs.StreamTexts.{line_number, lines_counted, room_left, lines_with_end, rest_is, not_none}
+use Rattle.capn_text.proofs.StreamTexts.{lines_counted, room_left, lines_with_end, rest_is, not_none}
 use Rattle.capn_text.proofs.texts.Texts.read_next.Goals as goal
 
 pub counted_from-requires : goal.counted_from-requires
@@ -36,7 +39,7 @@ returns-in_default-clause-end g c v rest s low e n same =
     let lines = c.lines_before.ensures.exact
     ∙ lines_counted c.self.inside.rest.now (tree_of c.in-Ok.value) c.in-Ok.after.now c.in-Ok.ensures.found
     ∙ ap (λ x. ended_lines (show_text x)) is.0 in
-    sym (line_number (c.self.inside.line + c.lines_before.result) n same)
+    c.end_fault.ensures.named n same
     ∙ ap (λ k. c.self.inside.line + k) lines ∙ ap (λ (p : Place). p.line + ended_lines (show_text v)) c.self.view_is
 
 pub returns-in_default-clause-begun : goal.returns-in_default-clause-begun
@@ -89,12 +92,39 @@ returns-clause-counted g c =
     ∙ lines_with_end t w c.in-Ok.after.now c.in-Ok.ensures.found c.in-Some.rest.now c.in-Some.ensures c.self.inside.line
     ∙ ap (λ (p : Place). p.line + ended_lines p.rest) c.self.view_is
 
+pub returns-in-Err-clause-line : goal.returns-in-Err-clause-line
+returns-in-Err-clause-line g c n same v rest s low e =
+    let q = c.counted_from.ensures.named n same in
+    names_no_memory c.in-Err.fault q.0 q.1 (c.in-Err.ensures.only v (end_line ++ rest) s low
+    (ap (λ (p : Place). p.rest) c.self.view_is ∙ e))
+
+pub returns-in-Err-clause-begun : goal.returns-in-Err-clause-begun
+returns-in-Err-clause-begun g c =
+    rw (← c.self.view_is) (λ other. c.in-Err.ensures.begun (λ named. other (c.counted_from.ensures.first named)))
+
 pub returns-in-Err-clause-first : goal.returns-in-Err-clause-first
 returns-in-Err-clause-first g c n same =
-    let q = c.counted_from.ensures.placed n same in
+    let q = c.counted_from.ensures.named n same in
     let low = (c.in-Err.ensures.place q.0 q.1).0 in
     let is = q.2 in
     rw (← c.self.view_is) ((q.0, omega arith, c.in-Err.ensures.first_ended q.0 q.1))
+
+pub returns-in-Err-clause-lost : goal.returns-in-Err-clause-lost
+returns-in-Err-clause-lost g c n same more =
+    let q = c.counted_from.ensures.placed n same in
+    let low = (c.in-Err.ensures.place q.0 (inl q.1)).0 in
+    let is = q.2 in
+    rw (← c.self.view_is) ((
+      λ v rest s fits e. c.in-Err.ensures.none q.0 q.1 more v (end_line ++ rest) s fits e,
+      q.0,
+      omega arith,
+      c.in-Err.ensures.lost q.0 q.1 more,
+    ))
+
+pub returns-in-Err-clause-open : goal.returns-in-Err-clause-open
+returns-in-Err-clause-open g c n same =
+    let q = c.counted_from.ensures.cut n same in
+    rw (← c.self.view_is) (c.in-Err.ensures.open q.0 q.1)
 
 pub returns-in-Err-clause-misfit : goal.returns-in-Err-clause-misfit
 returns-in-Err-clause-misfit g c m same =
@@ -104,7 +134,47 @@ returns-in-Err-clause-misfit g c m same =
 pub returns-in_default-clause-first : goal.returns-in_default-clause-first
 returns-in_default-clause-first g c n same =
     let w = tree_of c.in-Ok.value in
-    let lines = c.lines_before.ensures.exact
-    ∙ lines_counted c.self.inside.rest.now w c.in-Ok.after.now c.in-Ok.ensures.found in
-    let is = line_number (c.self.inside.line + c.lines_before.result) n same in
-    rw (← c.self.view_is) ((ended_lines (show_text w) + 1, omega arith, c.in-Ok.ensures.no_end c.in_default.ensures))
+    let t = c.self.inside.rest.now in
+    let lines = c.lines_before.ensures.exact ∙ lines_counted t w c.in-Ok.after.now c.in-Ok.ensures.found in
+    let is = c.end_fault.ensures.named n same in
+    let wrong = c.in-Ok.ensures.no_end [] (ap (strip end_line) (append-nil c.in-Ok.after.now) ∙ c.in_default.ensures)
+    in
+    rw (← c.self.view_is) ((
+      ended_lines (show_text w) + 1,
+      omega arith,
+      subst (IsFirstWrong ended_text (ended_lines (show_text w) + 1)) (append-nil t) wrong,
+    ))
+
+pub returns-in_default-clause-lost : goal.returns-in_default-clause-lost
+returns-in_default-clause-lost g c n same more =
+    let w = tree_of c.in-Ok.value in
+    let t = c.self.inside.rest.now in
+    let lines = c.lines_before.ensures.exact ∙ lines_counted t w c.in-Ok.after.now c.in-Ok.ensures.found in
+    let is = c.end_fault.ensures.named n (inl same) in
+    let none = no_end_on c.in-Ok.after.now more c.in_default.ensures (c.end_fault.ensures.line n same) in
+    rw (← c.self.view_is) ((
+      λ v rest s fits e. end_none t w c.in-Ok.after.now more c.in-Ok.ensures.found c.in-Ok.ensures.showable none v rest
+          s e,
+      ended_lines (show_text w) + 1,
+      omega arith,
+      c.in-Ok.ensures.no_end more none,
+    ))
+
+pub returns-in_default-clause-open : goal.returns-in_default-clause-open
+returns-in_default-clause-open g c n same =
+    rw (← c.self.view_is) (open_end c.self.inside.rest.now (tree_of c.in-Ok.value) c.in-Ok.after.now
+    c.in-Ok.ensures.found c.in-Ok.ensures.showable c.in-Ok.ensures.low (c.end_fault.ensures.cut n same))
+
+pub returns-in-Err-clause-place : goal.returns-in-Err-clause-place
+returns-in-Err-clause-place g c n same =
+    let q = c.counted_from.ensures.named n same in
+    let low = (c.in-Err.ensures.place q.0 q.1).0 in
+    let high = (c.in-Err.ensures.place q.0 q.1).1 in
+    let is = q.2 in
+    rw (← c.self.view_is) ((omega arith, omega arith))
+
+pub returns-in_default-clause-place : goal.returns-in_default-clause-place
+returns-in_default-clause-place g c n same =
+    let is = c.end_fault.ensures.named n same in
+    let high = c.lines_before.ensures.within in
+    rw (← c.self.view_is) ((omega arith, omega arith))
