@@ -6,4 +6,6 @@ pub mod EqualExactlySame
 pub mod Headline
 pub mod TheTheorem
 pub mod WorkedCanon
+pub mod WorkedObjects
+pub mod WorkedPacked
 pub mod IntoDecided
