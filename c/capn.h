@@ -92,6 +92,13 @@ enum {
     CAPN_KIND_CAPABILITY = 10 /* `count` is its index */
 };
 
+/* A segment of a message: `count` words of 8 bytes each. They may start at any address; if there are none, `words` may be
+ * null. It is laid out as kj::ArrayPtr<const capnp::word> is. */
+typedef struct capn_segment {
+    const void *words;
+    size_t count;
+} capn_segment;
+
 /* An entry of an index: what the pointer in a slot names. */
 typedef struct capn_entry {
     uint64_t offset; /* the offset in `bytes` of its content; of CAPN_KIND_ROWS its tag, 8 bytes before the rows */
@@ -224,6 +231,33 @@ capn_status capn_survey(uint32_t form, const uint8_t *bytes, size_t size, const 
  * its kind and its numbers say. Of null and of a capability the offset says nothing. */
 capn_status capn_index(uint32_t form, const uint8_t *bytes, size_t size, const capn_limits *limits, capn_entry *entries,
                        size_t room, capn_report *report);
+
+/* The calls for a message that is held in segments are there: those that end in `_segments`. */
+#define CAPN_HAS_SEGMENTS 1
+
+/* The same of a message where its segments lie, with no table and no copy. `segments` has `count` segments, 1 to 4,096;
+ * they may overlap. Each call answers and refuses what its sister does of the frame of these segments, under the same
+ * limits: with no segments CAPN_FRAME_EMPTY; with more than 4,096 CAPN_TOO_MANY_SEGMENTS; with more words than
+ * `message_words` CAPN_TOO_MANY_WORDS, of which `at` is their number, or 2^64 - 1 if they are more. The refusals of bytes,
+ * 16 to 33, 51 and 52, never come, nor does CAPN_BAD_FORM. */
+capn_status capn_canonical_segments(const capn_segment *segments, size_t count, const capn_limits *limits, uint8_t *out,
+                                    size_t room, capn_report *report);
+capn_status capn_hash_segments(const capn_segment *segments, size_t count, const capn_limits *limits,
+                               uint8_t digest[32], capn_report *report);
+capn_status capn_check_segments(const capn_segment *segments, size_t count, const capn_limits *limits,
+                                capn_report *report);
+capn_status capn_survey_segments(const capn_segment *segments, size_t count, const capn_limits *limits,
+                                 capn_figures *figures, capn_report *report);
+
+/* The text that the program capn prints for a refusal, with its place, as `Range at 3:623915, paid 0, visits 1`, and for
+ * CAPN_MEMORY; for other statuses, what capn_status_text says. It returns the length of the text, without the zero that
+ * ends it, and writes as much of it as there is room for, always with a zero at its end; with a room of 0 it writes
+ * nothing, and `out` may be null. */
+size_t capn_refusal_text(capn_status status, const capn_report *report, char *out, size_t room);
+
+/* The name of a status, without CAPN_, as `Range` of CAPN_RANGE; for a number that is no status too. It is never null,
+ * and not to be freed. */
+const char *capn_status_name(capn_status status);
 
 #ifdef __cplusplus
 }
