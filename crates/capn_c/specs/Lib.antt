@@ -6,3 +6,4 @@ pub mod FrameReport
 pub mod FrameNeed
 pub mod Offsets
 pub mod UnpackedPieces
+pub mod Held

@@ -13,6 +13,7 @@ mod figures;
 mod first_call;
 mod frame_need;
 mod hash_call;
+mod held_message;
 mod index_call;
 mod is_canonical_call;
 pub mod laws;

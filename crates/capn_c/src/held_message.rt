@@ -1,0 +1,55 @@
+//! Messages that are held in segments.
+
+ghost use Rattle.std.specs.Prelude.{◌≡◌, ◌≤◌, ◌+◌, ◌*◌, List, ℕ, Ok, None, length, IfOk, IfErr, IsErrOf, MatchResult};
+ghost use Rattle.capn_value.specs.Tree.{Tree as Value};
+ghost use Rattle.capn_value.specs.FirstCap.{first_cap};
+ghost use Rattle.capn_canon.specs.Layout.{canon};
+ghost use Rattle.capn_canon.specs.Canonicity.{IsCanonicalForm};
+ghost use Rattle.capn_canon.specs.MemoryNeed.{MayNeedBytes};
+ghost use Rattle.capn_canon.specs.Refusal.{IsPaidWithin};
+ghost use Rattle.capn_canon.specs.declared.refusal.Refusal.TheVariants as refusals;
+ghost use Rattle.capn_segments.specs.Segments.{IsHeld, message_of};
+ghost use Rattle.capn_c.specs.Held.{AnswersHeld, DenotesHeld, IsHeldOr, IsRefusedHeld};
+
+use capn_canon::{Canonical, Refusal, canonical_of};
+use capn_segments::{Segments, SegmentsFault};
+use capn_stream::FrameFault;
+use capn_walk::Limits;
+use std::alloc::Global;
+
+/// The message that segments hold within limits, or why they hold none, by the fault of a frame of the same segments.
+pub fn held<'a>(segments: &'a [&'a [[u8; 8]]], limits: Limits) -> Result<Segments<'a>, Refusal>
+    ensures exact { IsHeldOr (message_of segments.now) limits result }
+    ensures only { IsHeld (message_of segments.now) limits.message_words → result ≡ Ok (message_of segments.now) }
+{
+    match Segments::new(segments, limits.message_words()) {
+        Ok(message) => Ok(message),
+        Err(SegmentsFault::Empty) => Err(Refusal::Frame(FrameFault::Empty)),
+        Err(SegmentsFault::TooManySegments(count)) => {
+            Err(Refusal::Frame(FrameFault::TooManySegments(count)))
+        }
+        Err(SegmentsFault::TooManyWords(words)) => {
+            Err(Refusal::Frame(FrameFault::TooManyWords(words)))
+        }
+    }
+}
+
+/// The canonical bytes of a message that is held in segments.
+pub fn canonical_held(
+    alloc: Global,
+    segments: &[&[[u8; 8]]],
+    limits: Limits,
+) -> Result<Canonical, Refusal>
+    ensures found { IfOk result (λ c. AnswersHeld (message_of segments.now) limits c.bytes.items c.paid) }
+    ensures only { (v : Value) → DenotesHeld (message_of segments.now) limits v → first_cap v ≡ None
+        → MatchResult result (λ c. c.bytes.items ≡ canon v) (λ e. e ≡ refusals.Memory) }
+    ensures refused { IfErr result (λ e. IsRefusedHeld (message_of segments.now) limits e) }
+    ensures memory { IsErrOf result refusals.Memory → MayNeedBytes (message_of segments.now) limits }
+    ensures bounded { MatchResult result (λ c. c.paid ≤ limits.budget) (λ e. IsPaidWithin limits.budget e) }
+    ensures short { IfOk result (λ c. length c.bytes.items ≤ 8 * (c.paid + 1)) }
+    ensures canonical { IfOk result (λ c. (v : Value) → DenotesHeld (message_of segments.now) limits v
+        → IsCanonicalForm c.bytes.items limits v) }
+{
+    let message = held(segments, limits)?;
+    canonical_of(alloc, &message, limits)
+}
