@@ -8,4 +8,5 @@ pub mod Named
 pub mod OneBare
 pub mod OutOfMemory
 pub mod Placed
+pub mod Short
 pub mod Unpacked
