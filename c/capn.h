@@ -33,14 +33,14 @@ extern "C" {
 #endif
 
 /* How the bytes of a message are written. */
-enum {
+enum capn_form {
     CAPN_STREAM = 0, /* a segment table, then the segments */
     CAPN_PACKED = 1, /* the packed text of such bytes */
     CAPN_BARE = 2    /* the words of one segment, with no table */
 };
 
 /* How a walk counts what it pays. */
-enum {
+enum capn_tariff {
     CAPN_STRICT = 0, /* each struct and list pays a word beside its size */
     CAPN_PLAIN = 1   /* nothing beside it, as the traversal limit of the C++ implementation counts */
 };
@@ -78,7 +78,7 @@ typedef struct capn_figures {
 } capn_figures;
 
 /* What a pointer names. */
-enum {
+enum capn_kind {
     CAPN_KIND_NULL = 0,
     CAPN_KIND_STRUCT = 1,   /* `words` data words, then `slots` pointers */
     CAPN_KIND_VOID = 2,     /* a list of `count` elements, each without size, */
@@ -111,7 +111,8 @@ typedef struct capn_entry {
 
 /* The types have the sizes that the library gives them; else this is refused by any compiler of C and C++. */
 #define CAPN_SIZES_AGREE (sizeof(capn_limits) == 16 && sizeof(capn_report) == 32 && sizeof(capn_figures) == 32 \
-                          && sizeof(capn_entry) == 24 && offsetof(capn_entry, kind) == 20)
+                          && sizeof(capn_entry) == 24 && offsetof(capn_entry, kind) == 20 \
+                          && sizeof(capn_segment) == 16 && offsetof(capn_segment, count) == 8)
 #if defined(__cplusplus) && __cplusplus >= 201103L
 static_assert(CAPN_SIZES_AGREE, "as the library lays them out");
 #elif !defined(__cplusplus) && defined(__STDC_VERSION__) && __STDC_VERSION__ >= 201112L
@@ -120,8 +121,9 @@ _Static_assert(CAPN_SIZES_AGREE, "as the library lays them out");
 typedef char capn_sizes_agree[CAPN_SIZES_AGREE ? 1 : -1];
 #endif
 
+/* What a call answers. All numbers from 16 to 127 are, and will be, refusals of what was passed. */
 typedef uint32_t capn_status;
-enum {
+enum capn_status_code {
     /* the call */
     CAPN_OK = 0,
     CAPN_NO_ROOM = 1,       /* `length` bytes are enough for the answer; the buffer is as it was */
@@ -222,15 +224,17 @@ capn_status capn_survey(uint32_t form, const uint8_t *bytes, size_t size, const 
 
 /* The index of one message, of CAPN_STREAM or CAPN_BARE; with CAPN_PACKED it answers CAPN_BAD_FORM: unpack it first.
  * It has an entry for each slot that the walk visits, in preorder: first the root, and after each entry those of its
- * slots, one a `span` after the other. `room` counts entries.
+ * slots, one a `span` after the other.
  * CAPN_OK: `visits` entries are at the start of `entries`, and the rest is as it was. CAPN_NO_ROOM: there are `visits`
- * entries, more than there is room for. In both `length` is 24 * visits. With a room of 0 it reports the number alone.
+ * entries, more than `most_entries`. In both `length` is 24 * visits. With no room it reports the number alone.
+ * `most_entries` counts entries, and `length` bytes: so have malloc(report.length), and pass report.visits, never
+ * report.length.
  * It accepts and refuses what capn_check does. Unless it answers CAPN_OK, the entries are as they were. It takes memory
  * where capn_check does, and, once there is room, for 24 bytes an entry and 4 a segment.
  * All that an entry says lies within `bytes`, also of a hostile message: an offset, and from there on as many bytes as
  * its kind and its numbers say. Of null and of a capability the offset says nothing. */
 capn_status capn_index(uint32_t form, const uint8_t *bytes, size_t size, const capn_limits *limits, capn_entry *entries,
-                       size_t room, capn_report *report);
+                       size_t most_entries, capn_report *report);
 
 /* The calls for a message that is held in segments are there: those that end in `_segments`. */
 #define CAPN_HAS_SEGMENTS 1

@@ -48,4 +48,5 @@ figured form bs limits s q f h k a =
 -- and of one that is held in segments
 pub figured_held : (message : List (List ℕ)) (limits : Bounds) (s : Surveyed) (q : Measured) (f : CapnFigures)
     → MeasuresHeld message limits s q → AreOf s q f → FiguresHeld message limits f
-figured_held message limits s q f h a = record { held = h.held; are = figures_are message limits s q f h.survey h.are a }
+figured_held message limits s q f h a =
+    record { held = h.held; are = figures_are message limits s q f h.survey h.are a }

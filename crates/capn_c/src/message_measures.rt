@@ -1,6 +1,7 @@
 //! What a message comes to beside its price.
 
-ghost use Rattle.std.specs.Prelude.{◌≡◌, ◌≢◌, ◌<◌, [], ◌∷◌, None, length, IfSome, IsSome, IfOk, IfErr, IsOk, MatchResult};
+ghost use Rattle.std.specs.Prelude.{◌≡◌, ◌≢◌, ◌<◌, [], ◌∷◌, None, length, IfSome, IsSome};
+ghost use Rattle.std.specs.Prelude.{IfOk, IfErr, IsOk, MatchResult};
 ghost use Rattle.capn_words.specs.Message.{total};
 ghost use Rattle.capn_value.specs.Tree.{Tree as Value};
 ghost use Rattle.capn_walk.specs.Accepted.{IsBounded, IsValueOf};
