@@ -15,8 +15,8 @@
  *
  * A call reads bytes, writes into a buffer of the caller's, and keeps nothing: no state, no handle, nothing to free.
  * Calls may run in any threads at once, also on the same input. A call takes memory by malloc, and gives it back before
- * it returns. It takes at most 16 KiB of stack, and 256 bytes more for each level of depth that the limits allow:
- * 80 KiB at depth 256.
+ * it returns. It takes at most 16 KiB of stack, and 352 bytes more for each level of depth that the limits allow:
+ * 104 KiB at depth 256.
  *
  * Each call answers a status and fills its report in; a field that the status does not speak of is 0. */
 #ifndef CAPN_H
@@ -172,7 +172,7 @@ capn_status capn_canonical(uint32_t form, const uint8_t *bytes, size_t size, con
                            size_t room, capn_report *report);
 
 /* Whether bytes, read bare, are the canonical bytes of their value: CAPN_OK, CAPN_NOT_CANONICAL, or a refusal; with the
- * first two every field of the report is 0. It takes memory only for a depth above 64. */
+ * first two every field of the report is 0. It takes no memory. */
 capn_status capn_is_canonical(const uint8_t *bytes, size_t size, const capn_limits *limits, capn_report *report);
 
 /* The SHA-256 of the canonical bytes of one message. */
@@ -180,7 +180,7 @@ capn_status capn_hash(uint32_t form, const uint8_t *bytes, size_t size, const ca
                       capn_report *report);
 
 /* Whether one message is accepted within limits, with what reading it pays and how many visits that makes. It takes
- * memory only for the table of two segments or more, for what is unpacked, and for a depth above 64. */
+ * memory only for the table of two segments or more, and for what is unpacked. */
 capn_status capn_check(uint32_t form, const uint8_t *bytes, size_t size, const capn_limits *limits,
                        capn_report *report);
 
@@ -243,7 +243,8 @@ capn_status capn_index(uint32_t form, const uint8_t *bytes, size_t size, const c
  * they may overlap. Each call answers and refuses what its sister does of the frame of these segments, under the same
  * limits: with no segments CAPN_FRAME_EMPTY; with more than 4,096 CAPN_TOO_MANY_SEGMENTS; with more words than
  * `message_words` CAPN_TOO_MANY_WORDS, of which `at` is their number, or 2^64 - 1 if they are more. The refusals of bytes,
- * 16 to 33, 51 and 52, never come, nor does CAPN_BAD_FORM. */
+ * 16 to 33, 51 and 52, never come, nor does CAPN_BAD_FORM. Memory is taken for canonical bytes alone: capn_check_segments
+ * and capn_survey_segments take none. */
 capn_status capn_canonical_segments(const capn_segment *segments, size_t count, const capn_limits *limits, uint8_t *out,
                                     size_t room, capn_report *report);
 capn_status capn_hash_segments(const capn_segment *segments, size_t count, const capn_limits *limits,
