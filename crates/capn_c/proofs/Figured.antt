@@ -1,5 +1,5 @@
 -- What is surveyed and measured of one message are its figures.
-use Rattle.std.proofs.Common.{◌≡◌, ◌↔◌, ℕ, List, subst, sym, ◌∙◌}
+use Rattle.std.proofs.Common.{◌≡◌, ◌↔◌, ◌≤◌, ℕ, List, subst, sym, ◌∙◌}
 use Rattle.std.specs.Bool.{IsTrue}
 use Rattle.capn_walk.specs.Depth.{IsDepth}
 use Rattle.capn_walk.specs.Limits.{Bounds}
@@ -22,6 +22,7 @@ pub record AreOf (s : Surveyed) (q : Measured) (f : CapnFigures) : Type 0 where
   pub depth : f.depth ≡ q.depth
   pub capability : reported_cap f.has_capability f.capability ≡ s.capability
   pub canonical : (f.canonical ≡ 1) ↔ IsTrue q.canonical
+  pub flags : (f.has_capability ≤ 1) × (f.canonical ≤ 1)
 
 -- of a message
 figures_are : (message : List (List ℕ)) (limits : Bounds) (s : Surveyed) (q : Measured) (f : CapnFigures)
@@ -36,6 +37,7 @@ figures_are message limits s q f h are a = record {
   depth = subst (IsDepth message limits) (sym a.depth) are.depth;
   capability = a.capability ∙ h.capability;
   canonical = ((λ e. are.canonical.0 (a.canonical.0 e)), (λ e. a.canonical.1 (are.canonical.1 e)));
+  flags = a.flags;
 }
 
 pub figured : (form : Form) (bs : List ℕ) (limits : Bounds) (s : Surveyed) (q : Measured) (f : CapnFigures)

@@ -1,5 +1,5 @@
 -- What is reported of a message that is read. (Own.)
-use Rattle.std.specs.Prelude.{◌≡◌, ◌⊎◌, ◌↔◌, ℕ, zero, suc, List, length, Option, Some, None}
+use Rattle.std.specs.Prelude.{◌≡◌, ◌⊎◌, ◌↔◌, ◌≤◌, ℕ, zero, suc, List, length, Option, Some, None}
 use Rattle.std.specs.Bool.{IsTrue}
 use Rattle.capn_words.specs.Message.{bytes, segment_at, total}
 use Rattle.capn_value.specs.Tree.{Tree}
@@ -52,7 +52,7 @@ reported_cap zero k = None
 reported_cap (suc n) k = Some k
 
 -- the figures of an accepted message: its words and segments; what its walk pays and visits; the least depth under
--- which it is accepted; 1 and the first capability of its value, or 0 and 0; and 1 if and only if it is canonical
+-- which it is accepted; 1 and the first capability of its value, or 0 and 0; and 1 if it is canonical, else 0
 pub record AreFigures (message : List (List ℕ)) (limits : Bounds) (f : CapnFigures) : Type 0 where
   pub value : Tree
   pub is : IsValueOf message limits value
@@ -63,6 +63,7 @@ pub record AreFigures (message : List (List ℕ)) (limits : Bounds) (f : CapnFig
   pub depth : IsDepth message limits f.depth
   pub capability : reported_cap f.has_capability f.capability ≡ first_cap value
   pub canonical : (f.canonical ≡ 1) ↔ IsCanonicalMessage message limits
+  pub flags : (f.has_capability ≤ 1) × (f.canonical ≤ 1)
 
 -- the figures of the message that bytes are read as
 pub record FiguresIn (form : Form) (bs : List ℕ) (limits : Bounds) (f : CapnFigures) : Type 0 where
