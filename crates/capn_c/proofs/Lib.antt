@@ -2,6 +2,7 @@ pub mod Counted
 pub mod Delivered
 pub mod Entered
 pub mod Figured
+pub mod Framed
 pub mod Least
 pub mod Listed
 pub mod Named

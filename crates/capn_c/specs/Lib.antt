@@ -7,3 +7,4 @@ pub mod FrameNeed
 pub mod Offsets
 pub mod UnpackedPieces
 pub mod Held
+pub mod AsFramed
