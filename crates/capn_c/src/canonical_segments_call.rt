@@ -121,7 +121,7 @@ pub extern "C" fn capn_canonical_segments(
     // What each refusal means; no other status stands for it.
     ensures refused { 5 ≤ result → (e : Refusals) × Reports result report.new e
         × IsRefusedHeld (message_of segments.now) (bounds_of limits.now) e }
-    // Memory is needed only if there is room, for a depth above 64 and for canonical bytes.
+    // Memory is needed only if there is room, for canonical bytes.
     ensures memory { result ≡ 8 → MayNeedBytes (message_of segments.now) (bounds_of limits.now) }
     ensures measuring { result ≡ 8 → 0 < length out.old }
     // No walk pays beyond its budget.

@@ -82,7 +82,7 @@ pub extern "C" fn capn_hash_segments(
     // What each refusal means; no other status stands for it.
     ensures refused { 5 ≤ result → (e : Refusals) × Reports result report.new e
         × IsRefusedHeld (message_of segments.now) (bounds_of limits.now) e }
-    // Memory is needed only for a depth above 64 and for canonical bytes.
+    // Memory is needed only for canonical bytes.
     ensures memory { result ≡ 8 → MayNeedBytes (message_of segments.now) (bounds_of limits.now) }
     // No walk pays beyond its budget.
     ensures bounded { IsBounded limits.now.budget report.new.paid report.new.visits }
