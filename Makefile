@@ -99,7 +99,6 @@ interop: $(if $(CAPN),,program library)
 	@if command -v python3 > /dev/null; then ./python/tests/run && ./interop/hostile; \
 	else echo "python, hostile: skipped, since there is no python3"; fi
 	./interop/languages
-	./go/test
 
 # The library for C, proved: the archive of capn_c and what is made of it.
 library:
