@@ -336,8 +336,8 @@ inline buffer pack(bytes words) {
 
 /* The words of a packed text, at most `most_words`. */
 inline buffer unpack(bytes text, std::uint32_t most_words = 8388608 + 2049) {
-    const std::size_t room = std::min(4 * text.size(), 8 * std::size_t{most_words});
-    return detail::made(room, [&](std::uint8_t *out, std::size_t room, capn_report *report) {
+    const std::size_t hint = std::min(4 * text.size(), 8 * std::size_t{most_words});
+    return detail::made(hint, [&](std::uint8_t *out, std::size_t room, capn_report *report) {
         return capn_unpack(text.u8(), text.size(), most_words, out, room, report);
     });
 }
