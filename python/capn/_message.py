@@ -125,9 +125,9 @@ class Slots(_Items["Value"]):
 class Body:
     """Words and slots: what a struct has, and a row of a list of structs.
 
-    A field of data is stored XOR its default, so what reads one takes the default, and answers it where the struct is too
-    short for the field. `offset` counts fields of that size from the start of the data, as `slot.offset` of a compiled
-    schema does: `bits[32, 64)` of `capnp compile -ocapnp` is `uint(32, 1)`."""
+    A field of data is stored XOR its default, so what reads one takes the default, and answers it where the struct is
+    too short for the field. `offset` counts fields of that size from the start of the data, as `slot.offset` of a
+    compiled schema does: `bits[32, 64)` of `capnp compile -ocapnp` is `uint(32, 1)`."""
 
     __slots__ = ()
     kind: Literal["struct"] = "struct"
@@ -457,8 +457,8 @@ class Message:
         return self._object(0)
 
     def at(self, *way: int) -> Value | Row | None:
-        """What is at a way of numbers from the root, as `capn show --at` has it: of a struct a number means a slot, of a
-        list of pointers an element, of a list of structs a row. None if nothing is there."""
+        """What is at a way of numbers from the root, as `capn show --at` has it: of a struct a number means a slot, of
+        a list of pointers an element, of a list of structs a row. None if nothing is there."""
         found: Value | Row = self.root
         for step in way:
             number = index(step)
@@ -512,8 +512,8 @@ class Message:
         return view
 
     def _below(self, at: int, count: int) -> Sequence[int]:
-        """Where the entries of this number of slots are that come after an entry. Slots with nothing below them, as most
-        have, need no list."""
+        """Where the entries of this number of slots are that come after an entry. Slots with nothing below them, as
+        most have, need no list."""
         if self._entries[at].span == count + 1:
             return range(at + 1, at + 1 + count)
         places = self._places.get(at)

@@ -62,9 +62,9 @@ class Splitter:
     """The messages of a stream, from its bytes as they come: `feed` answers the messages that they complete, one frame
     each, and `end` says that no more follow.
 
-    No more is held than the message that has begun and what was fed at once. `limits.message_words` bounds each message.
-    Where the stream is refused, the messages before are answered first: the refusal is raised by the call that would
-    have no other answer, and by each one after it."""
+    No more is held than the message that has begun and what was fed at once. `limits.message_words` bounds each
+    message. Where the stream is refused, the messages before are answered first: the refusal is raised by the call that
+    would have no other answer, and by each one after it."""
 
     __slots__ = ("_bounds", "_packed", "_report", "_held", "_need", "_text", "_out", "_taken", "_refusal", "number",
                  "offset")
@@ -89,8 +89,8 @@ class Splitter:
 
     @property
     def wanted(self) -> int:
-        """How many bytes may be fed next so that none is after the message that has begun, or, of a packed stream, after
-        the group in which it ends: at least 1."""
+        """How many bytes may be fed next so that none is after the message that has begun, or, of a packed stream,
+        after the group in which it ends: at least 1."""
         return _group(self._text) - len(self._text) if self._packed else max(self._need, _HEAD) - len(self._held)
 
     def feed(self, data: Buffer) -> list[bytes]:
