@@ -1,4 +1,5 @@
 """Objects of a message: values, texts, fields with their defaults, ways, and a message that is closed."""
+import array
 import copy
 import itertools
 import math
@@ -100,6 +101,10 @@ class Equality(unittest.TestCase):
         self.assertEqual(slots[1], [True, False, True])
         self.assertEqual(slots[2], (1, 2))
         self.assertNotEqual(slots[2], [1, 2, 3])
+        self.assertEqual(slots[2], range(1, 3))
+        self.assertEqual(slots[2], array.array("H", [1, 2]))
+        self.assertNotEqual(slots[2], array.array("H", [1, 3]))
+        self.assertEqual(slots[0], memoryview(b"abc\0"))
         self.assertEqual(slots, [b"abc\0", [True, False, True], [1, 2]])
         self.assertEqual(slots, root.slots)
         self.assertNotEqual(slots[0], "abc")
