@@ -21,7 +21,7 @@ func packedMessages(t *testing.T, source *rand.Rand) (messages, texts [][]byte) 
 		case 0:
 			segments = append(segments, make([]uint64, 5000))
 		case 1:
-			segments = append(segments, randomWords(source, 20000))
+			segments = append(segments, randomWords(source, 9000))
 		}
 		message, err := framed(bytesOf(segments))
 		if err != nil {
@@ -38,7 +38,7 @@ func packedMessages(t *testing.T, source *rand.Rand) (messages, texts [][]byte) 
 
 func TestPackedMessages(t *testing.T) {
 	source := rand.New(rand.NewSource(70))
-	for i := 0; i < 200; i++ {
+	for i := 0; i < 60; i++ {
 		messages, texts := packedMessages(t, source)
 		stream := bytes.Join(texts, nil)
 		// As one text: groups go from one message into the next.
