@@ -12,6 +12,7 @@ import sys
 import tempfile
 import threading
 import unittest
+import unittest.mock
 
 import capn
 from messages import stream
@@ -452,6 +453,49 @@ class Splitters(unittest.TestCase):
                     refused = (str(refusal), refusal.number, refusal.offset)
                 self.assertEqual(got, [frame for _, frame, _ in found])
                 self.assertEqual(refused, fault)
+
+    def test_memory_that_is_there_later(self):
+        # A frame of several segments takes memory to be found.
+        message, first = SHAPES[1], capn._stream._first
+        refusals = []
+
+        def little(*words):
+            status = first(*words)
+            if status == 0 and not refusals:
+                refusals.append(status)
+                return 8
+            return status
+
+        for packed in False, True:
+            sent = capn.pack(message) if packed else message
+            for make in (
+                lambda: capn.messages(Blocking([sent]), packed=packed),
+                lambda: capn.messages(io.BytesIO(sent), packed=packed),
+                lambda: capn.messages(sent, packed=packed, read_ahead=True),
+            ):
+                refusals.clear()
+                found = make()
+                with unittest.mock.patch.object(capn._stream, "_first", little):
+                    self.assertRaises(MemoryError, next, found)
+                    self.assertEqual(next(found), message)
+                    self.assertRaises(StopIteration, next, found)
+            refusals.clear()
+            splitter = capn.Splitter("packed" if packed else "stream")
+            with unittest.mock.patch.object(capn._stream, "_first", little):
+                self.assertRaises(MemoryError, splitter.feed, sent)
+                self.assertEqual((splitter.wanted, splitter.feed(b"")), (0, [message]))
+
+            async def run(sent=sent, packed=packed):
+                reader = asyncio.StreamReader()
+                reader.feed_data(sent)
+                found = capn.amessages(reader, form="packed" if packed else "stream")
+                with self.assertRaises(MemoryError):
+                    await anext(found)
+                return await anext(found)
+
+            refusals.clear()
+            with unittest.mock.patch.object(capn._stream, "_first", little):
+                self.assertEqual(asyncio.run(run()), message)
 
     def test_wanted_leaves_what_follows(self):
         source = random.Random(66)
