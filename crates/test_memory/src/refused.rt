@@ -169,12 +169,17 @@ fn answers(of: &Subject, call: Call, number: u64) -> (bool, Answer, Answer) {
     (is_spared, first, again)
 }
 
+/// Whether a call asks for memory: a survey takes none, whatever the depth, nor does what reads bare words.
+fn takes_memory(call: Call) -> bool {
+    !matches!(call, Call::Survey | Call::Check | Call::Account(Form::Bare))
+}
+
 /// Refuses each growth of a call in turn, until a run meets none: it answers Memory and nothing else, and then, with
-/// ample memory, what is right.
+/// ample memory, what is right. A call that takes no memory meets none at once.
 fn refuse_each(rt: &impl Abort, of: &Subject, name: &str, call: Call) {
     for number in 1..1_000u64 {
         match answers(of, call, number) {
-            (true, Answer::Right, _) if 1 < number => return,
+            (true, Answer::Right, _) if takes_memory(call) == (1 < number) => return,
             (false, Answer::Memory, Answer::Right) => {}
             _ => assert!(rt; false, "{name}, growth {number}"),
         }

@@ -46,7 +46,7 @@ pub(crate) fn index_answer<S: Space>(of: &Subject, short: &Refusing<Global>, spa
     }
 }
 
-/// The index of the chain, whose survey grows too.
+/// The index of the chain, whose survey takes no memory.
 pub(crate) fn deep_index_answer(of: &Subject, short: &Refusing<Global>) -> Answer {
     match Bare::new(of.chain.as_slice()) {
         Ok(bare) => index_answer(of, short, &bare),
