@@ -98,6 +98,7 @@ interop: $(if $(CAPN),,program library)
 	./contrib/dask/run
 	@if command -v python3 > /dev/null; then ./python/tests/run && ./interop/hostile; \
 	else echo "python, hostile: skipped, since there is no python3"; fi
+	./interop/languages
 
 # The library for C, proved: the archive of capn_c and what is made of it.
 library:

@@ -15,8 +15,8 @@
  *
  * A call reads bytes, writes into a buffer of the caller's, and keeps nothing: no state, no handle, nothing to free.
  * Calls may run in any threads at once, also on the same input. A call takes memory by malloc, and gives it back before
- * it returns. It takes at most 16 KiB of stack, and 256 bytes more for each level of depth that the limits allow:
- * 80 KiB at depth 256.
+ * it returns. It takes at most 16 KiB of stack, and 352 bytes more for each level of depth that the limits allow:
+ * 104 KiB at depth 256.
  *
  * Each call answers a status and fills its report in; a field that the status does not speak of is 0. */
 #ifndef CAPN_H
@@ -33,14 +33,14 @@ extern "C" {
 #endif
 
 /* How the bytes of a message are written. */
-enum {
+enum capn_form {
     CAPN_STREAM = 0, /* a segment table, then the segments */
     CAPN_PACKED = 1, /* the packed text of such bytes */
     CAPN_BARE = 2    /* the words of one segment, with no table */
 };
 
 /* How a walk counts what it pays. */
-enum {
+enum capn_tariff {
     CAPN_STRICT = 0, /* each struct and list pays a word beside its size */
     CAPN_PLAIN = 1   /* nothing beside it, as the traversal limit of the C++ implementation counts */
 };
@@ -78,7 +78,7 @@ typedef struct capn_figures {
 } capn_figures;
 
 /* What a pointer names. */
-enum {
+enum capn_kind {
     CAPN_KIND_NULL = 0,
     CAPN_KIND_STRUCT = 1,   /* `words` data words, then `slots` pointers */
     CAPN_KIND_VOID = 2,     /* a list of `count` elements, each without size, */
@@ -92,6 +92,13 @@ enum {
     CAPN_KIND_CAPABILITY = 10 /* `count` is its index */
 };
 
+/* A segment of a message: `count` words of 8 bytes each. They may start at any address; if there are none, `words` may be
+ * null. It is laid out as kj::ArrayPtr<const capnp::word> is. */
+typedef struct capn_segment {
+    const void *words;
+    size_t count;
+} capn_segment;
+
 /* An entry of an index: what the pointer in a slot names. */
 typedef struct capn_entry {
     uint64_t offset; /* the offset in `bytes` of its content; of CAPN_KIND_ROWS its tag, 8 bytes before the rows */
@@ -104,7 +111,8 @@ typedef struct capn_entry {
 
 /* The types have the sizes that the library gives them; else this is refused by any compiler of C and C++. */
 #define CAPN_SIZES_AGREE (sizeof(capn_limits) == 16 && sizeof(capn_report) == 32 && sizeof(capn_figures) == 32 \
-                          && sizeof(capn_entry) == 24 && offsetof(capn_entry, kind) == 20)
+                          && sizeof(capn_entry) == 24 && offsetof(capn_entry, kind) == 20 \
+                          && sizeof(capn_segment) == 16 && offsetof(capn_segment, count) == 8)
 #if defined(__cplusplus) && __cplusplus >= 201103L
 static_assert(CAPN_SIZES_AGREE, "as the library lays them out");
 #elif !defined(__cplusplus) && defined(__STDC_VERSION__) && __STDC_VERSION__ >= 201112L
@@ -113,8 +121,9 @@ _Static_assert(CAPN_SIZES_AGREE, "as the library lays them out");
 typedef char capn_sizes_agree[CAPN_SIZES_AGREE ? 1 : -1];
 #endif
 
+/* What a call answers. All numbers from 16 to 127 are, and will be, refusals of what was passed. */
 typedef uint32_t capn_status;
-enum {
+enum capn_status_code {
     /* the call */
     CAPN_OK = 0,
     CAPN_NO_ROOM = 1,       /* `length` bytes are enough for the answer; the buffer is as it was */
@@ -163,7 +172,7 @@ capn_status capn_canonical(uint32_t form, const uint8_t *bytes, size_t size, con
                            size_t room, capn_report *report);
 
 /* Whether bytes, read bare, are the canonical bytes of their value: CAPN_OK, CAPN_NOT_CANONICAL, or a refusal; with the
- * first two every field of the report is 0. It takes memory only for a depth above 64. */
+ * first two every field of the report is 0. It takes no memory. */
 capn_status capn_is_canonical(const uint8_t *bytes, size_t size, const capn_limits *limits, capn_report *report);
 
 /* The SHA-256 of the canonical bytes of one message. */
@@ -171,7 +180,7 @@ capn_status capn_hash(uint32_t form, const uint8_t *bytes, size_t size, const ca
                       capn_report *report);
 
 /* Whether one message is accepted within limits, with what reading it pays and how many visits that makes. It takes
- * memory only for the table of two segments or more, for what is unpacked, and for a depth above 64. */
+ * memory only for the table of two segments or more, and for what is unpacked. */
 capn_status capn_check(uint32_t form, const uint8_t *bytes, size_t size, const capn_limits *limits,
                        capn_report *report);
 
@@ -215,15 +224,45 @@ capn_status capn_survey(uint32_t form, const uint8_t *bytes, size_t size, const 
 
 /* The index of one message, of CAPN_STREAM or CAPN_BARE; with CAPN_PACKED it answers CAPN_BAD_FORM: unpack it first.
  * It has an entry for each slot that the walk visits, in preorder: first the root, and after each entry those of its
- * slots, one a `span` after the other. `room` counts entries.
+ * slots, one a `span` after the other.
  * CAPN_OK: `visits` entries are at the start of `entries`, and the rest is as it was. CAPN_NO_ROOM: there are `visits`
- * entries, more than there is room for. In both `length` is 24 * visits. With a room of 0 it reports the number alone.
+ * entries, more than `most_entries`. In both `length` is 24 * visits. With no room it reports the number alone.
+ * `most_entries` counts entries, and `length` bytes: so have malloc(report.length), and pass report.visits, never
+ * report.length.
  * It accepts and refuses what capn_check does. Unless it answers CAPN_OK, the entries are as they were. It takes memory
  * where capn_check does, and, once there is room, for 24 bytes an entry and 4 a segment.
  * All that an entry says lies within `bytes`, also of a hostile message: an offset, and from there on as many bytes as
  * its kind and its numbers say. Of null and of a capability the offset says nothing. */
 capn_status capn_index(uint32_t form, const uint8_t *bytes, size_t size, const capn_limits *limits, capn_entry *entries,
-                       size_t room, capn_report *report);
+                       size_t most_entries, capn_report *report);
+
+/* The calls for a message that is held in segments are there: those that end in `_segments`. */
+#define CAPN_HAS_SEGMENTS 1
+
+/* The same of a message where its segments lie, with no table and no copy. `segments` has `count` segments, 1 to 4,096;
+ * they may overlap. Each call answers and refuses what its sister does of the frame of these segments, under the same
+ * limits: with no segments CAPN_FRAME_EMPTY; with more than 4,096 CAPN_TOO_MANY_SEGMENTS; with more words than
+ * `message_words` CAPN_TOO_MANY_WORDS, of which `at` is their number, or 2^64 - 1 if they are more. The refusals of bytes,
+ * 16 to 33, 51 and 52, never come, nor does CAPN_BAD_FORM. Memory is taken for canonical bytes alone: capn_check_segments
+ * and capn_survey_segments take none. */
+capn_status capn_canonical_segments(const capn_segment *segments, size_t count, const capn_limits *limits, uint8_t *out,
+                                    size_t room, capn_report *report);
+capn_status capn_hash_segments(const capn_segment *segments, size_t count, const capn_limits *limits,
+                               uint8_t digest[32], capn_report *report);
+capn_status capn_check_segments(const capn_segment *segments, size_t count, const capn_limits *limits,
+                                capn_report *report);
+capn_status capn_survey_segments(const capn_segment *segments, size_t count, const capn_limits *limits,
+                                 capn_figures *figures, capn_report *report);
+
+/* The text that the program capn prints for a refusal of a message, with its place, as `Range at 3:623915, paid 0,
+ * visits 1`, and for CAPN_MEMORY; for other statuses what capn_status_text says. Of capn_pack the program leaves out
+ * `bare: `. It returns the length of the text, without the zero that ends it, and writes as much of it as there is room
+ * for, always with a zero after it; with a room of 0 it writes nothing, and `out` may be null. */
+size_t capn_refusal_text(capn_status status, const capn_report *report, char *out, size_t room);
+
+/* The name of a status, as `Range` of CAPN_RANGE and `NoRoot` of CAPN_NO_ROOT; `Unknown` of a number that is no status. It
+ * is never null, and not to be freed. */
+const char *capn_status_name(capn_status status);
 
 #ifdef __cplusplus
 }

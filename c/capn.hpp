@@ -126,6 +126,13 @@ inline std::size_t capn_refusal_text(capn_status status, const capn_report *repo
 }
 #endif
 
+/* What seldom runs is kept out of the way of what does. */
+#if defined(__GNUC__)
+#define CAPN_COLD __attribute__((cold, noinline))
+#else
+#define CAPN_COLD
+#endif
+
 namespace capn {
 
 /* How the bytes of a message are written. */
@@ -234,7 +241,7 @@ namespace detail {
 
 inline std::uint32_t number(form written) noexcept { return static_cast<std::uint32_t>(written); }
 
-[[noreturn]] inline void unanswered(capn_status status, const capn_report &report) {
+[[noreturn]] CAPN_COLD inline void unanswered(capn_status status, const capn_report &report) {
     if (status == CAPN_MEMORY) throw std::bad_alloc();
     if (status < CAPN_NOT_WHOLE) throw std::invalid_argument(capn_status_text(status));
     throw refusal(status, report);
@@ -329,8 +336,8 @@ inline buffer pack(bytes words) {
 
 /* The words of a packed text, at most `most_words`. */
 inline buffer unpack(bytes text, std::uint32_t most_words = 8388608 + 2049) {
-    const std::size_t room = std::min(4 * text.size(), 8 * std::size_t{most_words});
-    return detail::made(room, [&](std::uint8_t *out, std::size_t room, capn_report *report) {
+    const std::size_t hint = std::min(4 * text.size(), 8 * std::size_t{most_words});
+    return detail::made(hint, [&](std::uint8_t *out, std::size_t room, capn_report *report) {
         return capn_unpack(text.u8(), text.size(), most_words, out, room, report);
     });
 }
@@ -380,7 +387,7 @@ inline capn_figures survey(segments message, const limits &most = {}) {
 namespace detail {
 
 /* Throws, with the place of a message in its stream. */
-[[noreturn]] inline void refused(capn_status status, const capn_report &report, std::uint64_t number,
+[[noreturn]] CAPN_COLD inline void refused(capn_status status, const capn_report &report, std::uint64_t number,
                                  std::uint64_t offset) {
     if (status < CAPN_NOT_WHOLE) unanswered(status, report);
     throw refusal(status, report, "message " + std::to_string(number) + " at " + std::to_string(offset) + ": ");

@@ -1,4 +1,5 @@
-/* What the library says in words: its version, and each status. No proved code: it has no state and reads no memory. */
+/* What the library says in words: its version, each status, and a refusal with its place. No proved code: it has no state,
+ * and reads and writes nothing but what it is given. */
 #include "capn.h"
 
 #ifndef CAPN_VERSION_TEXT
@@ -39,4 +40,89 @@ const char *capn_status_text(capn_status status) {
     case CAPN_CAPABILITY: return "the value has a capability";
     default: return "no status of this library";
     }
+}
+
+const char *capn_status_name(capn_status status) {
+    switch (status) {
+    case CAPN_OK: return "Ok";
+    case CAPN_NO_ROOM: return "NoRoom";
+    case CAPN_BAD_FORM: return "BadForm";
+    case CAPN_BAD_LIMITS: return "BadLimits";
+    case CAPN_BAD_TARIFF: return "BadTariff";
+    case CAPN_NOT_CANONICAL: return "NotCanonical";
+    case CAPN_MEMORY: return "Memory";
+    case CAPN_NOT_WHOLE: return "NotWhole";
+    case CAPN_BARE_TOO_LONG: return "BareTooLong";
+    case CAPN_PACKED_CUT: return "PackedCut";
+    case CAPN_PACKED_TOO_LONG: return "PackedTooLong";
+    case CAPN_FRAME_EMPTY: return "FrameEmpty";
+    case CAPN_TOO_MANY_SEGMENTS: return "TooManySegments";
+    case CAPN_TOO_MANY_WORDS: return "TooManyWords";
+    case CAPN_FRAME_CUT: return "FrameCut";
+    case CAPN_TRAILING: return "Trailing";
+    case CAPN_NO_ROOT: return "NoRoot";
+    case CAPN_ROOT_KIND: return "RootKind";
+    case CAPN_RESERVED: return "Reserved";
+    case CAPN_NO_SEGMENT: return "NoSegment";
+    case CAPN_PAD_RANGE: return "PadRange";
+    case CAPN_BAD_PAD: return "BadPad";
+    case CAPN_RANGE: return "Range";
+    case CAPN_BAD_TAG: return "BadTag";
+    case CAPN_TAG_OVERRUN: return "TagOverrun";
+    case CAPN_TOO_DEEP: return "TooDeep";
+    case CAPN_OVER_BUDGET: return "OverBudget";
+    case CAPN_CAPABILITY: return "Capability";
+    default: return "Unknown";
+    }
+}
+
+/* A text that is written as far as there is room, with its whole length. */
+struct text {
+    char *out;
+    size_t room, length;
+};
+
+static void put(struct text *text, const char *words) {
+    for (; *words; words++, text->length++)
+        if (text->length + 1 < text->room) text->out[text->length] = *words;
+}
+
+static void put_number(struct text *text, const char *before, uint64_t number, const char *after) {
+    char digits[21]; /* 2^64 - 1 has 20 */
+    char *first = digits + 20;
+    *first = 0;
+    do *--first = (char)('0' + number % 10);
+    while (number /= 10);
+    put(text, before);
+    put(text, first);
+    put(text, after);
+}
+
+size_t capn_refusal_text(capn_status status, const capn_report *report, char *out, size_t room) {
+    struct text text = {out, room, 0};
+    switch (status) {
+    case CAPN_MEMORY: put(&text, "out of memory"); break;
+    case CAPN_NOT_WHOLE: put_number(&text, "bare: NotWhole(", report->at, ")"); break;
+    case CAPN_BARE_TOO_LONG: put_number(&text, "bare: TooLong(", report->at, ")"); break;
+    case CAPN_PACKED_CUT: put_number(&text, "packed: Cut at ", report->at, ""); break;
+    case CAPN_PACKED_TOO_LONG: put_number(&text, "packed: TooLong at ", report->at, ""); break;
+    case CAPN_FRAME_EMPTY: put(&text, "frame: Empty"); break;
+    case CAPN_TOO_MANY_SEGMENTS: put_number(&text, "frame: TooManySegments(", report->at, ")"); break;
+    case CAPN_TOO_MANY_WORDS: put_number(&text, "frame: TooManyWords(", report->at, ")"); break;
+    case CAPN_FRAME_CUT: put(&text, "frame: Cut"); break;
+    case CAPN_TRAILING: put_number(&text, "trailing bytes at ", report->at, ""); break;
+    case CAPN_CAPABILITY: put_number(&text, "capability ", report->at, ""); break;
+    default:
+        if (status < CAPN_NO_ROOT || status > CAPN_OVER_BUDGET) {
+            put(&text, capn_status_text(status));
+            break;
+        }
+        put(&text, capn_status_name(status));
+        put_number(&text, " at ", report->segment, ":");
+        put_number(&text, "", report->word, ", paid ");
+        put_number(&text, "", report->paid, ", visits ");
+        put_number(&text, "", report->visits, "");
+    }
+    if (room) out[text.length < room ? text.length : room - 1] = 0;
+    return text.length;
 }

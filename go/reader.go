@@ -27,6 +27,11 @@ func NewReader(from io.Reader, limits *Limits) *Reader {
 	return &Reader{from: from, limits: limitsOf(limits), need: count}
 }
 
+// NewPackedReader makes a reader of a packed stream. It takes no byte after the group in which a message ends.
+func NewPackedReader(from io.Reader, limits *Limits) *Reader {
+	return NewReader(&unpacker{from: from}, limits)
+}
+
 // Next is the next message, one frame. At the end of the stream it is io.EOF; of a stream that is cut an *Error that is
 // io.ErrUnexpectedEOF by errors.Is. A refusal has the Message and Offset, and comes from each call after it. After
 // another error of the reader, such as a timeout, Next goes on where it was. The bytes are the caller's.
@@ -36,7 +41,7 @@ func (r *Reader) Next() ([]byte, error) {
 	}
 	for {
 		if err := r.fill(); err != nil {
-			return nil, err
+			return nil, r.refuse(err)
 		}
 		status, told := callFirst(r.held[:r.have], r.limits)
 		switch Kind(status) {
@@ -89,7 +94,7 @@ func (r *Reader) fill() error {
 				r.over = io.EOF
 				return io.EOF
 			}
-			return r.refuse(&Error{Kind: ErrFrameCut})
+			return &Error{Kind: ErrFrameCut}
 		case err != nil && err != io.EOF && r.have < r.need:
 			return err
 		case came == 0:

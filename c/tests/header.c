@@ -4,8 +4,10 @@
 int main(void) {
     const uint8_t null[16] = {0, 0, 0, 0, 1, 0, 0, 0, 0, 0, 0, 0, 0, 0, 0, 0};
     const capn_limits limits = CAPN_USUAL_LIMITS;
+    const capn_segment segment = {null + 8, 1};
     capn_figures figures;
     capn_report report;
+    char text[16];
     uint8_t out[16], digest[32];
     if (CAPN_VERSION < 100) return 1;
     if (capn_canonical(CAPN_STREAM, null, 16, &limits, out, 16, &report) != CAPN_OK || report.length != 8) return 2;
@@ -18,6 +20,12 @@ int main(void) {
     if (capn_unpack_some(out, 4, out + 8, 8, &report) != CAPN_PACKED_TOO_LONG || report.at != 2) return 9;
     if (capn_survey(CAPN_STREAM, null, 16, &limits, &figures, &report) != CAPN_OK || figures.depth != 0) return 11;
     if (capn_index(CAPN_STREAM, null, 16, &limits, NULL, 0, &report) != CAPN_NO_ROOM || report.visits != 1) return 12;
+    if (capn_check_segments(&segment, 1, &limits, &report) != CAPN_OK || report.visits != 1) return 13;
+    if (capn_hash_segments(&segment, 1, &limits, digest, &report) != CAPN_OK) return 14;
+    if (capn_canonical_segments(&segment, 1, &limits, out, 16, &report) != CAPN_OK || report.length != 8) return 15;
+    if (capn_survey_segments(&segment, 1, &limits, &figures, &report) != CAPN_OK || figures.words != 1) return 16;
+    if (CAPN_HAS_SEGMENTS != 1 || capn_refusal_text(CAPN_FRAME_CUT, &report, text, 16) != 10) return 17;
+    if (capn_status_name(CAPN_RANGE)[0] != 'R') return 18;
     if (!capn_version()[0] || !capn_status_text(CAPN_OK)[0]) return 10;
     return 0;
 }

@@ -139,48 +139,44 @@ static void in_turn(void) {
     capn_report report;
     if (capn_pack(framed, stream.size, text, ROOM, &report) != CAPN_OK) fail("pack", "refuses");
     const input pack = {CAPN_PACKED, text, report.length, limits};
-    each("canonical, bare", canonical, &bare, 2);
-    each("canonical, stream", canonical, &stream, 3);
+    each("canonical, bare", canonical, &bare, 1);
+    each("canonical, stream", canonical, &stream, 2);
     each("canonical, packed", canonical, &pack, 4);
     each("canonical, packed, no room", measured, &pack, 3);
-    each("canonical, bare, no room", measured, &bare, 1);
-    each("canonical, stream, no room", measured, &stream, 2);
-    each("hash, bare", hashed, &bare, 2);
-    each("hash, stream", hashed, &stream, 3);
+    each("canonical, stream, no room", measured, &stream, 1);
+    each("hash, bare", hashed, &bare, 1);
+    each("hash, stream", hashed, &stream, 2);
     each("hash, packed", hashed, &pack, 4);
-    each("check, bare", checked, &bare, 1);
-    each("check, stream", checked, &stream, 2);
+    each("check, stream", checked, &stream, 1);
     each("check, packed", checked, &pack, 3);
-    each("is_canonical", judged, &bare, 1);
     each("pack", packed, &stream, 1);
     each("unpack", unpacked, &pack, 1);
     each("first", first, &stream, 1);
-    each("survey, bare", surveyed, &bare, 1);
-    each("survey, stream", surveyed, &stream, 3);
+    each("survey, stream", surveyed, &stream, 2);
     each("index, bare", indexed, &bare, 2);
     each("index, stream", indexed, &stream, 4);
-    each("index, stream, no room", counted, &stream, 2);
+    each("index, stream, no room", counted, &stream, 1);
     each("unpack_some", some, &pack, 1);
 }
 
-/* At depth 64 a bare message and a stream of one segment need no memory, whether they are as deep or deeper; a stream
- * of two segments needs it once, where the second one ends. */
-static void at_64(size_t depth, uint32_t wanted) {
-    const capn_limits limits = CAPN_USUAL_LIMITS;
+/* At any depth a bare message and a stream of one segment need no memory, whether they are as deep or deeper; a stream of
+ * two segments needs it once, where the second one ends. */
+static void at_depth(uint32_t most, size_t depth, uint32_t wanted) {
+    const capn_limits limits = {1u << 20, 1u << 20, most, CAPN_STRICT};
     const uint32_t room = wanted == CAPN_OK ? CAPN_NO_ROOM : wanted;
     const input bare = {CAPN_BARE, deep, chain(deep, depth), limits};
     input stream = {CAPN_STREAM, framed, frame(framed, 1, deep, bare.size), limits};
-    wants("check at 64, bare", checked, &bare, 0, wanted);
-    wants("no room at 64, bare", measured, &bare, 0, room);
-    wants("is_canonical at 64", judged, &bare, 0, wanted == CAPN_OK ? CAPN_NOT_CANONICAL : wanted);
-    wants("check at 64, one segment", checked, &stream, 0, wanted);
-    wants("survey at 64, bare", surveyed, &bare, 0, wanted);
-    wants("survey at 64, one segment", surveyed, &stream, 0, wanted);
-    wants("index at 64, no room", counted, &stream, 0, room);
-    wants("no room at 64, one segment", measured, &stream, 0, room);
+    wants("check, bare", checked, &bare, 0, wanted);
+    wants("no room, bare", measured, &bare, 0, room);
+    wants("is_canonical", judged, &bare, 0, wanted == CAPN_OK ? CAPN_NOT_CANONICAL : wanted);
+    wants("check, one segment", checked, &stream, 0, wanted);
+    wants("survey, bare", surveyed, &bare, 0, wanted);
+    wants("survey, one segment", surveyed, &stream, 0, wanted);
+    wants("index, no room", counted, &stream, 0, room);
+    wants("no room, one segment", measured, &stream, 0, room);
     stream.size = frame(framed, 2, deep, bare.size);
-    wants("check at 64, two segments", checked, &stream, 1, wanted);
-    wants("no room at 64, two segments", measured, &stream, 1, room);
+    wants("check, two segments", checked, &stream, 1, wanted);
+    wants("no room, two segments", measured, &stream, 1, room);
 }
 
 /* What is refused as it is read needs no memory: nothing to pack or unpack, no whole words, a first group that is cut
@@ -211,8 +207,10 @@ static void unread(void) {
 
 int main(void) {
     in_turn();
-    at_64(64, CAPN_OK);
-    at_64(65, CAPN_TOO_DEEP);
+    at_depth(64, 64, CAPN_OK);
+    at_depth(64, 65, CAPN_TOO_DEEP);
+    at_depth(256, DEPTH, CAPN_OK);
+    at_depth(DEPTH - 1, DEPTH, CAPN_TOO_DEEP);
     unread();
     return failed != 0;
 }

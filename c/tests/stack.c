@@ -23,6 +23,7 @@ static void *run(void *status) {
     capn_limits limits = {1u << 28, 1u << 28, depth, CAPN_STRICT};
     capn_figures figures;
     capn_report report;
+    const capn_segment whole = {in, size / 8};
     uint8_t digest[32];
     uint32_t *told = status;
     switch (call) {
@@ -36,6 +37,10 @@ static void *run(void *status) {
     case 7: *told = capn_unpack_some(text, packed_size, out, ROOM, &report); break;
     case 8: *told = capn_survey(CAPN_STREAM, framed, size + 8, &limits, &figures, &report); break;
     case 9: *told = capn_index(CAPN_STREAM, framed, size + 8, &limits, (capn_entry *)out, ROOM / 24, &report); break;
+    case 10: *told = capn_canonical_segments(&whole, 1, &limits, out, ROOM, &report); break;
+    case 11: *told = capn_hash_segments(&whole, 1, &limits, digest, &report); break;
+    case 12: *told = capn_survey_segments(&whole, 1, &limits, &figures, &report); break;
+    case 13: *told = capn_check_segments(&whole, 1, &limits, &report); break;
     default: *told = capn_unpack(text, packed_size, 1u << 20, out, ROOM, &report); break;
     }
     return NULL;
@@ -68,7 +73,7 @@ int main(void) {
             capn_report report;
             if (capn_pack(framed, size + 8, text, ROOM, &report) != CAPN_OK) return 1;
             packed_size = report.length;
-            for (call = 0; call < 11; call++) {
+            for (call = 0; call < 15; call++) {
                 char *stack = aligned_alloc(4096, ROOM);
                 if (!stack) return 2;
                 memset(stack, 0x5a, ROOM);
@@ -91,7 +96,7 @@ int main(void) {
         }
     int failed = 0;
     for (int d = 0; d < 4; d++) {
-        size_t stated = 16384 + 256 * (size_t)depths[d];
+        size_t stated = 16384 + 352 * (size_t)depths[d];
         printf("stack: at most %zu bytes at depth %u, of %zu that are stated\n", most[d], depths[d], stated);
         failed |= most[d] > stated;
     }

@@ -21,25 +21,12 @@ static void digits(const uint8_t *bytes, size_t size) {
     for (size_t i = 0; i < size; i++) printf("%02x", bytes[i]);
 }
 
-static const char *const frames[] = {"Empty", "TooManySegments", "TooManyWords", "Cut"};
-static const char *const faults[] = {"NoRoot", "RootKind", "Reserved", "NoSegment", "PadRange", "BadPad",
-                                     "Range",  "BadTag",   "TagOverrun", "TooDeep", "OverBudget"};
-
+/* A refusal as capn_refusal_text has it, without the word of its form if it is one of packing. */
 static void refusal(capn_status status, const capn_report *r, int of_packing) {
-    unsigned long long at = r->at;
-    const char *bare = of_packing ? "" : "bare: ", *packed = of_packing ? "" : "packed: ";
-    if (status == CAPN_NOT_WHOLE) printf("%sNotWhole(%llu)", bare, at);
-    else if (status == CAPN_BARE_TOO_LONG) printf("bare: TooLong(%llu)", at);
-    else if (status == CAPN_PACKED_CUT) printf("%sCut at %llu", packed, at);
-    else if (status == CAPN_PACKED_TOO_LONG) printf("%sTooLong at %llu", packed, at);
-    else if (status == CAPN_TOO_MANY_SEGMENTS || status == CAPN_TOO_MANY_WORDS)
-        printf("frame: %s(%llu)", frames[status - 48], at);
-    else if (status == CAPN_FRAME_EMPTY || status == CAPN_FRAME_CUT) printf("frame: %s", frames[status - 48]);
-    else if (status == CAPN_TRAILING) printf("trailing bytes at %llu", at);
-    else if (status >= CAPN_NO_ROOT && status <= CAPN_OVER_BUDGET)
-        printf("%s at %u:%u, paid %u, visits %u", faults[status - 64], r->segment, r->word, r->paid, r->visits);
-    else if (status == CAPN_CAPABILITY) printf("capability %llu", at);
-    else printf("status %u", status);
+    char text[128];
+    if (capn_refusal_text(status, r, text, sizeof text) >= sizeof text) printf("a text that is too long: ");
+    const char *form = of_packing ? strstr(text, ": ") : NULL;
+    printf("%s", form ? form + 2 : text);
 }
 
 static uint32_t form_of(const char *word) {

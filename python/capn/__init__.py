@@ -4,13 +4,13 @@ A call takes any object that has a buffer, and one message in it. It raises `Ref
 and `MemoryError` where memory runs out; `TypeError` and `ValueError` for arguments that are wrong in themselves, before
 any byte is read.
 
-Other threads run meanwhile, and the library relies on bytes that stay as they are. So those of an object that may change,
-as a `bytearray`, a mapped file or an array does, are copied first; `bytes` are not, nor a view of them. With
-`in_place=True` nothing is copied, and the caller sees to it that nothing changes the bytes until the call returns: else
-the process may end, or an answer have bytes of others.
+Other threads run meanwhile, and the library relies on bytes that stay as they are. So those of an object that may
+change, as a `bytearray`, a mapped file or an array does, are copied first; `bytes` are not, nor a view of them. With
+`in_place=True` nothing is copied, and the caller sees to it that nothing changes the bytes until the call returns: a
+change can make the library read outside of them, which ends the process or ends up in the answer.
 
-`check`, `survey`, `canonical`, `is_canonical`, `digest`, `pack` and `unpack` take bytes; `read` makes a `Message` of them,
-whose root is a `Value`; `show` is its text; `messages`, `digests`, `amessages` and `Splitter` are for streams."""
+`check`, `survey`, `canonical`, `is_canonical`, `digest`, `pack` and `unpack` take bytes; `read` makes a `Message` of
+them, whose root is a `Value`; `show` is its text; `messages`, `digests`, `amessages` and `Splitter` are for streams."""
 from ._calls import Checked, Surveyed, canonical, check, digest, is_canonical, pack, survey, unpack
 from ._capn import ffi as _ffi
 from ._capn import lib as _lib

@@ -85,8 +85,8 @@ class _Items(Sequence[_T]):
     @overload
     def __getitem__(self, i: int) -> _T: ...
     @overload
-    def __getitem__(self, i: slice) -> Sequence[_T]: ...
-    def __getitem__(self, i: int | slice) -> _T | Sequence[_T]:
+    def __getitem__(self, i: slice) -> list[_T]: ...
+    def __getitem__(self, i: int | slice) -> _T | list[_T]:
         if isinstance(i, slice):
             return [self._item(k) for k in range(*i.indices(len(self)))]
         return self._item(range(len(self))[i])
@@ -95,8 +95,8 @@ class _Items(Sequence[_T]):
         return map(self._item, range(len(self)))
 
     def _is_list(self, other: object) -> bool:
-        """Whether the elements are those of a list or tuple; not of another object."""
-        if not isinstance(other, (list, tuple)):
+        """Whether the elements are those of a list, tuple or range; not of another object."""
+        if not isinstance(other, (list, tuple, range)):
             return NotImplemented
         return len(self) == len(other) and all(one == two for one, two in zip(self, other))
 
@@ -125,9 +125,9 @@ class Slots(_Items["Value"]):
 class Body:
     """Words and slots: what a struct has, and a row of a list of structs.
 
-    A field of data is stored XOR its default, so what reads one takes the default, and answers it where the struct is too
-    short for the field. `offset` counts fields of that size from the start of the data, as `slot.offset` of a compiled
-    schema does: `bits[32, 64)` of `capnp compile -ocapnp` is `uint(32, 1)`."""
+    A field of data is stored XOR its default, so what reads one takes the default, and answers it where the struct is
+    too short for the field. `offset` counts fields of that size from the start of the data, as `slot.offset` of a
+    compiled schema does: `bits[32, 64)` of `capnp compile -ocapnp` is `uint(32, 1)`."""
 
     __slots__ = ()
     kind: Literal["struct"] = "struct"
@@ -224,7 +224,7 @@ class Struct(Object, Body):
 
 
 class List(Object, _Items[_T]):
-    """A list: a sequence of its elements. It also equals a `list` or `tuple` of what its elements equal."""
+    """A list: a sequence of its elements. It also equals a `list`, `tuple` or `range` of what its elements equal."""
 
     __slots__ = ()
 
@@ -266,7 +266,7 @@ class Bits(List[bool]):
 
 
 class _Numbers(List[int]):
-    """Numbers of one size, over the bytes of the message."""
+    """Numbers of one size, over the bytes of the message. They also equal what has a buffer of the same numbers."""
 
     __slots__ = ("view",)
     view: memoryview
@@ -283,6 +283,11 @@ class _Numbers(List[int]):
     def __bytes__(self) -> bytes:
         return self.view.tobytes()
 
+    def __eq__(self, other: object) -> bool:
+        if isinstance(other, (bytes, bytearray, memoryview, array)):
+            return self.view == other
+        return super().__eq__(other)
+
 
 class Bytes(_Numbers):
     """A list of bytes: data, or a text. It also equals `bytes`; a slice of it is `bytes`."""
@@ -290,7 +295,7 @@ class Bytes(_Numbers):
     __slots__ = ()
     kind: Literal["bytes"] = "bytes"
 
-    @overload
+    @overload  # type: ignore[override]
     def __getitem__(self, i: int) -> int: ...
     @overload
     def __getitem__(self, i: slice) -> bytes: ...
@@ -304,15 +309,10 @@ class Bytes(_Numbers):
             raise ValueError("the last byte of a text is zero, and of this list of bytes it is not")
         return self.view[:-1].tobytes().decode()
 
-    def __eq__(self, other: object) -> bool:
-        if isinstance(other, (bytes, bytearray, memoryview)):
-            return self.view == other
-        return super().__eq__(other)
-
 
 class Numbers(_Numbers):
-    """A list of numbers of 16, 32 or 64 bits, without sign. `view` is a memoryview of them; `view.cast("B").cast("h")`
-    has those of 16 with a sign, and `"i"`, `"q"`, `"f"`, `"d"` are for the others."""
+    """A list of numbers of 16, 32 or 64 bits, without sign. It also equals an `array` of them. `view` is a memoryview
+    of them; `view.cast("B").cast("h")` has those of 16 with a sign, and `"i"`, `"q"`, `"f"`, `"d"` the others."""
 
     __slots__ = ()
 
@@ -457,8 +457,8 @@ class Message:
         return self._object(0)
 
     def at(self, *way: int) -> Value | Row | None:
-        """What is at a way of numbers from the root, as `capn show --at` has it: of a struct a number means a slot, of a
-        list of pointers an element, of a list of structs a row. None if nothing is there."""
+        """What is at a way of numbers from the root, as `capn show --at` has it: of a struct a number means a slot, of
+        a list of pointers an element, of a list of structs a row. None if nothing is there."""
         found: Value | Row = self.root
         for step in way:
             number = index(step)
@@ -512,8 +512,8 @@ class Message:
         return view
 
     def _below(self, at: int, count: int) -> Sequence[int]:
-        """Where the entries of this number of slots are that come after an entry. Slots with nothing below them, as most
-        have, need no list."""
+        """Where the entries of this number of slots are that come after an entry. Slots with nothing below them, as
+        most have, need no list."""
         if self._entries[at].span == count + 1:
             return range(at + 1, at + 1 + count)
         places = self._places.get(at)

@@ -21,8 +21,8 @@ def show(
     at: Iterable[int] = (),
 ) -> str:
     """What `capn show` writes of one message that was read, of an object of it, or of bytes within limits. With `text`
-    a list of bytes that is a text is shown as one, as by `--text`; with `json` it is a line of JSON, as by `--json`; `at`
-    says which part is shown, by a way of numbers, as `--at` does.
+    a list of bytes that is a text is shown as one, as by `--text`; with `json` it is a line of JSON, as by `--json`;
+    `at` says which part is shown, by a way of numbers, as `--at` does.
 
     It is the package's own, in Python, and not the proved text of the program."""
     if text and json:

@@ -62,9 +62,9 @@ class Splitter:
     """The messages of a stream, from its bytes as they come: `feed` answers the messages that they complete, one frame
     each, and `end` says that no more follow.
 
-    No more is held than the message that has begun and what was fed at once. `limits.message_words` bounds each message.
-    Where the stream is refused, the messages before are answered first: the refusal is raised by the call that would
-    have no other answer, and by each one after it."""
+    No more is held than the message that has begun and what was fed at once. `limits.message_words` bounds each
+    message. Where the stream is refused, the messages before are answered first: the refusal is raised by the call that
+    would have no other answer, and by each one after it."""
 
     __slots__ = ("_bounds", "_packed", "_report", "_held", "_need", "_text", "_out", "_taken", "_refusal", "number",
                  "offset")
@@ -89,9 +89,12 @@ class Splitter:
 
     @property
     def wanted(self) -> int:
-        """How many bytes may be fed next so that none is after the message that has begun, or, of a packed stream, after
-        the group in which it ends: at least 1."""
-        return _group(self._text) - len(self._text) if self._packed else max(self._need, _HEAD) - len(self._held)
+        """How many bytes may be fed next so that none is after the message that has begun, or, of a packed stream,
+        after the group in which it ends. It is 0 only after a `MemoryError`: feed none then, to try again."""
+        missing = max(self._need, _HEAD) - len(self._held)
+        if missing <= 0:
+            return 0
+        return _group(self._text) - len(self._text) if self._packed else missing
 
     def feed(self, data: Buffer) -> list[bytes]:
         """The messages that these bytes complete. They are copied."""
@@ -317,6 +320,8 @@ class _Packed(Messages):
                     self.number += 1
                     self.offset += len(frame)
                     return frame
+            elif not splitter.wanted:
+                self._feed(b"")
             else:
                 piece = self._read(splitter.wanted if self._peek is None else self._fitting(self._peek(1)))
                 if not piece:
@@ -434,11 +439,14 @@ class _Ahead(Messages):
         while not self._ready:
             if self._over is not None:
                 raise self._over
-            piece = self._some(_PIECE)
-            if piece is not None and not piece:
-                piece = self._read(1)
+            piece: Any = b""
+            is_more = splitter.wanted > 0
+            if is_more:
+                piece = self._some(_PIECE)
+                if piece is not None and not piece:
+                    piece = self._read(1)
             try:
-                if not piece:
+                if is_more and not piece:
                     self._stop(piece)
                 self._ready.extend(splitter.feed(piece))
             except Refusal as refusal:
@@ -564,8 +572,9 @@ class AsyncMessages(AsyncIterator[bytes]):
     async def __anext__(self) -> bytes:
         splitter = self._splitter
         while not self._ready:
-            piece = await self._read(min(splitter.wanted, _PIECE))
-            if not piece:
+            wanted = splitter.wanted
+            piece = await self._read(min(wanted, _PIECE)) if wanted else b""
+            if wanted and not piece:
                 splitter.end()
                 raise StopAsyncIteration
             self._ready.extend(splitter.feed(piece))

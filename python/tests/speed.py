@@ -1,5 +1,5 @@
-"""What calls of the package take, in nanoseconds: the shortest of many. The first three say what `capn.check` of a message
-of 32 bytes takes above an empty Python call."""
+"""What calls of the package take, in nanoseconds: the shortest of many. The first three say what `capn.check` of a
+message of 32 bytes takes above an empty Python call."""
 import io
 import sys
 from time import perf_counter

@@ -9,8 +9,9 @@ import unittest
 import capn
 from messages import bare, stream
 
-# One thread makes pointers of a list lead far out, and back again, while another one makes the calls. Where these read the
-# bytes in place, that ends the process within seconds, or gives wrong answers. The words: for how long, whether in place.
+# One thread makes pointers of a list lead far out, and back again, while another one makes the calls. Where these read
+# the bytes in place, that ends the process within seconds, or gives wrong answers. The words say for how long, and
+# whether in place.
 RACE = """
 import sys, threading, time
 import capn
@@ -46,7 +47,8 @@ MESSAGE = stream(bare(("struct", [5], [("list", 2, 4, b"abc" + bytes(5))])))
 
 class Changing(unittest.TestCase):
     def test_a_race_ends_no_process(self):
-        ran = subprocess.run([sys.executable, "-B", "-c", RACE, "3", "copied"], capture_output=True, check=False, text=True)
+        words = [sys.executable, "-B", "-c", RACE, "3", "copied"]
+        ran = subprocess.run(words, capture_output=True, check=False, text=True)
         self.assertEqual((ran.returncode, ran.stdout), (0, "alive\n"), ran.stderr)
 
     def test_the_bytes_are_not_held_during_a_call(self):

@@ -12,6 +12,7 @@ import sys
 import tempfile
 import threading
 import unittest
+import unittest.mock
 
 import capn
 from messages import stream
@@ -156,6 +157,49 @@ class NoByteAfterIt(unittest.TestCase):
                 file.seek(0)
                 self.assertEqual(next(capn.messages(file, packed=packed)), SHAPES[3])
                 self.assertEqual(file.read(), b"after")
+
+    def test_where_a_file_stands(self):
+        source, seen = random.Random(68), 0
+        for _ in range(300):
+            frames = [b"".join(generated.pieces(archives.segments_of(source))) for _ in range(source.randint(1, 5))]
+            if source.random() < 0.1:
+                frames.insert(source.randrange(len(frames)), stream(source.randbytes(16 * 4096 + 8), bytes(3000)))
+            for packed in False, True:
+                parts = [capn.pack(frame) if packed else frame for frame in frames]
+                buffer = source.choice([1, 2, 5, 16, 100, 4096, 1 << 17])
+                data = io.BytesIO(b"".join(parts))
+                for file in io.BufferedReader(data, buffer), data:
+                    file.seek(0)
+                    found, stands = capn.messages(file, packed=packed), 0
+                    for frame, part in zip(frames, parts):
+                        stands += len(part)
+                        with self.subTest(packed=packed, buffer=buffer, frame=len(frame)):
+                            self.assertEqual((next(found), file.tell()), (frame, stands))
+                        seen += 1
+                    self.assertRaises(StopIteration, next, found)
+        self.assertGreater(seen, 1000)
+
+    def test_a_buffered_file_answers_as_the_model_says(self):
+        source, refusals = random.Random(69), 0
+        for _ in range(500):
+            data = b"".join(
+                b"".join(generated.pieces(archives.segments_of(source))) for _ in range(source.randint(0, 6)))
+            packed = source.random() < 0.7
+            sent = bytearray(generated.packed(data) if packed else data)
+            for _ in range(source.choice([0, 0, 1, 3])):
+                if sent:
+                    sent[source.randrange(len(sent))] = source.getrandbits(8)
+            sent = bytes(sent[:source.randint(0, len(sent))] if source.random() < 0.3 else sent)
+            found, fault = model.messages(sent, "packed" if packed else "stream", 8388608)
+            file = io.BufferedReader(io.BytesIO(sent), source.choice([1, 3, 8, 50, 4096]))
+            got, refused = [], None
+            try:
+                got.extend(capn.messages(file, packed=packed))
+            except capn.Refusal as refusal:
+                refused, refusals = (str(refusal), refusal.number, refusal.offset), refusals + 1
+            with self.subTest(sent=sent.hex(), packed=packed):
+                self.assertEqual((got, refused), ([frame for _, frame, _ in found], fault))
+        self.assertGreater(refusals, 100)
 
     def test_a_refused_frame(self):
         for packed in False, True:
@@ -409,6 +453,49 @@ class Splitters(unittest.TestCase):
                     refused = (str(refusal), refusal.number, refusal.offset)
                 self.assertEqual(got, [frame for _, frame, _ in found])
                 self.assertEqual(refused, fault)
+
+    def test_memory_that_is_there_later(self):
+        # A frame of several segments takes memory to be found.
+        message, first = SHAPES[1], capn._stream._first
+        refusals = []
+
+        def little(*words):
+            status = first(*words)
+            if status == 0 and not refusals:
+                refusals.append(status)
+                return 8
+            return status
+
+        for packed in False, True:
+            sent = capn.pack(message) if packed else message
+            for make in (
+                lambda: capn.messages(Blocking([sent]), packed=packed),
+                lambda: capn.messages(io.BytesIO(sent), packed=packed),
+                lambda: capn.messages(sent, packed=packed, read_ahead=True),
+            ):
+                refusals.clear()
+                found = make()
+                with unittest.mock.patch.object(capn._stream, "_first", little):
+                    self.assertRaises(MemoryError, next, found)
+                    self.assertEqual(next(found), message)
+                    self.assertRaises(StopIteration, next, found)
+            refusals.clear()
+            splitter = capn.Splitter("packed" if packed else "stream")
+            with unittest.mock.patch.object(capn._stream, "_first", little):
+                self.assertRaises(MemoryError, splitter.feed, sent)
+                self.assertEqual((splitter.wanted, splitter.feed(b"")), (0, [message]))
+
+            async def run(sent=sent, packed=packed):
+                reader = asyncio.StreamReader()
+                reader.feed_data(sent)
+                found = capn.amessages(reader, form="packed" if packed else "stream")
+                with self.assertRaises(MemoryError):
+                    await anext(found)
+                return await anext(found)
+
+            refusals.clear()
+            with unittest.mock.patch.object(capn._stream, "_first", little):
+                self.assertEqual(asyncio.run(run()), message)
 
     def test_wanted_leaves_what_follows(self):
         source = random.Random(66)

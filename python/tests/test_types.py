@@ -34,6 +34,7 @@ def told(value: capn.Value) -> str:
         return str(value[0])
     if value.kind == "u16" or value.kind == "u32" or value.kind == "u64":
         assert_type(value, capn.Numbers)
+        assert_type(value[1:], list[int])
         return str(value[0] + 1)
     if value.kind == "void":
         return str(len(value))

@@ -99,7 +99,8 @@ limits_some tasks.Limits needs is = λ h. absurd (omega (arith, ap length h))
 pub count_some : (count : Bool) (kept served : ℕ) → count ≡ true → sieves.closing_by count kept served ≢ []
 count_some false kept served is = absurd (cc)
 count_some true kept served is =
-    some_after (decimal kept) (codes " of " ++ (decimal served ++ codes "\n")) (λ h. absurd (omega (arith, ap length h)))
+    some_after (decimal kept) (codes " of " ++ (decimal served ++ codes "\n"))
+    (λ h. absurd (omega (arith, ap length h)))
 
 pub not_io : (skipped : Option Skipped) (messages : ℕ) → outcome_by skipped messages ≡ Err faults.Io → ⊥
 not_io None messages is = absurd (cc)

@@ -179,7 +179,8 @@ module _ (s : Archivist) (at : Position) (frame : List ℕ) (m : List (List ℕ)
   not_both : (t : List ℕ) (p : Archivist) (r : Refusal) → serves s at frame m t p → refuses s at frame m r → ⊥
   not_both t p r (o, inl h) (stays, refused) =
       served_refused m s.order.limits s.tally at frame s.order.task t p.tally r h refused
-  not_both t p r (o, inr (going, other, why, line, a)) (stays, refused) = let bad : true ≡ false = sym going ∙ stays in cc
+  not_both t p r (o, inr (going, other, why, line, a)) (stays, refused) = let bad : true ≡ false = sym going
+      ∙ stays in cc
 
 -- an archive has one text and one ending
 pub archive_one_way : (order : Archive) → IsOneWay (archive_fold order)

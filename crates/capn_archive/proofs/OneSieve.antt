@@ -31,7 +31,8 @@ module _ (s : Sifted) (at : Position) (frame : List ℕ) (m : List (List ℕ)) w
 
   not_both : (t : List ℕ) (p : Sifted) (r : Refusal) → serves s at frame m t p → refuses s at frame m r → ⊥
   not_both t p r (inl (d, is, e, a)) (stays, undigested) = digested d r is undigested
-  not_both t p r (inr (going, other, why, line, a)) (stays, undigested) = let bad : true ≡ false = sym going ∙ stays in cc
+  not_both t p r (inr (going, other, why, line, a)) (stays, undigested) = let bad : true ≡ false = sym going
+      ∙ stays in cc
 
 -- what a sieve writes of an archive is one text, with one ending
 pub sieve_one_way : (order : Uniq) → IsOneWay (sieve_fold order)

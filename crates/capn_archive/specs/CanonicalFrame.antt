@@ -23,7 +23,8 @@ abbrev pub PutsFront : {E : Type 0} → List ℕ → List ℕ → List ℕ → R
 PutsFront text old new (Ok u) = new ≡ old ++ text
 PutsFront text old new (Err e) = (some : List ℕ) × (new ≡ old ++ some)
 
--- a text was added to what goes out, of which no more than 65,535 bytes are kept if no more were; or memory was refused,
+-- a text was added to what goes out, of which no more than 65,535 bytes are kept if no more were; or memory was
+-- refused,
 -- and a beginning of it was added; or the writer failed within it
 abbrev pub AddsText : List ℕ → Outgoing → Outgoing → Bool → Result (Unit {0}) ServeFault → Type 0
 AddsText text old new failed (Ok u) =

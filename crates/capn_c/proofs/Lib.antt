@@ -2,10 +2,12 @@ pub mod Counted
 pub mod Delivered
 pub mod Entered
 pub mod Figured
+pub mod Framed
 pub mod Least
 pub mod Listed
 pub mod Named
 pub mod OneBare
 pub mod OutOfMemory
 pub mod Placed
+pub mod Short
 pub mod Unpacked

@@ -15,6 +15,7 @@ use Rattle.capn_canon.specs.declared.form.Form.TheVariants as forms
 use Rattle.capn_canon.specs.declared.refusal.Refusal.{Refusal}
 use Rattle.capn_canon.specs.declared.refusal.Refusal.TheVariants as refusals
 use Rattle.capn_canon.specs.Refusal.{IsRefused, IsUnacceptedIn}
+use Rattle.capn_c.specs.Held.{IsMisheld, IsRefusedHeld, IsUnacceptedHeld}
 use Rattle.capn_c.specs.StatusCodes.{bare_code, packed_code, frame_code, walk_code, code}
 
 -- of packed bytes
@@ -76,3 +77,34 @@ unaccepted_memory form bs l (refusals.Trailing at) h c = refused_memory form bs 
 unaccepted_memory form bs l (refusals.Bare e) h c = refused_memory form bs l (refusals.Bare e) h c
 unaccepted_memory form bs l (refusals.Packed e) h c = refused_memory form bs l (refusals.Packed e) h c
 unaccepted_memory form bs l (refusals.Frame e) h c = refused_memory form bs l (refusals.Frame e) h c
+
+misheld_memory : (m : List (List ℕ)) (most : ℕ) (e : FrameFault) → IsMisheld m most e → frame_code e ≡ 8 → ⊥
+misheld_memory m most frame.Memory h c = h
+misheld_memory m most frame.Empty h c = omega (arith, c)
+misheld_memory m most (frame.TooManySegments n) h c = omega (arith, c)
+misheld_memory m most (frame.TooManyWords n) h c = omega (arith, c)
+misheld_memory m most frame.Cut h c = h
+misheld_memory m most frame.Failed h c = h
+
+-- of a message that is held in segments
+pub held_memory : (m : List (List ℕ)) (l : Bounds) (r : Refusal) → IsRefusedHeld m l r → code r ≡ 8
+    → r ≡ refusals.Memory
+held_memory m l refusals.Memory h c = refl
+held_memory m l (refusals.Walk s) h c =
+    absurd (plain-refusal m l s.fault s.place s.paid s.visits h.1 (walk_memory s.fault c))
+held_memory m l (refusals.Capability k) h c = absurd (omega arith)
+held_memory m l (refusals.Frame e) h c = absurd (misheld_memory m l.message_words e h c)
+held_memory m l (refusals.Trailing at) h c = absurd h
+held_memory m l (refusals.Bare e) h c = absurd h
+held_memory m l (refusals.Packed e) h c = absurd h
+
+-- and of one that is not accepted
+pub unaccepted_held_memory : (m : List (List ℕ)) (l : Bounds) (r : Refusal) → IsUnacceptedHeld m l r → code r ≡ 8
+    → r ≡ refusals.Memory
+unaccepted_held_memory m l (refusals.Capability k) h c = absurd h
+unaccepted_held_memory m l refusals.Memory h c = refl
+unaccepted_held_memory m l (refusals.Walk s) h c = held_memory m l (refusals.Walk s) h c
+unaccepted_held_memory m l (refusals.Frame e) h c = held_memory m l (refusals.Frame e) h c
+unaccepted_held_memory m l (refusals.Trailing at) h c = absurd h
+unaccepted_held_memory m l (refusals.Bare e) h c = absurd h
+unaccepted_held_memory m l (refusals.Packed e) h c = absurd h

@@ -1,5 +1,5 @@
 -- What is reported of a message that is read. (Own.)
-use Rattle.std.specs.Prelude.{◌≡◌, ◌⊎◌, ◌↔◌, ℕ, zero, suc, List, length, Option, Some, None}
+use Rattle.std.specs.Prelude.{◌≡◌, ◌⊎◌, ◌↔◌, ◌≤◌, ℕ, zero, suc, List, length, Option, Some, None}
 use Rattle.std.specs.Bool.{IsTrue}
 use Rattle.capn_words.specs.Message.{bytes, segment_at, total}
 use Rattle.capn_value.specs.Tree.{Tree}
@@ -7,6 +7,8 @@ use Rattle.capn_value.specs.FirstCap.{first_cap}
 use Rattle.capn_walk.specs.Accepted.{IsValueOf, number_of_visits, paid}
 use Rattle.capn_walk.specs.Depth.{IsDepth}
 use Rattle.capn_walk.specs.Limits.{Bounds}
+use Rattle.capn_walk.specs.Surveyed.{IsSurvey}
+use Rattle.capn_walk.specs.declared.survey_answer.Surveyed.{Surveyed}
 use Rattle.capn_canon.specs.Layout.{canon}
 use Rattle.capn_canon.specs.Reads.{Reads}
 use Rattle.capn_canon.specs.declared.form.Form.{Form}
@@ -24,6 +26,12 @@ pub record IsCanonicalMessage (message : List (List ℕ)) (limits : Bounds) : Ty
   pub is : IsValueOf message limits value
   pub free : first_cap value ≡ None
   pub same : canon value ≡ bytes (segment_at message 0)
+
+-- the message is canonical, and a survey says this of it, and this is its depth
+pub record IsCanonicalSurvey (message : List (List ℕ)) (limits : Bounds) (s : Surveyed) (least : ℕ) : Type 0 where
+  pub survey : IsSurvey message limits s
+  pub depth : IsDepth message limits least
+  pub canonical : IsCanonicalMessage message limits
 
 -- how many words and segments a message has, how deep it is, and whether it is canonical
 pub record AreMeasures (message : List (List ℕ)) (limits : Bounds) (m : Measured) : Type 0 where
@@ -44,7 +52,7 @@ reported_cap zero k = None
 reported_cap (suc n) k = Some k
 
 -- the figures of an accepted message: its words and segments; what its walk pays and visits; the least depth under
--- which it is accepted; 1 and the first capability of its value, or 0 and 0; and 1 if and only if it is canonical
+-- which it is accepted; 1 and the first capability of its value, or 0 and 0; and 1 if it is canonical, else 0
 pub record AreFigures (message : List (List ℕ)) (limits : Bounds) (f : CapnFigures) : Type 0 where
   pub value : Tree
   pub is : IsValueOf message limits value
@@ -55,6 +63,7 @@ pub record AreFigures (message : List (List ℕ)) (limits : Bounds) (f : CapnFig
   pub depth : IsDepth message limits f.depth
   pub capability : reported_cap f.has_capability f.capability ≡ first_cap value
   pub canonical : (f.canonical ≡ 1) ↔ IsCanonicalMessage message limits
+  pub flags : (f.has_capability ≤ 1) × (f.canonical ≤ 1)
 
 -- the figures of the message that bytes are read as
 pub record FiguresIn (form : Form) (bs : List ℕ) (limits : Bounds) (f : CapnFigures) : Type 0 where

@@ -6,3 +6,5 @@ pub mod FrameReport
 pub mod FrameNeed
 pub mod Offsets
 pub mod UnpackedPieces
+pub mod Held
+pub mod AsFramed

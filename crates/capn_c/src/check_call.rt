@@ -43,7 +43,7 @@ fn check(alloc: Global, form: Form, bytes: &[u8], limits: Limits, report: &mut C
 /// Whether a message is accepted within limits, and what reading it pays.
 ///
 /// 0: it is; `paid` and `visits` are those of its walk. 2, 3 and 4: the form, a limit or the tariff is out of its
-/// range. 8: memory was refused: for where two segments or more end, for what is unpacked, or for a depth above 64.
+/// range. 8: memory was refused: for where two segments or more end, or for what is unpacked.
 /// Others: the refusal, which is never that of a capability.
 #[unsafe(no_mangle)]
 pub extern "C" fn capn_check(
@@ -68,7 +68,7 @@ pub extern "C" fn capn_check(
     // What each refusal means; no other status stands for it.
     ensures refused { 5 ≤ result → (e : Refusals) × Reports result report.new e
         × IsUnacceptedIn (form_named form) bytes.now (bounds_of limits.now) e }
-    // Memory is needed only for a depth above 64, for where two segments or more end, and for what a text packs.
+    // Memory is needed only for where two segments or more end, and for what a text packs.
     ensures memory { result ≡ 8 → MayNeedMemory (form_named form) bytes.now (bounds_of limits.now) }
     // No walk pays beyond its budget.
     ensures bounded { IsBounded limits.now.budget report.new.paid report.new.visits }

@@ -1,6 +1,6 @@
 //! What a survey says of a message.
 
-ghost use Rattle.std.specs.Prelude.{IsTrue, ◌≡◌, ◌↔◌};
+ghost use Rattle.std.specs.Prelude.{IsTrue, ◌≡◌, ◌↔◌, ◌≤◌};
 ghost use Rattle.capn_c.specs.Figures.{reported_cap};
 
 use crate::message_measures::Measured;
@@ -37,6 +37,7 @@ pub fn figures_of(surveyed: Surveyed, measured: Measured) -> CapnFigures
     ensures depth { result.depth ≡ measured.depth }
     ensures capability { reported_cap result.has_capability result.capability ≡ surveyed.capability }
     ensures canonical { (result.canonical ≡ 1) ↔ IsTrue measured.canonical }
+    ensures flags { (result.has_capability ≤ 1) × (result.canonical ≤ 1) }
 {
     let (has_capability, capability) = match surveyed.capability {
         Some(index) => (1, index),

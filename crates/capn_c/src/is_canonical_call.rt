@@ -44,8 +44,8 @@ fn test(alloc: Global, bytes: &[u8], limits: Limits, report: &mut CapnReport) ->
 
 /// Whether bytes, read bare within the limits, are the canonical bytes of the value that they denote.
 ///
-/// 0: they are. 5: they are not. 3 and 4: a limit or the tariff is out of its range. 8: memory was refused, which it is
-/// only for a depth above 64. Others: the refusal.
+/// 0: they are. 5: they are not. 3 and 4: a limit or the tariff is out of its range. Others: the refusal, never
+/// that memory was refused.
 #[unsafe(no_mangle)]
 pub extern "C" fn capn_is_canonical(
     alloc: Global,

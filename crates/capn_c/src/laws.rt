@@ -1,5 +1,6 @@
-//! The law of the offsets of an index, as a function that does nothing.
+//! Laws of the answers, each as a function that does nothing.
 
+ghost use Rattle.capn_c.specs.AsFramed.{HeldAreAnsweredAsFramed, HeldAreRefusedAsFramed};
 ghost use Rattle.capn_c.specs.Offsets.{OffsetsAreOfContents, OffsetsAreOfPlaces};
 
 use capn_walk::laws::indexes;
@@ -12,3 +13,10 @@ pub fn offsets()
 {
     indexes();
 }
+
+/// A message that is held in segments has the answer that a frame of the same segments has, and is refused as it is,
+/// under the same limits.
+pub fn segments()
+    ensures answered { HeldAreAnsweredAsFramed }
+    ensures refused { HeldAreRefusedAsFramed }
+{}

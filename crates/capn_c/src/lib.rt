@@ -7,12 +7,16 @@
 #![tactic(auto)]
 
 mod canonical_call;
+mod canonical_segments_call;
 mod check_call;
+mod check_segments_call;
 mod entries;
 mod figures;
 mod first_call;
 mod frame_need;
 mod hash_call;
+mod hash_segments_call;
+mod held_message;
 mod index_call;
 mod is_canonical_call;
 pub mod laws;
@@ -23,6 +27,7 @@ mod pack_calls;
 mod report;
 mod status_codes;
 mod survey_call;
+mod survey_segments_call;
 mod unpack_some_call;
 
 pub use entries::CapnEntry;

@@ -1,17 +1,22 @@
 //! What a message comes to beside its price.
 
-ghost use Rattle.std.specs.Prelude.{◌≡◌, [], ◌∷◌, None, IfSome, IsSome};
+ghost use Rattle.std.specs.Prelude.{◌≡◌, ◌≢◌, [], ◌∷◌, None, length, IfSome, IsSome};
+ghost use Rattle.std.specs.Prelude.{IfOk, IfErr, IsOk, MatchResult};
+ghost use Rattle.capn_words.specs.Message.{total};
 ghost use Rattle.capn_value.specs.Tree.{Tree as Value};
-ghost use Rattle.capn_walk.specs.Accepted.{IsValueOf};
+ghost use Rattle.capn_walk.specs.Accepted.{IsBounded, IsValueOf};
 ghost use Rattle.capn_walk.specs.Depth.{IsDepth};
+ghost use Rattle.capn_walk.specs.Surveyed.{IsSurvey};
 ghost use Rattle.capn_canon.specs.Denotes.{Denotes};
 ghost use Rattle.capn_canon.specs.MemoryNeed.{MayNeedMemory};
+ghost use Rattle.capn_canon.specs.Refusal.{IsPaidWithin, IsUnaccepted};
 ghost use Rattle.capn_canon.specs.declared.form.Form.TheVariants as forms;
-ghost use Rattle.capn_c.specs.Figures.{AreMeasures, IsCanonicalMessage, MeasuresIn};
+ghost use Rattle.capn_canon.specs.declared.refusal.Refusal.TheVariants as refusals;
+ghost use Rattle.capn_c.specs.Figures.{AreMeasures, IsCanonicalMessage, IsCanonicalSurvey, MeasuresIn};
 
-use capn_canon::measure_canonical;
+use capn_canon::{Refusal, measure_canonical};
 use capn_stream::first;
-use capn_walk::{Limits, survey_depth};
+use capn_walk::{Limits, Surveyed, survey_depth};
 use capn_words::{Bare, Place, Space, total_words};
 use std::alloc::Global;
 
@@ -92,6 +97,84 @@ fn measure<S: Space>(alloc: Global, space: &S, limits: Limits) -> Option<Measure
         depth,
         canonical: canonical.is_some(),
     })
+}
+
+/// What a survey says of bare words whose bytes are canonical, and their depth, or `None` where they are not. One pass
+/// over them finds it.
+fn canonical_survey_bare(space: &Bare<'_>, limits: Limits) -> Option<(Surveyed, u32)>
+    ensures found { IfSome result (λ t. IsCanonicalSurvey (space.now ∷ []) limits t.0 t.1) }
+    ensures only { IsCanonicalMessage (space.now ∷ []) limits → IsSome result }
+    ensures bounded { IfSome result (λ t. IsBounded limits.budget t.0.paid t.0.visits) }
+{
+    let _segments = space.segments();
+    let told = measure_canonical(space, limits)?;
+    if told.survey.is_canonical {
+        let surveyed = Surveyed {
+            paid: told.survey.paid,
+            visits: told.survey.visits,
+            capability: told.survey.capability,
+        };
+        Some((surveyed, told.depth))
+    } else {
+        None
+    }
+}
+
+/// The same of a message of one segment; `None` of others.
+fn canonical_survey<S: Space>(space: &S, limits: Limits) -> Option<(Surveyed, u32)>
+    ensures found { IfSome result (λ t. IsCanonicalSurvey (S.message space.now) limits t.0 t.1) }
+    ensures only { IsCanonicalMessage (S.message space.now) limits → IsSome result }
+    ensures bounded { IfSome result (λ t. IsBounded limits.budget t.0.paid t.0.visits) }
+{
+    if space.segments() > 1 {
+        return None;
+    }
+    let words = space.words(0).unwrap_or(0);
+    match Bare::new(space.bytes(ROOT, 8 * words as usize)) {
+        Ok(bare) => canonical_survey_bare(&bare, limits),
+        Err(_) => unreachable!(),
+    }
+}
+
+/// What a message comes to, by its depth and by whether it is canonical.
+fn measures_of<S: Space>(space: &S, depth: u32, canonical: bool) -> Measured
+    ensures words { result.words ≡ total (S.message space.now) }
+    ensures segments { result.segments ≡ length (S.message space.now) }
+    ensures depth { result.depth ≡ depth }
+    ensures canonical { result.canonical ≡ canonical }
+{
+    Measured {
+        words: total_words(space),
+        segments: space.segments(),
+        depth,
+        canonical,
+    }
+}
+
+/// What a survey says of a message, and what it comes to beside its price, or why it is not accepted.
+///
+/// A message whose bytes are canonical is walked once, another of one segment twice at most, and one of more segments
+/// once. It takes no memory.
+pub fn survey_and_measure<S: Space>(
+    alloc: Global,
+    space: &S,
+    limits: Limits,
+) -> Result<(Surveyed, Measured), Refusal>
+    ensures found { IfOk result (λ t. IsSurvey (S.message space.now) limits t.0
+        × AreMeasures (S.message space.now) limits t.1) }
+    ensures only { (v : Value) → IsValueOf (S.message space.now) limits v → IsOk result }
+    ensures refused { IfErr result (λ e. IsUnaccepted (S.message space.now) limits e) }
+    ensures no_memory { IfErr result (λ e. e ≢ refusals.Memory) }
+    ensures bounded { MatchResult result (λ t. IsBounded limits.budget t.0.paid t.0.visits)
+        (λ e. IsPaidWithin limits.budget e) }
+{
+    match canonical_survey(space, limits) {
+        Some((surveyed, depth)) => Ok((surveyed, measures_of(space, depth, true))),
+        None => {
+            let told = survey_depth(alloc, space, limits)?;
+            Ok((told.survey, measures_of(space, told.depth, false)))
+        }
+    }
 }
 
 /// What the message of a stream comes to beside its price, or `None` if it is refused, or memory was.

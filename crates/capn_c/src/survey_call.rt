@@ -100,7 +100,7 @@ pub extern "C" fn capn_survey(
     // What each refusal means; no other status stands for it.
     ensures refused { 5 ≤ result → (e : Refusals) × Reports result report.new e
         × IsUnacceptedIn (form_named form) bytes.now (bounds_of limits.now) e }
-    // Memory is needed only for a depth above 64, and for where two segments or more end.
+    // Memory is needed only for where two segments or more end.
     ensures memory { result ≡ 8 → MayNeedMemory (form_named form) bytes.now (bounds_of limits.now) }
     // No walk pays beyond its budget.
     ensures bounded { IsBounded limits.now.budget report.new.paid report.new.visits }

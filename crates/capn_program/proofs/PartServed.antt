@@ -36,12 +36,15 @@ pub end_added : (line : List ℕ) (p q r : Outgoing) (end : Ending) → q.taken 
     → q.kept ≡ p.kept ++ line → p.failed ≡ false
     → served.Flushes (served.outgoing q.taken q.kept) (served.outgoing r.taken r.kept) r.failed end
     → AddsEnd line p r end
-end_added line p q r (Ok u) taken failed kept fine ((w, wrote, is), short, good) = record {
-  written = w;
-  taken = subst (λ (c : Option (List ℕ)). Appends c r.taken w) taken wrote;
-  kept = is ∙ append-nil q.kept ∙ kept;
-  failed = good ∙ sym fine;
-}
+end_added line p q r (Ok u) taken failed kept fine ((w, wrote, is), short, good) = (
+  record {
+    written = w;
+    taken = subst (λ (c : Option (List ℕ)). Appends c r.taken w) taken wrote;
+    kept = is ∙ append-nil q.kept ∙ kept;
+    failed = good ∙ sym fine;
+  },
+  short,
+)
 end_added line p q r (Err faults.Io) taken failed kept fine (io, (count, wrote), broke) = (
   count,
   subst (λ (c : Option (List ℕ)). Appends c r.taken (take count (p.kept ++ line))) taken
@@ -56,8 +59,8 @@ module _ (m : List (List ℕ)) (limits : Bounds) (style : Style) (way : List ℕ
 
   pub part_line : (p q r : Outgoing) (end : Ending) → IsWritten m limits (styled style way) p q
       → AddsEnd (end_of style) q r end → AddsPart m limits style way p r end
-  part_line p q r (Ok u) shown line =
-      (shown.value, shown.is, both p q r (styled style way shown.value) (end_of style) shown.text line)
+  part_line p q r (Ok u) shown (line, short) =
+      (shown.value, shown.is, both p q r (styled style way shown.value) (end_of style) shown.text line, short)
   part_line p q r (Err faults.Memory) shown line = inr (
     shown.value,
     shown.is,
@@ -117,7 +120,8 @@ module _ (m : List (List ℕ)) (s : PartTexts) (at : Position) (frame : List ℕ
 
   pub does_part : (end : Ending) → p.failed ≡ false → AddsPart m s.limits s.style s.way.now p q end
       → DoesService serves refuses s at frame m old new q.failed end s
-  does_part (Ok u) fine (v, of, h) = (text_of v, ((v, of, refl), refl), adds (text_of v) h, h.failed ∙ fine)
+  does_part (Ok u) fine (v, of, h, short) =
+      ((text_of v, ((v, of, refl), refl), adds (text_of v) h, h.failed ∙ fine), λ few. short)
   does_part (Err faults.Memory) fine (inl h) = (inl (adds [] h), h.failed ∙ fine)
   does_part (Err faults.Memory) fine (inr (v, of, (count, h))) =
       (inr (text_of v, s, count, ((v, of, refl), refl), adds _ h), h.failed ∙ fine)

@@ -1,5 +1,6 @@
 -- What a run that shows messages did: of each, in a style, what is at a way from its root, or all of it. (Own.)
-use Rattle.std.specs.Prelude.{◌≡◌, ◌⊎◌, ℕ, List, [], ◌∷◌, ◌++◌, codes, Bool, false, Option, Some, Result, Ok, Err}
+use Rattle.std.specs.Prelude.{◌≡◌, ◌⊎◌, ℕ, List, [], ◌∷◌, ◌++◌, codes, Bool, true, false, Option, Some, is_some}
+use Rattle.std.specs.Prelude.{Result, Ok, Err}
 use Rattle.capn_value.specs.Tree.{Tree}
 use Rattle.capn_walk.specs.Accepted.{IsValueOf, IsWalkRefused}
 use Rattle.capn_walk.specs.declared.walk_answer.Stopped.{Stopped}
@@ -65,15 +66,15 @@ pub record Served (show : Show) (way : List ℕ) (a b c d : Option (List ℕ)) (
       writer_failed ending last
   pub is : r ≡ unplaced_end ending
 
--- memory was refused for the numbers of a way, and nothing was read or written
-abbrev pub NeedsMemory : Option (List ℕ) → Option (List ℕ) → Option (List ℕ) → Option (List ℕ) → Bool → Bool
+-- a way is given, memory was refused for its numbers, and nothing was read or written
+abbrev pub NeedsMemory : Show → Option (List ℕ) → Option (List ℕ) → Option (List ℕ) → Option (List ℕ) → Bool → Bool
     → Result (Unit {0}) ToolFault → Type 0
-NeedsMemory a b c d reader_failed writer_failed r = (r ≡ Err faults.Memory) × (b ≡ a) × (d ≡ c)
-    × (reader_failed ≡ false) × (writer_failed ≡ false)
+NeedsMemory show a b c d reader_failed writer_failed r = (is_some show.way ≡ true) × (r ≡ Err faults.Memory)
+    × (b ≡ a) × (d ≡ c) × (reader_failed ≡ false) × (writer_failed ≡ false)
 
 -- What a run did, over a reader (from a to b) and a writer (from c to d). The text of its order, if it has one, is a
 -- way; if it has none, all of each message is shown, which is at the way of no numbers.
 abbrev pub PartsShown : Show → Option (List ℕ) → Option (List ℕ) → Option (List ℕ) → Option (List ℕ) → Bool → Bool
     → Result (Unit {0}) ToolFault → Type 0
 PartsShown show a b c d reader_failed writer_failed r = (way : List ℕ) → numbers_of show.way ≡ Some way
-    → NeedsMemory a b c d reader_failed writer_failed r ⊎ Served show way a b c d reader_failed writer_failed r
+    → NeedsMemory show a b c d reader_failed writer_failed r ⊎ Served show way a b c d reader_failed writer_failed r

@@ -1,6 +1,6 @@
 //! The text of a way: the numbers that lead from the root of a message to what is below it.
 
-ghost use Rattle.std.specs.Prelude.{◌≡◌, List, ℕ, IfOk, Some, is_some};
+ghost use Rattle.std.specs.Prelude.{◌≡◌, List, ℕ, true, IfOk, OnErr, Some, is_some};
 ghost use Rattle.capn_program.specs.Way as spec;
 
 use std::alloc::{AllocError, Allocator};
@@ -39,12 +39,14 @@ pub(crate) fn is_way(text: &str) -> bool
     begun.is_some()
 }
 
-/// The numbers of a way, or none where no way is given.
+/// The numbers of a way, or none where no way is given, and then it takes no memory.
 pub(crate) fn numbers_of<A: Allocator>(
     alloc: A,
     way: Option<&str>,
 ) -> Result<Vec<u64, A>, AllocError>
-    ensures { IfOk result (λ numbers. (are : List ℕ) → spec.numbers_of way.entry ≡ Some are → numbers.items ≡ are) }
+    ensures found { IfOk result (λ numbers. (are : List ℕ) → spec.numbers_of way.entry ≡ Some are
+        → numbers.items ≡ are) }
+    ensures given { OnErr result (is_some way.entry ≡ true) }
 {
     match way {
         Some(text) => numbers_in(alloc, text),

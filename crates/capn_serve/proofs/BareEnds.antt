@@ -134,7 +134,8 @@ module _ {X : Type 0} (f : Fold X) (x y : X) (a b c : Option (List ℕ)) where
     io = io_none r w fault h.fine good (λ e. let bad : faults.InputTooLong ≡ faults.Io = sym is ∙ e in cc);
     begun = begins_none bytes r h;
     heard = λ e. Appends-nil c;
-    memory = λ e. absurd (let bad : stopped faults.InputTooLong ≡ stopped faults.Memory = sym (ap stopped is) ∙ e in cc);
+    memory = λ e. absurd (let bad : stopped faults.InputTooLong ≡ stopped faults.Memory = sym (ap stopped is)
+        ∙ e in cc);
   }
   runs_unread r w fault good (inl (bytes, inr (read, bounded, broken, is))) = record {
     exact = ends_unread c fault (inr is);

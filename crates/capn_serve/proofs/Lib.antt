@@ -13,3 +13,4 @@ pub mod Picks
 pub mod StreamPicks
 pub mod PackedPicks
 pub mod EachForm
+pub mod OnePick

@@ -1,6 +1,7 @@
 -- How a run over a packed stream ends.
 use Rattle.std.proofs.Common.{◌≡◌, ◌≢◌, ◌⊎◌, inl, inr, ℕ, ◌+◌, ◌-◌, ◌^◌, ◌<◌, ◌≤◌, min, List, [], ◌∷◌, ◌++◌, length}
-use Rattle.std.proofs.Common.{take, Bool, true, false, Option, None, Some, IfSome, Result, Ok, Err, refl, ap, sym, subst, ◌∙◌}
+use Rattle.std.proofs.Common.{take, Bool, true, false, Option, None, Some, IfSome}
+use Rattle.std.proofs.Common.{Result, Ok, Err, refl, ap, sym, subst, ◌∙◌}
 use Rattle.std.proofs.Common.{append-nil, append_assoc, arith, length-append, length-take-le}
 use Rattle.std.proofs.Math.Seq.{take_all}
 use Rattle.std.proofs.lemmas.List.{take-append-le}
@@ -352,7 +353,8 @@ module _ {X : Type 0} (f : Fold X) (x : X) (limit : ℕ) where
       (buf tail : List ℕ) (w k : ℕ)
       (reader_failed writer_failed : Bool) → reader_failed ≡ false → writer_failed ≡ false
       → taken + w ≡ most_packed → w < k → taken + k ≤ most_packed + 1 → k ≤ 65536
-      → HearsPacked f x limit a b taken q c d y → IsUnfinished q.rest f.most → Consumes b b2 (take k buf) → k ≤ length buf
+      → HearsPacked f x limit a b taken q c d y → IsUnfinished q.rest f.most → Consumes b b2 (take k buf)
+      → k ≤ length buf
       → TellsPacked f y q (take w (buf ++ tail)) r (sent d) (sent e) z → IsUnfinished r.rest f.most
       → RunsPacked f x most_packed limit a b2 c e reader_failed writer_failed (Err faults.InputTooLong) z
   packed_long most_packed y z a b b2 c d e taken q r buf tail w k reader_failed writer_failed reader_fine writer_fine

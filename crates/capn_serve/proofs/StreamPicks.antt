@@ -27,7 +27,8 @@ use Rattle.capn_serve.proofs.RunEnds.{due_long, due_open, due_unfinished, end_kn
 use Rattle.capn_serve.proofs.RunEnds.{written_front}
 use Rattle.capn_serve.proofs.Sends.{adds_sent}
 use Rattle.capn_serve.proofs.Picks.{Ending, Writes, begins_so, done, ends_kept, ends_more, ends_unread, enough_folded}
-use Rattle.capn_serve.proofs.Picks.{enough_more, folded_at, folded_short, full_cases, full_known, full_unrefused, goes_behind}
+use Rattle.capn_serve.proofs.Picks.{enough_more, folded_at, folded_short}
+use Rattle.capn_serve.proofs.Picks.{full_cases, full_known, full_unrefused, goes_behind}
 use Rattle.capn_serve.proofs.Picks.{io_none, lazy_piece, unheard, settled_cases, settled_failed, settled_io, stopped}
 use Rattle.capn_serve.proofs.Picks.{writer_only}
 

@@ -10,3 +10,4 @@ pub mod PackedRun
 pub mod Pick
 pub mod PickRun
 pub mod FormRun
+pub mod Laws

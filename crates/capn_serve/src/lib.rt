@@ -12,6 +12,7 @@ mod bare_run;
 mod chunk;
 mod fault;
 mod form_run;
+pub mod laws;
 mod message;
 mod output;
 mod packed_run;

@@ -85,7 +85,9 @@ mod direct {
         while from < stream.len() {
             let rest = &stream[from..];
             let (bytes, size) = (rest.as_ptr(), rest.len());
-            unsafe { capn_sys::capn_first(bytes, size, &limits(), &mut report) };
+            if unsafe { capn_sys::capn_first(bytes, size, &limits(), &mut report) } != 0 {
+                break;
+            }
             from += report.length as usize;
         }
         from

@@ -3,6 +3,7 @@
 //! What a caller owes (`capn.h`) is met by types: bytes behind a shared reference don't change while it lives, what a
 //! call writes is borrowed alone or is spare room of a vector, and each pointer goes with the size of its slice.
 use alloc::vec::Vec;
+use core::mem::MaybeUninit;
 
 #[cfg(capn_has_segments)]
 use capn_sys::capn_segment;
@@ -151,12 +152,15 @@ pub(crate) enum First {
 pub(crate) fn first(stream: &[u8], limits: &capn_limits) -> Result<First, Error> {
     const FRAME_EMPTY: capn_status = 48;
     const FRAME_CUT: capn_status = 51;
-    let mut report = capn_report::default();
+    let mut report = MaybeUninit::uninit();
     let (bytes, size) = (stream.as_ptr(), stream.len());
-    match unsafe { capn_sys::capn_first(bytes, size, limits, &mut report) } {
+    let status = unsafe { capn_sys::capn_first(bytes, size, limits, report.as_mut_ptr()) };
+    // A call sets each field of its report, whatever it answers.
+    let report: &capn_report = unsafe { report.assume_init_ref() };
+    match status {
         OK => Ok(First::Whole(report.length as usize)),
         FRAME_EMPTY | FRAME_CUT => Ok(First::Needs(report.length as usize)),
-        status => Err(Error::of(status, &report)),
+        status => Err(Error::of(status, report)),
     }
 }
 

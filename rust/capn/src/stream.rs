@@ -1,6 +1,8 @@
 //! The messages of a stream in memory.
 use core::iter::FusedIterator;
 
+use capn_sys::capn_limits;
+
 use crate::call::{self, First};
 use crate::{Error, Limits};
 
@@ -19,7 +21,7 @@ use crate::{Error, Limits};
 pub fn messages(stream: &[u8], limits: Limits) -> Messages<'_> {
     Messages {
         stream,
-        limits,
+        limits: limits.raw(),
         number: 0,
         offset: 0,
         next: 0,
@@ -31,7 +33,7 @@ pub fn messages(stream: &[u8], limits: Limits) -> Messages<'_> {
 #[derive(Clone, Debug)]
 pub struct Messages<'a> {
     stream: &'a [u8],
-    limits: Limits,
+    limits: capn_limits,
     number: u64,
     offset: usize,
     next: usize,
@@ -60,7 +62,9 @@ impl<'a> Iterator for Messages<'a> {
             .filter(|rest| !rest.is_empty())?;
         self.number += 1;
         self.offset = self.next;
-        match call::first(rest, &self.limits.raw()) {
+        // A copy, so that nothing else of the iterator has to be in memory during the call.
+        let limits = self.limits;
+        match call::first(rest, &limits) {
             Ok(First::Whole(length)) => {
                 self.next += length;
                 Some(Ok(&rest[..length]))

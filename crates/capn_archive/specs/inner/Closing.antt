@@ -5,7 +5,8 @@ use Rattle.capn_words.specs.Watched.{HasBegun}
 use Rattle.capn_serve.specs.declared.fault.RunFault.{RunFault}
 use Rattle.capn_serve.specs.declared.fault.RunFault.TheVariants as faults
 
--- a text was written; or memory was refused for one that is not empty, and nothing was written; or the writer failed within the text
+-- a text was written; or memory was refused for one that is not empty, and nothing was written; or the writer
+-- failed within the text
 abbrev pub PutsClosing : List ℕ → Option (List ℕ) → Option (List ℕ) → Bool → Result (Unit {0}) RunFault → Type 0
 PutsClosing text old new failed (Ok u) = Appends old new text × (failed ≡ false)
 PutsClosing text old new failed (Err fault) =

@@ -18,6 +18,7 @@ returns-in-Some-clause-found c e =
             depth = f.depth;
             capability = f.capability;
             canonical = f.canonical;
+            flags = f.flags;
           }),
       search (rules, f.paid, f.visits),
     )

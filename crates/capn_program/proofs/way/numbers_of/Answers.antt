@@ -11,5 +11,5 @@ given way text r is h =
     subst (λ (w : Option (Bor Text)). IfOk r (λ numbers. (are : List ℕ) → numbers_of w ≡ Some are
     → numbers.items ≡ are)) (sym is) h
 
-pub returns-in-Some : goal.returns-in-Some
-returns-in-Some g c = given c.args.way c.in-Some.text c.numbers_in.result c.in-Some.is c.numbers_in.ensures
+pub returns-in-Some-clause-found : goal.returns-in-Some-clause-found
+returns-in-Some-clause-found g c = given c.args.way c.in-Some.text c.numbers_in.result c.in-Some.is c.numbers_in.ensures

@@ -70,7 +70,8 @@ returns-in-Err g c =
     packed_unread c.args.most c.args.pick c.chunks.run _ _ _ _ _ c.chunks.taken
     (pending c.chunks.packed.unpacker c.chunks.packed.framer c.chunks.packed.left) _ _
     (has_broken _ _ c.in-Err.ensures.failed) i.within i.heard
-    (subst (λ (m : ℕ). IsUnfinished c.chunks.packed.framer.rest m) i.listening.most i.listening.part) c.in-Err.ensures.bytes
+    (subst (λ (m : ℕ). IsUnfinished c.chunks.packed.framer.rest m) i.listening.most i.listening.part)
+    c.in-Err.ensures.bytes
 
 pub returns-in-Ok-eq0 : goal.returns-in-Ok-eq0
 returns-in-Ok-eq0 g c =

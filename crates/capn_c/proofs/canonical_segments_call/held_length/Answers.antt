@@ -1,0 +1,44 @@
+-- A survey answers a price and a length that is enough; no refusal has the status 8, since no memory is needed.
+use Rattle.std.proofs.Common.{ap, sym, refl, ◌∙◌, arith}
+use Rattle.capn_canon.specs.Layout.{canon}
+use Rattle.capn_segments.specs.Segments.{message_of}
+use Rattle.capn_c.specs.declared.report.CapnReport.{CapnReport}
+use Rattle.capn_c.proofs.OutOfMemory.{unaccepted_held_memory}
+use Rattle.capn_c.proofs.canonical_segments_call.held_length.Goals as goal
+
+pub returns-in-None-clause-found : goal.returns-in-None-clause-found
+returns-in-None-clause-found c t =
+    let h = c.in-Ok.ensures.found in
+    let v = h.survey.value in
+    let told = c.answer_of.ensures in
+    let short = c.in-Ok.ensures.short v (record { held = h.held; value = h.survey.is }) in
+    let length_is = ap (λ (r : CapnReport). r.length) told in
+    let paid_is = ap (λ (r : CapnReport). r.paid) told in (
+      canon v,
+      record {
+        held = h.held;
+        answer = record {
+          value = v;
+          is = h.survey.is;
+          free = sym h.survey.capability ∙ c.in-None.is;
+          canonical = refl;
+          priced = paid_is ∙ h.survey.pays;
+        };
+      },
+      omega (arith, short, length_is),
+    )
+
+pub returns-in-None-clause-only : goal.returns-in-None-clause-only
+returns-in-None-clause-only c v d n =
+    let short = c.in-Ok.ensures.short v d in
+    let length_is = ap (λ (r : CapnReport). r.length) c.answer_of.ensures in
+    (refl, omega (arith, short, length_is))
+
+pub returns-in-Err-clause-only : goal.returns-in-Err-clause-only
+returns-in-Err-clause-only c v d n = absurd (c.in-Err.ensures.no_memory (c.in-Err.ensures.only v d))
+
+pub returns-in-Err-clause-no_memory : goal.returns-in-Err-clause-no_memory
+returns-in-Err-clause-no_memory c e =
+    c.in-Err.ensures.no_memory
+    (unaccepted_held_memory (message_of c.args.segments.now) c.args.limits c.in-Err.refusal c.in-Err.ensures.refused
+    (sym c.refuse-in-Err.ensures.status_is ∙ e))

@@ -1,0 +1,20 @@
+-- A message that is held in segments is answered as a frame of the same segments is. (Own.)
+use Rattle.std.specs.Prelude.{◌↔◌, ℕ, List}
+use Rattle.capn_stream.specs.Frames.{Frames}
+use Rattle.capn_walk.specs.Limits.{Bounds}
+use Rattle.capn_canon.specs.Denotes.{Answers}
+use Rattle.capn_canon.specs.Refusal.{IsRefused}
+use Rattle.capn_canon.specs.declared.form.Form.TheVariants as forms
+use Rattle.capn_canon.specs.declared.refusal.Refusal.{Refusal}
+use Rattle.capn_c.specs.Held.{AnswersHeld, IsRefusedHeld}
+
+-- segments have the answer of their frame, and no other
+abbrev pub HeldAreAnsweredAsFramed : Type 0
+HeldAreAnsweredAsFramed = (bs : List ℕ) (message : List (List ℕ)) (limits : Bounds) → Frames bs message
+    → (text : List ℕ) (price : ℕ)
+    → AnswersHeld message limits text price ↔ Answers forms.Stream bs limits text price
+
+-- and are refused as it is
+abbrev pub HeldAreRefusedAsFramed : Type 0
+HeldAreRefusedAsFramed = (bs : List ℕ) (message : List (List ℕ)) (limits : Bounds) → Frames bs message
+    → (e : Refusal) → IsRefusedHeld message limits e → IsRefused forms.Stream bs limits e

@@ -1,0 +1,73 @@
+-- What is answered of a message that is held in segments. (Own.)
+use Rattle.std.specs.Prelude.{◌≡◌, ℕ, List, ⊤, Result, Ok, Err}
+use Rattle.capn_segments.specs.Segments.{IsHeld, IsUnheld}
+use Rattle.capn_segments.specs.declared.fault.SegmentsFault.TheVariants as segments
+use Rattle.capn_stream.specs.declared.fault.FrameFault.{FrameFault}
+use Rattle.capn_stream.specs.declared.fault.FrameFault.TheVariants as frame
+use Rattle.capn_value.specs.Tree.{Tree}
+use Rattle.capn_walk.specs.Accepted.{IsValueOf}
+use Rattle.capn_walk.specs.Limits.{Bounds}
+use Rattle.capn_walk.specs.Surveyed.{IsSurvey}
+use Rattle.capn_walk.specs.declared.survey_answer.Surveyed.{Surveyed}
+use Rattle.capn_canon.specs.Denotes.{AnswersMessage}
+use Rattle.capn_canon.specs.Refusal.{IsRefusedMessage}
+use Rattle.capn_canon.specs.declared.refusal.Refusal.{Refusal}
+use Rattle.capn_canon.specs.declared.refusal.Refusal.TheVariants as refusals
+use Rattle.capn_c.specs.Figures.{AreFigures, AreMeasures}
+use Rattle.capn_c.specs.declared.figures.CapnFigures.{CapnFigures}
+use Rattle.capn_c.specs.declared.message_measures.Measured.{Measured}
+
+-- the segments are a message within the limits, which is accepted with this value
+pub record DenotesHeld (message : List (List ℕ)) (limits : Bounds) (v : Tree) : Type 0 where
+  pub held : IsHeld message limits.message_words
+  pub value : IsValueOf message limits v
+
+-- they are a message within the limits, with these canonical bytes and this price
+pub record AnswersHeld (message : List (List ℕ)) (limits : Bounds) (bytes : List ℕ) (price : ℕ) : Type 0 where
+  pub held : IsHeld message limits.message_words
+  pub answer : AnswersMessage message limits bytes price
+
+-- they are an accepted message within the limits, of which the survey is
+pub record SurveysHeld (message : List (List ℕ)) (limits : Bounds) (s : Surveyed) : Type 0 where
+  pub held : IsHeld message limits.message_words
+  pub survey : IsSurvey message limits s
+
+-- beside it, what the message comes to
+pub record MeasuresHeld (message : List (List ℕ)) (limits : Bounds) (s : Surveyed) (m : Measured) : Type 0 where
+  pub held : IsHeld message limits.message_words
+  pub survey : IsSurvey message limits s
+  pub are : AreMeasures message limits m
+
+-- they are an accepted message within the limits, of which these are the figures
+pub record FiguresHeld (message : List (List ℕ)) (limits : Bounds) (f : CapnFigures) : Type 0 where
+  pub held : IsHeld message limits.message_words
+  pub are : AreFigures message limits f
+
+-- why segments are no message of at most `most` words, by the names that the same has of a frame
+abbrev pub IsMisheld : List (List ℕ) → ℕ → FrameFault → Type 0
+IsMisheld message most frame.Empty = IsUnheld message most segments.Empty
+IsMisheld message most (frame.TooManySegments n) = IsUnheld message most (segments.TooManySegments n)
+IsMisheld message most (frame.TooManyWords n) = IsUnheld message most (segments.TooManyWords n)
+IsMisheld message most _ = ⊥
+
+-- what segments are read as within limits: their message, or the first reason why they are none
+abbrev pub IsHeldOr : List (List ℕ) → Bounds → Result (List (List ℕ)) Refusal → Type 0
+IsHeldOr message limits (Ok read) = (read ≡ message) × IsHeld message limits.message_words
+IsHeldOr message limits (Err (refusals.Frame e)) = IsMisheld message limits.message_words e
+IsHeldOr message limits (Err _) = ⊥
+
+-- why they have no canonical bytes: they are no message within the limits, or that message is refused; nothing is said
+-- of running out of memory
+abbrev pub IsRefusedHeld : List (List ℕ) → Bounds → Refusal → Type 0
+IsRefusedHeld message limits (refusals.Frame e) = IsMisheld message limits.message_words e
+IsRefusedHeld message limits (refusals.Walk s) = IsHeld message limits.message_words
+    × IsRefusedMessage message limits (refusals.Walk s)
+IsRefusedHeld message limits (refusals.Capability k) = IsHeld message limits.message_words
+    × IsRefusedMessage message limits (refusals.Capability k)
+IsRefusedHeld message limits refusals.Memory = ⊤
+IsRefusedHeld message limits _ = ⊥
+
+-- why they are not accepted
+abbrev pub IsUnacceptedHeld : List (List ℕ) → Bounds → Refusal → Type 0
+IsUnacceptedHeld message limits (refusals.Capability k) = ⊥
+IsUnacceptedHeld message limits r = IsRefusedHeld message limits r

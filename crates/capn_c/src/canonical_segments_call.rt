@@ -1,0 +1,147 @@
+//! Canonical bytes of messages that are held in segments.
+
+ghost use Rattle.std.specs.Prelude.{IsTrue, ◌≡◌, ◌≢◌, ◌⊎◌, ◌↔◌, ◌≤◌, ◌<◌, ◌+◌, ◌*◌, ℕ, List, None, length, take};
+ghost use Rattle.capn_value.specs.Tree.{Tree as Value};
+ghost use Rattle.capn_value.specs.FirstCap.{first_cap};
+ghost use Rattle.capn_walk.specs.Accepted.{IsBounded};
+ghost use Rattle.capn_canon.specs.Layout.{canon};
+ghost use Rattle.capn_canon.specs.Canonicity.{IsCanonicalForm};
+ghost use Rattle.capn_canon.specs.MemoryNeed.{MayNeedBytes};
+ghost use Rattle.capn_canon.specs.declared.refusal.Refusal.{Refusal as Refusals};
+ghost use Rattle.capn_segments.specs.Segments.{message_of};
+ghost use Rattle.capn_c.specs.Calls.{GiveLimits, IsTariff, bounds_of, Delivers, Serves};
+ghost use Rattle.capn_c.specs.Held.{AnswersHeld, DenotesHeld, IsRefusedHeld};
+ghost use Rattle.capn_c.specs.StatusCodes.{Reports, answered, at_number, is_status};
+
+use crate::held_message::{canonical_held, survey_held};
+use crate::limits::{CapnLimits, limits_of};
+use crate::output::deliver;
+use crate::report::{CapnReport, answer_of, report_at};
+use crate::status_codes::{NO_ROOM, refuse};
+use capn_canon::Refusal;
+use capn_walk::Limits;
+use std::alloc::Global;
+
+/// A length that is enough for the canonical bytes of a message that is held in segments, which are not laid out.
+fn held_length(
+    alloc: Global,
+    segments: &[&[[u8; 8]]],
+    limits: Limits,
+    report: &mut CapnReport,
+) -> u32
+    ensures possible { (result ≡ 1) ⊎ (8 ≤ result) }
+    ensures no_memory { result ≢ 8 }
+    ensures found { result ≡ 1 → (text : List ℕ)
+        × AnswersHeld (message_of segments.now) limits text report.new.paid × (length text ≤ report.new.length) }
+    ensures only { (v : Value) → DenotesHeld (message_of segments.now) limits v → first_cap v ≡ None
+        → (result ≡ 1) × (length (canon v) ≤ report.new.length) }
+    ensures rest { result ≡ 1 → report.new ≡ answered (8 * (report.new.paid + 1)) report.new.paid 0 }
+    ensures listed { IsTrue (is_status result) }
+    ensures refused { 8 ≤ result → (e : Refusals) × Reports result report.new e
+        × IsRefusedHeld (message_of segments.now) limits e }
+    ensures bounded { IsBounded limits.budget report.new.paid report.new.visits }
+{
+    match survey_held(alloc, segments, limits) {
+        Ok(surveyed) => match surveyed.capability {
+            Some(index) => refuse(Refusal::Capability(index), report),
+            None => {
+                let paid = surveyed.paid;
+                *report = answer_of(8 * (paid as u64 + 1), paid, 0);
+                NO_ROOM
+            }
+        },
+        Err(refusal) => refuse(refusal, report),
+    }
+}
+
+/// The canonical bytes of a message that is held in segments, into a buffer.
+fn fill_held(
+    alloc: Global,
+    segments: &[&[[u8; 8]]],
+    limits: Limits,
+    out: &mut [u8],
+    report: &mut CapnReport,
+) -> u32
+    ensures possible { (result ≤ 1) ⊎ (8 ≤ result) }
+    ensures found { result ≤ 1 → (text : List ℕ)
+        × AnswersHeld (message_of segments.now) limits text report.new.paid
+        × Delivers text result report.new.length out.old out.new }
+    ensures only { (v : Value) → DenotesHeld (message_of segments.now) limits v → first_cap v ≡ None
+        → (result ≡ 8) ⊎ Delivers (canon v) result report.new.length out.old out.new }
+    ensures rest { result ≤ 1 → report.new ≡ answered report.new.length report.new.paid 0 }
+    ensures listed { IsTrue (is_status result) }
+    ensures refused { 8 ≤ result → (e : Refusals) × Reports result report.new e
+        × IsRefusedHeld (message_of segments.now) limits e }
+    ensures memory { result ≡ 8 → MayNeedBytes (message_of segments.now) limits }
+    ensures bounded { IsBounded limits.budget report.new.paid report.new.visits }
+    ensures short { result ≤ 1 → report.new.length ≤ 8 * (report.new.paid + 1) }
+    ensures kept { result ≢ 0 → out.new ≡ out.old }
+    ensures canonical { result ≡ 0 → (v : Value) → DenotesHeld (message_of segments.now) limits v
+        → IsCanonicalForm (take report.new.length out.new) limits v }
+{
+    match canonical_held(alloc, segments, limits) {
+        Ok(canonical) => {
+            *report = answer_of(canonical.bytes.len() as u64, canonical.paid, 0);
+            deliver(canonical.bytes.as_slice(), out)
+        }
+        Err(refusal) => refuse(refusal, report),
+    }
+}
+
+/// The canonical bytes of a message that is held in segments, each its words of 8 bytes, into a buffer.
+///
+/// 0: the answer is at the start of the buffer. 1: the buffer has no room for it, and is as it was; `length` is
+/// what it needs, exactly; if the buffer has no bytes at all, the message is surveyed and nothing is written, and
+/// `length` is 8 for each word paid and 8 more, which is enough. 3 and 4: a limit or the tariff is out of its range. 8:
+/// memory was refused, for canonical bytes. Others: the refusal, as of the frame of the same segments: 48, if there are
+/// none.
+#[unsafe(no_mangle)]
+pub extern "C" fn capn_canonical_segments(
+    alloc: Global,
+    segments: &[&[[u8; 8]]],
+    limits: &CapnLimits,
+    out: &mut [u8],
+    report: &mut CapnReport,
+) -> u32
+    // The limits are tested first.
+    ensures limits { (result ≡ 3) ↔ (GiveLimits limits.now → ⊥) }
+    ensures tariff { (result ≡ 4) ↔ (GiveLimits limits.now × (IsTariff limits.now.tariff → ⊥)) }
+    // The answer: the canonical bytes of the one value that the message denotes, and what the walk pays.
+    ensures found { result ≤ 1 → (text : List ℕ)
+        × AnswersHeld (message_of segments.now) (bounds_of limits.now) text report.new.paid
+        × Serves text result report.new out.old out.new }
+    // A value without capabilities is answered, unless memory runs out.
+    ensures only { GiveLimits limits.now → IsTariff limits.now.tariff → (v : Value)
+        → DenotesHeld (message_of segments.now) (bounds_of limits.now) v → first_cap v ≡ None
+        → (result ≡ 8) ⊎ Serves (canon v) result report.new out.old out.new }
+    // The report of an answer has its length and its price; what no status speaks of is 0.
+    ensures rest { result ≤ 1 → report.new ≡ answered report.new.length report.new.paid 0 }
+    ensures blank { 2 ≤ result → result ≤ 4 → report.new ≡ at_number 0 }
+    ensures listed { IsTrue (is_status result) }
+    // What each refusal means; no other status stands for it.
+    ensures refused { 5 ≤ result → (e : Refusals) × Reports result report.new e
+        × IsRefusedHeld (message_of segments.now) (bounds_of limits.now) e }
+    // Memory is needed only if there is room, for canonical bytes.
+    ensures memory { result ≡ 8 → MayNeedBytes (message_of segments.now) (bounds_of limits.now) }
+    ensures measuring { result ≡ 8 → 0 < length out.old }
+    // No walk pays beyond its budget.
+    ensures bounded { IsBounded limits.now.budget report.new.paid report.new.visits }
+    ensures short { result ≤ 1 → report.new.length ≤ 8 * (report.new.paid + 1) }
+    // Where nothing is answered, the buffer is as it was.
+    ensures kept { result ≢ 0 → out.new ≡ out.old }
+    // Read bare under the same limits, the answer denotes the trimmed value, which is the same value, and pays exactly
+    // its cost; its canonical bytes are the answer again; and a second value has these if and only if it is the same.
+    ensures canonical { result ≡ 0 → (v : Value) → DenotesHeld (message_of segments.now) (bounds_of limits.now) v
+        → IsCanonicalForm (take report.new.length out.new) (bounds_of limits.now) v }
+{
+    *report = report_at(0);
+    match limits_of(limits) {
+        Ok(limits) => {
+            if out.is_empty() {
+                return held_length(alloc, segments, limits, report);
+            }
+            fill_held(alloc, segments, limits, out, report)
+        }
+        Err(status) => status,
+    }
+}

@@ -1,0 +1,97 @@
+//! Digests of messages that are held in segments.
+
+ghost use Rattle.std.specs.Prelude.{IsTrue, ◌≡◌, ◌≢◌, ◌⊎◌, ◌↔◌, ◌≤◌, ℕ, List, None};
+ghost use Rattle.sha2.specs.Sha256.{sha256};
+ghost use Rattle.capn_value.specs.Tree.{Tree as Value};
+ghost use Rattle.capn_value.specs.FirstCap.{first_cap};
+ghost use Rattle.capn_walk.specs.Accepted.{IsBounded};
+ghost use Rattle.capn_canon.specs.Layout.{canon};
+ghost use Rattle.capn_canon.specs.MemoryNeed.{MayNeedBytes};
+ghost use Rattle.capn_canon.specs.declared.refusal.Refusal.{Refusal as Refusals};
+ghost use Rattle.capn_segments.specs.Segments.{message_of};
+ghost use Rattle.capn_c.specs.Calls.{GiveLimits, IsTariff, bounds_of};
+ghost use Rattle.capn_c.specs.Held.{AnswersHeld, DenotesHeld, IsRefusedHeld};
+ghost use Rattle.capn_c.specs.StatusCodes.{Reports, answered, at_number, is_status};
+
+use crate::held_message::canonical_held;
+use crate::limits::{CapnLimits, limits_of};
+use crate::report::{CapnReport, answer_of, report_at};
+use crate::status_codes::{DONE, refuse};
+use capn_walk::Limits;
+use sha2::{Digest, Sha256};
+use std::alloc::Global;
+
+/// The SHA-256 of the canonical bytes of a message that is held in segments.
+fn hash_held(
+    alloc: Global,
+    segments: &[&[[u8; 8]]],
+    limits: Limits,
+    digest: &mut [u8; 32],
+    report: &mut CapnReport,
+) -> u32
+    ensures possible { (result ≡ 0) ⊎ (8 ≤ result) }
+    ensures found { result ≡ 0 → (text : List ℕ)
+        × AnswersHeld (message_of segments.now) limits text report.new.paid × (digest.new ≡ sha256 text) }
+    ensures only { (v : Value) → DenotesHeld (message_of segments.now) limits v → first_cap v ≡ None
+        → (result ≡ 8) ⊎ ((result ≡ 0) × (digest.new ≡ sha256 (canon v))) }
+    ensures rest { result ≡ 0 → report.new ≡ answered 0 report.new.paid 0 }
+    ensures listed { IsTrue (is_status result) }
+    ensures refused { 8 ≤ result → (e : Refusals) × Reports result report.new e
+        × IsRefusedHeld (message_of segments.now) limits e }
+    ensures memory { result ≡ 8 → MayNeedBytes (message_of segments.now) limits }
+    ensures bounded { IsBounded limits.budget report.new.paid report.new.visits }
+    ensures kept { result ≢ 0 → digest.new ≡ digest.old }
+{
+    match canonical_held(alloc, segments, limits) {
+        Ok(canonical) => {
+            *report = answer_of(0, canonical.paid, 0);
+            *digest = Sha256::digest(canonical.bytes.as_slice());
+            DONE
+        }
+        Err(refusal) => refuse(refusal, report),
+    }
+}
+
+/// The SHA-256 of the canonical bytes of a message that is held in segments, each its words of 8 bytes.
+///
+/// 0: the digest is written. 3 and 4: a limit or the tariff is out of its range. 8: memory was refused, for canonical
+/// bytes. Others: the refusal, as of the frame of the same segments: 48, if there are none.
+#[unsafe(no_mangle)]
+pub extern "C" fn capn_hash_segments(
+    alloc: Global,
+    segments: &[&[[u8; 8]]],
+    limits: &CapnLimits,
+    digest: &mut [u8; 32],
+    report: &mut CapnReport,
+) -> u32
+    // The limits are tested first.
+    ensures limits { (result ≡ 3) ↔ (GiveLimits limits.now → ⊥) }
+    ensures tariff { (result ≡ 4) ↔ (GiveLimits limits.now × (IsTariff limits.now.tariff → ⊥)) }
+    // The digest is that of the canonical bytes of the one value that the message denotes.
+    ensures found { result ≡ 0 → (text : List ℕ)
+        × AnswersHeld (message_of segments.now) (bounds_of limits.now) text report.new.paid
+        × (digest.new ≡ sha256 text) }
+    // A value without capabilities has its digest answered, unless memory runs out.
+    ensures only { GiveLimits limits.now → IsTariff limits.now.tariff → (v : Value)
+        → DenotesHeld (message_of segments.now) (bounds_of limits.now) v → first_cap v ≡ None
+        → (result ≡ 8) ⊎ ((result ≡ 0) × (digest.new ≡ sha256 (canon v))) }
+    // The report of a digest has the price alone; what no status speaks of is 0.
+    ensures rest { result ≡ 0 → report.new ≡ answered 0 report.new.paid 0 }
+    ensures blank { 1 ≤ result → result ≤ 4 → report.new ≡ at_number 0 }
+    ensures listed { IsTrue (is_status result) }
+    // What each refusal means; no other status stands for it.
+    ensures refused { 5 ≤ result → (e : Refusals) × Reports result report.new e
+        × IsRefusedHeld (message_of segments.now) (bounds_of limits.now) e }
+    // Memory is needed only for canonical bytes.
+    ensures memory { result ≡ 8 → MayNeedBytes (message_of segments.now) (bounds_of limits.now) }
+    // No walk pays beyond its budget.
+    ensures bounded { IsBounded limits.now.budget report.new.paid report.new.visits }
+    // Where nothing is answered, the buffer is as it was.
+    ensures kept { result ≢ 0 → digest.new ≡ digest.old }
+{
+    *report = report_at(0);
+    match limits_of(limits) {
+        Ok(limits) => hash_held(alloc, segments, limits, digest, report),
+        Err(status) => status,
+    }
+}

@@ -1,0 +1,117 @@
+//! Messages that are held in segments.
+
+ghost use Rattle.std.specs.Prelude.{◌≡◌, ◌≢◌, ◌≤◌, ◌+◌, ◌*◌, List, ℕ, Ok, None, length};
+ghost use Rattle.std.specs.Prelude.{IfOk, IfErr, IsErrOf, IsOk, MatchResult};
+ghost use Rattle.capn_value.specs.Tree.{Tree as Value};
+ghost use Rattle.capn_value.specs.FirstCap.{first_cap};
+ghost use Rattle.capn_walk.specs.Accepted.{IsBounded, IsValueOf};
+ghost use Rattle.capn_walk.specs.Surveyed.{IsSurvey};
+ghost use Rattle.capn_canon.specs.Layout.{canon};
+ghost use Rattle.capn_canon.specs.Canonicity.{IsCanonicalForm};
+ghost use Rattle.capn_canon.specs.MemoryNeed.{MayNeedBytes};
+ghost use Rattle.capn_canon.specs.Refusal.{IsPaidWithin, IsUnaccepted};
+ghost use Rattle.capn_canon.specs.declared.refusal.Refusal.TheVariants as refusals;
+ghost use Rattle.capn_segments.specs.Segments.{IsHeld, message_of};
+ghost use Rattle.capn_c.specs.Held.{AnswersHeld, DenotesHeld, IsHeldOr, IsRefusedHeld};
+ghost use Rattle.capn_c.specs.Held.{IsUnacceptedHeld, MeasuresHeld, SurveysHeld};
+
+use crate::message_measures::{Measured, survey_and_measure};
+use capn_canon::{Canonical, Refusal, canonical_of, survey};
+use capn_segments::{Segments, SegmentsFault};
+use capn_stream::FrameFault;
+use capn_walk::{Limits, Surveyed};
+use capn_words::Space;
+use std::alloc::Global;
+
+/// The message that segments hold within limits, or why they hold none, by the fault of a frame of the same segments.
+pub fn held<'a>(segments: &'a [&'a [[u8; 8]]], limits: Limits) -> Result<Segments<'a>, Refusal>
+    ensures exact { IsHeldOr (message_of segments.now) limits result }
+    ensures only { IsHeld (message_of segments.now) limits.message_words → result ≡ Ok (message_of segments.now) }
+{
+    match Segments::new(segments, limits.message_words()) {
+        Ok(message) => Ok(message),
+        Err(SegmentsFault::Empty) => Err(Refusal::Frame(FrameFault::Empty)),
+        Err(SegmentsFault::TooManySegments(count)) => {
+            Err(Refusal::Frame(FrameFault::TooManySegments(count)))
+        }
+        Err(SegmentsFault::TooManyWords(words)) => {
+            Err(Refusal::Frame(FrameFault::TooManyWords(words)))
+        }
+    }
+}
+
+/// The canonical bytes of a message that is held in segments.
+pub fn canonical_held(
+    alloc: Global,
+    segments: &[&[[u8; 8]]],
+    limits: Limits,
+) -> Result<Canonical, Refusal>
+    ensures found { IfOk result (λ c. AnswersHeld (message_of segments.now) limits c.bytes.items c.paid) }
+    ensures only { (v : Value) → DenotesHeld (message_of segments.now) limits v → first_cap v ≡ None
+        → MatchResult result (λ c. c.bytes.items ≡ canon v) (λ e. e ≡ refusals.Memory) }
+    ensures refused { IfErr result (λ e. IsRefusedHeld (message_of segments.now) limits e) }
+    ensures memory { IsErrOf result refusals.Memory → MayNeedBytes (message_of segments.now) limits }
+    ensures bounded { MatchResult result (λ c. c.paid ≤ limits.budget) (λ e. IsPaidWithin limits.budget e) }
+    ensures short { IfOk result (λ c. length c.bytes.items ≤ 8 * (c.paid + 1)) }
+    ensures canonical { IfOk result (λ c. (v : Value) → DenotesHeld (message_of segments.now) limits v
+        → IsCanonicalForm c.bytes.items limits v) }
+{
+    let message = held(segments, limits)?;
+    canonical_of(alloc, &message, limits)
+}
+
+/// A survey of a message, with a bound of the length of its canonical bytes.
+fn survey_short<S: Space>(alloc: Global, space: &S, limits: Limits) -> Result<Surveyed, Refusal>
+    ensures found { IfOk result (λ s. IsSurvey (S.message space.now) limits s) }
+    ensures only { (v : Value) → IsValueOf (S.message space.now) limits v
+        → MatchResult result (λ s. s.capability ≡ first_cap v) (λ e. e ≡ refusals.Memory) }
+    ensures refused { IfErr result (λ e. IsUnaccepted (S.message space.now) limits e) }
+    ensures no_memory { IfErr result (λ e. e ≢ refusals.Memory) }
+    ensures bounded { MatchResult result (λ s. IsBounded limits.budget s.paid s.visits)
+        (λ e. IsPaidWithin limits.budget e) }
+    ensures short { IfOk result (λ s. (v : Value) → IsValueOf (S.message space.now) limits v
+        → length (canon v) ≤ 8 * (s.paid + 1)) }
+{
+    // The clause on the length needs what they promise.
+    let _segments = space.segments();
+    let _budget = limits.budget();
+    let _depth = limits.depth();
+    survey(alloc, space, limits)
+}
+
+/// What the walk of a message that is held in segments pays and visits, and its first capability.
+pub fn survey_held(
+    alloc: Global,
+    segments: &[&[[u8; 8]]],
+    limits: Limits,
+) -> Result<Surveyed, Refusal>
+    ensures found { IfOk result (λ s. SurveysHeld (message_of segments.now) limits s) }
+    ensures only { (v : Value) → DenotesHeld (message_of segments.now) limits v
+        → MatchResult result (λ s. s.capability ≡ first_cap v) (λ e. e ≡ refusals.Memory) }
+    ensures refused { IfErr result (λ e. IsUnacceptedHeld (message_of segments.now) limits e) }
+    ensures no_memory { IfErr result (λ e. e ≢ refusals.Memory) }
+    ensures bounded { MatchResult result (λ s. IsBounded limits.budget s.paid s.visits)
+        (λ e. IsPaidWithin limits.budget e) }
+    ensures short { IfOk result (λ s. (v : Value) → DenotesHeld (message_of segments.now) limits v
+        → length (canon v) ≤ 8 * (s.paid + 1)) }
+{
+    let message = held(segments, limits)?;
+    survey_short(alloc, &message, limits)
+}
+
+/// What [`survey_held`] answers, and what the message comes to beside its price.
+pub fn measure_held(
+    alloc: Global,
+    segments: &[&[[u8; 8]]],
+    limits: Limits,
+) -> Result<(Surveyed, Measured), Refusal>
+    ensures found { IfOk result (λ t. MeasuresHeld (message_of segments.now) limits t.0 t.1) }
+    ensures only { (v : Value) → DenotesHeld (message_of segments.now) limits v → IsOk result }
+    ensures refused { IfErr result (λ e. IsUnacceptedHeld (message_of segments.now) limits e) }
+    ensures no_memory { IfErr result (λ e. e ≢ refusals.Memory) }
+    ensures bounded { MatchResult result (λ t. IsBounded limits.budget t.0.paid t.0.visits)
+        (λ e. IsPaidWithin limits.budget e) }
+{
+    let message = held(segments, limits)?;
+    survey_and_measure(alloc, &message, limits)
+}

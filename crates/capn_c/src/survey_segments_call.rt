@@ -1,0 +1,90 @@
+//! The figures of messages that are held in segments.
+
+ghost use Rattle.std.specs.Prelude.{IsTrue, ◌≡◌, ◌≢◌, ◌⊎◌, ◌↔◌, ◌≤◌};
+ghost use Rattle.capn_value.specs.Tree.{Tree as Value};
+ghost use Rattle.capn_walk.specs.Accepted.{IsBounded};
+ghost use Rattle.capn_canon.specs.declared.refusal.Refusal.{Refusal as Refusals};
+ghost use Rattle.capn_segments.specs.Segments.{message_of};
+ghost use Rattle.capn_c.specs.Calls.{GiveLimits, IsTariff, bounds_of};
+ghost use Rattle.capn_c.specs.Held.{DenotesHeld, FiguresHeld, IsUnacceptedHeld};
+ghost use Rattle.capn_c.specs.StatusCodes.{Reports, answered, at_number, is_status};
+
+use crate::figures::{CapnFigures, figures_of};
+use crate::held_message::measure_held;
+use crate::limits::{CapnLimits, limits_of};
+use crate::report::{CapnReport, answer_of, report_at};
+use crate::status_codes::{DONE, refuse};
+use capn_walk::Limits;
+use std::alloc::Global;
+
+/// The figures of a message that is held in segments.
+fn figures_held(
+    alloc: Global,
+    segments: &[&[[u8; 8]]],
+    limits: Limits,
+    figures: &mut CapnFigures,
+    report: &mut CapnReport,
+) -> u32
+    ensures possible { (result ≡ 0) ⊎ (8 ≤ result) }
+    ensures no_memory { result ≢ 8 }
+    ensures found { result ≡ 0 → FiguresHeld (message_of segments.now) limits figures.new
+        × (report.new ≡ answered 0 figures.new.paid figures.new.visits) }
+    ensures only { (v : Value) → DenotesHeld (message_of segments.now) limits v → result ≡ 0 }
+    ensures listed { IsTrue (is_status result) }
+    ensures refused { 8 ≤ result → (e : Refusals) × Reports result report.new e
+        × IsUnacceptedHeld (message_of segments.now) limits e }
+    ensures bounded { IsBounded limits.budget report.new.paid report.new.visits }
+    ensures kept { result ≢ 0 → figures.new ≡ figures.old }
+{
+    match measure_held(alloc, segments, limits) {
+        Ok((surveyed, measured)) => {
+            *figures = figures_of(surveyed, measured);
+            *report = answer_of(0, surveyed.paid, surveyed.visits);
+            DONE
+        }
+        Err(refusal) => refuse(refusal, report),
+    }
+}
+
+/// The figures of a message that is held in segments: its words and segments, what its walk pays and visits, the least
+/// depth under which it is accepted, its first capability, and whether its bytes are canonical.
+///
+/// 0: they are there. 3 and 4: a limit or the tariff is out of its range. Others: the refusal, as of the frame of the
+/// same segments: 48, if there are none. It takes no memory.
+///
+/// It walks a message of one segment once if its bytes are canonical, else twice at most, and others once.
+#[unsafe(no_mangle)]
+pub extern "C" fn capn_survey_segments(
+    alloc: Global,
+    segments: &[&[[u8; 8]]],
+    limits: &CapnLimits,
+    figures: &mut CapnFigures,
+    report: &mut CapnReport,
+) -> u32
+    // The limits are tested first.
+    ensures limits { (result ≡ 3) ↔ (GiveLimits limits.now → ⊥) }
+    ensures tariff { (result ≡ 4) ↔ (GiveLimits limits.now × (IsTariff limits.now.tariff → ⊥)) }
+    // The segments are an accepted message, and these are its figures; the report says what its walk pays and visits.
+    ensures found { result ≡ 0 → FiguresHeld (message_of segments.now) (bounds_of limits.now) figures.new
+        × (report.new ≡ answered 0 figures.new.paid figures.new.visits) }
+    // A message that is accepted has them.
+    ensures only { GiveLimits limits.now → IsTariff limits.now.tariff → (v : Value)
+        → DenotesHeld (message_of segments.now) (bounds_of limits.now) v → result ≡ 0 }
+    ensures blank { 1 ≤ result → result ≤ 4 → report.new ≡ at_number 0 }
+    ensures listed { IsTrue (is_status result) }
+    // What each refusal means; no other status stands for it.
+    ensures refused { 5 ≤ result → (e : Refusals) × Reports result report.new e
+        × IsUnacceptedHeld (message_of segments.now) (bounds_of limits.now) e }
+    // No memory is needed.
+    ensures no_memory { result ≢ 8 }
+    // No walk pays beyond its budget.
+    ensures bounded { IsBounded limits.now.budget report.new.paid report.new.visits }
+    // If the call has no answer, the figures are as they were.
+    ensures kept { result ≢ 0 → figures.new ≡ figures.old }
+{
+    *report = report_at(0);
+    match limits_of(limits) {
+        Ok(limits) => figures_held(alloc, segments, limits, figures, report),
+        Err(status) => status,
+    }
+}

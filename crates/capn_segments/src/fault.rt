@@ -1,0 +1,32 @@
+//! Why segments are no message.
+
+use std::error::Error;
+use std::fmt;
+
+/// Why segments are no message, in the order of the tests.
+#[derive(Clone, Copy, Debug, PartialEq, Eq)]
+pub enum SegmentsFault {
+    /// There are no segments.
+    Empty,
+    /// The number of segments, which is above 4,096.
+    TooManySegments(u64),
+    /// The number of words in all segments, which is above what is allowed; 2^64 - 1 stands for any number above it.
+    TooManyWords(u64),
+}
+
+impl fmt::Display for SegmentsFault {
+    ghost use Rattle.std.specs.Prelude.{Some};
+    ghost use Rattle.capn_segments.specs.Display.{segments_text};
+
+    ghost output = { λ fault. Some (segments_text fault) };
+
+    fn fmt<W: fmt::Write>(&self, f: &mut fmt::Formatter<W>) -> fmt::Result {
+        match self {
+            SegmentsFault::Empty => write!(f, "Empty"),
+            SegmentsFault::TooManySegments(count) => write!(f, "TooManySegments({count})"),
+            SegmentsFault::TooManyWords(words) => write!(f, "TooManyWords({words})"),
+        }
+    }
+}
+
+impl Error for SegmentsFault {}
