@@ -16,7 +16,6 @@
 #include <array>
 #include <cstddef>
 #include <cstdint>
-#include <cstdio>
 #include <cstring>
 #include <iterator>
 #include <memory>
@@ -32,98 +31,6 @@
 #if __has_include(<span>) && __cplusplus >= 202002L
 #include <span>
 #endif
-#endif
-
-#ifndef CAPN_HAS_SEGMENTS
-/* The calls over segments, and the text of a refusal, for a library that has none of them: by a framed copy. */
-struct capn_segment {
-    const void *words;
-    std::size_t count;
-};
-
-namespace capn::detail {
-
-inline std::vector<std::uint8_t> framed(const capn_segment *segments, std::size_t count) {
-    std::size_t words = count / 2 + 1, at = 0;
-    for (std::size_t i = 0; i < count; i++) words += segments[i].count;
-    std::vector<std::uint8_t> out(count ? 8 * words : 0);
-    const auto number = [&](std::uint64_t value) {
-        for (int i = 0; i < 4 && count; i++) out[at++] = static_cast<std::uint8_t>(value >> 8 * i);
-    };
-    number(count - 1);
-    for (std::size_t i = 0; i < count; i++) number(segments[i].count);
-    at = 8 * (count / 2 + 1);
-    for (std::size_t i = 0; i < count; at += 8 * segments[i++].count)
-        if (segments[i].count) std::memcpy(&out[at], segments[i].words, 8 * segments[i].count);
-    return out;
-}
-
-} // namespace capn::detail
-
-inline capn_status capn_canonical_segments(const capn_segment *segments, std::size_t count, const capn_limits *limits,
-                                           std::uint8_t *out, std::size_t room, capn_report *report) {
-    const auto all = capn::detail::framed(segments, count);
-    return capn_canonical(CAPN_STREAM, all.data(), all.size(), limits, out, room, report);
-}
-inline capn_status capn_hash_segments(const capn_segment *segments, std::size_t count, const capn_limits *limits,
-                                      std::uint8_t *digest, capn_report *report) {
-    const auto all = capn::detail::framed(segments, count);
-    return capn_hash(CAPN_STREAM, all.data(), all.size(), limits, digest, report);
-}
-inline capn_status capn_check_segments(const capn_segment *segments, std::size_t count, const capn_limits *limits,
-                                       capn_report *report) {
-    const auto all = capn::detail::framed(segments, count);
-    return capn_check(CAPN_STREAM, all.data(), all.size(), limits, report);
-}
-inline capn_status capn_survey_segments(const capn_segment *segments, std::size_t count, const capn_limits *limits,
-                                        capn_figures *figures, capn_report *report) {
-    const auto all = capn::detail::framed(segments, count);
-    return capn_survey(CAPN_STREAM, all.data(), all.size(), limits, figures, report);
-}
-inline const char *capn_status_name(capn_status status) {
-    static const char *const faults[] = {"NoRoot", "RootKind", "Reserved", "NoSegment", "PadRange", "BadPad",
-                                         "Range", "BadTag", "TagOverrun", "TooDeep", "OverBudget"};
-    if (status >= CAPN_NO_ROOT && status <= CAPN_OVER_BUDGET) return faults[status - CAPN_NO_ROOT];
-    switch (status) {
-    case CAPN_NOT_WHOLE: return "NotWhole";
-    case CAPN_BARE_TOO_LONG: return "BareTooLong";
-    case CAPN_PACKED_CUT: return "PackedCut";
-    case CAPN_PACKED_TOO_LONG: return "PackedTooLong";
-    case CAPN_FRAME_EMPTY: return "FrameEmpty";
-    case CAPN_TOO_MANY_SEGMENTS: return "TooManySegments";
-    case CAPN_TOO_MANY_WORDS: return "TooManyWords";
-    case CAPN_FRAME_CUT: return "FrameCut";
-    case CAPN_TRAILING: return "Trailing";
-    case CAPN_CAPABILITY: return "Capability";
-    default: return "";
-    }
-}
-inline std::size_t capn_refusal_text(capn_status status, const capn_report *report, char *out, std::size_t room) {
-    const unsigned long long at = report->at;
-    const char *text = status == CAPN_NOT_WHOLE           ? "bare: NotWhole(%llu)"
-                       : status == CAPN_BARE_TOO_LONG     ? "bare: TooLong(%llu)"
-                       : status == CAPN_PACKED_CUT        ? "packed: Cut at %llu"
-                       : status == CAPN_PACKED_TOO_LONG   ? "packed: TooLong at %llu"
-                       : status == CAPN_FRAME_EMPTY       ? "frame: Empty"
-                       : status == CAPN_TOO_MANY_SEGMENTS ? "frame: TooManySegments(%llu)"
-                       : status == CAPN_TOO_MANY_WORDS    ? "frame: TooManyWords(%llu)"
-                       : status == CAPN_FRAME_CUT         ? "frame: Cut"
-                       : status == CAPN_TRAILING          ? "trailing bytes at %llu"
-                       : status == CAPN_CAPABILITY        ? "capability %llu"
-                                                          : nullptr;
-    char line[160];
-    if (text) std::snprintf(line, sizeof line, text, at);
-    else if (status >= CAPN_NO_ROOT && status <= CAPN_OVER_BUDGET)
-        std::snprintf(line, sizeof line, "%s at %u:%u, paid %u, visits %u", capn_status_name(status), report->segment,
-                      report->word, report->paid, report->visits);
-    else std::snprintf(line, sizeof line, "%s", capn_status_text(status));
-    const std::size_t length = std::strlen(line);
-    if (room) {
-        std::memcpy(out, line, std::min(length, room - 1));
-        out[std::min(length, room - 1)] = 0;
-    }
-    return length;
-}
 #endif
 
 /* What seldom runs is kept out of the way of what does. */

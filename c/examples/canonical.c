@@ -39,9 +39,11 @@ int main(int count, char **words) {
         status = capn_canonical(CAPN_STREAM, bytes, size, &limits, answer, room, &report);
     }
     if (status == CAPN_OK) fwrite(answer, 1, report.length, stdout);
-    else
-        fprintf(stderr, "refused: status %u at %llu, slot %u:%u\n", status, (unsigned long long)report.at,
-                report.segment, report.word);
+    else {
+        char text[128]; /* as the program prints it, with its place */
+        capn_refusal_text(status, &report, text, sizeof text);
+        fprintf(stderr, "refused: %s\n", text);
+    }
     free(answer);
     free(bytes);
     return status == CAPN_OK ? 0 : status == CAPN_MEMORY ? 3 : 1;

@@ -20,7 +20,11 @@ int main(int count, char **words) {
         capn_report report;
         status = first_digest(bytes + from, (size_t)length - from, &limits, digest, &taken, &report);
         for (int i = 0; i < 32 && status == CAPN_OK; i++) printf(i < 31 ? "%02x" : "%02x\n", digest[i]);
-        if (status != CAPN_OK) fprintf(stderr, "message at %zu: status %u\n", from, status);
+        if (status != CAPN_OK) {
+            char text[128];
+            capn_refusal_text(status, &report, text, sizeof text);
+            fprintf(stderr, "message at %zu: %s\n", from, text);
+        }
     }
     free(bytes);
     return status != CAPN_OK;

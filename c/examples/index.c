@@ -38,6 +38,8 @@ int main(int count, char **words) {
         free(all);
     }
     if (status == CAPN_OK) return 0;
-    fprintf(stderr, "index: %s\n", capn_status_text(status));
+    char text[128];
+    capn_refusal_text(status, &report, text, sizeof text);
+    fprintf(stderr, "index: %s\n", text);
     return 1;
 }

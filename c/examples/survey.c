@@ -15,7 +15,9 @@ int main(int count, char **words) {
     capn_report report;
     capn_status status = capn_survey(CAPN_STREAM, bytes, size, &limits, &figures, &report);
     if (status != CAPN_OK) {
-        fprintf(stderr, "survey: %s\n", capn_status_text(status));
+        char text[128];
+        capn_refusal_text(status, &report, text, sizeof text);
+        fprintf(stderr, "survey: %s\n", text);
         return 1;
     }
     printf("%u words in %u segments\n", figures.words, figures.segments);

@@ -20,7 +20,9 @@ int main(int count, char **words) {
     capn_report report;
     capn_status status = capn_hash(CAPN_STREAM, bytes, size, &limits, digest, &report);
     if (status != CAPN_OK) { /* trailing bytes among them: two messages are not one */
-        fprintf(stderr, "refused: status %u\n", status);
+        char text[128];
+        capn_refusal_text(status, &report, text, sizeof text);
+        fprintf(stderr, "refused: %s\n", text);
         return 1;
     }
     char digits[65];

@@ -354,8 +354,8 @@ class _Packed(Messages):
             raise
 
     def _at_once(self, peek: Callable[[int], Any]) -> bytes | None:
-        """The next message, if what is held and what can be seen have all of it. Else takes what can be seen of it, or
-        gives to the splitter what it has of a long message, or of one that ends within a group."""
+        """The next message, if what is held and what can be seen have all of it. Else gives the splitter what can be
+        seen of it, or the beginning of a long message, or all groups of one that ends within a group."""
         held, seen, report, out = bytes(self._held), peek(1), self._report, self._out
         if not seen:
             # Reading says whether the file has ended.
@@ -370,21 +370,23 @@ class _Packed(Messages):
             taken = report.at
             if report.length < need:
                 taken = taken + _group(text[taken:taken + 10]) if status == _PACKED_TOO_LONG else len(text)
+                self._take(taken - len(held))
                 break
             first = _first(out, need, self._bounds, report)
             if first == _OK:
-                if not self._take(taken - len(held)):
-                    return None
-                self._held = b""
-                self._taken += taken
-                return self._words[0:need]  # type: ignore[no-any-return]
+                if self._take(taken - len(held)):
+                    self._held = b""
+                    self._taken += taken
+                    return self._words[0:need]  # type: ignore[no-any-return]
+                break
             if first != _FRAME_CUT:
                 self._refuse(first)
             need = report.length
-        self._take(taken - len(held))
-        if need > _PIECE or status == _PACKED_TOO_LONG or len(self._held) > _PIECE:
-            held, self._held = bytes(self._held), b""
-            self._feed(held)
+        else:
+            self._take(taken - len(held))
+        # The splitter unpacks what comes after that, and nothing twice.
+        held, self._held = bytes(self._held), b""
+        self._feed(held)
         return None
 
     def _take(self, count: int) -> bool:

@@ -11,6 +11,7 @@ import subprocess
 import sys
 import tempfile
 import threading
+import time
 import unittest
 import unittest.mock
 
@@ -160,10 +161,10 @@ class NoByteAfterIt(unittest.TestCase):
 
     def test_where_a_file_stands(self):
         source, seen = random.Random(68), 0
-        for _ in range(300):
+        for _ in range(150):
             frames = [b"".join(generated.pieces(archives.segments_of(source))) for _ in range(source.randint(1, 5))]
             if source.random() < 0.1:
-                frames.insert(source.randrange(len(frames)), stream(source.randbytes(16 * 4096 + 8), bytes(3000)))
+                frames.insert(source.randrange(len(frames)), stream(source.randbytes(66_000), bytes(3000)))
             for packed in False, True:
                 parts = [capn.pack(frame) if packed else frame for frame in frames]
                 buffer = source.choice([1, 2, 5, 16, 100, 4096, 1 << 17])
@@ -177,7 +178,18 @@ class NoByteAfterIt(unittest.TestCase):
                             self.assertEqual((next(found), file.tell()), (frame, stands))
                         seen += 1
                     self.assertRaises(StopIteration, next, found)
-        self.assertGreater(seen, 1000)
+        self.assertGreater(seen, 500)
+
+    def test_bytes_that_come_one_by_one_are_unpacked_once(self):
+        # 60,000 bytes that no group packs well, through a buffer of one byte: seconds if each had them unpacked anew.
+        message = stream(random.Random(70).randbytes(60_000))
+        sent, start = capn.pack(message), time.process_time()
+        found = capn.messages(io.BufferedReader(io.BytesIO(sent), 1), packed=True)
+        self.assertEqual(list(found), [message])
+        one_by_one = time.process_time() - start
+        start = time.process_time()
+        self.assertEqual(list(capn.messages(Pieces(sent, 1), packed=True)), [message])
+        self.assertLess(one_by_one, 20 * (time.process_time() - start) + 0.5)
 
     def test_a_buffered_file_answers_as_the_model_says(self):
         source, refusals = random.Random(69), 0

@@ -28,16 +28,6 @@ fn main() {
     let kind = if is_shared { "dylib" } else { "static" };
     println!("cargo:rustc-link-lib={kind}=capn");
     println!("cargo:lib_dir={}", folder.display());
-    // The calls over segments are newer than the others.
-    let library = folder.join(if is_shared { "libcapn.so" } else { "libcapn.a" });
-    let has = |name: &[u8]| {
-        std::fs::read(&library).map_or(false, |it| it.windows(name.len()).any(|part| part == name))
-    };
-    println!("cargo:rustc-check-cfg=cfg(capn_has_segments)");
-    if has(b"capn_survey_segments") {
-        println!("cargo:rustc-cfg=capn_has_segments");
-        println!("cargo:segments=1");
-    }
 }
 
 /// The folder that pkg-config names.

@@ -154,10 +154,6 @@ extern "C" {
         room: usize,
         report: *mut capn_report,
     ) -> capn_status;
-}
-
-#[cfg(capn_has_segments)]
-extern "C" {
     pub fn capn_canonical_segments(
         segments: *const capn_segment,
         count: usize,
@@ -186,4 +182,11 @@ extern "C" {
         figures: *mut capn_figures,
         report: *mut capn_report,
     ) -> capn_status;
+    pub fn capn_refusal_text(
+        status: capn_status,
+        report: *const capn_report,
+        out: *mut c_char,
+        room: usize,
+    ) -> usize;
+    pub fn capn_status_name(status: capn_status) -> *const c_char;
 }

@@ -5,9 +5,7 @@
 use alloc::vec::Vec;
 use core::mem::MaybeUninit;
 
-#[cfg(capn_has_segments)]
-use capn_sys::capn_segment;
-use capn_sys::{capn_entry, capn_figures, capn_limits, capn_report, capn_status};
+use capn_sys::{capn_entry, capn_figures, capn_limits, capn_report, capn_segment, capn_status};
 
 use crate::{Error, Form};
 
@@ -195,7 +193,6 @@ pub(crate) fn index(
 }
 
 /// Calls with the segments as the library takes them: words at their addresses, on the stack if they are few.
-#[cfg(capn_has_segments)]
 fn with_segments<T>(
     segments: &[&[u8]],
     call: impl FnOnce(*const capn_segment, usize) -> Result<T, Error>,
@@ -222,7 +219,6 @@ fn with_segments<T>(
     call(all.as_ptr(), all.len())
 }
 
-#[cfg(capn_has_segments)]
 pub(crate) fn canonical_segments(
     segments: &[&[u8]],
     limits: &capn_limits,
@@ -236,7 +232,6 @@ pub(crate) fn canonical_segments(
     })
 }
 
-#[cfg(capn_has_segments)]
 pub(crate) fn hash_segments(segments: &[&[u8]], limits: &capn_limits) -> Result<[u8; 32], Error> {
     let mut digest = [0; 32];
     let at = digest.as_mut_ptr();
@@ -246,7 +241,6 @@ pub(crate) fn hash_segments(segments: &[&[u8]], limits: &capn_limits) -> Result<
     Ok(digest)
 }
 
-#[cfg(capn_has_segments)]
 pub(crate) fn check_segments(
     segments: &[&[u8]],
     limits: &capn_limits,
@@ -256,7 +250,6 @@ pub(crate) fn check_segments(
     })
 }
 
-#[cfg(capn_has_segments)]
 pub(crate) fn survey_segments(
     segments: &[&[u8]],
     limits: &capn_limits,
@@ -268,4 +261,15 @@ pub(crate) fn survey_segments(
         })
     })?;
     Ok(figures)
+}
+
+/// The text that the program prints for a status that is no answer, in the room that is given.
+pub(crate) fn refusal_text<'a>(
+    status: capn_status,
+    report: &capn_report,
+    room: &'a mut [u8; 128],
+) -> &'a str {
+    let (at, size) = (room.as_mut_ptr().cast(), room.len());
+    let length = unsafe { capn_sys::capn_refusal_text(status, report, at, size) };
+    core::str::from_utf8(&room[..length.min(size - 1)]).unwrap_or_default()
 }

@@ -3,6 +3,8 @@ use core::fmt;
 
 use capn_sys::{capn_report, capn_status};
 
+use crate::call;
+
 /// Why a call gave no answer. It is shown as the text that the program `capn` prints.
 #[non_exhaustive]
 #[derive(Clone, Copy, Debug, PartialEq, Eq, Hash)]
@@ -170,46 +172,40 @@ impl Error {
 
 impl fmt::Display for Error {
     fn fmt(&self, f: &mut fmt::Formatter<'_>) -> fmt::Result {
-        match *self {
-            Error::Memory => f.write_str("out of memory"),
-            Error::Limits => f.write_str("a limit is out of its range"),
-            Error::Form => f.write_str("the form is none that the call takes"),
-            Error::Unexpected { wanted, found } => write!(f, "{wanted} expected, {found} found"),
-            Error::Refused { kind, place } => shown(f, kind, place),
-        }
+        let (status, place) = match *self {
+            Error::Unexpected { wanted, found } => {
+                return write!(f, "{wanted} expected, {found} found");
+            }
+            Error::Refused { kind, place } => (kind.status(), place),
+            Error::Memory => (8, Place::Nowhere),
+            Error::Limits => (3, Place::Nowhere),
+            Error::Form => (2, Place::Nowhere),
+        };
+        let report = place.report();
+        f.write_str(call::refusal_text(status, &report, &mut [0; 128]))
     }
 }
 
-/// The text of a refusal.
-fn shown(f: &mut fmt::Formatter<'_>, kind: Kind, place: Place) -> fmt::Result {
-    let at = match place {
-        Place::Nowhere => 0,
-        Place::At(at) => at,
-        Place::Slot {
-            segment,
-            word,
-            paid,
-            visits,
-        } => {
-            let name = kind.name();
-            return write!(
-                f,
-                "{name} at {segment}:{word}, paid {paid}, visits {visits}"
-            );
+impl Place {
+    /// The report that says it.
+    fn report(self) -> capn_report {
+        let mut report = capn_report::default();
+        match self {
+            Place::Nowhere => {}
+            Place::At(at) => report.at = at,
+            Place::Slot {
+                segment,
+                word,
+                paid,
+                visits,
+            } => {
+                report.segment = segment;
+                report.word = word;
+                report.paid = paid;
+                report.visits = visits;
+            }
         }
-    };
-    match kind {
-        Kind::NotWhole => write!(f, "bare: NotWhole({at})"),
-        Kind::BareTooLong => write!(f, "bare: TooLong({at})"),
-        Kind::PackedCut => write!(f, "packed: Cut at {at}"),
-        Kind::PackedTooLong => write!(f, "packed: TooLong at {at}"),
-        Kind::FrameEmpty => f.write_str("frame: Empty"),
-        Kind::TooManySegments => write!(f, "frame: TooManySegments({at})"),
-        Kind::TooManyWords => write!(f, "frame: TooManyWords({at})"),
-        Kind::FrameCut => f.write_str("frame: Cut"),
-        Kind::Trailing => write!(f, "trailing bytes at {at}"),
-        Kind::Capability => write!(f, "capability {at}"),
-        other => write!(f, "status {}", other.status()),
+        report
     }
 }
 

@@ -5,9 +5,6 @@
 //! `segments::digest(&builder.get_segments_for_output(), &limits)`.
 use alloc::vec::Vec;
 
-#[cfg(not(capn_has_segments))]
-use self::framed as call;
-#[cfg(capn_has_segments)]
 use crate::call;
 use crate::message::{Checked, Figures};
 use crate::{Error, Limits};
@@ -63,57 +60,4 @@ pub fn survey(segments: &[&[u8]], limits: &Limits) -> Result<Figures, Error> {
         segments,
         &limits.raw(),
     )?))
-}
-
-/// The same calls for a library that has none over segments: by a framed copy.
-#[cfg(not(capn_has_segments))]
-mod framed {
-    use super::*;
-    use crate::{call, Form, Kind, Place};
-    use capn_sys::{capn_figures, capn_limits, capn_report};
-
-    fn framed(segments: &[&[u8]]) -> Result<Vec<u8>, Error> {
-        if segments.is_empty() {
-            return Err(Error::Refused {
-                kind: Kind::FrameEmpty,
-                place: Place::Nowhere,
-            });
-        }
-        if let Some(segment) = segments.iter().find(|it| it.len() % 8 != 0) {
-            return Err(Error::not_whole(segment.len()));
-        }
-        let mut out = Vec::new();
-        out.extend_from_slice(&(segments.len() as u32 - 1).to_le_bytes());
-        for segment in segments {
-            out.extend_from_slice(&(segment.len() as u32 / 8).to_le_bytes());
-        }
-        out.resize(out.len() + out.len() % 8, 0);
-        segments.iter().for_each(|it| out.extend_from_slice(it));
-        Ok(out)
-    }
-
-    pub fn canonical_segments(
-        segments: &[&[u8]],
-        limits: &capn_limits,
-        hint: usize,
-        out: &mut Vec<u8>,
-    ) -> Result<capn_report, Error> {
-        let message = framed(segments)?;
-        call::canonical(Form::Stream, &message, limits, hint, out)
-    }
-
-    pub fn hash_segments(segments: &[&[u8]], limits: &capn_limits) -> Result<[u8; 32], Error> {
-        call::hash(Form::Stream, &framed(segments)?, limits)
-    }
-
-    pub fn check_segments(segments: &[&[u8]], limits: &capn_limits) -> Result<capn_report, Error> {
-        call::check(Form::Stream, &framed(segments)?, limits)
-    }
-
-    pub fn survey_segments(
-        segments: &[&[u8]],
-        limits: &capn_limits,
-    ) -> Result<capn_figures, Error> {
-        call::survey(Form::Stream, &framed(segments)?, limits)
-    }
 }

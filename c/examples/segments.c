@@ -1,0 +1,22 @@
+/* segments: the digest of a message that is held in two segments, as a builder has it, with no table and no copy. */
+#include "capn.h"
+#include <stdio.h>
+
+int main(void) {
+    /* The root is a far pointer to the second segment: a landing pad, and the struct of two words that it leads to. */
+    static const uint8_t first[8] = {2, 0, 0, 0, 1, 0, 0, 0};
+    static const uint8_t second[24] = {0, 0, 0, 0, 2, 0, 0, 0, 5};
+    const capn_segment segments[] = {{first, sizeof first / 8}, {second, sizeof second / 8}};
+    const capn_limits limits = CAPN_USUAL_LIMITS;
+    uint8_t digest[32];
+    capn_report report;
+    const capn_status status = capn_hash_segments(segments, 2, &limits, digest, &report);
+    if (status != CAPN_OK) {
+        char text[128];
+        capn_refusal_text(status, &report, text, sizeof text);
+        fprintf(stderr, "refused: %s\n", text);
+        return 1;
+    }
+    for (int i = 0; i < 32; i++) printf(i < 31 ? "%02x" : "%02x\n", digest[i]);
+    return 0;
+}
