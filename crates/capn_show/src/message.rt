@@ -23,7 +23,7 @@ pub(crate) const ROOT: Place = Place {
 ///
 /// The message is surveyed first, and nothing is added of one that is refused. The text is added to one that is kept;
 /// that is written and emptied whenever it has 65,536 bytes or more, and what is left of it is written by the caller.
-/// It takes no memory beside that text and what a survey takes, which is none for a depth of at most 64.
+/// It takes no memory beside that text.
 pub fn show_message<S: Space, W: Write, A: Allocator, B: Allocator + Copy>(
     alloc: B,
     text: &mut Vec<u8, A>,
