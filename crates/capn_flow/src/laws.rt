@@ -1,0 +1,9 @@
+//! The laws of bytes that flow, as functions that do nothing.
+
+ghost use Rattle.capn_flow.specs.Laws.{PackingGivesOne, UnpackingGivesOne};
+
+/// Bytes are packed to one text, and unpacked to one, and each ends in one way.
+pub fn one_text()
+    ensures packing { PackingGivesOne }
+    ensures unpacking { UnpackingGivesOne }
+{}
