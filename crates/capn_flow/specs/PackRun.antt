@@ -62,9 +62,10 @@ pub record IsSettled (text words : List ℕ) (first at : ℕ) : Type 0 where
 abbrev pub last_word : List ℕ → List ℕ
 last_word bytes = drop (length bytes - 8) bytes
 
--- what is settled of bytes after those that were held was written, or the run stopped
+-- what is settled of bytes after those that were held was written, and no more bytes are held than there were; or the
+-- run stopped
 abbrev pub PacksPart : List ℕ → List ℕ → Option (List ℕ) → Option (List ℕ) → Bool → Ending → List ℕ → Type 0
 PacksPart before bytes c d failed (Ok u) after =
     (text : List ℕ) × Settles (before ++ bytes) text after × (length after < most_held) × Appends c d text
-    × (failed ≡ false)
+    × (failed ≡ false) × (length after ≤ length before + length bytes)
 PacksPart before bytes c d failed (Err fault) after = Stops packing (before ++ bytes) c d failed fault

@@ -10,6 +10,7 @@
 #![tactic(auto)]
 
 mod fault;
+pub mod laws;
 mod output;
 mod pack_run;
 mod unpack_run;

@@ -166,6 +166,7 @@ fn settle<A: Allocator + Copy>(alloc: A, held: &[u8]) -> Result<Settlement<A>, A
     requires short { length held.now ≤ 131072 }
     ensures settled { IfOk result (λ s. Settles held.now s.text.items s.rest.items) }
     ensures short { IfOk result (λ s. length s.rest.items < most_held) }
+    ensures few { IfOk result (λ s. length s.rest.items ≤ length held.now) }
 {
     let whole = held.len() / 8 * 8;
     let cut = before_dense(&held[..whole]);
