@@ -79,7 +79,7 @@ pub record IsFoundOrRefused {A : Type 0} (form : Form) (bs : List ℕ) (limits :
   pub found : IfOk r (λ c. Answers form bs limits c.bytes.items c.paid)
   pub refused : IfErr r (λ e. IsRefused form bs limits e)
 
--- where bytes denote a message without capabilities, and nowhere else, there is an answer, unless memory runs out
+-- where bytes denote a value without capabilities, and nowhere else, there is an answer, unless it is `Memory`
 abbrev pub EachIsAnswered : Type 0 → Type 0
 EachIsAnswered A = (form : Form) (bs : List ℕ) (limits : Bounds) (r : Result (Canonical A) Refusal)
     → IsFoundOrRefused form bs limits r → Answered form bs limits r
@@ -94,7 +94,7 @@ abbrev pub AnswersAreOwnForms : Type 0 → Type 0
 AnswersAreOwnForms A = (form : Form) (bs : List ℕ) (limits : Bounds) (r : Result (Canonical A) Refusal)
     → IsFoundOrRefused form bs limits r → IfOk r (λ c. OwnForm form bs limits c)
 
--- no walk pays beyond its budget
+-- no walk reports more paid than its budget
 abbrev pub WalksAreWithinBudgets : Type 0 → Type 0
 WalksAreWithinBudgets A = (form : Form) (bs : List ℕ) (limits : Bounds) (r : Result (Canonical A) Refusal)
     → IsFoundOrRefused form bs limits r → WithinBudget limits r

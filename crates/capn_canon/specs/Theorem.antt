@@ -1,4 +1,4 @@
--- The theorem: each sentence of the README is a definition, of what a call of `canonicalise` gives, and a clause of it.
+-- The theorem: each sentence of the README is a definition, of what one call gives, and a clause of that call.
 use Rattle.std.specs.Prelude.{◌≡◌, ◌≢◌, ◌↔◌, ℕ, ◌<◌, ◌≤◌, List, ◌++◌, length, drop, Some, None, Result, Err, IsOk}
 use Rattle.std.specs.Prelude.{IfOk, MatchResult}
 use Rattle.capn_value.specs.Tree.{Tree}
@@ -19,8 +19,8 @@ use Rattle.capn_layout.specs.Layout.{canon}
 use Rattle.capn_canon.specs.Denotes.{Denotes, Answers}
 use Rattle.capn_canon.specs.CanonicalLength.{IsCanonicalLength}
 
--- For any bytes, form and limits, unless memory runs out, `canonicalise` succeeds if and only if the bytes denote a
--- message without capabilities that is accepted within the limits.
+-- For any bytes, form and limits, unless it answers that memory ran out, `canonicalise` succeeds if and only if the
+-- bytes denote a value without capabilities within the limits.
 abbrev pub Answered : {A : Type 0} → Form → List ℕ → Bounds → Result (Canonical A) Refusal → Type 0
 Answered form bs m r = (r ≢ Err refusals.Memory) → IsOk r ↔ ((v : Tree) × Denotes form bs m v × (first_cap v ≡ None))
 
@@ -45,7 +45,7 @@ pub record OwnForm {A : Type 0} (form : Form) (bs : List ℕ) (limits : Bounds) 
       → Answered forms.Bare c.bytes.items limits r
       → MatchResult r (λ d. d.bytes.items ≡ c.bytes.items) (λ e. e ≡ refusals.Memory)
 
--- No walk pays beyond its budget.
+-- No walk reports more paid than its budget.
 abbrev pub WithinBudget : {A : Type 0} → Bounds → Result (Canonical A) Refusal → Type 0
 WithinBudget limits r = MatchResult r (λ c. c.paid ≤ limits.budget)
     (λ e. (s : Stopped) → e ≡ refusals.Walk s → s.paid ≤ limits.budget)

@@ -38,7 +38,7 @@ impl<A: Allocator + Copy> Task<A> for CanonicalBytes {
 /// The refusals are tested in this order. The bytes are read: `Bare` for the form `Bare`; `Packed`, where at most the
 /// message words and those of the longest table are unpacked; then `Frame` and, where bytes follow the message,
 /// `Trailing`. The message is walked: `Walk`, never because memory ran out. Its value is laid out: `Capability`, with
-/// the index of the first in preorder. `Memory` comes only where a growth was refused.
+/// the index of the first in preorder. `Memory` comes only where a growth was refused, which no clause can say.
 pub fn canonicalise<A: Allocator + Copy>(
     alloc: A,
     form: Form,
@@ -47,14 +47,14 @@ pub fn canonicalise<A: Allocator + Copy>(
 ) -> Result<Canonical<A>, Refusal>
     // The answer: the canonical bytes of the one value that the bytes denote, and what the walk pays.
     ensures found { IfOk result (λ c. Answers form bytes.now limits c.bytes.items c.paid) }
-    // A value without capabilities is answered, unless memory runs out.
+    // A value without capabilities is answered, or `Memory` is.
     ensures only { (v : Value) → Denotes form bytes.now limits v → first_cap v ≡ None
         → MatchResult result (λ c. c.bytes.items ≡ canon v) (λ e. e ≡ refusals.Memory) }
     // What each refusal means.
     ensures refused { IfErr result (λ e. IsRefused form bytes.now limits e) }
     // Memory is needed only where a survey of the bytes may need it, and for canonical bytes.
     ensures memory { IsErrOf result refusals.Memory → MayNeedBytesIn form bytes.now limits }
-    // No walk pays beyond its budget.
+    // No walk reports more paid than its budget.
     ensures bounded { MatchResult result (λ c. c.paid ≤ limits.budget) (λ e. IsPaidWithin limits.budget e) }
     ensures short { IfOk result (λ c. length c.bytes.items ≤ 8 * (c.paid + 1)) }
     // Read bare under the same limits, the answer denotes the trimmed value, which is the same value,
@@ -68,13 +68,14 @@ pub fn canonicalise<A: Allocator + Copy>(
     // and a second value has these canonical bytes if and only if it is the same value.
     ensures exactly { IfOk result (λ c. (v : Value) → Denotes form bytes.now limits v
         → IsFormExactlyOf c.bytes.items v) }
-    // The theorem of the README, sentence by sentence: it answers if and only if there is something to answer;
+    // The theorem of the README, sentence by sentence: unless it answers `Memory`, it answers if and only if the bytes
+    // denote a value without capabilities;
     ensures answered { Answered form bytes.now limits result }
     // any two answers are equal if and only if the values denoted are the same;
     ensures equal { IfOk result (λ c. EqualExactly form bytes.now limits c.bytes.items) }
     // each denotes the same value, and a second call, bare and under the same limits, answers it or `Memory`;
     ensures second { IfOk result (λ c. OwnForm form bytes.now limits c) }
-    // no walk pays beyond its budget.
+    // no walk reports more paid than its budget.
     ensures within { WithinBudget limits result }
 {
     let _words = limits.message_words();

@@ -14,13 +14,13 @@
 //! - [`Patch`] is a buffer of words and of holes for what is not known yet, as a pointer whose object has no place so
 //!   far. Nothing here writes to it.
 //!
-//! For any bytes, form and limits, unless memory runs out, `canonicalise` succeeds if and only if the bytes denote a
-//! message without capabilities that is accepted within the limits. Two answers, from any two forms, inputs and limits,
-//! are byte for byte equal if and only if the values denoted are the same up to trailing zero words and trailing null
+//! For any bytes, form and limits, unless it answers that memory ran out, `canonicalise` succeeds if and only if the
+//! bytes denote a value without capabilities within the limits. Two answers, from any two forms, inputs and limits, are
+//! byte for byte equal if and only if the values denoted are the same up to trailing zero words and trailing null
 //! pointers of structs. Each answer, read bare under the same limits, denotes a value that is the same in this sense,
-//! and canonicalises to itself: the second call answers those bytes, or that memory ran out. No walk pays beyond its
-//! budget. The clauses `answered`, `equal`, `second` and `within` of `canonicalise` say so, in the definitions of
-//! `specs/Theorem.antt`; [`laws::theorem`] says it of all answers.
+//! and canonicalises to itself: the second call answers those bytes, or that memory ran out. No walk reports more paid
+//! than its budget. The clauses `answered`, `equal`, `second` and `within` of `canonicalise` say so, in the definitions
+//! of `specs/Theorem.antt`; [`laws::theorem`] says it of all answers.
 //!
 //! For any message, limits and buffer, `canonical_into` succeeds if and only if the message denotes a value without
 //! capabilities within the limits and its canonical bytes have room. It writes exactly these; else it names the first

@@ -6,10 +6,10 @@ use capn_value::Memory;
 use std::alloc::Allocator;
 
 /// How many zeros are copied at once.
-const BLOCK: usize = 4096;
+const BLOCK: usize = 512;
 
 /// Zeros to copy.
-static ZEROS: [u8; 4096] = [0; 4096];
+static ZEROS: [u8; 512] = [0; 512];
 
 /// A vector of zeros. The memory is asked for at once, and `Memory` comes only where that was refused.
 ///

@@ -26,7 +26,8 @@ padding count = if count % 2 == 0 then 4 else 0
 abbrev pub contents : List (List ℕ) → List ℕ
 contents message = flat_map bytes message
 
--- what a table can say: 1 to 4,096 segments, each of fewer than 2^32 words, which are below 2^64
+-- what a table that is accepted can say: 1 to 4,096 segments (own: no more), each of fewer than 2^32 words, which are
+-- below 2^64
 pub record FitsTable (message : List (List ℕ)) : Type 0 where
   pub some : 0 < length message
   pub few : length message ≤ most_segments

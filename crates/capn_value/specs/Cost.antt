@@ -35,11 +35,11 @@ abbrev pub base : Tariff → ℕ
 base Strict = 1
 base Plain = 0
 
--- the greatest cost of a value that fits, by the plain tariff
+-- the greatest cost of a value that fits, by the plain tariff, and the greatest budget
 abbrev pub most_cost : ℕ
 most_cost = 2 ^ 28
 
--- the greatest height of a value that fits
+-- the greatest height of a value that fits, and the greatest depth
 abbrev pub most_height : ℕ
 most_height = 256
 

@@ -3,7 +3,7 @@ use Rattle.std.specs.Prelude.{ℕ, zero, suc, ◌+◌, List, Bool, true, false, 
 use Rattle.capn_value.specs.NumberWidth.{NumberWidth}
 
 -- what a pointer denotes: null, a struct by its data words and slots, a list of elements of no size, of numbers of one
--- width, where a bit is 0 or 1, of pointers or of structs, or a capability by its index
+-- width, of pointers or of structs, or a capability by its index. Nothing bounds the numbers here
 mutual
   pub data Tree : Type 0 where
     nil : Tree

@@ -16,7 +16,8 @@ pub data Visit : Type 0 where
   pays : Place → ℕ → Visit
   fails : Place → Fault → Visit
 
--- what an object costs beside its pads, where each costs `base` beside its size
+-- what an object costs beside its pads: `base` and its size, where a void counts as a word, and so does a row that has
+-- none
 abbrev pub price : ℕ → Shape → ℕ
 price base (shapes.Node a b) = base + a + b
 price base (shapes.Many W0 n) = base + n

@@ -1,5 +1,5 @@
--- The pointer that a word is, and the word of a pointer. `split` ties both, so it is enough to read one. (Page:
--- structs, lists, inter-segment pointers, capabilities.)
+-- The pointer that a word is, and the word of a pointer. `split` ties both where the fields fit. (Page: structs, lists,
+-- inter-segment pointers, capabilities.)
 use Rattle.std.specs.Prelude.{ℕ, suc, ◌-◌, ◌/◌, ◌%◌, ◌^◌, nat_lt, ◌==◌, ℤ, pos, negsuc, [], ◌∷◌, slice_index_or}
 use Rattle.std.specs.Prelude.{if◌then◌else◌, ◌≡◌, ◌+◌, ◌*◌, ◌<◌, ⊤}
 use Rattle.capn_words.specs.declared.pointer.Pointer.{Pointer}
