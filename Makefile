@@ -64,14 +64,14 @@ test:
 	.ci/readings
 	.ci/counts
 	.ci/places
-	.ci/completion
+	tests/program/completion
 	release/symbols
 	release/manual
 	rm -rf crates/*/out/rlib
 	mkdir -p $(BUILD) && rm -f $(BUILD)/PROVED
 	rt ci $(ANEW) 2>&1 | tee $(BUILD)/gate.log
-	.ci/statuses
-	.ci/failures
+	tests/program/statuses
+	tests/program/failures
 	.ci/library
 	release/installs
 	release/twice
@@ -87,18 +87,18 @@ bench:
 # table of hostile inputs. With the program that the gate builds, or with an installed one:
 # make interop CAPN=/usr/local/bin/capn.
 interop: $(if $(CAPN),,program library)
-	./c/tests/agree
-	./c/tests/watched
-	./interop/recipes
-	./interop/callers
-	./interop/run
-	./interop/differences
-	@if command -v python3 > /dev/null; then ./interop/archives && ./interop/texts && ./interop/memory; \
+	./tests/c/agree
+	./tests/c/watched
+	./tests/pages/recipes
+	./tests/pages/callers
+	./tests/reference/run
+	./tests/reference/differences
+	@if command -v python3 > /dev/null; then ./tests/program/archives && ./tests/program/texts && ./tests/program/memory; \
 	else echo "archives, texts, memory: skipped, since there is no python3"; fi
 	./contrib/dask/run
-	@if command -v python3 > /dev/null; then ./python/tests/run && ./interop/hostile; \
+	@if command -v python3 > /dev/null; then ./tests/python/run && ./tests/reference/hostile; \
 	else echo "python, hostile: skipped, since there is no python3"; fi
-	./interop/languages
+	./tests/c/languages
 
 # The library for C, proved: the archive of capn_c and what is made of it.
 library:
@@ -178,4 +178,4 @@ verify-dist:
 
 # The files of dist/ installed, used and removed in a root that has nothing else.
 clean-root:
-	interop/clean
+	release/clean-root
