@@ -55,8 +55,8 @@ static uint64_t content(const capn_entry *e) {
     }
 }
 
-/* The entry at i, and all below it: it lies within the bytes, its slots have entries one after the other, a null slot that
- * of null, and its span ends with the last. */
+/* The entry at i, and all below it: it lies within the bytes, its slots have entries one after the other, a null slot
+ * that of null, and its span ends with the last. */
 static void entry(const capn_entry *all, size_t count, size_t i, const uint8_t *bytes, size_t size) {
     const capn_entry *e = &all[i];
     need(e->span >= 1 && e->span <= count - i, "a span", bytes, size);
@@ -103,8 +103,8 @@ static void indexed(uint32_t form, const uint8_t *bytes, size_t size, capn_statu
         capn_status status = capn_index(form, bytes, size, &limits, all, room, &report);
         need(status == (room < count ? CAPN_NO_ROOM : CAPN_OK), "the room", bytes, size);
         need(report.visits == count && report.paid == checked->paid, "the number of entries", bytes, size);
-        need(report.length == 24 * count && all[0].kind == (room < count ? 0x55555555 : all[0].kind), "as it was", bytes,
-             size);
+        uint32_t kind = room < count ? 0x55555555 : all[0].kind;
+        need(report.length == 24 * count && all[0].kind == kind, "as it was", bytes, size);
     }
     need(all[0].span == count, "all entries", bytes, size);
     entry(all, count, 0, bytes, size);

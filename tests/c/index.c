@@ -1,5 +1,5 @@
-/* The index of a message that has each kind, by hand: every room, read bare, in one segment and in three, at any address,
- * beside pages that can't be touched. (tests/c/fuzz.c reads the indexes of many messages.) */
+/* The index of a message that has each kind, by hand: every room, read bare, in one segment and in three, at any
+ * address, beside pages that can't be touched. (tests/c/fuzz.c reads the indexes of many messages.) */
 #define TEST "index"
 #include "wanted.h"
 
@@ -13,8 +13,8 @@ static uint64_t object(uint64_t from, uint64_t to, uint64_t words, uint64_t slot
     return (to - from - 1) << 2 | words << 32 | slots << 48;
 }
 
-/* A struct of a word and eleven slots, of each kind; a list of two pointers, and two rows of a word and a slot. Structs of
- * no size lie at their own pointers. */
+/* A struct of a word and eleven slots, of each kind; a list of two pointers, and two rows of a word and a slot. Structs
+ * of no size lie at their own pointers. */
 static void make(uint64_t *w, capn_entry *e) {
     const uint64_t words[WORDS] = {
         object(0, 1, 1, 11), 7, 0, list(3, 13, 0, 9), list(4, 13, 1, 9), list(5, 14, 2, 3), list(6, 15, 3, 3),
@@ -23,8 +23,9 @@ static void make(uint64_t *w, capn_entry *e) {
         2 << 2 | 1ull << 32 | 1ull << 48, 11, 0, 12, 0};
     const capn_entry entries[COUNT] = {
         {8, 0, 17, 1, 11, CAPN_KIND_STRUCT}, {0, 0, 1, 0, 0, CAPN_KIND_NULL}, {8 * 13, 9, 1, 0, 0, CAPN_KIND_VOID},
-        {8 * 13, 9, 1, 0, 0, CAPN_KIND_BITS}, {8 * 14, 3, 1, 0, 0, CAPN_KIND_BYTES}, {8 * 15, 3, 1, 0, 0, CAPN_KIND_U16},
-        {8 * 16, 2, 1, 0, 0, CAPN_KIND_U32}, {8 * 17, 2, 1, 0, 0, CAPN_KIND_U64}, {8 * 19, 2, 3, 0, 0, CAPN_KIND_POINTERS},
+        {8 * 13, 9, 1, 0, 0, CAPN_KIND_BITS}, {8 * 14, 3, 1, 0, 0, CAPN_KIND_BYTES},
+        {8 * 15, 3, 1, 0, 0, CAPN_KIND_U16}, {8 * 16, 2, 1, 0, 0, CAPN_KIND_U32},
+        {8 * 17, 2, 1, 0, 0, CAPN_KIND_U64}, {8 * 19, 2, 3, 0, 0, CAPN_KIND_POINTERS},
         {0, 0, 1, 0, 0, CAPN_KIND_NULL}, {8 * 20, 0, 1, 0, 0, CAPN_KIND_STRUCT}, {8 * 21, 2, 3, 1, 1, CAPN_KIND_ROWS},
         {0, 0, 1, 0, 0, CAPN_KIND_NULL}, {0, 0, 1, 0, 0, CAPN_KIND_NULL}, {0, 42, 1, 0, 0, CAPN_KIND_CAPABILITY},
         {8 * 12, 0, 1, 0, 0, CAPN_KIND_STRUCT}, {0, 0, 0, 0, 0, 0}};

@@ -36,7 +36,8 @@ static void answered(void) {
     want("its length", r.length, 16);
     want("its price", r.paid, 3);
     want("is_canonical of them", capn_is_canonical(out, 16, &usual, &r), CAPN_OK);
-    want("is_canonical of a struct with a zero word", capn_is_canonical(message + 8, 24, &usual, &r), CAPN_NOT_CANONICAL);
+    want("is_canonical of a struct with a zero word", capn_is_canonical(message + 8, 24, &usual, &r),
+         CAPN_NOT_CANONICAL);
     want("check", capn_check(CAPN_STREAM, message, 32, &usual, &r), CAPN_OK);
     want("its price", r.paid, 3);
     want("its visits", r.visits, 1);
@@ -60,8 +61,8 @@ static void answered(void) {
     want("its length", r.length, 32);
 }
 
-/* Each call of a message whose first byte, and that of each buffer, has any address; each lies at the end of a block that
- * is exactly as long as it has to be, so that a sanitizer sees any byte beside it. */
+/* Each call of a message whose first byte, and that of each buffer, has any address; each lies at the end of a block
+ * that is exactly as long as it has to be, so that a sanitizer sees any byte beside it. */
 static void anywhere(void) {
     const uint8_t packed[8] = {0x10, 3, 0x10, 2, 1, 5};
     for (size_t off = 0; off < 8; off++)
@@ -75,7 +76,8 @@ static void anywhere(void) {
             want("canonical anywhere", capn_canonical(CAPN_STREAM, in, 32, &usual, canonical, 16, &r), CAPN_OK);
             want("is_canonical anywhere", capn_is_canonical(canonical, 16, &usual, &r), CAPN_OK);
             want("is_canonical anywhere, no", capn_is_canonical(in + 8, 24, &usual, &r), CAPN_NOT_CANONICAL);
-            want("canonical anywhere, packed", capn_canonical(CAPN_PACKED, text, 8, &usual, canonical, 16, &r), CAPN_OK);
+            want("canonical anywhere, packed", capn_canonical(CAPN_PACKED, text, 8, &usual, canonical, 16, &r),
+                 CAPN_OK);
             want("canonical anywhere, bare", capn_canonical(CAPN_BARE, in + 8, 24, &usual, canonical, 16, &r), CAPN_OK);
             want("hash anywhere", capn_hash(CAPN_STREAM, in, 32, &usual, out, &r), CAPN_OK);
             memcpy(digest[0], out, 32);

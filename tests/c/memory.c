@@ -117,8 +117,8 @@ static void each(const char *name, call *make, const input *in, int least) {
     printf("memory: %s: refused %d times\n", name, count);
 }
 
-/* A call asks for `growths` growths. With every one refused it ends with CAPN_MEMORY; if it asks for none, as with ample
- * memory, with the status `wanted`. */
+/* A call asks for `growths` growths. With every one refused it ends with CAPN_MEMORY; if it asks for none, as with
+ * ample memory, with the status `wanted`. */
 static void wants(const char *name, call *make, const input *in, long growths, uint32_t wanted) {
     capn_report ample, short_of;
     left = -1;
@@ -159,8 +159,8 @@ static void in_turn(void) {
     each("unpack_some", some, &pack, 1);
 }
 
-/* At any depth a bare message and a stream of one segment need no memory, whether they are as deep or deeper; a stream of
- * two segments needs it once, where the second one ends. */
+/* At any depth a bare message and a stream of one segment need no memory, whether they are as deep or deeper; a stream
+ * of two segments needs it once, where the second one ends. */
 static void at_depth(uint32_t most, size_t depth, uint32_t wanted) {
     const capn_limits limits = {1u << 20, 1u << 20, most, CAPN_STRICT};
     const uint32_t room = wanted == CAPN_OK ? CAPN_NO_ROOM : wanted;

@@ -1,5 +1,5 @@
-/* The version, the texts of the statuses, and the two calls that read in pieces: each beginning of a frame and of a packed
- * text, each room, at any address, beside a page that can't be touched. */
+/* The version, the texts of the statuses, and the two calls that read in pieces: each beginning of a frame and of a
+ * packed text, each room, at any address, beside a page that can't be touched. */
 #define TEST "pieces"
 #include "wanted.h"
 
@@ -45,8 +45,8 @@ static void is_first(const char *what, const uint8_t *bytes, size_t size, capn_s
     want("no more", r.at | r.paid | r.visits | r.segment | r.word, 0);
 }
 
-/* Each beginning of frames of one to five segments, at each address, with nothing after it: what it needs is 8, the table,
- * all; whole, or with more after it, its length is reported. */
+/* Each beginning of frames of one to five segments, at each address, with nothing after it: what it needs is 8, the
+ * table, all; whole, or with more after it, its length is reported. */
 static void beginnings(void) {
     static const uint32_t sizes[5] = {2, 0, 3, 1, 4};
     uint8_t bytes[160];
@@ -56,7 +56,8 @@ static void beginnings(void) {
             uint8_t *in = at_end(guarded[0], size);
             memcpy(in, bytes, size);
             uint64_t needs = size < 4 ? 8 : size < table ? table : all;
-            is_first("a beginning", in, size, size == 0 ? CAPN_FRAME_EMPTY : size < all ? CAPN_FRAME_CUT : CAPN_OK, needs);
+            capn_status cut = size == 0 ? CAPN_FRAME_EMPTY : CAPN_FRAME_CUT;
+            is_first("a beginning", in, size, size < all ? cut : CAPN_OK, needs);
         }
     }
     is_first("no bytes at all", NULL, 0, CAPN_FRAME_EMPTY, 8);
@@ -89,14 +90,16 @@ static size_t text_size;
 static void make_words(void) {
     capn_report r;
     for (size_t i = 0; i < WORDS; i++)
-        for (size_t j = 0; j < 8; j++)
-            words[8 * i + j] = i < 5 ? 0 : i < 10 ? (uint8_t)(j == 2 ? i : 0) : i < 20 ? (uint8_t)(i + j) : (uint8_t)(i * j % 3);
+        for (size_t j = 0; j < 8; j++) {
+            size_t byte = i < 5 ? 0 : i < 10 ? (j == 2 ? i : 0) : i < 20 ? i + j : i * j % 3;
+            words[8 * i + j] = (uint8_t)byte;
+        }
     want("pack", capn_pack(words, sizeof words, text, sizeof text, &r), CAPN_OK);
     text_size = r.length;
 }
 
-/* Each beginning of the text into each room: what was written is a beginning of the words, what was taken unpacks to it, and
- * nothing else is touched. */
+/* Each beginning of the text into each room: what was written is a beginning of the words, what was taken unpacks to
+ * it, and nothing else is touched. */
 static void some(void) {
     for (size_t size = 0; size <= text_size; size++)
         for (size_t room = 0; room <= sizeof words + 9; room += room < 64 ? 1 : 7) {

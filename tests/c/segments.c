@@ -1,7 +1,8 @@
 /* Messages that are held in segments: each call answers and refuses what its sister does of the frame of the same
  * segments. As frames it takes the bytes that end each line of standard input, in hexadecimal, and copies of them with
- * some bytes changed, by a fixed seed; each segment is copied alone, to an odd address, the last one to the end of a page
- * before one that can't be touched. Then what no frame has, and the calls that need no memory, with each growth refused. */
+ * some bytes changed, by a fixed seed; each segment is copied alone, to an odd address, the last one to the end of a
+ * page before one that can't be touched. Then what no frame has, and the calls that need no memory, with each
+ * growth refused. */
 #define TEST "segments"
 #include "refusing.h"
 #include "wanted.h"
@@ -143,7 +144,8 @@ static void borders(void) {
     want("no tariff", capn_canonical_segments(segments, 1, &other, out, 32, &report), CAPN_BAD_TARIFF);
 }
 
-/* A struct of a number, its pointer in one segment and itself in the next: check, survey and a length take no memory. */
+/* A struct of a number, its pointer in one segment and itself in the next: check, survey and a length take no memory.
+ * */
 static void without_memory(void) {
     uint8_t far[8] = {2, 0, 0, 0, 1}, object[16] = {0, 0, 0, 0, 1, 0, 0, 0, 5}, out[32];
     const capn_segment segments[] = {{far, 1}, {object, 2}};
@@ -195,8 +197,8 @@ int main(void) {
         free(bytes);
         free(changed);
     }
-    printf("c: %llu messages in segments, %llu of them in several, %llu accepted: as their frames\n", held_messages, several,
-           accepted_messages);
+    printf("c: %llu messages in segments, %llu of them in several, %llu accepted: as their frames\n", held_messages,
+           several, accepted_messages);
     if (!several || !accepted_messages) failed++;
     return failed != 0;
 }

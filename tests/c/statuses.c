@@ -43,8 +43,8 @@ static capn_report each_call(const char *what, uint32_t form, const void *bytes,
     return wanted == CAPN_CAPABILITY ? report : checked;
 }
 
-/* Words, the least significant byte first, and what each call answers of them: read bare, after the table of one segment
- * and of two, the second without words, and each of these packed. */
+/* Words, the least significant byte first, and what each call answers of them: read bare, after the table of one
+ * segment and of two, the second without words, and each of these packed. */
 static void walks(const char *what, const uint64_t *words, size_t count, const capn_limits *limits, uint32_t wanted,
                   uint32_t word) {
     uint8_t bytes[32], text[64];

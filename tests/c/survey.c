@@ -1,12 +1,12 @@
-/* The figures of messages: by hand, and against the other calls; what is refused; at any address, beside a page that can't
- * be touched. */
+/* The figures of messages: by hand, and against the other calls; what is refused; at any address, beside a page that
+ * can't be touched. */
 #define TEST "survey"
 #include "wanted.h"
 
 static uint8_t *guarded;
 
-/* The figures of words, read bare, after the table of one segment, and after that of three, the others without words: they
- * are those expected, except that with three segments nothing is canonical. */
+/* The figures of words, read bare, after the table of one segment, and after that of three, the others without words:
+ * they are those expected, except that with three segments nothing is canonical. */
 static void figures(const char *what, const uint64_t *words, uint32_t count, capn_figures wanted) {
     for (uint32_t segments = 0; segments <= 3; segments += segments == 0 ? 1 : 2) {
         size_t table = segments == 0 ? 0 : 8 * (segments / 2 + 1), size = table + 8 * count;

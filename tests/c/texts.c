@@ -12,8 +12,8 @@ static void broken(const char *what, const char *text) {
     fprintf(stderr, "texts: %s: %s\n", what, text);
 }
 
-/* With any room the text is cut to it and ends with a zero; nothing beyond the room is written, and the length is that of
- * the whole text. */
+/* With any room the text is cut to it and ends with a zero; nothing beyond the room is written, and the length is that
+ * of the whole text. */
 static void is(capn_status status, const capn_report *report, const char *wanted) {
     const size_t length = strlen(wanted);
     if (capn_refusal_text(status, report, NULL, 0) != length) broken("another length without room", wanted);
@@ -31,7 +31,8 @@ static void is(capn_status status, const capn_report *report, const char *wanted
 
 int main(void) {
     const capn_report none = {0, 0, 0, 0, 0, 0};
-    const capn_report walk = {0, 0, 0, 1, 3, 623915}, most = {0, UINT64_MAX, UINT32_MAX, UINT32_MAX, UINT32_MAX, UINT32_MAX};
+    const capn_report walk = {0, 0, 0, 1, 3, 623915};
+    const capn_report most = {0, UINT64_MAX, UINT32_MAX, UINT32_MAX, UINT32_MAX, UINT32_MAX};
     is(CAPN_RANGE, &walk, "Range at 3:623915, paid 0, visits 1");
     is(CAPN_TAG_OVERRUN, &most, "TagOverrun at 4294967295:4294967295, paid 4294967295, visits 4294967295");
     is(CAPN_TOO_MANY_SEGMENTS, &most, "frame: TooManySegments(18446744073709551615)");

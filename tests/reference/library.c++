@@ -1,8 +1,8 @@
 // What the reference implementation's library says of the message on standard input, whatever its root is; its command
 // line tool takes structs alone. The words: `canonical` (of a stream's first message), `canonical-packed` (of a packed
 // one's), `is-canonical` (of the words of one segment) or `pack` (the packed text of one message); then the traversal
-// limit in words and the nesting limit, if they are not the library's usual ones. Ends with 1 where the library refuses,
-// and prints why.
+// limit in words and the nesting limit, if they are not the library's usual ones. Ends with 1 where the library
+// refuses, and prints why.
 #include <capnp/any.h>
 #include <capnp/message.h>
 #include <capnp/serialize-packed.h>
