@@ -144,8 +144,7 @@ static void borders(void) {
     want("no tariff", capn_canonical_segments(segments, 1, &other, out, 32, &report), CAPN_BAD_TARIFF);
 }
 
-/* A struct of a number, its pointer in one segment and itself in the next: check, survey and a length take no memory.
- * */
+/* A struct of a number, its pointer in one segment and itself in the next: check, survey and length take no memory. */
 static void without_memory(void) {
     uint8_t far[8] = {2, 0, 0, 0, 1}, object[16] = {0, 0, 0, 0, 1, 0, 0, 0, 5}, out[32];
     const capn_segment segments[] = {{far, 1}, {object, 2}};
