@@ -1,5 +1,5 @@
 """Values, and the ways in which a message may hold one."""
-from hypothesis import strategies as some
+from tried import some
 
 # A value is None; ("struct", words, slots); ("list", code, count, bytes), of numbers; ("pointers", values); or ("rows",
 # words, slots, [(words, slots)]), where all rows have as many words and slots as the list says.

@@ -11,11 +11,9 @@ from importlib.machinery import SourceFileLoader
 from importlib.util import module_from_spec, spec_from_loader
 from pathlib import Path
 
-from hypothesis import given, settings
-from hypothesis import strategies as some
-
 import capn
 from messages import hostile
+from tried import given, settings, some
 
 TOP = Path(__file__).resolve().parents[2]
 PROGRAM = shutil.which(os.environ.get("CAPN") or TOP / "crates" / "capn" / "out" / "capn")

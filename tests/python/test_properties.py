@@ -2,11 +2,9 @@
 import hashlib
 import unittest
 
-from hypothesis import given, settings
-from hypothesis import strategies as some
-
 import capn
 from messages import bare, far, hostile, stream, trimmed, values
+from tried import given, settings, some
 
 FORMS = some.sampled_from(["stream", "packed", "bare"])
 settings.register_profile("here", deadline=None, max_examples=100, derandomize=True)

@@ -13,12 +13,10 @@ import time
 import unittest
 from pathlib import Path
 
-from hypothesis import given, settings
-from hypothesis import strategies as some
-
 import capn
 from messages import bare, far, stream, trimmed, values
 from test_reading import model
+from tried import given, settings, some
 
 SCHEMA = Path(__file__).resolve().with_name("fields.capnp")
 settings.register_profile("here", deadline=None, max_examples=100, derandomize=True)
