@@ -49,13 +49,10 @@ run: program
 	@echo "in:"; od -An -v -tx1 -w8 $(PROGRAM)/stdin
 	@echo "out:"; $(PROGRAM)/out/capn $$(cat $(PROGRAM)/args) < $(PROGRAM)/stdin | od -An -v -tx1 -w8
 
-# The whole gate: no line is too long; no crate reaches into another one's proofs; README.md names the toolchain that
-# runs; each place has the version of the file VERSION; the tables of docs/VERIFY.md, PROMISES.md, TESTED.md and
-# ARCHITECTURE.md are true; completions complete; pages name files that are there; the list of symbols and capn(3) are
-# those of the header; what `rt ci` tries; the program that it built, once or more for each exit status and with too little memory; and the library for C.
-# The libraries that earlier checks built are removed first: after its run `rt ci` would put them back in place of its
-# own, and the library for C is built over its own. At the end it packs twice what it built, compares, and writes
-# build/PROVED: what passed, of which commit. With ANEW=--anew it proves again what earlier runs have passed.
+# The whole gate, line by line as docs/CONTRIBUTING.md has it. What earlier checks built is removed first: after its run
+# `rt ci` would put that back in place of its own, and the library for C is built over its own. At the end the gate
+# packs twice what it built, compares, and writes build/PROVED: what passed, of which commit. With ANEW=--anew it proves
+# again what earlier runs have passed.
 test:
 	.ci/lines
 	.ci/borders
