@@ -22,8 +22,8 @@ PAGES := $(addprefix docs/,GUIDE.md DIAGNOSTICS.md FORMAT.md PROFILE.md DIFFEREN
 # The headers, and the pages that are installed with them.
 HEADERS := $(wildcard c/*.h c/*.hpp)
 LIBRARY_PAGES := $(wildcard docs/C.md docs/CPP.md)
-# A file of a release, for verify-dist; and a clone where its commit is built already (BUILT), or was passed by the gate, so
-# that what it proved of the crates below the program and the library need not be proved again (OVER).
+# A file of a release, for verify-dist; and a clone where its commit is built already (BUILT), or was passed by the gate,
+# so that what it proved of the crates below the program and the library need not be proved again (OVER).
 FILE ?= dist/*
 BUILT ?=
 OVER ?=
@@ -107,7 +107,7 @@ library:
 	cd crates/capn_c && rt lib > /dev/null
 	$(MAKE) linked
 
-# What `make program library` leaves, several crates at a time where processors and memory allow: not tried at length yet.
+# What `make program library` leaves, proved several crates at a time where processors and memory allow.
 beside:
 	release/beside
 
