@@ -22,8 +22,8 @@ PAGES := $(addprefix docs/,GUIDE.md DIAGNOSTICS.md FORMAT.md PROFILE.md DIFFEREN
 # The headers, and the pages that are installed with them.
 HEADERS := $(wildcard c/*.h c/*.hpp)
 LIBRARY_PAGES := $(wildcard docs/C.md docs/CPP.md)
-# A file of a release, for verify-dist; and a clone where its commit is built already (BUILT), or was passed by the gate,
-# so that what it proved of the crates below the program and the library need not be proved again (OVER).
+# A file of a release, for verify-dist; and a clone where its commit is built already (BUILT), or where the gate passed
+# it, so that what it proved of the crates below the program and the library need not be proved again (OVER).
 FILE ?= dist/*
 BUILT ?=
 OVER ?=
