@@ -61,6 +61,22 @@ DECLARED = """
     capn_status capn_index(uint32_t form, const uint8_t *bytes, size_t size, const capn_limits *limits,
                            capn_entry *entries, size_t room, capn_report *report);
     const char *capn_version(void);
+
+    typedef struct {
+        const void *words;
+        size_t count;
+    } capn_segment;
+    capn_status capn_canonical_segments(const capn_segment *segments, size_t count, const capn_limits *limits,
+                                        uint8_t *out, size_t room, capn_report *report);
+    capn_status capn_hash_segments(const capn_segment *segments, size_t count, const capn_limits *limits,
+                                   uint8_t *digest, capn_report *report);
+    capn_status capn_check_segments(const capn_segment *segments, size_t count, const capn_limits *limits,
+                                    capn_report *report);
+    capn_status capn_survey_segments(const capn_segment *segments, size_t count, const capn_limits *limits,
+                                     capn_figures *figures, capn_report *report);
+
+    size_t capn_refusal_text(capn_status status, const capn_report *report, char *out, size_t room);
+    const char *capn_status_name(capn_status status);
 """
 
 binding = FFI()

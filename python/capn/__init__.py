@@ -10,7 +10,8 @@ change, as a `bytearray`, a mapped file or an array does, are copied first; `byt
 change can make the library read outside of them, which ends the process or ends up in the answer.
 
 `check`, `survey`, `canonical`, `is_canonical`, `digest`, `pack` and `unpack` take bytes; `read` makes a `Message` of
-them, whose root is a `Value`; `show` is its text; `messages`, `digests`, `amessages` and `Splitter` are for streams."""
+them, whose root is a `Value`; `show` is its text; `messages`, `digests`, `amessages` and `Splitter` are for streams.
+`check_segments`, `survey_segments`, `canonical_segments` and `digest_segments` take a message in segments."""
 from ._calls import Checked, Surveyed, canonical, check, digest, is_canonical, pack, survey, unpack
 from ._capn import ffi as _ffi
 from ._capn import lib as _lib
@@ -35,6 +36,7 @@ from ._message import (
     read,
 )
 from ._refusal import Refusal
+from ._segments import canonical_segments, check_segments, digest_segments, survey_segments
 from ._show import show
 from ._stream import AsyncMessages, Digests, Messages, Splitter, amessages, digests, messages
 
@@ -68,8 +70,11 @@ __all__ = [
     "__version__",
     "amessages",
     "canonical",
+    "canonical_segments",
     "check",
+    "check_segments",
     "digest",
+    "digest_segments",
     "digests",
     "is_canonical",
     "messages",
@@ -77,5 +82,6 @@ __all__ = [
     "read",
     "show",
     "survey",
+    "survey_segments",
     "unpack",
 ]
