@@ -1,4 +1,5 @@
-"""The calls of c/capn.h for cffi, which compiles them over that header: where the two differ, the build fails.
+"""The calls of c/capn.h for cffi, which compiles them over that header: where the two differ, the build fails. The calls
+of look.h are beside them.
 
 The library is linked into the module, and its names are seen by no other. CAPN_ARCHIVE names another archive than
 the one that `make library` leaves."""
@@ -7,8 +8,10 @@ from pathlib import Path
 
 from cffi import FFI
 
-TOP = Path(__file__).resolve().parent.parent
+HERE = Path(__file__).resolve().parent
+TOP = HERE.parent
 HEADER = TOP / "c" / "capn.h"
+LOOK = HERE / "look.h"
 ARCHIVE = Path(os.environ.get("CAPN_ARCHIVE", TOP / "build" / "libcapn.a")).resolve()
 if not ARCHIVE.is_file():
     raise SystemExit(f"there is no {ARCHIVE}: run `make library` first, or name the archive by CAPN_ARCHIVE")
@@ -77,15 +80,26 @@ DECLARED = """
 
     size_t capn_refusal_text(capn_status status, const capn_report *report, char *out, size_t room);
     const char *capn_status_name(capn_status status);
+
+    typedef struct {
+        uint32_t count;
+        size_t end, take;
+        size_t ends[...];
+        size_t takes[...];
+    } capn_look;
+    capn_status capn_look_at(const uint8_t *bytes, size_t size, const capn_limits *limits, capn_look *look,
+                             capn_report *report);
+    capn_status capn_look_at_packed(const uint8_t *text, size_t size, const capn_limits *limits, uint8_t *out,
+                                    size_t room, uint32_t most, capn_look *look, capn_report *report);
 """
 
 binding = FFI()
 binding.cdef(DECLARED)
 binding.set_source(
     "capn._capn",
-    '#include "capn.h"',
-    include_dirs=[str(HEADER.parent)],
+    '#include "look.h"',
+    include_dirs=[str(HEADER.parent), str(HERE)],
     extra_objects=[str(ARCHIVE)],
     extra_link_args=["-Wl,--exclude-libs,ALL"],
-    depends=[str(HEADER), str(ARCHIVE), __file__],
+    depends=[str(HEADER), str(LOOK), str(ARCHIVE), __file__],
 )

@@ -35,10 +35,12 @@ from ._message import (
     Voids,
     read,
 )
+from ._readers import Messages
 from ._refusal import Refusal
 from ._segments import canonical_segments, check_segments, digest_segments, survey_segments
 from ._show import show
-from ._stream import AsyncMessages, Digests, Messages, Splitter, amessages, digests, messages
+from ._splitter import Splitter
+from ._stream import AsyncMessages, Digests, amessages, digests, messages
 
 __version__: str = _ffi.string(_lib.capn_version()).decode()
 

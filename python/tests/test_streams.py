@@ -468,7 +468,7 @@ class Splitters(unittest.TestCase):
 
     def test_memory_that_is_there_later(self):
         # A frame of several segments takes memory to be found.
-        message, first = SHAPES[1], capn._stream._first
+        message, first = SHAPES[1], capn._readers._first
         refusals = []
 
         def little(*words):
