@@ -449,11 +449,26 @@ class Ahead(Messages):
 
 def reader(file: Any, splitter: Splitter) -> Messages:
     """The messages of a file, read in the way that is best for it."""
-    read, peek, seek = file.read, getattr(file, "peek", None), getattr(file, "seek", None)
+    read, peek, kind = file.read, getattr(file, "peek", None), type(file)
     try:
-        is_wound = callable(seek) and bool(file.seekable())
+        is_wound = callable(file.seek) and bool(file.seekable())
     except (AttributeError, ValueError):
         is_wound = False
+
+    def wound_back(place: int, size: int) -> bytes:
+        try:
+            return bytes(read(size))
+        finally:
+            file.seek(place)
+
+    def peeked(place: int, size: int) -> bytes:
+        return bytes(file.peek(1))
+
+    def from_system(place: int, size: int) -> bytes:
+        try:
+            return pread(file.fileno(), size, place)
+        except OSError:
+            return b""
 
     def seen(least: int) -> Any:
         found = read(_SEEN)
@@ -461,29 +476,13 @@ def reader(file: Any, splitter: Splitter) -> Messages:
             file.seek(-len(found), 1)
         return found
 
-    if not callable(peek):
-        peek = seen if is_wound else None
-    if is_wound and type(file) in (BufferedReader, BytesIO, FileIO):
-        raw = getattr(file, "raw", file)
-
-        def from_system(place: int, size: int) -> bytes:
-            try:
-                return pread(raw.fileno(), size, place)
-            except OSError:
-                return b""
-
-        def wound_back(place: int, size: int) -> bytes:
-            try:
-                return read(size)  # type: ignore[no-any-return]
-            finally:
-                file.seek(place)
-
-        def peeked(place: int, size: int) -> bytes:
-            found = file.peek(1)
-            return found if type(found) is bytes else b""
-
-        if type(raw) is FileIO:
-            # Beyond a buffer it takes less time to pass over a message than to read it.
-            return _Seen(file, from_system, peek or seen, 0 if raw is file else _BUFFERED, splitter)
-        return _Seen(file, wound_back if type(raw) is BytesIO else peeked, peek or seen, 1 << 64, splitter)
-    return _Packed(read, peek, splitter) if splitter._packed else Messages(read, splitter)
+    look = peek if callable(peek) else seen
+    raw = file.raw if is_wound and kind is BufferedReader else file
+    if is_wound and type(raw) is FileIO:
+        # Beyond a buffer it takes less time to pass over a message than to read it.
+        return _Seen(file, from_system, look, 0 if raw is file else _BUFFERED, splitter)
+    if is_wound and (type(raw) is BytesIO or callable(peek)):
+        return _Seen(file, wound_back if type(raw) is BytesIO else peeked, look, 1 << 64, splitter)
+    if splitter._packed:
+        return _Packed(read, look if is_wound or callable(peek) else None, splitter)
+    return Messages(read, splitter)
