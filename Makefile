@@ -49,13 +49,10 @@ run: program
 	@echo "in:"; od -An -v -tx1 -w8 $(PROGRAM)/stdin
 	@echo "out:"; $(PROGRAM)/out/capn $$(cat $(PROGRAM)/args) < $(PROGRAM)/stdin | od -An -v -tx1 -w8
 
-# The whole gate: no line is too long; no crate reaches into another one's proofs; README.md names the toolchain that
-# runs; each place has the version of the file VERSION; the tables of docs/VERIFY.md, PROMISES.md, TESTED.md and
-# ARCHITECTURE.md are true; completions complete; the list of symbols and capn(3) are those of the header; what `rt ci`
-# tries; the program that it built, once or more for each exit status and with too little memory; and the library for C.
-# The libraries that earlier checks built are removed first: after its run `rt ci` would put them back in place of its
-# own, and the library for C is built over its own. At the end it packs twice what it built, compares, and writes
-# build/PROVED: what passed, of which commit. With ANEW=--anew it proves again what earlier runs have passed.
+# The whole gate, line by line as docs/CONTRIBUTING.md has it. What earlier checks built is removed first: after its run
+# `rt ci` would put that back in place of its own, and the library for C is built over its own. At the end the gate
+# packs twice what it built, compares, and writes build/PROVED: what passed, of which commit. With ANEW=--anew it proves
+# again what earlier runs have passed.
 test:
 	.ci/lines
 	.ci/borders
@@ -64,14 +61,15 @@ test:
 	.ci/readings
 	.ci/counts
 	.ci/places
-	.ci/completion
+	tests/program/completion
+	tests/pages/touched
 	release/symbols
 	release/manual
 	rm -rf crates/*/out/rlib
 	mkdir -p $(BUILD) && rm -f $(BUILD)/PROVED
 	rt ci $(ANEW) 2>&1 | tee $(BUILD)/gate.log
-	.ci/statuses
-	.ci/failures
+	tests/program/statuses
+	tests/program/failures
 	.ci/library
 	release/installs
 	release/twice
@@ -87,18 +85,18 @@ bench:
 # table of hostile inputs. With the program that the gate builds, or with an installed one:
 # make interop CAPN=/usr/local/bin/capn.
 interop: $(if $(CAPN),,program library)
-	./c/tests/agree
-	./c/tests/watched
-	./interop/recipes
-	./interop/callers
-	./interop/run
-	./interop/differences
-	@if command -v python3 > /dev/null; then ./interop/archives && ./interop/texts && ./interop/memory; \
+	./tests/c/agree
+	./tests/c/watched
+	./tests/pages/recipes
+	./tests/pages/callers
+	./tests/reference/run
+	./tests/reference/differences
+	@if command -v python3 > /dev/null; then ./tests/program/archives && ./tests/program/texts && ./tests/program/memory; \
 	else echo "archives, texts, memory: skipped, since there is no python3"; fi
 	./contrib/dask/run
-	@if command -v python3 > /dev/null; then ./python/tests/run && ./interop/hostile; \
+	@if command -v python3 > /dev/null; then ./tests/python/run && ./tests/reference/hostile; \
 	else echo "python, hostile: skipped, since there is no python3"; fi
-	./interop/languages
+	./tests/c/languages
 
 # The library for C, proved: the archive of capn_c and what is made of it.
 library:
@@ -178,4 +176,4 @@ verify-dist:
 
 # The files of dist/ installed, used and removed in a root that has nothing else.
 clean-root:
-	interop/clean
+	release/clean-root

@@ -92,8 +92,8 @@ enum capn_kind {
     CAPN_KIND_CAPABILITY = 10 /* `count` is its index */
 };
 
-/* A segment of a message: `count` words of 8 bytes each. They may start at any address; if there are none, `words` may be
- * null. It is laid out as kj::ArrayPtr<const capnp::word> is. */
+/* A segment of a message: `count` words of 8 bytes each. They may start at any address; if there are none, `words` may
+ * be null. It is laid out as kj::ArrayPtr<const capnp::word> is. */
 typedef struct capn_segment {
     const void *words;
     size_t count;
@@ -163,11 +163,11 @@ enum capn_status_code {
 };
 
 /* The canonical bytes of one message. With a room of 0 it writes no answer. It returns CAPN_NO_ROOM with a `length`
- * that is enough, 8 * (paid + 1), or else the refusal; it costs what capn_check costs, and takes memory where that does.
- * With any other room that is too small it returns CAPN_NO_ROOM with the exact length.
+ * that is enough, 8 * (paid + 1), or else the refusal; it costs what capn_check costs, and takes memory where that
+ * does. With any other room that is too small it returns CAPN_NO_ROOM with the exact length.
  * CAPN_TRAILING says where the first of several messages ends. Of CAPN_STREAM, call again with that size. Not so of
- * CAPN_PACKED: there the offset is one in the unpacked bytes, and mostly greater than the size of the packed ones. Unpack
- * them first, by capn_unpack, and go on with CAPN_STREAM. The same holds for capn_hash and capn_check. */
+ * CAPN_PACKED: there the offset is one in the unpacked bytes, and mostly greater than the size of the packed ones.
+ * Unpack them first, by capn_unpack, and go on with CAPN_STREAM. The same holds for capn_hash and capn_check. */
 capn_status capn_canonical(uint32_t form, const uint8_t *bytes, size_t size, const capn_limits *limits, uint8_t *out,
                            size_t room, capn_report *report);
 
@@ -200,18 +200,18 @@ const char *capn_status_text(capn_status status);
 
 /* The first frame of a stream, to read one in pieces. All limits are tested, and `message_words` alone counts.
  * CAPN_OK: the frame is whole, and `length` bytes long; more may follow it.
- * CAPN_FRAME_EMPTY, CAPN_FRAME_CUT: it is not whole. No frame that begins so is shorter than `length` bytes, counted from
- * its start, and that is more than there are: have that many, and call again. It is 8, then the length of the table,
- * then that of the frame, at most 8 * (message_words + 2049): no byte after the frame is asked for.
- * Else the refusal. Nothing is walked. It takes memory for the table of two segments or more, once the frame is whole. */
+ * CAPN_FRAME_EMPTY, CAPN_FRAME_CUT: it is not whole. No frame that begins so is shorter than `length` bytes, counted
+ * from its start, and that is more than there are: have that many, and call again. It is 8, then the length of the
+ * table, then that of the frame, at most 8 * (message_words + 2049): no byte after the frame is asked for.
+ * Else the refusal. Nothing is walked. The table of two segments or more takes memory, once the frame is whole. */
 capn_status capn_first(const uint8_t *bytes, size_t size, const capn_limits *limits, capn_report *report);
 
 /* The words of the whole groups that come first in a packed text, as many as have room, to unpack one in pieces.
- * CAPN_OK: all bytes were taken, and the text may end here. CAPN_PACKED_CUT: a group begins at `at` and is cut: keep its
- * bytes, and pass them again before those that follow; if none follow, the text is cut. CAPN_PACKED_TOO_LONG: the group
- * at `at` has more words than there is room for: pass it again with a buffer that has room. In these three `at` bytes
- * were taken and `length` bytes written, and the rest of the buffer is as it was. CAPN_MEMORY: nothing was taken, and
- * the buffer is as it was. No group has more than 2,050 bytes or 256 words: so with a room of 2,048 each call takes
+ * CAPN_OK: all bytes were taken, and the text may end here. CAPN_PACKED_CUT: a group begins at `at` and is cut: keep
+ * its bytes, and pass them again before those that follow; if none follow, the text is cut. CAPN_PACKED_TOO_LONG: the
+ * group at `at` has more words than there is room for: pass it again with a buffer that has room. In these three `at`
+ * bytes were taken and `length` bytes written, and the rest of the buffer is as it was. CAPN_MEMORY: nothing was taken,
+ * and the buffer is as it was. No group has more than 2,050 bytes or 256 words: so with a room of 2,048 each call takes
  * something, or asks for more bytes. It takes memory for the words that it writes. */
 capn_status capn_unpack_some(const uint8_t *bytes, size_t size, uint8_t *out, size_t room, capn_report *report);
 
@@ -242,9 +242,9 @@ capn_status capn_index(uint32_t form, const uint8_t *bytes, size_t size, const c
 /* The same of a message where its segments lie, with no table and no copy. `segments` has `count` segments, 1 to 4,096;
  * they may overlap. Each call answers and refuses what its sister does of the frame of these segments, under the same
  * limits: with no segments CAPN_FRAME_EMPTY; with more than 4,096 CAPN_TOO_MANY_SEGMENTS; with more words than
- * `message_words` CAPN_TOO_MANY_WORDS, of which `at` is their number, or 2^64 - 1 if they are more. The refusals of bytes,
- * 16 to 33, 51 and 52, never come, nor does CAPN_BAD_FORM. Memory is taken for canonical bytes alone: capn_check_segments
- * and capn_survey_segments take none. */
+ * `message_words` CAPN_TOO_MANY_WORDS, of which `at` is their number, or 2^64 - 1 if they are more. The refusals of
+ * bytes, 16 to 33, 51 and 52, never come, nor does CAPN_BAD_FORM. Memory is taken for canonical bytes alone:
+ * capn_check_segments and capn_survey_segments take none. */
 capn_status capn_canonical_segments(const capn_segment *segments, size_t count, const capn_limits *limits, uint8_t *out,
                                     size_t room, capn_report *report);
 capn_status capn_hash_segments(const capn_segment *segments, size_t count, const capn_limits *limits,
@@ -260,8 +260,8 @@ capn_status capn_survey_segments(const capn_segment *segments, size_t count, con
  * for, always with a zero after it; with a room of 0 it writes nothing, and `out` may be null. */
 size_t capn_refusal_text(capn_status status, const capn_report *report, char *out, size_t room);
 
-/* The name of a status, as `Range` of CAPN_RANGE and `NoRoot` of CAPN_NO_ROOT; `Unknown` of a number that is no status. It
- * is never null, and not to be freed. */
+/* The name of a status, as `Range` of CAPN_RANGE and `NoRoot` of CAPN_NO_ROOT; `Unknown` of a number that is no status.
+ * It is never null, and not to be freed. */
 const char *capn_status_name(capn_status status);
 
 #ifdef __cplusplus

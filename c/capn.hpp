@@ -175,8 +175,8 @@ template <class Call> buffer made(std::size_t room, Call call) {
     }
 }
 
-/* The room to begin with, for a message of so many bytes: its canonical bytes are mostly no longer than it is, and never
- * longer than the budget allows. */
+/* The room to begin with, for a message of so many bytes: its canonical bytes are mostly no longer than it is, and
+ * never longer than the budget allows. */
 inline std::size_t first_room(std::size_t size, const limits &most) noexcept {
     return std::min(size, 8 * (std::size_t{most.budget} + 1));
 }
@@ -268,9 +268,10 @@ private:
 };
 
 inline buffer canonical(segments message, const limits &most = {}) {
-    return detail::made(detail::first_room(message.bytes_in_all(), most), [&](std::uint8_t *out, std::size_t room, capn_report *report) {
+    const auto call = [&](std::uint8_t *out, std::size_t room, capn_report *report) {
         return capn_canonical_segments(message.data(), message.size(), &most, out, room, report);
-    });
+    };
+    return detail::made(detail::first_room(message.bytes_in_all(), most), call);
 }
 inline digest_bytes digest(segments message, const limits &most = {}) {
     digest_bytes out;

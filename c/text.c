@@ -1,5 +1,5 @@
-/* What the library says in words: its version, each status, and a refusal with its place. No proved code: it has no state,
- * and reads and writes nothing but what it is given. */
+/* What the library says in words: its version, each status, and a refusal with its place. No proved code: it has no
+ * state, and reads and writes nothing but what it is given. */
 #include "capn.h"
 
 #ifndef CAPN_VERSION_TEXT

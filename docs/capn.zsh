@@ -1,5 +1,5 @@
 #compdef capn
-# Completion of zsh for capn, made from its help by .ci/completion.
+# Completion of zsh for capn, made from its help by tests/program/completion.
 _capn() {
     local -a commands
     commands=(

@@ -172,7 +172,7 @@ func TestFields(t *testing.T) {
 			written = `(u64 = 5, u32 = 3, u16 = 65535, u8 = 1, i64 = 9223372036854775807, i32 = -1, i16 = -32768, i8 = 127,
 				f64 = -1e300, f32 = 0.25, yes = false, no = true, name = "Alice", colour = red, numbers = ` + one.numbers + ")"
 		}
-		ran := exec.Command(program, "encode", "../python/tests/fields.capnp", one.kind)
+		ran := exec.Command(program, "encode", "../tests/python/fields.capnp", one.kind)
 		ran.Stdin = strings.NewReader(written)
 		message, err := ran.Output()
 		if err != nil {

@@ -172,7 +172,7 @@ func TestStored(t *testing.T) {
 }
 
 // Ten thousand generated messages, many of them hostile, are answered as the library answers them in C: CAPN_VECTORS
-// names the program that c/tests/vectors.c is.
+// names the program that tests/c/vectors.c is.
 func TestGenerated(t *testing.T) {
 	program := os.Getenv("CAPN_VECTORS")
 	if program == "" {

@@ -1,4 +1,5 @@
-"""Builds the module of the package `capn` with the proved library inside, after `make library`; pyproject.toml has the rest.
+"""Builds the module of the package `capn` with the proved library inside, after `make library`. The rest is in
+pyproject.toml.
 
 The library's header, its archive and its licence lie beside this folder, in the repository's top."""
 import shutil

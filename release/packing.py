@@ -1,4 +1,4 @@
-"""What the scripts of a release share: its names, its tools, and archives that are the same bytes wherever they are made."""
+"""What the scripts of a release share: its names, its tools, and archives that are the same bytes wherever made."""
 
 import gzip
 import hashlib

@@ -66,7 +66,8 @@ def is_named(paths: list[str]) -> bool:
     files = sorted(os.listdir("."))
     ran = run_command([paths[1], str(cut)])
     is_told = f"{cut.absolute()}: ".encode() in ran.stderr and b"frame: Cut" in ran.stderr
-    return ran.returncode == 3 and is_told and Path("framed").read_bytes() == before and sorted(os.listdir(".")) == files
+    is_left = Path("framed").read_bytes() == before and sorted(os.listdir(".")) == files
+    return ran.returncode == 3 and is_told and is_left
 
 
 def is_counted(report: Report, data: bytes) -> bool:

@@ -1,4 +1,4 @@
-//! The fields of `c/tests/fields.capnp`, by `capn`.
+//! The fields of `tests/c/fields.capnp`, by `capn`.
 //!
 //! Each message of a stream is shown as the generated code of the reference implementation shows it.
 //!

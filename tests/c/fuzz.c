@@ -1,0 +1,198 @@
+/* Any bytes through every call, in each form: the calls agree with one another, and read nothing beside the bytes. As a
+ * program it takes the bytes that end each line of standard input, in hexadecimal, and copies of them with some bytes
+ * changed, by a fixed seed. A fuzzer calls LLVMFuzzerTestOneInput:
+ * clang -DFUZZER -fsanitize=fuzzer,address -I c tests/c/fuzz.c build/libcapn.a */
+#include "capn.h"
+#include <stdio.h>
+#include <stdlib.h>
+#include <string.h>
+
+static const capn_limits limits = {1u << 16, 1u << 16, 64, CAPN_STRICT};
+
+static void need(int holds, const char *what, const uint8_t *bytes, size_t size) {
+    if (holds) return;
+    printf("fuzz: not so: %s:", what);
+    for (size_t i = 0; i < size; i++) printf(" %02x", bytes[i]);
+    printf("\n");
+    abort();
+}
+
+/* The canonical bytes of what check accepts: canonical, hash and is_canonical agree on them, and check on the price. */
+static void accepted(uint32_t form, const uint8_t *bytes, size_t size, const capn_report *checked, size_t enough) {
+    uint8_t *out = malloc(enough), digest[2][32];
+    capn_report report;
+    capn_status status = capn_canonical(form, bytes, size, &limits, out, enough, &report);
+    need(status == CAPN_OK && report.paid == checked->paid, "room that is enough", bytes, size);
+    size_t length = report.length;
+    uint8_t *again = malloc(length);
+    status = capn_canonical(CAPN_BARE, out, length, &limits, again, length, &report);
+    need(status == CAPN_OK && report.length == length && !memcmp(out, again, length), "own form", bytes, size);
+    need(capn_is_canonical(out, length, &limits, &report) == CAPN_OK, "is canonical", bytes, size);
+    need(capn_hash(form, bytes, size, &limits, digest[0], &report) == CAPN_OK, "hash", bytes, size);
+    need(capn_hash(CAPN_BARE, out, length, &limits, digest[1], &report) == CAPN_OK, "hash again", bytes, size);
+    need(!memcmp(digest[0], digest[1], 32), "one digest", bytes, size);
+    if (form == CAPN_BARE) {
+        int is_own = length == size && !memcmp(out, bytes, length);
+        status = capn_is_canonical(bytes, size, &limits, &report);
+        need(status == (is_own ? CAPN_OK : CAPN_NOT_CANONICAL), "is canonical only if it is", bytes, size);
+    }
+    free(out);
+    free(again);
+}
+
+/* How many bytes an entry says that its content has. */
+static uint64_t content(const capn_entry *e) {
+    const uint64_t object = 8 * ((uint64_t)e->words + e->slots);
+    switch (e->kind) {
+    case CAPN_KIND_STRUCT: return object;
+    case CAPN_KIND_BITS: return ((uint64_t)e->count + 7) / 8;
+    case CAPN_KIND_BYTES: return e->count;
+    case CAPN_KIND_U16: return 2 * (uint64_t)e->count;
+    case CAPN_KIND_U32: return 4 * (uint64_t)e->count;
+    case CAPN_KIND_U64: case CAPN_KIND_POINTERS: return 8 * (uint64_t)e->count;
+    case CAPN_KIND_ROWS: return 8 + e->count * object;
+    default: return 0;
+    }
+}
+
+/* The entry at i, and all below it: it lies within the bytes, its slots have entries one after the other, a null slot
+ * that of null, and its span ends with the last. */
+static void entry(const capn_entry *all, size_t count, size_t i, const uint8_t *bytes, size_t size) {
+    const capn_entry *e = &all[i];
+    need(e->span >= 1 && e->span <= count - i, "a span", bytes, size);
+    need(e->offset <= size && content(e) <= size - e->offset, "within the bytes", bytes, size);
+    need(e->kind <= CAPN_KIND_CAPABILITY, "a kind", bytes, size);
+    size_t next = i + 1, rows = e->kind == CAPN_KIND_ROWS ? e->count : 1;
+    const uint8_t *at = bytes + e->offset + (e->kind == CAPN_KIND_ROWS ? 8 : 0);
+    size_t slots = e->kind == CAPN_KIND_POINTERS ? e->count : e->slots;
+    for (size_t row = 0; row < rows && slots; row++, at += 8 * slots) {
+        at += 8 * (size_t)e->words;
+        for (size_t slot = 0; slot < slots; slot++) {
+            uint64_t word;
+            need(next < i + e->span, "an entry of a slot", bytes, size);
+            memcpy(&word, at + 8 * slot, 8);
+            need((word == 0) == (all[next].kind == CAPN_KIND_NULL), "null", bytes, size);
+            entry(all, count, next, bytes, size);
+            next += all[next].span;
+        }
+    }
+    need(next == i + e->span, "the end of a span", bytes, size);
+}
+
+/* What survey and index report must agree with what check reported, of a form that is not packed. */
+static void indexed(uint32_t form, const uint8_t *bytes, size_t size, capn_status check, const capn_report *checked) {
+    capn_figures figures;
+    capn_report report;
+    need(capn_survey(form, bytes, size, &limits, &figures, &report) == check, "survey as check", bytes, size);
+    need(!memcmp(&report, checked, sizeof report), "its report", bytes, size);
+    if (check != CAPN_OK) {
+        need(capn_index(form, bytes, size, &limits, NULL, 0, &report) == check, "index as check", bytes, size);
+        need(!memcmp(&report, checked, sizeof report), "its report", bytes, size);
+        return;
+    }
+    capn_limits lower = limits;
+    lower.depth = figures.depth;
+    need(!lower.depth || capn_check(form, bytes, size, &lower, &report) == CAPN_OK, "the depth", bytes, size);
+    lower.depth--;
+    need(figures.depth < 2 || capn_check(form, bytes, size, &lower, &report) == CAPN_TOO_DEEP, "less", bytes, size);
+    const size_t count = checked->visits;
+    need(figures.visits == count && figures.paid == checked->paid, "the figures", bytes, size);
+    capn_entry *all = malloc(count * sizeof *all); /* exactly as long */
+    for (size_t room = count - 1; room <= count; room++) {
+        memset(all, 0x55, count * sizeof *all);
+        capn_status status = capn_index(form, bytes, size, &limits, all, room, &report);
+        need(status == (room < count ? CAPN_NO_ROOM : CAPN_OK), "the room", bytes, size);
+        need(report.visits == count && report.paid == checked->paid, "the number of entries", bytes, size);
+        uint32_t kind = room < count ? 0x55555555 : all[0].kind;
+        need(report.length == 24 * count && all[0].kind == kind, "as it was", bytes, size);
+    }
+    need(all[0].span == count, "all entries", bytes, size);
+    entry(all, count, 0, bytes, size);
+    free(all);
+}
+
+static void message(uint32_t form, const uint8_t *bytes, size_t size) {
+    capn_report checked, report;
+    uint8_t digest[32];
+    capn_status check = capn_check(form, bytes, size, &limits, &checked);
+    capn_status status = capn_canonical(form, bytes, size, &limits, NULL, 0, &report);
+    if (form != CAPN_PACKED) indexed(form, bytes, size, check, &checked);
+    need(check != CAPN_MEMORY && status != CAPN_MEMORY, "there is memory", bytes, size);
+    if (check == CAPN_OK && status == CAPN_NO_ROOM) {
+        need(report.length == 8 * ((uint64_t)report.paid + 1), "a length that is enough", bytes, size);
+        accepted(form, bytes, size, &checked, report.length);
+        return;
+    }
+    capn_report hashed;
+    need(status == (check == CAPN_OK ? CAPN_CAPABILITY : check), "canonical refuses as check", bytes, size);
+    need(capn_hash(form, bytes, size, &limits, digest, &hashed) == status, "hash refuses as canonical", bytes, size);
+    need(!memcmp(&report, &hashed, sizeof report), "the reports of a refusal", bytes, size);
+}
+
+/* Any bytes as a packed text: what it unpacks to is packed, and unpacked again. */
+static void packing(const uint8_t *bytes, size_t size) {
+    static uint8_t words[1 << 16], again[1 << 16], text[10 * (1 << 13)];
+    capn_report report, other;
+    if (capn_unpack(bytes, size, 1 << 13, words, sizeof words, &report) != CAPN_OK) return;
+    need(capn_pack(words, report.length, text, sizeof text, &other) == CAPN_OK, "packed", bytes, size);
+    need(capn_unpack(text, other.length, 1 << 13, again, sizeof again, &other) == CAPN_OK, "unpacked", bytes, size);
+    need(other.length == report.length && !memcmp(words, again, other.length), "there and back", bytes, size);
+}
+
+int LLVMFuzzerTestOneInput(const uint8_t *data, size_t size) {
+    uint8_t *bytes = malloc(size ? size : 1); /* exactly as long, so that a sanitizer sees any byte beside them */
+    if (size) memcpy(bytes, data, size);
+    for (uint32_t form = 0; form < 3; form++) message(form, bytes, size);
+    packing(bytes, size);
+    free(bytes);
+    return 0;
+}
+
+#ifndef FUZZER
+/* How many changed copies of each input are tried. */
+#ifndef COPIES
+#define COPIES 40
+#endif
+static uint64_t seed = 7;
+
+static uint32_t any(uint32_t below) {
+    seed ^= seed << 13;
+    seed ^= seed >> 7;
+    seed ^= seed << 17;
+    return (uint32_t)(seed >> 32) % below;
+}
+
+/* One to four bytes changed, and now and then the end cut off. */
+static size_t change(uint8_t *bytes, size_t size) {
+    const uint8_t special[6] = {0, 1, 2, 7, 0x80, 0xff};
+    for (uint32_t times = 1 + any(4); times && size; times--) {
+        uint8_t *byte = bytes + any((uint32_t)size);
+        *byte = any(2) ? special[any(6)] : (uint8_t)(*byte ^ 1u << any(8));
+    }
+    return any(8) || !size ? size : any((uint32_t)size);
+}
+
+int main(void) {
+    enum { LINE = 1 << 22, LONGEST = 1 << 12 };
+    static char line[LINE];
+    static uint8_t bytes[LONGEST], copy[LONGEST];
+    long tried = 0;
+    while (fgets(line, LINE, stdin)) {
+        char *digits = strrchr(line, ' ');
+        size_t size = digits ? strcspn(++digits, "\n") / 2 : 0;
+        if (!digits || size > LONGEST) continue;
+        for (size_t i = 0; i < size; i++) {
+            unsigned byte = 0;
+            sscanf(digits + 2 * i, "%2x", &byte);
+            bytes[i] = (uint8_t)byte;
+        }
+        LLVMFuzzerTestOneInput(bytes, size);
+        for (int i = 0; i < COPIES; i++, tried++) {
+            memcpy(copy, bytes, size);
+            LLVMFuzzerTestOneInput(copy, change(copy, size));
+        }
+    }
+    printf("fuzz: %ld changed inputs, on which all calls agree\n", tried);
+    return 0;
+}
+#endif

@@ -1,0 +1,27 @@
+"""Writes calls, as tests/c/vectors answers them, for a thousand messages as `tests/reference/generated` makes them,
+from a fixed seed, most of them hostile or changed, and for the hostile inputs of `tests/reference/hostile`."""
+import random
+from importlib.machinery import SourceFileLoader
+from importlib.util import module_from_spec, spec_from_loader
+from pathlib import Path
+
+REFERENCE = Path(__file__).resolve().parents[1] / "reference"
+
+
+def script(name):
+    """A program of tests/reference, as a module."""
+    spec = spec_from_loader(name, SourceFileLoader(name, str(REFERENCE / name)))
+    module = module_from_spec(spec)
+    spec.loader.exec_module(module)
+    return module
+
+
+def main():
+    generated, source = script("generated"), random.Random(46)
+    messages = [("stream", b"".join(generated.pieces(generated.message(source)))) for _ in range(1000)]
+    for form, data in messages + [(form, data) for _, data, form in script("hostile").INPUTS]:
+        for call in "canonicalise", "survey":
+            print(call, form, "8388608 8388608 64", data.hex())
+
+
+main()

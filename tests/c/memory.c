@@ -1,0 +1,216 @@
+/* Each allocation of each call refused in turn: CAPN_MEMORY, the buffer untouched, no number in the report, and nothing
+ * left. Then the calls that need none: refused every one, they answer as with ample memory. */
+#include "capn.h"
+#include "refusing.h"
+#include <stdio.h>
+#include <string.h>
+
+enum { ROOM = 1 << 16, DEPTH = 200, MOST = 8 * (2 * DEPTH) };
+static uint8_t deep[MOST], framed[MOST + 16], text[ROOM];
+static _Alignas(8) uint8_t out[ROOM];
+static int failed;
+
+static void fail(const char *name, const char *why) {
+    failed++;
+    printf("memory: %s: %s\n", name, why);
+}
+
+/* Structs of two pointers, the second one null, each in the one before, `depth` deep, with a number at the end: how
+ * many bytes they take. */
+static size_t chain(uint8_t *at, size_t depth) {
+    memset(at, 0, 16 * depth);
+    at[depth > 1 ? 6 : 4] = depth > 1 ? 2 : 1;
+    for (size_t i = 0; i + 1 < depth; i++) {
+        at[8 * (1 + 2 * i)] = 4;
+        at[8 * (1 + 2 * i) + (i + 2 < depth ? 6 : 4)] = i + 2 < depth ? 2 : 1;
+    }
+    at[8 * (2 * depth - 1)] = 7;
+    return 16 * depth;
+}
+
+/* The frame of one segment or of two, the second without words: how many bytes it takes. */
+static size_t frame(uint8_t *to, uint8_t segments, const uint8_t *words, size_t size) {
+    size_t table = segments == 1 ? 8 : 16;
+    memset(to, 0, table);
+    to[0] = segments - 1;
+    to[4] = (uint8_t)(size / 8);
+    to[5] = (uint8_t)(size / 8 >> 8);
+    memcpy(to + table, words, size);
+    return table + size;
+}
+
+typedef struct input {
+    uint32_t form;
+    const uint8_t *bytes;
+    size_t size;
+    capn_limits limits;
+} input;
+
+typedef capn_status call(const input *in, capn_report *report);
+
+static capn_status canonical(const input *in, capn_report *report) {
+    return capn_canonical(in->form, in->bytes, in->size, &in->limits, out, ROOM, report);
+}
+static capn_status measured(const input *in, capn_report *report) {
+    return capn_canonical(in->form, in->bytes, in->size, &in->limits, NULL, 0, report);
+}
+static capn_status hashed(const input *in, capn_report *report) {
+    return capn_hash(in->form, in->bytes, in->size, &in->limits, out, report);
+}
+static capn_status checked(const input *in, capn_report *report) {
+    return capn_check(in->form, in->bytes, in->size, &in->limits, report);
+}
+static capn_status judged(const input *in, capn_report *report) {
+    return capn_is_canonical(in->bytes, in->size, &in->limits, report);
+}
+static capn_status packed(const input *in, capn_report *report) {
+    return capn_pack(in->bytes, in->size, out, ROOM, report);
+}
+static capn_status unpacked(const input *in, capn_report *report) {
+    return capn_unpack(in->bytes, in->size, 1u << 20, out, ROOM, report);
+}
+static capn_status first(const input *in, capn_report *report) {
+    return capn_first(in->bytes, in->size, &in->limits, report);
+}
+static capn_status some(const input *in, capn_report *report) {
+    return capn_unpack_some(in->bytes, in->size, out, ROOM, report);
+}
+static capn_status surveyed(const input *in, capn_report *report) {
+    return capn_survey(in->form, in->bytes, in->size, &in->limits, (capn_figures *)out, report);
+}
+static capn_status indexed(const input *in, capn_report *report) {
+    return capn_index(in->form, in->bytes, in->size, &in->limits, (capn_entry *)out, ROOM / 24, report);
+}
+static capn_status counted(const input *in, capn_report *report) {
+    return capn_index(in->form, in->bytes, in->size, &in->limits, NULL, 0, report);
+}
+
+/* A call that was refused memory writes nothing, and every field of its report is 0. */
+static void refused(const char *name, const capn_report *report) {
+    for (size_t i = 0; i < ROOM; i++)
+        if (out[i] != 0xAA) {
+            fail(name, "writes");
+            break;
+        }
+    const capn_report none = {0, 0, 0, 0, 0, 0};
+    if (memcmp(report, &none, sizeof none)) fail(name, "reports");
+}
+
+/* Each allocation of a call refused in turn; there are at least `least`. */
+static void each(const char *name, call *make, const input *in, int least) {
+    capn_report report;
+    uint32_t status = CAPN_MEMORY;
+    int count = 0;
+    for (long allowed = 0; allowed < 100000; allowed++, count++) {
+        long before = live;
+        memset(out, 0xAA, ROOM);
+        memset(&report, 0x55, sizeof report);
+        left = allowed;
+        status = make(in, &report);
+        left = -1;
+        if (live != before) fail(name, "leaves blocks");
+        if (status != CAPN_MEMORY) break;
+        refused(name, &report);
+    }
+    if (status != CAPN_OK && status != CAPN_NO_ROOM && status != CAPN_NOT_CANONICAL) fail(name, "is refused otherwise");
+    if (count < least) fail(name, "needs less memory");
+    printf("memory: %s: refused %d times\n", name, count);
+}
+
+/* A call asks for `growths` growths. With every one refused it ends with CAPN_MEMORY; if it asks for none, as with
+ * ample memory, with the status `wanted`. */
+static void wants(const char *name, call *make, const input *in, long growths, uint32_t wanted) {
+    capn_report ample, short_of;
+    left = -1;
+    asked = 0;
+    if (make(in, &ample) != wanted) fail(name, "another status");
+    if (asked != growths) fail(name, "another number of growths");
+    left = 0;
+    uint32_t status = make(in, &short_of);
+    left = -1;
+    if (status != (growths ? CAPN_MEMORY : wanted)) fail(name, "another status without memory");
+    if (!growths && memcmp(&ample, &short_of, sizeof ample)) fail(name, "another report without memory");
+}
+
+static void in_turn(void) {
+    const capn_limits limits = {1u << 20, 1u << 20, 256, CAPN_STRICT};
+    const input bare = {CAPN_BARE, deep, chain(deep, DEPTH), limits};
+    const input stream = {CAPN_STREAM, framed, frame(framed, 2, deep, bare.size), limits};
+    capn_report report;
+    if (capn_pack(framed, stream.size, text, ROOM, &report) != CAPN_OK) fail("pack", "refuses");
+    const input pack = {CAPN_PACKED, text, report.length, limits};
+    each("canonical, bare", canonical, &bare, 1);
+    each("canonical, stream", canonical, &stream, 2);
+    each("canonical, packed", canonical, &pack, 4);
+    each("canonical, packed, no room", measured, &pack, 3);
+    each("canonical, stream, no room", measured, &stream, 1);
+    each("hash, bare", hashed, &bare, 1);
+    each("hash, stream", hashed, &stream, 2);
+    each("hash, packed", hashed, &pack, 4);
+    each("check, stream", checked, &stream, 1);
+    each("check, packed", checked, &pack, 3);
+    each("pack", packed, &stream, 1);
+    each("unpack", unpacked, &pack, 1);
+    each("first", first, &stream, 1);
+    each("survey, stream", surveyed, &stream, 2);
+    each("index, bare", indexed, &bare, 2);
+    each("index, stream", indexed, &stream, 4);
+    each("index, stream, no room", counted, &stream, 1);
+    each("unpack_some", some, &pack, 1);
+}
+
+/* At any depth a bare message and a stream of one segment need no memory, whether they are as deep or deeper; a stream
+ * of two segments needs it once, where the second one ends. */
+static void at_depth(uint32_t most, size_t depth, uint32_t wanted) {
+    const capn_limits limits = {1u << 20, 1u << 20, most, CAPN_STRICT};
+    const uint32_t room = wanted == CAPN_OK ? CAPN_NO_ROOM : wanted;
+    const input bare = {CAPN_BARE, deep, chain(deep, depth), limits};
+    input stream = {CAPN_STREAM, framed, frame(framed, 1, deep, bare.size), limits};
+    wants("check, bare", checked, &bare, 0, wanted);
+    wants("no room, bare", measured, &bare, 0, room);
+    wants("is_canonical", judged, &bare, 0, wanted == CAPN_OK ? CAPN_NOT_CANONICAL : wanted);
+    wants("check, one segment", checked, &stream, 0, wanted);
+    wants("survey, bare", surveyed, &bare, 0, wanted);
+    wants("survey, one segment", surveyed, &stream, 0, wanted);
+    wants("index, no room", counted, &stream, 0, room);
+    wants("no room, one segment", measured, &stream, 0, room);
+    stream.size = frame(framed, 2, deep, bare.size);
+    wants("check, two segments", checked, &stream, 1, wanted);
+    wants("no room, two segments", measured, &stream, 1, room);
+}
+
+/* What is refused as it is read needs no memory: nothing to pack or unpack, no whole words, a first group that is cut
+ * or too long, a table that is cut or announces too much, and no table of a whole frame. */
+static void unread(void) {
+    const capn_limits limits = CAPN_USUAL_LIMITS;
+    const uint8_t cut[9] = {255}, head[8] = {1, 0, 0, 0, 1}, many[8] = {255, 255}, whole[16] = {1};
+    const input nothing = {CAPN_STREAM, NULL, 0, limits}, odd = {CAPN_BARE, cut, 9, limits};
+    const input group = {CAPN_PACKED, cut, 9, limits}, table = {CAPN_STREAM, head, 8, limits};
+    const input segments = {CAPN_STREAM, many, 8, limits}, trailing = {CAPN_STREAM, whole, 16, limits};
+    wants("pack of nothing", packed, &nothing, 0, CAPN_OK);
+    wants("unpack of nothing", unpacked, &nothing, 0, CAPN_OK);
+    wants("check of nothing", checked, &nothing, 0, CAPN_FRAME_EMPTY);
+    wants("pack of no words", packed, &odd, 0, CAPN_NOT_WHOLE);
+    wants("check of no words", checked, &odd, 0, CAPN_NOT_WHOLE);
+    wants("unpack of a cut group", unpacked, &group, 0, CAPN_PACKED_CUT);
+    wants("check of a cut group", checked, &group, 0, CAPN_PACKED_CUT);
+    wants("unpack_some of a cut group", some, &group, 0, CAPN_PACKED_CUT);
+    wants("unpack_some of nothing", some, &nothing, 0, CAPN_OK);
+    wants("first of a cut table", first, &table, 0, CAPN_FRAME_CUT);
+    wants("first of nothing", first, &nothing, 0, CAPN_FRAME_EMPTY);
+    wants("first of too many segments", first, &segments, 0, CAPN_TOO_MANY_SEGMENTS);
+    wants("first of two segments without words", first, &trailing, 1, CAPN_OK);
+    wants("check of a cut table", checked, &table, 0, CAPN_FRAME_CUT);
+    wants("check of too many segments", checked, &segments, 0, CAPN_TOO_MANY_SEGMENTS);
+    wants("check of two segments without words", checked, &trailing, 1, CAPN_NO_ROOT);
+}
+
+int main(void) {
+    in_turn();
+    at_depth(64, 64, CAPN_OK);
+    at_depth(64, 65, CAPN_TOO_DEEP);
+    at_depth(256, DEPTH, CAPN_OK);
+    at_depth(DEPTH - 1, DEPTH, CAPN_TOO_DEEP);
+    unread();
+    return failed != 0;
+}

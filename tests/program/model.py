@@ -1,0 +1,509 @@
+"""A second reading of docs/FORMAT.md and docs/PROFILE.md, in Python, to compare the program with.
+
+It shares nothing with the program: values are tuples, a walk is recursion, canonical bytes are one list. It is
+slow, and it is not proved. `archives`, beside it, compares the two.
+"""
+
+import hashlib
+import json
+import sys
+
+sys.setrecursionlimit(10_000)
+
+MOST_SEGMENTS = 4096
+WIDTH_BITS = [0, 1, 8, 16, 32, 64]
+
+
+class Refused(Exception):
+    """A refusal, with its text."""
+
+
+def number(data, at, size):
+    return int.from_bytes(data[at:at + size], "little")
+
+
+# Frames.
+
+
+def first_frame(data, at, most):
+    """The segments of the frame at an offset and the offset after it, or None if the stream ends there."""
+    if at == len(data):
+        return None
+    if len(data) - at < 4:
+        raise Refused("frame: Cut")
+    count = number(data, at, 4) + 1
+    if count > MOST_SEGMENTS:
+        raise Refused(f"frame: TooManySegments({count})")
+    table = 4 + 4 * count + (4 if count % 2 == 0 else 0)
+    if len(data) - at < table:
+        raise Refused("frame: Cut")
+    sizes = [number(data, at + 4 + 4 * i, 4) for i in range(count)]
+    if sum(sizes) > most:
+        raise Refused(f"frame: TooManyWords({sum(sizes)})")
+    end = at + table + 8 * sum(sizes)
+    if len(data) < end:
+        raise Refused("frame: Cut")
+    segments, start = [], at + table
+    for size in sizes:
+        segments.append(data[start:start + 8 * size])
+        start += 8 * size
+    return segments, end
+
+
+def unpacked(data):
+    """The words that a packed text holds in its whole groups, and the offset of a group that is cut, or None."""
+    out, at = bytearray(), 0
+    while at < len(data):
+        tag, begun = data[at], at
+        at += 1
+        named = bin(tag).count("1")
+        if at + named > len(data):
+            return bytes(out), begun
+        word = bytearray(8)
+        for bit in range(8):
+            if tag >> bit & 1:
+                word[bit] = data[at]
+                at += 1
+        more = b""
+        if tag in (0, 255):
+            if at == len(data):
+                return bytes(out), begun
+            count = data[at]
+            at += 1
+            if tag == 255:
+                if at + 8 * count > len(data):
+                    return bytes(out), begun
+                more = data[at:at + 8 * count]
+                at += 8 * count
+            else:
+                more = bytes(8 * count)
+        out += word + more
+    return bytes(out), None
+
+
+def packed(data):
+    """The packed text of whole words, of which no run ends before it has to."""
+    words, text, at = [data[begin:begin + 8] for begin in range(0, len(data), 8)], bytearray(), 0
+    while at < len(words):
+        word = words[at]
+        tag = sum(1 << bit for bit, byte in enumerate(word) if byte)
+        text += bytes([tag]) + word.replace(b"\0", b"")
+        at += 1
+        if tag in (0, 255):
+            zeros = range(8, 9) if tag == 0 else range(2)
+            begin = at
+            while at < len(words) and at - begin < 255 and words[at].count(0) in zeros:
+                at += 1
+            text.append(at - begin)
+            if tag == 255:
+                text += b"".join(words[begin:at])
+    return bytes(text)
+
+
+# Walks.
+
+
+class Walk:
+    """One walk of a message: its value, what it paid, its visits and its height."""
+
+    def __init__(self, segments, budget, depth, tariff):
+        self.segments, self.budget, self.most_depth = segments, budget, depth
+        self.base = 1 if tariff == "strict" else 0
+        self.paid = self.visits = self.height = 0
+        self.capability = None
+        if not segments[0]:
+            raise Refused("NoRoot at 0:0, paid 0, visits 0")
+        self.value = self.slot(0, 0, 1, True)
+
+    def word(self, segment, at):
+        return number(self.segments[segment], 8 * at, 8)
+
+    def words(self, segment):
+        return len(self.segments[segment]) // 8
+
+    def refuse(self, fault, place):
+        raise Refused(f"{fault} at {place[0]}:{place[1]}, paid {self.paid}, visits {self.visits}")
+
+    def slot(self, segment, at, depth, is_root=False):
+        place = (segment, at)
+        self.visits += 1
+        word = self.word(segment, at)
+        if word == 0:
+            return ("null",)
+        kind = word & 3
+        if kind == 3:
+            if word & 0xFFFFFFFC:
+                self.refuse("Reserved", place)
+            if is_root:
+                self.refuse("RootKind", place)
+            if self.capability is None:
+                self.capability = word >> 32
+            return ("capability", word >> 32)
+        if kind != 2:
+            return self.content(place, segment, start(word, at), word, 0, depth)
+        pad, there = word >> 3 & 0x1FFFFFFF, word >> 32
+        if there >= len(self.segments):
+            self.refuse("NoSegment", place)
+        double = word >> 2 & 1
+        if pad + 1 + double > self.words(there):
+            self.refuse("PadRange", place)
+        first = self.word(there, pad)
+        if not double:
+            if first == 0 or first & 3 > 1:
+                self.refuse("BadPad", place)
+            return self.content(place, there, start(first, pad), first, 1, depth)
+        tag = self.word(there, pad + 1)
+        if first & 7 != 2 or tag & 3 > 1:
+            self.refuse("BadPad", place)
+        if first >> 32 >= len(self.segments):
+            self.refuse("NoSegment", place)
+        return self.content(place, first >> 32, first >> 3 & 0x1FFFFFFF, tag, 2, depth)
+
+    def content(self, place, segment, begin, word, pads, depth):
+        is_list, code, count = word & 1, word >> 32 & 7, word >> 35
+        data, slots = word >> 32 & 0xFFFF, word >> 48
+        if not is_list:
+            size = data + slots
+        elif code == 7:
+            size = 1 + count
+        elif code == 6:
+            size = count
+        else:
+            size = -(-count * WIDTH_BITS[code] // 64)
+        if begin < 0 or begin + size > self.words(segment):
+            self.refuse("Range", place)
+        price = self.base + size + pads
+        if is_list and code == 0:
+            price += count
+        if is_list and code == 7:
+            tag = self.word(segment, begin)
+            if tag & 3:
+                self.refuse("BadTag", place)
+            rows, data, slots = (tag & 0xFFFFFFFF) >> 2, tag >> 32 & 0xFFFF, tag >> 48
+            if rows * (data + slots) > count:
+                self.refuse("TagOverrun", place)
+            if data + slots == 0:
+                price += rows
+        if depth > self.most_depth:
+            self.refuse("TooDeep", place)
+        if self.paid + price > self.budget:
+            self.refuse("OverBudget", place)
+        self.paid += price
+        self.height = max(self.height, depth)
+        if not is_list:
+            return self.body(segment, begin, data, slots, depth)
+        if code == 7:
+            row = data + slots
+            return ("rows", [self.body(segment, begin + 1 + i * row, data, slots, depth) for i in range(rows)])
+        if code == 6:
+            return ("pointers", [self.slot(segment, begin + i, depth + 1) for i in range(count)])
+        raw = self.segments[segment][8 * begin:8 * (begin + size)]
+        if code == 0:
+            return ("void", count)
+        if code == 1:
+            return ("bits", [raw[i // 8] >> i % 8 & 1 for i in range(count)])
+        if code == 2:
+            return ("bytes", raw[:count])
+        wide = WIDTH_BITS[code] // 8
+        return (f"u{8 * wide}", [number(raw, wide * i, wide) for i in range(count)])
+
+    def body(self, segment, begin, data, slots, depth):
+        words = [self.word(segment, begin + i) for i in range(data)]
+        return ("struct", words, [self.slot(segment, begin + data + i, depth + 1) for i in range(slots)])
+
+
+def start(word, at):
+    offset = (word & 0xFFFFFFFF) >> 2
+    return at + 1 + (offset - (1 << 30) if offset >> 29 else offset)
+
+
+# Canonical bytes.
+
+
+def cut(items, zero):
+    kept = len(items)
+    while kept and items[kept - 1] == zero:
+        kept -= 1
+    return kept
+
+
+def canonical(value):
+    """The canonical bytes of a value without capabilities."""
+    out = [0]
+
+    def pointer(at, to, low, high):
+        offset = (to - at - 1) & 0x3FFFFFFF
+        out[at] = low | offset << 2 | high << 32
+
+    def lay(at, value):
+        kind, to = value[0], len(out)
+        if kind == "null":
+            return
+        if kind == "struct":
+            words, slots = value[1][:cut(value[1], 0)], value[2][:cut(value[2], ("null",))]
+            pointer(at, to if words or slots else at, 0, len(words) | len(slots) << 16)
+            out.extend(words)
+            places = range(len(out), len(out) + len(slots))
+            out.extend([0] * len(slots))
+            for place, slot in zip(places, slots):
+                lay(place, slot)
+            return
+        if kind == "rows":
+            rows = value[1]
+            data = max((cut(row[1], 0) for row in rows), default=0)
+            slots = max((cut(row[2], ("null",)) for row in rows), default=0)
+            pointer(at, to, 1, 7 | len(rows) * (data + slots) << 3)
+            out.append(len(rows) << 2 | data << 32 | slots << 48)
+            begin = len(out)
+            out.extend([0] * (len(rows) * (data + slots)))
+            for i, row in enumerate(rows):
+                out[begin + i * (data + slots):begin + i * (data + slots) + data] = row[1][:data]
+            for i, row in enumerate(rows):
+                for j in range(slots):
+                    lay(begin + i * (data + slots) + data + j, row[2][j])
+            return
+        if kind == "pointers":
+            pointer(at, to, 1, 6 | len(value[1]) << 3)
+            places = range(to, to + len(value[1]))
+            out.extend([0] * len(value[1]))
+            for place, slot in zip(places, value[1]):
+                lay(place, slot)
+            return
+        if kind == "void":
+            pointer(at, to, 1, 0 | value[1] << 3)
+            return
+        code = {"bits": 1, "bytes": 2, "u16": 3, "u32": 4, "u64": 5}[kind]
+        pointer(at, to, 1, code | len(value[1]) << 3)
+        if kind == "bits":
+            raw = bytes(sum(bit << i for i, bit in enumerate(value[1][first:first + 8]))
+                        for first in range(0, len(value[1]), 8))
+        else:
+            raw = b"".join(item.to_bytes(WIDTH_BITS[code] // 8, "little") for item in value[1])
+        raw += bytes(-len(raw) % 8)
+        out.extend(number(raw, i, 8) for i in range(0, len(raw), 8))
+
+    lay(0, value)
+    return b"".join(word.to_bytes(8, "little") for word in out)
+
+
+# Texts.
+
+
+def quoted(items):
+    """What is written between quotes for a list of bytes that is a text, or None for any other."""
+    if not items or not all(0x20 <= byte <= 0x7E for byte in items[:-1]):
+        return None
+    if items[-1] and not 0x20 <= items[-1] <= 0x7E:
+        return None
+    escapes = {ord('"'): '\\"', ord("\\"): "\\\\", 0: "\\0"}
+    return "".join(escapes.get(byte, chr(byte)) for byte in items)
+
+
+def shown(value, level=0, with_texts=False):
+    """The text of a value, as `show` writes it, or with texts as `show --text` does."""
+    kind, pad = value[0], "  " * level
+    if kind == "null":
+        return f"{pad}null\n"
+    if kind == "capability":
+        return f"{pad}capability {value[1]}\n"
+    if kind == "struct":
+        lines = "".join(f"{pad}  word {word:016x}\n" for word in value[1])
+        slots = "".join(shown(slot, level + 1, with_texts) for slot in value[2])
+        return f"{pad}struct {len(value[1])} {len(value[2])}\n{lines}{slots}"
+    if kind == "void":
+        return f"{pad}void {value[1]}\n"
+    head, items = f"{pad}{kind} {len(value[1])}\n", value[1]
+    if kind == "bits":
+        return head + (f"{pad}  {''.join(map(str, items))}\n" if items else "")
+    if kind == "bytes":
+        text = quoted(items) if with_texts else None
+        if text is not None:
+            return f'{pad}bytes {len(items)} "{text}"\n'
+        return head + (f"{pad}  {bytes(items).hex()}\n" if items else "")
+    if kind in ("pointers", "rows"):
+        return head + "".join(shown(item, level + 1, with_texts) for item in items)
+    return head + "".join(f"{pad}  {item}\n" for item in items)
+
+
+def plain_of(value):
+    """A value as what `json` writes."""
+    kind = value[0]
+    if kind == "null":
+        return None
+    if kind == "struct":
+        return {"words": [f"{word:016x}" for word in value[1]], "slots": [plain_of(slot) for slot in value[2]]}
+    if kind in ("pointers", "rows"):
+        return {kind: [plain_of(item) for item in value[1]]}
+    if kind == "bits":
+        return {kind: "".join(map(str, value[1]))}
+    if kind == "bytes":
+        return {kind: bytes(value[1]).hex()}
+    if kind == "u64":
+        return {kind: [str(item) for item in value[1]]}
+    return {kind: value[1]}
+
+
+def stands(value, way):
+    """What is at a way of numbers from a value, or None."""
+    for step in way:
+        if value[0] not in ("struct", "pointers", "rows"):
+            return None
+        below = value[2] if value[0] == "struct" else value[1]
+        if step >= len(below):
+            return None
+        value = below[step]
+    return value
+
+
+def styled(value, style):
+    """The text of what is somewhere, if anything is, in a style: plain, text or json. What ends it follows."""
+    if style == "json":
+        return "\n" if value is None else json.dumps(plain_of(value), separators=(",", ":")) + "\n"
+    return ("none\n" if value is None else shown(value, 0, style == "text")) + "end\n"
+
+
+def show(data, form="stream", message_words=8388608, budget=8388608, depth=64, tariff="strict", style="plain", way=()):
+    """What `show` writes in a style, at a way or of all, the line on standard error, and its exit status."""
+    found, fault = messages(data, form, message_words)
+    out = []
+    for _, _, segments in found:
+        try:
+            walk = Walk(segments, budget, depth, tariff)
+        except Refused as refused:
+            return "".join(out).encode(), f"capn: {refused}\n", 1
+        out.append(styled(stands(walk.value, way), style))
+    return "".join(out).encode(), f"capn: {fault[0]}\n" if fault else "", 1 if fault else 0
+
+
+# Commands over archives.
+
+
+def messages(data, form, most):
+    """Each message with its offset, its bytes and the words of the frame's end; then the refusal that ends the stream,
+    with its number and offset, or None."""
+    if form == "bare":
+        if len(data) % 8:
+            return [], (f"bare: NotWhole({len(data)})", 1, 0)
+        return [(0, data, [data])], None
+    cut_at = None
+    if form == "packed":
+        data, cut_at = unpacked(data)
+    found, at = [], 0
+    while True:
+        try:
+            frame = first_frame(data, at, most)
+        except Refused as refused:
+            text = str(refused)
+            if text == "frame: Cut" and cut_at is not None:
+                text = f"packed: Cut at {cut_at}"
+            return found, (text, len(found) + 1, at)
+        if frame is None:
+            if cut_at is not None:
+                return found, (f"packed: Cut at {cut_at}", len(found) + 1, at)
+            return found, None
+        segments, end = frame
+        found.append((at, data[at:end], segments))
+        at = end
+
+
+def line_of(fault):
+    """The line on standard error of a refusal, from its text, the number of its message and its offset."""
+    text, index, offset = fault
+    return f"capn: message {index} at {offset}: {text}\n"
+
+
+def digest(value):
+    return hashlib.sha256(canonical(value)).hexdigest()
+
+
+def listed(head, walk, segments, with_digest):
+    """The line of `list` for a message that is accepted, after what it begins with."""
+    is_free = walk.capability is None
+    own = is_free and len(segments) == 1 and canonical(walk.value) == segments[0]
+    end = f" sha256 {digest(walk.value) if is_free else '-'}" if with_digest else ""
+    return (f"{head} paid {walk.paid} visits {walk.visits} depth {walk.height}"
+            f" capability {'no' if is_free else walk.capability} canonical {'yes' if own else 'no'}{end}\n").encode()
+
+
+def needed(greatest, found, tariff):
+    """The lines of `limits`: the number of messages, and the greatest figures, each with the number of its message."""
+    most = 2**28
+    words, paid, deep = (greatest[name][0] for name in greatest)
+    lines = [f"messages {found}"]
+    lines += [f"{name} {figure} message {index}" for name, (figure, index) in greatest.items()]
+    end = " --tariff plain" if tariff == "plain" else ""
+    lines.append(f"use --message-words {min(most, max(1, 4 * words))} --budget {min(most, 4 * paid)}"
+                 f" --depth {min(256, max(1, 2 * deep))}{end}")
+    return "".join(f"{line}\n" for line in lines).encode()
+
+
+def run(task, data, form="stream", message_words=8388608, budget=8388608, depth=64, tariff="strict", keep_going=False,
+        with_digest=False, count=False):
+    """What a command over an archive writes, the line on standard error, and its exit status. The task is list, limits,
+    canonical or uniq; `with_digest` is for list, and `count` for uniq."""
+    found, fault = messages(data, form, message_words)
+    out, passed, greatest = [], [], {"message-words": (0, 0), "budget": (0, 0), "depth": (0, 0)}
+    kept = set()
+    for index, (offset, frame, segments) in enumerate(found, 1):
+        words = sum(map(len, segments)) // 8
+        head = f"{index} at {offset} bytes {len(frame)} segments {len(segments)} words {words}"
+        try:
+            walk = Walk(segments, budget, depth, tariff)
+            if task in ("canonical", "uniq") and walk.capability is not None:
+                raise Refused(f"capability {walk.capability}")
+        except Refused as refused:
+            if not keep_going:
+                fault = (str(refused), index, offset)
+                break
+            passed.append((index, offset))
+            if task == "list":
+                out.append(f"{head} refused {refused}\n".encode())
+            continue
+        if task == "list":
+            out.append(listed(head, walk, segments, with_digest))
+        if task == "canonical":
+            laid = canonical(walk.value)
+            out.append(bytes(4) + (len(laid) // 8).to_bytes(4, "little") + laid)
+        if task == "uniq" and digest(walk.value) not in kept:
+            kept.add(digest(walk.value))
+            out.append(b"" if count else frame)
+        for name, figure in [("message-words", words), ("budget", walk.paid), ("depth", walk.height)]:
+            if not greatest[name][1] or figure > greatest[name][0]:
+                greatest[name] = (figure, index)
+    if fault is not None:
+        return b"".join(out), line_of(fault), 1
+    if task == "limits":
+        out.append(needed(greatest, len(found), tariff))
+    if count:
+        out.append(f"{len(kept)} of {len(found) - len(passed)}\n".encode())
+    if passed:
+        index, offset = passed[0]
+        line = f"capn: {len(passed)} of {len(found)} messages refused, the first is {index} at {offset}\n"
+        return b"".join(out), line, 1
+    return b"".join(out), "", 0
+
+
+def pick(data, form="stream", message_words=8388608, first=1, last=2**64 - 1):
+    """What `pick` writes, from one number of a message to another, the line on standard error, and its exit status."""
+    if last < first:
+        return b"", "", 0
+    found, fault = messages(data, form, message_words)
+    out = b"".join(frame for _, frame, _ in found[first - 1:last])
+    if fault is None or len(found) >= last:
+        return out, "", 0
+    return out, line_of(fault), 1
+
+
+# Packing and unpacking in pieces.
+
+
+def pack_streaming(data):
+    """What `pack --streaming` writes, the line on standard error, and its exit status."""
+    text = packed(data[:len(data) // 8 * 8])
+    return (text, f"capn: NotWhole({len(data)})\n", 1) if len(data) % 8 else (text, "", 0)
+
+
+def unpack_streaming(data):
+    """What `unpack --streaming` writes, the line on standard error, and its exit status."""
+    words, cut_at = unpacked(data)
+    return (words, "", 0) if cut_at is None else (words, f"capn: packed: Cut at {cut_at}\n", 1)

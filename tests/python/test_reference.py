@@ -1,0 +1,85 @@
+"""Every entry of an index, beside what the reference implementation's dynamic reader finds in the same message.
+
+Needs its library and a C++ compiler; without them, all of this is skipped."""
+import collections
+import os
+import random
+import shutil
+import struct
+import subprocess
+import tempfile
+import unittest
+from pathlib import Path
+
+import capn
+from test_reading import archives, generated
+
+COMPILER = shutil.which(os.environ.get("CXX", "c++"))
+REFERENCE = Path(__file__).resolve().parents[1] / "reference"
+TRIED = 10_000
+
+
+def lines_of(found):
+    """What is in a slot and below it, a line for each slot, as `tests/reference/places.c++` writes it."""
+    kind, entry = found.kind, found._entry
+    offset, first, second, below = -1, 0, 0, []
+    if kind == "struct":
+        offset = entry.offset if entry.words else -1
+        first, second, below = entry.words, entry.slots, [found.slots]
+    elif kind == "rows":
+        first = entry.count
+        if first:
+            offset, second = entry.offset + 8, entry.words << 16 | entry.slots
+        below = [row.slots for row in found]
+    elif kind == "pointers":
+        first, below = entry.count, [found]
+    elif kind not in ("null", "capability"):
+        offset, first = entry.offset if entry.count and kind != "void" else -1, entry.count
+    yield f"{kind} {offset} {first} {second}"
+    for slots in below:
+        for slot in slots:
+            yield from lines_of(slot)
+
+
+def ours(message):
+    try:
+        return list(lines_of(capn.read(message).root))
+    except capn.Refusal:
+        return ["refused"]
+
+
+def places(folder):
+    """The program over the reference implementation's reader, or None where that is not installed."""
+    program = os.path.join(folder, "places")
+    made = [COMPILER, "-std=c++17", "-O1", "-o", program, str(REFERENCE / "places.c++"), "-lcapnp", "-lkj"]
+    return program if COMPILER and subprocess.run(made, capture_output=True, check=False).returncode == 0 else None
+
+
+class Entries(unittest.TestCase):
+    def test_entries(self):
+        source = random.Random(48)
+        messages = [b"".join(generated.pieces(archives.segments_of(source))) for _ in range(TRIED)]
+        with tempfile.TemporaryDirectory() as folder:
+            program = places(folder)
+            if program is None:
+                self.skipTest("the reference implementation is not installed")
+            given = b"".join(struct.pack("<I", len(message)) + message for message in messages)
+            wrote = subprocess.run([program], input=given, capture_output=True, check=True).stdout.decode()
+        theirs = [text.splitlines() for text in wrote.split("end\n")[:-1]]
+        self.assertEqual(len(theirs), TRIED)
+        seen = collections.Counter()
+        for message, their in zip(messages, theirs):
+            mine = ours(message)
+            who = "both" if mine != ["refused"] != their else "neither" if mine == their else "one"
+            seen[who] += 1
+            if who == "both":
+                with self.subTest(message=message.hex()):
+                    self.assertEqual(mine, their)
+        # One alone takes what docs/DIFFERENCES.md names; the script `generated` looks at these one by one.
+        self.assertGreater(seen["both"], TRIED // 2)
+        self.assertGreater(seen["neither"], TRIED // 20)
+        print(f"entries: {dict(seen)} of {TRIED} messages")
+
+
+if __name__ == "__main__":
+    unittest.main()
