@@ -1,5 +1,5 @@
-"""The calls of c/capn.h for cffi, which compiles them over that header: where the two differ, the build fails. The calls
-of look.h are beside them.
+"""The calls of c/capn.h for cffi, which compiles them over that header: where the two differ, the build fails. Beside
+them are those of look.h.
 
 The library is linked into the module, and its names are seen by no other. CAPN_ARCHIVE names another archive than
 the one that `make library` leaves."""

@@ -1,4 +1,4 @@
-/* A look at the bytes of a stream: where the whole messages that come first in it end, by one call for all of them. It is a
+/* A look at the bytes of a stream: where the whole messages end that come first, by one call for all of them. It is a
  * loop over the library's calls, and keeps nothing. */
 #include "capn.h"
 
@@ -11,8 +11,8 @@ typedef struct {
     size_t takes[CAPN_LOOK_MOST]; /* of a packed stream: and in the packed ones */
 } capn_look;
 
-/* Of a stream. The answer is the status of the last call, and the report is its report: of the frame after those that are
- * whole. Fewer than 4 bytes are left alone. */
+/* Of a stream. The answer is the status of the last call, and the report is that call's: of the frame after those that
+ * are whole. Fewer than 4 bytes are left alone. */
 static capn_status capn_look_at(const uint8_t *bytes, size_t size, const capn_limits *limits, capn_look *look,
                                 capn_report *report) {
     capn_status status = CAPN_OK;

@@ -35,7 +35,7 @@ from ._message import (
     Voids,
     read,
 )
-from ._readers import Messages
+from ._reader import Messages
 from ._refusal import Refusal
 from ._segments import canonical_segments, check_segments, digest_segments, survey_segments
 from ._show import show

@@ -9,15 +9,16 @@ from ._capn import ffi, lib
 from ._limits import Limits
 from ._refusal import Refusal, failure
 
-__all__ = ["FRAME_CUT", "Form", "HEAD", "OK", "PACKED_CUT", "PACKED_TOO_LONG", "PIECE", "Splitter", "group", "of_form"]
+__all__ = ["FRAME_CUT", "Form", "HEAD", "LEAST", "MEMORY", "OK", "ONE", "PACKED_CUT", "PACKED_TOO_LONG", "PIECE",
+           "Splitter", "group", "of_form"]
 
 # How many bytes are asked of a file at a time at most, and for how many unpacked ones there is room.
 PIECE = 65536
-# Bytes by which a frame may be refused, and bytes that it has at least.
-_COUNT, HEAD = 4, 8
+# Bytes by which a frame may be refused, bytes that it has at least, and its first ones if it has one segment.
+LEAST, HEAD, ONE = 4, 8, bytes(4)
 _report_type, _look_type = ffi.typeof("capn_report *"), ffi.typeof("capn_look *")
 _unpack_some, _look_at = lib.capn_unpack_some, lib.capn_look_at
-OK, _MEMORY, FRAME_CUT = lib.CAPN_OK, lib.CAPN_MEMORY, lib.CAPN_FRAME_CUT
+OK, MEMORY, FRAME_CUT = lib.CAPN_OK, lib.CAPN_MEMORY, lib.CAPN_FRAME_CUT
 PACKED_CUT, PACKED_TOO_LONG = lib.CAPN_PACKED_CUT, lib.CAPN_PACKED_TOO_LONG
 Form = Literal["stream", "packed"]
 
@@ -61,7 +62,7 @@ class Splitter:
         self._packed, self._bounds = of_form(form), _laid_out(limits)
         self._report, self._look = ffi.new(_report_type), ffi.new(_look_type)
         # The bytes of the message that has begun, and how many say more about it.
-        self._held, self._need = bytearray(), _COUNT
+        self._held, self._need = bytearray(), LEAST
         # The bytes of the group that has begun, and how many were unpacked before it.
         self._text, self._taken = b"", 0
         self._out = _room(_room_type, PIECE) if self._packed else None
@@ -131,7 +132,7 @@ class Splitter:
                 whole = ffi.buffer(base)
                 while have - at >= need:
                     status = _look_at(base + at, have - at, self._bounds, look, report)
-                    begin, need = at, _COUNT
+                    begin, need = at, LEAST
                     for end in ffi.unpack(look.ends, look.count):
                         found.append(whole[at:begin + end])
                         at = begin + end
@@ -143,9 +144,9 @@ class Splitter:
             self.offset += at
             del held[:at]
             self._need = need
-            if status not in (OK, FRAME_CUT, _MEMORY):
+            if status not in (OK, FRAME_CUT, MEMORY):
                 self._refuse(status)
-            if not found and status == _MEMORY:
+            if not found and status == MEMORY:
                 raise failure(status, report)
             if not found and self._refusal is not None:
                 raise self._refusal

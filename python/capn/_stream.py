@@ -8,8 +8,9 @@ from typing import Any, AsyncIterator, Awaitable, Callable, Iterator, Protocol
 from ._bytes import Buffer, copied
 from ._calls import _USUAL, digest
 from ._limits import Limits
-from ._readers import Ahead, Messages, reader
+from ._reader import Ahead, Messages
 from ._refusal import Refusal
+from ._seen import reader
 from ._splitter import PIECE, Form, Splitter, of_form
 
 
@@ -37,13 +38,15 @@ def messages(
     """The messages of a stream that a binary file has, or that an object with a buffer is, one frame each.
 
     Each is handed out as soon as it is there, and no byte after it is read; of a packed stream, none after the group in
-    which it ends. After an exception of the file, as `BlockingIOError` is, `next` goes on. No more is held than the
-    message that has begun. `limits.message_words` bounds each message. A refusal comes when the messages before have
-    been handed out, and has the `number` of its message and the `offset` at which that begins; each `next` after it
-    raises it again.
+    which it ends. After an exception of the file, as `BlockingIOError` is, `next` goes on. `limits.message_words`
+    bounds each message. A refusal comes when the messages before have been handed out, and has the `number` of its
+    message and the `offset` at which that begins; each `next` after it raises it again.
+
+    No more is held than the message that has begun. But a file that can be wound, as one on a disk, is looked at, 64
+    KiB at once; it stands at the end of the message that was handed out all the same.
 
     With `read_ahead` up to 64 KiB are read at once, as many as there are, so that messages after this one may have been
-    taken off the file: faster, above all of packed streams."""
+    taken off the file: faster, above all of what can't be wound, as a pipe or a socket."""
     is_packed = of_form(form) if form is not None else bool(packed)
     if packed and not is_packed:
         raise ValueError("the form of a stream is 'stream', and packed is True")

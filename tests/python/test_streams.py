@@ -297,7 +297,8 @@ class Wound(unittest.TestCase):
 
     def test_messages_of_each_length(self):
         source = random.Random(72)
-        parts = [stream(source.randbytes(8 * source.choice([0, 3, 40, 600, 1100, 8190, 8191, 9000]))) for _ in range(60)]
+        words = [0, 3, 40, 600, 1100, 8190, 8191, 9000]
+        parts = [stream(source.randbytes(8 * source.choice(words))) for _ in range(60)]
 
         def run(file, found, sent):
             stands = offset = 0
@@ -630,7 +631,8 @@ class Splitters(unittest.TestCase):
 
     def test_memory_that_is_there_later(self):
         # A frame of several segments takes memory to be found.
-        message, readers, splitters = SHAPES[1], capn._readers, capn._splitter
+        message, ffi = SHAPES[1], capn._packed.ffi
+        look = ffi.typeof("capn_look *")
         refusals = []
 
         def once(call):
@@ -646,13 +648,11 @@ class Splitters(unittest.TestCase):
                 return status
             return little
 
-        ffi = readers.ffi
-        look = ffi.typeof("capn_look *")
         with contextlib.ExitStack() as patches:
-            for module, name in (
-                (readers, "_first"), (readers, "_look_at"), (readers, "_look_at_packed"), (splitters, "_look_at"),
-            ):
-                patches.enter_context(unittest.mock.patch.object(module, name, once(getattr(module, name))))
+            for module in capn._reader, capn._packed, capn._seen, capn._splitter:
+                for name in "_first", "_look_at", "_look_at_packed":
+                    if hasattr(module, name):
+                        patches.enter_context(unittest.mock.patch.object(module, name, once(getattr(module, name))))
             for packed in False, True:
                 sent = capn.pack(message) if packed else message
                 for make in (
