@@ -64,23 +64,25 @@ class Packed(Messages):
                     self._offset += len(frame)
                     return frame
             elif not splitter.wanted:
-                self._feed(b"")
+                self._gives(b"")
+            elif self._peek is not None and (seen := self._peek(1)):
+                self._part(seen)
             else:
-                piece = self._read(splitter.wanted if self._peek is None else self._fitting(self._peek(1)))
+                piece = self._read(1 if self._peek is not None else splitter.wanted)
                 if not piece:
                     self._stop(piece)
-                self._feed(piece)
+                self._gives(piece)
         frame = self._ready.pop(0)
         self._number += 1
         self._offset += len(frame)
         return frame
 
-    def _feed(self, text: bytes) -> None:
-        """Gives packed bytes to the splitter, and keeps its refusal."""
+    def _gives(self, text: bytes, at: int = 0, words: int = 0) -> None:
+        """Gives packed bytes to the splitter, of which the first ones were unpacked already, and keeps its refusal."""
         splitter = self._splitter
         splitter.number, splitter.offset, splitter._taken = self._number, self._offset, self._taken
         try:
-            self._ready = splitter.feed(text)
+            self._ready = splitter._went_on(text, at, words)
         except Refusal as refusal:
             self._over = refusal
             raise
@@ -89,7 +91,7 @@ class Packed(Messages):
 
     def _end(self) -> None:
         held, self._held = bytes(self._held), b""
-        self._feed(held)
+        self._gives(held)
         try:
             self._splitter.end()
         except Refusal as refusal:
@@ -112,8 +114,12 @@ class Packed(Messages):
                 raise failure(status, report)
             taken = report.at
             if report.length < need:
-                taken = taken + group(text[taken:taken + 10]) if status == PACKED_TOO_LONG else len(text)
-                self._take(taken - len(held))
+                at, words = taken, report.length
+                taken = at + group(text[at:at + 10]) if status == PACKED_TOO_LONG else len(text)
+                if self._take(taken - len(held)) and len(self._held) == taken:
+                    self._held = b""
+                    self._gives(text[:taken], at, words)
+                    return None
                 break
             first = _first(out, need, self._bounds, report)
             if first == OK:
@@ -129,7 +135,7 @@ class Packed(Messages):
             self._take(taken - len(held))
         # The splitter unpacks what comes after that, and nothing twice.
         held, self._held = bytes(self._held), b""
-        self._feed(held)
+        self._gives(held)
         return None
 
     def _take(self, count: int) -> bool:
@@ -142,18 +148,23 @@ class Packed(Messages):
         self._held += piece
         return len(piece) == count
 
-    def _fitting(self, seen: bytes) -> int:
-        """How many bytes may be read of those that are seen so that no group is read after that in which the message
-        ends, of which the splitter has the beginning."""
-        if not seen:
-            return 1
-        splitter = self._splitter
-        report, text = self._report, splitter._text + seen
+    def _part(self, seen: bytes) -> None:
+        """Reads what can be seen of the message of which the splitter has the beginning, but no group after that in
+        which it ends."""
+        splitter, report = self._splitter, self._report
+        held, text = len(splitter._text), splitter._text + seen
         room = min(max(splitter._need, HEAD) - len(splitter._held), PIECE)
         status = _unpack_some(text, len(text), self._out, room, report)
         if status not in (OK, PACKED_CUT, PACKED_TOO_LONG):
             raise failure(status, report)
-        taken: int = report.at
-        if report.length < room:
-            taken = taken + group(text[taken:taken + 10]) if status == PACKED_TOO_LONG else len(text)
-        return taken - len(splitter._text)
+        at, words = report.at, report.length
+        taken = at
+        if words < room:
+            taken = at + group(text[at:at + 10]) if status == PACKED_TOO_LONG else len(text)
+        piece = self._read(taken - held)
+        if not piece:
+            self._stop(piece)
+        if len(piece) == taken - held:
+            self._gives(piece, at, words)
+        else:
+            self._gives(piece)

@@ -92,6 +92,17 @@ class Splitter:
             self._held += given
         return self._whole()
 
+    def _went_on(self, text: bytes, at: int, words: int) -> list[bytes]:
+        """The same as `feed` of packed bytes; so many of them and of those that were held were unpacked already, to so
+        many bytes of words."""
+        if self._refusal is not None:
+            raise self._refusal
+        text = self._text + text
+        self._held += ffi.buffer(self._out, words)
+        self._text, self._taken = text[at:], self._taken + at
+        self._unpack(self._text)
+        return self._whole()
+
     def end(self) -> None:
         """Ends the stream: a refusal if a message is cut."""
         if self._refusal is None and self._text:

@@ -60,7 +60,7 @@ class Segments(unittest.TestCase):
             # No call holds a buffer after it.
             segments[0].append(0)
         self.assertEqual(capn.canonical_segments([FIRST, SECOND]), SECOND)
-        self.assertEqual(capn.check_segments([FIRST, SECOND]), capn.Checked(paid=2, visits=1))
+        self.assertEqual(capn.check_segments([FIRST, SECOND]), capn.Checked(paid=3, visits=1))
         # They may overlap, and be the same.
         self.assertEqual(told(capn.check_segments, [FIRST, FIRST]), told(capn.check, stream(FIRST, FIRST)))
 
