@@ -606,8 +606,7 @@ inline rows value::pointers() const {
  * they are, and neither they nor the index may go while a value of it is used. */
 class index {
 public:
-    /* Checks a message, a stream or bare, and makes its index: 24 bytes a slot. A packed one is to be unpacked first.
-     * */
+    /* Checks a message, a stream or bare, and makes its index, 24 bytes a slot. Unpack a packed one first. */
     static index of(bytes message, form written = form::stream, const limits &most = {}) {
         constexpr std::size_t at_hand = 64;
         capn_entry few[at_hand];

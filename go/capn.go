@@ -58,7 +58,7 @@ type Figures struct {
 	Canonical     bool   // whether it has one segment, which is the canonical bytes of its value
 }
 
-// Version is the version of the library that runs, as "0.1.0".
+// Version is the version of the library that runs, as "1.0.0".
 func Version() string { return callVersion() }
 
 // Check says whether one message is accepted within limits, with what reading it costs.

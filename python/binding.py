@@ -1,4 +1,5 @@
-"""The calls of c/capn.h for cffi, which compiles them over that header: where the two differ, the build fails.
+"""The calls of c/capn.h for cffi, which compiles them over that header: where the two differ, the build fails. Beside
+them are those of look.h.
 
 The library is linked into the module, and its names are seen by no other. CAPN_ARCHIVE names another archive than
 the one that `make library` leaves."""
@@ -7,8 +8,10 @@ from pathlib import Path
 
 from cffi import FFI
 
-TOP = Path(__file__).resolve().parent.parent
+HERE = Path(__file__).resolve().parent
+TOP = HERE.parent
 HEADER = TOP / "c" / "capn.h"
+LOOK = HERE / "look.h"
 ARCHIVE = Path(os.environ.get("CAPN_ARCHIVE", TOP / "build" / "libcapn.a")).resolve()
 if not ARCHIVE.is_file():
     raise SystemExit(f"there is no {ARCHIVE}: run `make library` first, or name the archive by CAPN_ARCHIVE")
@@ -16,6 +19,7 @@ if not ARCHIVE.is_file():
 DECLARED = """
     enum { CAPN_STREAM, CAPN_PACKED, CAPN_BARE, ... };
     enum { CAPN_STRICT, CAPN_PLAIN, ... };
+    enum { CAPN_STYLE_LINES, CAPN_STYLE_TEXT, CAPN_STYLE_JSON, ... };
 
     typedef struct { uint32_t message_words, budget, depth, tariff; } capn_limits;
     typedef struct {
@@ -60,16 +64,45 @@ DECLARED = """
                             capn_figures *figures, capn_report *report);
     capn_status capn_index(uint32_t form, const uint8_t *bytes, size_t size, const capn_limits *limits,
                            capn_entry *entries, size_t room, capn_report *report);
+    capn_status capn_show(uint32_t form, const uint8_t *bytes, size_t size, const capn_limits *limits, uint32_t style,
+                          char *out, size_t room, capn_report *report);
     const char *capn_version(void);
+
+    typedef struct {
+        const void *words;
+        size_t count;
+    } capn_segment;
+    capn_status capn_canonical_segments(const capn_segment *segments, size_t count, const capn_limits *limits,
+                                        uint8_t *out, size_t room, capn_report *report);
+    capn_status capn_hash_segments(const capn_segment *segments, size_t count, const capn_limits *limits,
+                                   uint8_t *digest, capn_report *report);
+    capn_status capn_check_segments(const capn_segment *segments, size_t count, const capn_limits *limits,
+                                    capn_report *report);
+    capn_status capn_survey_segments(const capn_segment *segments, size_t count, const capn_limits *limits,
+                                     capn_figures *figures, capn_report *report);
+
+    size_t capn_refusal_text(capn_status status, const capn_report *report, char *out, size_t room);
+    const char *capn_status_name(capn_status status);
+
+    typedef struct {
+        uint32_t count;
+        size_t end, take;
+        size_t ends[...];
+        size_t takes[...];
+    } capn_look;
+    capn_status capn_look_at(const uint8_t *bytes, size_t size, const capn_limits *limits, capn_look *look,
+                             capn_report *report);
+    capn_status capn_look_at_packed(const uint8_t *text, size_t size, const capn_limits *limits, uint8_t *out,
+                                    size_t room, uint32_t most, capn_look *look, capn_report *report);
 """
 
 binding = FFI()
 binding.cdef(DECLARED)
 binding.set_source(
     "capn._capn",
-    '#include "capn.h"',
-    include_dirs=[str(HEADER.parent)],
+    '#include "look.h"',
+    include_dirs=[str(HEADER.parent), str(HERE)],
     extra_objects=[str(ARCHIVE)],
     extra_link_args=["-Wl,--exclude-libs,ALL"],
-    depends=[str(HEADER), str(ARCHIVE), __file__],
+    depends=[str(HEADER), str(LOOK), str(ARCHIVE), __file__],
 )

@@ -10,7 +10,8 @@ change, as a `bytearray`, a mapped file or an array does, are copied first; `byt
 change can make the library read outside of them, which ends the process or ends up in the answer.
 
 `check`, `survey`, `canonical`, `is_canonical`, `digest`, `pack` and `unpack` take bytes; `read` makes a `Message` of
-them, whose root is a `Value`; `show` is its text; `messages`, `digests`, `amessages` and `Splitter` are for streams."""
+them, whose root is a `Value`; `show` is its text; `messages`, `digests`, `amessages` and `Splitter` are for streams.
+`check_segments`, `survey_segments`, `canonical_segments` and `digest_segments` take a message in segments."""
 from ._calls import Checked, Surveyed, canonical, check, digest, is_canonical, pack, survey, unpack
 from ._capn import ffi as _ffi
 from ._capn import lib as _lib
@@ -34,9 +35,12 @@ from ._message import (
     Voids,
     read,
 )
+from ._reader import Messages
 from ._refusal import Refusal
+from ._segments import canonical_segments, check_segments, digest_segments, survey_segments
 from ._show import show
-from ._stream import AsyncMessages, Digests, Messages, Splitter, amessages, digests, messages
+from ._splitter import Splitter
+from ._stream import AsyncMessages, Digests, amessages, digests, messages
 
 __version__: str = _ffi.string(_lib.capn_version()).decode()
 
@@ -68,8 +72,11 @@ __all__ = [
     "__version__",
     "amessages",
     "canonical",
+    "canonical_segments",
     "check",
+    "check_segments",
     "digest",
+    "digest_segments",
     "digests",
     "is_canonical",
     "messages",
@@ -77,5 +84,6 @@ __all__ = [
     "read",
     "show",
     "survey",
+    "survey_segments",
     "unpack",
 ]

@@ -110,6 +110,14 @@ def _told(call: Callable[..., int], data: Buffer, form: str, limits: Limits, in_
     _reports.append(report)
 
 
+def _surveyed(figures: Any) -> Surveyed:
+    """Figures as the library lays them out, as those of Python."""
+    capability = figures.capability if figures.has_capability else None
+    return Surveyed(
+        figures.words, figures.segments, figures.paid, figures.visits, figures.depth, capability,
+        bool(figures.canonical))
+
+
 def check(data: Buffer, form: Form = "stream", limits: Limits = _USUAL, *, in_place: bool = False) -> Checked:
     """Whether one message is accepted within limits: what reading it costs, or a refusal."""
     number, given, bounds = _taken(data, form, limits, in_place)
@@ -128,10 +136,7 @@ def survey(data: Buffer, form: Form = "stream", limits: Limits = _USUAL, *, in_p
         data, form = unpack(data, _laid_out(limits).message_words + 2049, in_place=in_place), "stream"
     figures = _new(_figures_type)
     _told(lib.capn_survey, data, form, limits, in_place, figures)
-    capability = figures.capability if figures.has_capability else None
-    return Surveyed(
-        figures.words, figures.segments, figures.paid, figures.visits, figures.depth, capability,
-        bool(figures.canonical))
+    return _surveyed(figures)
 
 
 def canonical(data: Buffer, form: Form = "stream", limits: Limits = _USUAL, *, in_place: bool = False) -> bytes:

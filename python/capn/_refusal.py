@@ -3,34 +3,10 @@ from __future__ import annotations
 
 from typing import Any
 
-from ._capn import lib
+from ._capn import ffi, lib
 
-# Of each status outside of the walk: the name, and the text after `capn: `.
-_TEXTS = {
-    lib.CAPN_NOT_WHOLE: ("NotWhole", "bare: NotWhole({})"),
-    lib.CAPN_BARE_TOO_LONG: ("BareTooLong", "bare: TooLong({})"),
-    lib.CAPN_PACKED_CUT: ("PackedCut", "packed: Cut at {}"),
-    lib.CAPN_PACKED_TOO_LONG: ("PackedTooLong", "packed: TooLong at {}"),
-    lib.CAPN_FRAME_EMPTY: ("FrameEmpty", "frame: Empty"),
-    lib.CAPN_TOO_MANY_SEGMENTS: ("TooManySegments", "frame: TooManySegments({})"),
-    lib.CAPN_TOO_MANY_WORDS: ("TooManyWords", "frame: TooManyWords({})"),
-    lib.CAPN_FRAME_CUT: ("FrameCut", "frame: Cut"),
-    lib.CAPN_TRAILING: ("Trailing", "trailing bytes at {}"),
-    lib.CAPN_CAPABILITY: ("Capability", "capability {}"),
-}
-_FAULTS = {
-    lib.CAPN_NO_ROOT: "NoRoot",
-    lib.CAPN_ROOT_KIND: "RootKind",
-    lib.CAPN_RESERVED: "Reserved",
-    lib.CAPN_NO_SEGMENT: "NoSegment",
-    lib.CAPN_PAD_RANGE: "PadRange",
-    lib.CAPN_BAD_PAD: "BadPad",
-    lib.CAPN_RANGE: "Range",
-    lib.CAPN_BAD_TAG: "BadTag",
-    lib.CAPN_TAG_OVERRUN: "TagOverrun",
-    lib.CAPN_TOO_DEEP: "TooDeep",
-    lib.CAPN_OVER_BUDGET: "OverBudget",
-}
+# Statuses from here on are refusals of what was passed.
+_FIRST_REFUSAL = 16
 
 
 class Refusal(ValueError):
@@ -68,13 +44,19 @@ def failure(status: int, report: Any, of_words: bool = False) -> Exception:
     """What to raise for a status that is no answer. Of words alone, as `pack` takes them, the program names no form."""
     if status == lib.CAPN_MEMORY:
         return MemoryError("capn: out of memory")
-    if status in _FAULTS:
-        name, place = _FAULTS[status], (report.segment, report.word)
-        text = f"{name} at {place[0]}:{place[1]}, paid {report.paid}, visits {report.visits}"
-        return Refusal(text, name, place, report.paid, report.visits)
-    if status not in _TEXTS:
+    name = ffi.string(lib.capn_status_name(status)).decode()
+    if status < _FIRST_REFUSAL or name == "Unknown":
         return RuntimeError(f"the library answered status {status}, which its header does not have")
-    name, text = _TEXTS[status]
-    if of_words:
-        text = text.removeprefix("bare: ")
-    return Refusal(text.format(report.at), name, at=report.at)
+    text = _text(status, report)
+    if lib.CAPN_NO_ROOT <= status <= lib.CAPN_OVER_BUDGET:
+        return Refusal(text, name, (report.segment, report.word), report.paid, report.visits)
+    return Refusal(text.removeprefix("bare: ") if of_words else text, name, at=report.at)
+
+
+def _text(status: int, report: Any) -> str:
+    """The text of a refusal, as the library has it."""
+    room = lib.capn_refusal_text(status, report, ffi.NULL, 0) + 1
+    out = ffi.new("char[]", room)
+    lib.capn_refusal_text(status, report, out, room)
+    text: str = ffi.string(out).decode()
+    return text

@@ -129,10 +129,25 @@ class Values(unittest.TestCase):
                 self.assertEqual((refusal.name, refusal.at, str(refusal)), (name, at, text))
                 self.assertEqual((refusal.place, refusal.paid, refusal.visits), (None, 0, 0))
 
-    def test_each_name_is_one(self):
+    def test_names_and_texts_are_the_library_s(self):
         from capn import _refusal
-        names = [name for name, _ in _refusal._TEXTS.values()] + list(_refusal._FAULTS.values())
-        self.assertEqual(len(set(names)), 21)
+        from capn._capn import ffi, lib
+        report = ffi.new("capn_report *", {"at": 5, "paid": 7, "visits": 8, "segment": 9, "word": 10})
+        texts = {}
+        for status in range(256):
+            fault = _refusal.failure(status, report)
+            if isinstance(fault, capn.Refusal):
+                texts[fault.name] = str(fault)
+                self.assertEqual(ffi.string(lib.capn_status_name(status)).decode(), fault.name)
+                is_walk = lib.CAPN_NO_ROOT <= status <= lib.CAPN_OVER_BUDGET
+                told = (fault.place, fault.paid, fault.visits, fault.at)
+                self.assertEqual(told, ((9, 10), 7, 8, 0) if is_walk else (None, 0, 0, 5))
+            else:
+                self.assertIs(type(fault), MemoryError if status == lib.CAPN_MEMORY else RuntimeError)
+        self.assertEqual(len(texts), 21)
+        self.assertEqual(texts["TagOverrun"], "TagOverrun at 9:10, paid 7, visits 8")
+        self.assertEqual(texts["Capability"], "capability 5")
+        self.assertEqual(texts["FrameCut"], "frame: Cut")
 
 
 if __name__ == "__main__":

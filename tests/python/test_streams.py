@@ -1,6 +1,7 @@
 """Streams that come in pieces: what is handed out when, what is left unread, and what an exception leaves."""
 import asyncio
 import bz2
+import contextlib
 import gzip
 import io
 import os
@@ -227,6 +228,168 @@ class NoByteAfterIt(unittest.TestCase):
         text = capn.pack(SMALL * 3 + stream(b"") * 10 + SMALL)
         for file in io.BytesIO(text), Blocking([text]), Peeking([text]):
             self.assertEqual(list(capn.messages(file, packed=True)), [SMALL] * 3 + [stream(b"")] * 10 + [SMALL])
+
+
+class Wound(unittest.TestCase):
+    """Files that can be wound: what was looked at of them is handed out only where they stand."""
+
+    def files(self, data, folder):
+        path = os.path.join(folder, "file")
+        with open(path, "wb") as file:
+            file.write(data)
+        for mode, buffering in ("rb", -1), ("rb", 0), ("rb", 16), ("rb", 1 << 20), ("r+b", -1), ("r+b", 0):
+            yield open(path, mode, buffering=buffering)
+        yield io.BytesIO(data)
+        yield io.BufferedReader(io.BytesIO(data), 100)
+        yield gzip.GzipFile(fileobj=io.BytesIO(gzip.compress(data)))
+        yield Failing(data)
+
+    def each(self, parts, run):
+        """Runs on each kind of file of these parts, packed and not, with what packs them."""
+        with tempfile.TemporaryDirectory() as folder:
+            for packed in False, True:
+                sent = [capn.pack(part) if packed else part for part in parts]
+                for file in self.files(b"".join(sent), folder):
+                    with self.subTest(packed=packed, file=file), file:
+                        run(file, capn.messages(file, packed=packed), sent)
+
+    def test_another_one_reads_between_two_messages(self):
+        another = b"another "
+        parts = [SMALL, another, SMALL, SMALL, another * 40, SHAPES[1], SMALL]
+
+        def run(file, found, sent):
+            for part, message in zip(sent, parts):
+                if message.startswith(another):
+                    self.assertEqual(file.read(len(part)), part)
+                else:
+                    self.assertEqual(next(found), message)
+            self.assertEqual((found.number, found.offset), (5, 4 * len(SMALL) + len(SHAPES[1])))
+            self.assertRaises(StopIteration, next, found)
+
+        self.each(parts, run)
+
+    def test_it_is_wound(self):
+        def run(file, found, sent):
+            self.assertEqual([next(found), next(found)], [SMALL, SHAPES[1]])
+            file.seek(0)
+            self.assertEqual([next(found), next(found), next(found)], [SMALL, SHAPES[1], SMALL])
+            file.seek(len(sent[0]))
+            self.assertEqual([next(found), file.tell()], [SHAPES[1], len(sent[0]) + len(sent[1])])
+            file.seek(0, 2)
+            self.assertRaises(StopIteration, next, found)
+            self.assertEqual(found.number, 6)
+
+        self.each([SMALL, SHAPES[1], SMALL, SMALL], run)
+
+    def test_it_changes(self):
+        other = SMALL.replace(b"\5", b"\6")
+        for packed in False, True:
+            one, two, end = (capn.pack(each) if packed else each for each in (SMALL, other, SHAPES[1]))
+            for last, message in (one, SMALL), (two, other), (end, SHAPES[1]):
+                file = io.BytesIO(one * 3)
+                found = capn.messages(file, packed=packed)
+                self.assertEqual(next(found), SMALL)
+                file.write(last)
+                file.truncate()
+                file.seek(len(one))
+                self.assertEqual([next(found), file.tell()], [message, len(one + last)])
+                self.assertRaises(StopIteration, next, found)
+
+    def test_messages_of_each_length(self):
+        source = random.Random(72)
+        words = [0, 3, 40, 600, 1100, 8190, 8191, 9000]
+        parts = [stream(source.randbytes(8 * source.choice(words))) for _ in range(60)]
+
+        def run(file, found, sent):
+            stands = offset = 0
+            for number, (part, message) in enumerate(zip(sent, parts)):
+                stands += len(part)
+                offset += len(message)
+                self.assertEqual(next(found), message)
+                self.assertEqual((file.tell(), found.number, found.offset), (stands, number + 1, offset))
+            self.assertRaises(StopIteration, next, found)
+
+        self.each(parts, run)
+
+    def test_a_refusal_has_its_place(self):
+        parts = [SMALL] * 300 + [b"\xff" * 8]
+
+        def run(file, found, sent):
+            self.assertEqual([next(found) for _ in range(300)], [SMALL] * 300)
+            for _ in range(2):
+                with self.assertRaises(capn.Refusal) as caught:
+                    next(found)
+                self.assertEqual((caught.exception.number, caught.exception.offset), (301, 300 * len(SMALL)))
+
+        self.each(parts, run)
+
+    def test_a_cut_group_has_its_place(self):
+        text = capn.pack(SMALL)
+        with tempfile.TemporaryFile() as file:
+            file.write(text * 200 + text[:-1])
+            file.seek(0)
+            found = capn.messages(file, packed=True)
+            with self.assertRaises(capn.Refusal) as caught:
+                list(found)
+            self.assertEqual((caught.exception.name, caught.exception.number), ("PackedCut", 201))
+            self.assertGreaterEqual(caught.exception.at, len(text) * 200)
+            told = []
+            for data in text * 200 + text[:-1], Blocking([text * 200 + text[:-1]]):
+                try:
+                    list(capn.messages(data, packed=True))
+                except capn.Refusal as refusal:
+                    told.append((str(refusal), refusal.number, refusal.offset))
+            self.assertEqual(told, [(str(caught.exception), 201, 200 * len(SMALL))] * 2)
+
+    def test_a_failing_file(self):
+        for packed in False, True:
+            sent = capn.pack(SMALL) if packed else SMALL
+            for fails in range(1, 12):
+                file = Failing(sent * 3)
+                file.fails = fails
+                found, got, failed = capn.messages(file, packed=packed), [], 0
+                for _ in range(20):
+                    try:
+                        got.append(next(found))
+                    except TimeoutError:
+                        failed += 1
+                    except StopIteration:
+                        break
+                with self.subTest(packed=packed, fails=fails):
+                    self.assertEqual((got, found.number), ([SMALL] * 3, 3))
+
+    @unittest.skipUnless(os.path.exists("/dev/zero"), "there is no /dev/zero")
+    def test_a_file_that_stands_nowhere(self):
+        for buffering in -1, 0:
+            with open("/dev/zero", "rb", buffering=buffering) as file:
+                found = capn.messages(file)
+                self.assertEqual([next(found) for _ in range(2000)], [stream(b"")] * 2000)
+
+
+class Failing(io.BytesIO):
+    """A file that can be looked into, of which one call fails, before it does anything."""
+
+    fails = 0
+
+    def tried(self):
+        self.fails -= 1
+        if not self.fails:
+            raise TimeoutError
+
+    def peek(self, size=0):
+        self.tried()
+        place = self.tell()
+        seen = super().read(100)
+        super().seek(place)
+        return seen
+
+    def read(self, size=-1):
+        self.tried()
+        return super().read(size)
+
+    def seek(self, place, whence=0):
+        self.tried()
+        return super().seek(place, whence)
 
 
 class AfterAnException(unittest.TestCase):
@@ -468,45 +631,55 @@ class Splitters(unittest.TestCase):
 
     def test_memory_that_is_there_later(self):
         # A frame of several segments takes memory to be found.
-        message, first = SHAPES[1], capn._stream._first
+        message, ffi = SHAPES[1], capn._packed.ffi
+        look = ffi.typeof("capn_look *")
         refusals = []
 
-        def little(*words):
-            status = first(*words)
-            if status == 0 and not refusals:
-                refusals.append(status)
-                return 8
-            return status
+        def once(call):
+            """The same call, which says once that there is no memory, in place of its answer."""
+            def little(*words):
+                status = call(*words)
+                if status == 0 and not refusals:
+                    refusals.append(status)
+                    for word in words:
+                        if isinstance(word, ffi.CData) and ffi.typeof(word) == look:
+                            word.count = word.end = word.take = 0
+                    return 8
+                return status
+            return little
 
-        for packed in False, True:
-            sent = capn.pack(message) if packed else message
-            for make in (
-                lambda: capn.messages(Blocking([sent]), packed=packed),
-                lambda: capn.messages(io.BytesIO(sent), packed=packed),
-                lambda: capn.messages(sent, packed=packed, read_ahead=True),
-            ):
-                refusals.clear()
-                found = make()
-                with unittest.mock.patch.object(capn._stream, "_first", little):
+        with contextlib.ExitStack() as patches:
+            for module in capn._reader, capn._packed, capn._seen, capn._splitter:
+                for name in "_first", "_look_at", "_look_at_packed":
+                    if hasattr(module, name):
+                        patches.enter_context(unittest.mock.patch.object(module, name, once(getattr(module, name))))
+            for packed in False, True:
+                sent = capn.pack(message) if packed else message
+                for make in (
+                    lambda: capn.messages(Blocking([sent]), packed=packed),
+                    lambda: capn.messages(Peeking([sent]), packed=packed),
+                    lambda: capn.messages(io.BytesIO(sent), packed=packed),
+                    lambda: capn.messages(sent, packed=packed, read_ahead=True),
+                ):
+                    refusals.clear()
+                    found = make()
                     self.assertRaises(MemoryError, next, found)
                     self.assertEqual(next(found), message)
                     self.assertRaises(StopIteration, next, found)
-            refusals.clear()
-            splitter = capn.Splitter("packed" if packed else "stream")
-            with unittest.mock.patch.object(capn._stream, "_first", little):
+                refusals.clear()
+                splitter = capn.Splitter("packed" if packed else "stream")
                 self.assertRaises(MemoryError, splitter.feed, sent)
                 self.assertEqual((splitter.wanted, splitter.feed(b"")), (0, [message]))
 
-            async def run(sent=sent, packed=packed):
-                reader = asyncio.StreamReader()
-                reader.feed_data(sent)
-                found = capn.amessages(reader, form="packed" if packed else "stream")
-                with self.assertRaises(MemoryError):
-                    await anext(found)
-                return await anext(found)
+                async def run(sent=sent, packed=packed):
+                    reader = asyncio.StreamReader()
+                    reader.feed_data(sent)
+                    found = capn.amessages(reader, form="packed" if packed else "stream")
+                    with self.assertRaises(MemoryError):
+                        await anext(found)
+                    return await anext(found)
 
-            refusals.clear()
-            with unittest.mock.patch.object(capn._stream, "_first", little):
+                refusals.clear()
                 self.assertEqual(asyncio.run(run()), message)
 
     def test_wanted_leaves_what_follows(self):

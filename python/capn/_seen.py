@@ -1,0 +1,190 @@
+"""The messages of a file that can be wound, and what is best for each file."""
+from __future__ import annotations
+
+from io import BufferedReader, BytesIO, FileIO
+from os import pread
+from typing import Any, Callable
+
+from ._capn import ffi, lib
+from ._packed import Packed
+from ._reader import Messages
+from ._refusal import failure
+from ._splitter import HEAD, MEMORY, ONE, PIECE, Splitter
+
+__all__ = ["Seen", "reader"]
+
+# From how many bytes on messages are long, and how many are looked at of these.
+_LONG, _FEW = 8192, 4096
+# From how many bytes on a message is passed over in a file that buffers: beyond a buffer that takes less than reading.
+_BEYOND = 2048
+# How many messages are found at once.
+_MOST = 128
+_look_at, _look_at_packed = lib.capn_look_at, lib.capn_look_at_packed
+
+
+class Seen(Messages):
+    """The messages of a file that can be wound, as one on a disk can. Its bytes are looked at, 64 KiB at once, and all
+    messages found in them by one call. Then each is read by one call of the file, which has to give what was seen. If
+    it does not, since another one has wound the file, read of it or changed it, the file is wound back, and read as
+    others are."""
+
+    __slots__ = ("_rest", "_others", "_bytes_at", "_seek", "_look", "_out", "_some", "_text", "_ready", "_count",
+                 "_ends", "_takes", "_short", "_place")
+
+    def __init__(
+        self,
+        file: Any,
+        bytes_at: Callable[[int, int], bytes],
+        peek: Callable[[int], Any],
+        short: int,
+        splitter: Splitter,
+    ) -> None:
+        super().__init__(file.read, splitter)
+        # What reads all other messages, as those that are longer.
+        self._rest: Messages = Messages(file.read, splitter)
+        self._others: Callable[[], bytes] = self._rest.__next__
+        if splitter._packed:
+            self._rest = Packed(file.read, peek, splitter)
+            self._others = self._rest._any
+        # What answers the bytes at a place of the file, at most so many, and how many are asked for.
+        self._bytes_at, self._some = bytes_at, PIECE
+        # To learn by `seek` where a file stands is faster than by `tell`, which asks the system.
+        self._seek: Callable[[int, int], int] = file.seek
+        self._look, self._out = splitter._look, splitter._out
+        # What was seen, and its messages that were not handed out yet, the last one first: how many bytes of the file
+        # each has, and where they begin in what was seen; and the message, of one that is packed or passed over.
+        self._text = b""
+        self._ready: list[tuple[int, int, bytes | None]] = []
+        # From how many bytes on a message is not read again, but passed over. The place is then where what was seen
+        # begins in the file, else -1.
+        self._short, self._place = short, -1
+        # How many messages were seen, and where they end in the unpacked bytes, and in what was seen.
+        self._count = 0
+        self._ends: list[int] = []
+        self._takes: list[int] = []
+
+    @property
+    def number(self) -> int:
+        return self._number + self._count - len(self._ready)
+
+    @property
+    def offset(self) -> int:
+        handed = self._count - len(self._ready)
+        return self._offset + (self._ends[handed - 1] if handed else 0)
+
+    def __next__(self) -> bytes:
+        rest = self._rest
+        if self._ready or rest._is_between() and self._is_found():
+            taken, at, frame = self._ready[-1]
+            if self._place < 0:
+                piece = self._read(taken)
+                if piece and len(piece) == taken and self._text.startswith(piece, at):
+                    del self._ready[-1]
+                    return frame or piece
+                taken = len(piece or b"")
+            elif frame is not None and self._seek(taken, 1) == self._place + at + taken:
+                del self._ready[-1]
+                return frame
+            self._seek(-taken, 1)
+        self._close()
+        rest._number, rest._offset, rest._taken = self._number, self._offset, self._taken
+        try:
+            return self._long() or self._others()
+        finally:
+            self._number, self._offset, self._taken = rest._number, rest._offset, rest._taken
+
+    def _close(self) -> None:
+        """Counts the messages that were seen and handed out, and forgets the others."""
+        handed = self._count - len(self._ready)
+        if handed:
+            self._number += handed
+            self._offset += self._ends[handed - 1]
+            self._taken += self._takes[handed - 1]
+        self._ready.clear()
+        self._count = 0
+
+    def _is_found(self) -> bool:
+        """Looks at the bytes that come next: whether there are whole messages."""
+        self._close()
+        look, report, out, frame = self._look, self._report, self._out, None
+        place = self._seek(0, 1)
+        text = self._text = self._bytes_at(place, self._some)
+        report.length = 0
+        if len(text) < HEAD:
+            return False
+        if out is None:
+            status = _look_at(text, len(text), self._bounds, look, report)
+        else:
+            status = _look_at_packed(text, len(text), self._bounds, out, PIECE, _MOST, look, report)
+        if status == MEMORY and not look.count:
+            raise failure(status, report)
+        ends = self._ends = ffi.unpack(look.ends, look.count)
+        takes = self._takes = ends if out is None else ffi.unpack(look.takes, look.count)
+        # Of long messages it is enough to see how long they are.
+        mean = look.take // len(ends) if ends else report.length
+        self._some = PIECE if mean <= _LONG else _FEW
+        self._place = -1 if mean < self._short else place
+        words = text if out is None else ffi.buffer(out)
+        is_cut = out is not None or self._place >= 0
+        ready, begin, at = self._ready, 0, 0
+        for end, take in zip(ends, takes):
+            if is_cut:
+                frame = words[begin:end]
+            ready.append((take - at, at, frame))
+            begin, at = end, take
+        ready.reverse()
+        self._count = len(ready)
+        return bool(ready)
+
+    def _long(self) -> bytes | None:
+        """A message of one segment, of which only the beginning was seen."""
+        rest, need, text = self._rest, self._report.length, self._text
+        if self._out is not None or not HEAD < need <= PIECE or not text.startswith(ONE) or not rest._is_between():
+            return None
+        piece = self._read(need)
+        if piece and len(piece) == need and piece.startswith(text):
+            rest._number += 1
+            rest._offset += need
+            return piece  # type: ignore[no-any-return]
+        rest._came(piece)
+        return None
+
+
+def reader(file: Any, splitter: Splitter) -> Messages:
+    """The messages of a file, read in the way that is best for it."""
+    read, peek, kind = file.read, getattr(file, "peek", None), type(file)
+    try:
+        is_wound = callable(file.seek) and bool(file.seekable())
+    except (AttributeError, ValueError):
+        is_wound = False
+
+    def wound_back(place: int, size: int) -> bytes:
+        try:
+            return bytes(read(size))
+        finally:
+            file.seek(place)
+
+    def peeked(place: int, size: int) -> bytes:
+        return bytes(file.peek(1))
+
+    def from_system(place: int, size: int) -> bytes:
+        try:
+            return pread(file.fileno(), size, place)
+        except OSError:
+            return b""
+
+    def seen(least: int) -> Any:
+        found = read(_FEW)
+        if found:
+            file.seek(-len(found), 1)
+        return found
+
+    look = peek if callable(peek) else seen
+    raw = file.raw if is_wound and kind is BufferedReader else file
+    if is_wound and type(raw) is FileIO:
+        return Seen(file, from_system, look, 0 if raw is file else _BEYOND, splitter)
+    if is_wound and (type(raw) is BytesIO or callable(peek)):
+        return Seen(file, wound_back if type(raw) is BytesIO else peeked, look, 1 << 64, splitter)
+    if splitter._packed:
+        return Packed(read, look if is_wound or callable(peek) else None, splitter)
+    return Messages(read, splitter)

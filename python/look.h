@@ -1,0 +1,59 @@
+/* A look at the bytes of a stream: where the whole messages end that come first, by one call for all of them. It is a
+ * loop over the library's calls, and keeps nothing. */
+#include "capn.h"
+
+enum { CAPN_LOOK_MOST = 128 };
+
+typedef struct {
+    uint32_t count;               /* how many messages there are */
+    size_t end, take;             /* where the last one ends, as below, or 0 */
+    size_t ends[CAPN_LOOK_MOST];  /* where each ends, in the unpacked bytes */
+    size_t takes[CAPN_LOOK_MOST]; /* of a packed stream: and in the packed ones */
+} capn_look;
+
+/* Of a stream. The answer is the status of the last call, and the report is that call's: of the frame after those that
+ * are whole. Fewer than 4 bytes are left alone. */
+static capn_status capn_look_at(const uint8_t *bytes, size_t size, const capn_limits *limits, capn_look *look,
+                                capn_report *report) {
+    capn_status status = CAPN_OK;
+    look->count = 0;
+    look->end = look->take = 0;
+    while (look->count < CAPN_LOOK_MOST && size - look->end >= 4) {
+        status = capn_first(bytes + look->end, size - look->end, limits, report);
+        if (status != CAPN_OK) break;
+        look->end += report->length;
+        look->take = look->end;
+        look->ends[look->count++] = look->end;
+    }
+    return status;
+}
+
+/* Of a packed stream: at most `most` messages, which are unpacked into the room. Only a message that ends where a group
+ * does is one of them. The answer is CAPN_OK, or the status of a call that refused; if there is no message in the room,
+ * `length` of the report is how many bytes the first one has at least. */
+static capn_status capn_look_at_packed(const uint8_t *text, size_t size, const capn_limits *limits, uint8_t *out,
+                                       size_t room, uint32_t most, capn_look *look, capn_report *report) {
+    look->count = 0;
+    look->end = look->take = 0;
+    while (look->count < most && look->count < CAPN_LOOK_MOST) {
+        size_t from = look->take, got = 0, need = 8;
+        capn_status status = CAPN_FRAME_CUT;
+        for (; status == CAPN_FRAME_CUT && look->end + need <= room; need = report->length) {
+            status = capn_unpack_some(text + from, size - from, out + look->end + got, need - got, report);
+            if (status != CAPN_OK && status != CAPN_PACKED_CUT && status != CAPN_PACKED_TOO_LONG) return status;
+            from += report->at;
+            got += report->length;
+            if (got < need) {
+                report->length = need;
+                return CAPN_OK;
+            }
+            status = capn_first(out + look->end, need, limits, report);
+        }
+        if (status != CAPN_OK) return status == CAPN_FRAME_CUT ? CAPN_OK : status;
+        look->end += report->length;
+        look->take = from;
+        look->ends[look->count] = look->end;
+        look->takes[look->count++] = from;
+    }
+    return CAPN_OK;
+}
