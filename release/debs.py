@@ -16,7 +16,7 @@ LIBRARIES = "/usr/lib/x86_64-linux-gnu"
 
 
 class Debs:
-    """What makes them, of a release: it has a folder `work`, a time `seconds`, a text `proved` or None, a list `made`."""
+    """What makes them, of a release: it has a folder `work`, a time `seconds`, a text `proved`, and a list `made`."""
 
     def debs(self, has_wheel):
         """The packages of Debian: each a part of what is staged, with its own control files."""
