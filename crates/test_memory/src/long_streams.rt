@@ -1,0 +1,251 @@
+//! Streams that are longer than what a run holds of them, which is a piece and the message in hand.
+
+use crate::subject::MOST;
+use capn_archive::{Archive, Task, Uniq, run_archive, run_uniq};
+use capn_canon::Form;
+use capn_flow::{pack_stream, unpack_stream};
+use capn_serve::{Pick, StreamForm, run_pick};
+use capn_walk::Limits;
+use capn_words::Watched;
+use std::alloc::{AllocError, Global};
+use std::io::{self, Read, Write};
+use std::test::Fail;
+use test_allocator::Refusing;
+
+/// A reader that gives the same bytes at each of so many calls. No run asks for fewer than a row of them has here.
+#[derive(Drop)]
+struct Again<'a> {
+    row: &'a [u8],
+    left: u64,
+}
+
+impl Read for Again<'_> {
+    fn read(&mut self, buf: &mut [u8]) -> io::Result<usize> {
+        if self.left == 0 {
+            return Ok(0);
+        }
+        self.left -= 1;
+        let count = self.row.len().min(buf.len());
+        buf[..count].copy_from_slice(&self.row[..count]);
+        Ok(count)
+    }
+}
+
+/// A writer that counts the bytes.
+#[derive(Drop)]
+struct Counted {
+    bytes: u64,
+}
+
+impl Write for Counted {
+    fn write(&mut self, buf: &[u8]) -> io::Result<usize> {
+        self.bytes = self.bytes.saturating_add(buf.len() as u64);
+        Ok(buf.len())
+    }
+
+    fn flush(&mut self) -> io::Result<()> {
+        Ok(())
+    }
+}
+
+/// Some bytes, so many times.
+fn times(alloc: Global, bytes: &[u8], count: u32) -> Result<Vec<u8>, AllocError> {
+    let mut row = Vec::new(alloc);
+    for _ in 0..count {
+        row.extend_from_slice(bytes)?;
+    }
+    Ok(row)
+}
+
+/// The frame of a message of one segment with a null root.
+const EMPTY: [u8; 16] = [0, 0, 0, 0, 1, 0, 0, 0, 0, 0, 0, 0, 0, 0, 0, 0];
+
+/// How often it is in a row of 65,536 bytes.
+const IN_A_ROW: u32 = 4_096;
+
+/// How many rows have more than 200,000 of them: 200,704.
+const ROWS: u64 = 49;
+
+/// A packed frame of 65,536 bytes: one segment of 8,191 words that are zero.
+fn packed_zeros(alloc: Global) -> Result<Vec<u8>, AllocError> {
+    let mut packed = Vec::from_slice(alloc, &[0x30, 0xff, 0x1f])?;
+    for _ in 0..31u32 {
+        packed.extend_from_slice(&[0, 255])?;
+    }
+    packed.extend_from_slice(&[0, 254])?;
+    Ok(packed)
+}
+
+/// How often it is in a row of no more than 65,536 bytes, and how many of these rows unpack to more than 1 GiB.
+const PACKED_IN_A_ROW: u32 = 978;
+
+const PACKED_ROWS: u64 = 17;
+
+/// The bytes that they unpack to.
+const UNPACKED: u64 = 65_536 * 978 * 17;
+
+/// A run over a stream.
+#[derive(Clone, Copy)]
+enum Order {
+    Archive(Task),
+    Uniq(bool),
+    Pick,
+    Pack,
+    Unpack,
+}
+
+/// What a run took: how many growths, the most bytes of one, and how many bytes it wrote.
+#[derive(Clone, Copy)]
+struct Taken {
+    growths: u64,
+    greatest: usize,
+    written: u64,
+}
+
+/// What a run takes over these bytes, so many times; nothing where it is not done.
+fn taken(alloc: Global, order: Order, form: Form, row: &[u8], left: u64) -> Option<Taken> {
+    let heap = Refusing::nth(alloc, 0);
+    let limits = Limits::new(MOST, 8_388_608, 64)?;
+    let mut reader = Watched::new(Again { row, left });
+    let mut writer = Watched::new(Counted { bytes: 0 });
+    let is_done = match order {
+        Order::Archive(task) => {
+            let archive = Archive {
+                task,
+                form,
+                limits,
+                keep_going: false,
+            };
+            run_archive(&heap, archive, &mut reader, &mut writer).is_ok()
+        }
+        Order::Uniq(count) => {
+            let uniq = Uniq {
+                form,
+                limits,
+                keep_going: false,
+                count,
+            };
+            run_uniq(&heap, uniq, &mut reader, &mut writer).is_ok()
+        }
+        Order::Pick => {
+            let pick = Pick {
+                form: match form {
+                    Form::Packed => StreamForm::Packed,
+                    Form::Stream | Form::Bare => StreamForm::Stream,
+                },
+                limits,
+                from: 2,
+                to: u64::MAX,
+            };
+            run_pick(&heap, pick, &mut reader, &mut writer).is_ok()
+        }
+        Order::Pack => pack_stream(&heap, &mut reader, &mut writer).is_ok(),
+        Order::Unpack => unpack_stream(&heap, &mut reader, &mut writer).is_ok(),
+    };
+    if is_done {
+        Some(Taken {
+            growths: heap.count(),
+            greatest: heap.greatest(),
+            written: writer.into_inner().bytes,
+        })
+    } else {
+        None
+    }
+}
+
+/// Lines and frames of 200,704 messages are written in a text of no more than 65,536 bytes and a message, which grows
+/// a few times.
+#[test]
+fn two_hundred_thousand_messages(rt: HostRuntime) -> Result<(), Fail> {
+    let row = times(rt.alloc(), &EMPTY, IN_A_ROW)?;
+    for order in [
+        Order::Archive(Task::List),
+        Order::Archive(Task::Limits),
+        Order::Pick,
+    ] {
+        let took = taken(rt.alloc(), order, Form::Stream, row.as_slice(), ROWS);
+        let is_right = match took {
+            Some(took) => took.growths <= 64 && took.greatest <= 262_144 && took.written != 0,
+            None => false,
+        };
+        assert!(rt; is_right);
+    }
+    Ok(())
+}
+
+/// Whether a run that is done over 200,704 messages writes so many bytes, and asks for no growth of more than 256 KiB.
+fn writes(alloc: Global, order: Order, written: u64) -> Result<bool, AllocError> {
+    let row = times(alloc, &EMPTY, IN_A_ROW)?;
+    match taken(alloc, order, Form::Stream, row.as_slice(), ROWS) {
+        Some(took) => Ok(took.greatest <= 262_144 && took.written == written),
+        None => Ok(false),
+    }
+}
+
+/// Canonical bytes are made for each message, and none are kept.
+#[test]
+fn canonical_bytes_of_two_hundred_thousand_messages(rt: HostRuntime) -> Result<(), Fail> {
+    let order = Order::Archive(Task::Canonical);
+    let is_right = writes(rt.alloc(), order, 16 * 200_704)?;
+    assert!(rt; is_right);
+    Ok(())
+}
+
+/// Nothing is kept of a message but its digest, if that is new.
+#[test]
+fn the_frame_of_two_hundred_thousand_that_are_one(rt: HostRuntime) -> Result<(), Fail> {
+    let is_right = writes(rt.alloc(), Order::Uniq(false), 16)?;
+    assert!(rt; is_right);
+    Ok(())
+}
+
+/// The line is `1 of 200704`.
+#[test]
+fn the_count_of_two_hundred_thousand_that_are_one(rt: HostRuntime) -> Result<(), Fail> {
+    let is_right = writes(rt.alloc(), Order::Uniq(true), 12)?;
+    assert!(rt; is_right);
+    Ok(())
+}
+
+/// What a run takes over so many packed rows, if it asks for no growth of more than 1 MiB.
+fn taken_of_packed(alloc: Global, order: Order, rows: u64) -> Result<Option<Taken>, AllocError> {
+    let frame = packed_zeros(alloc)?;
+    let row = times(alloc, frame.as_slice(), PACKED_IN_A_ROW)?;
+    match taken(alloc, order, Form::Packed, row.as_slice(), rows) {
+        Some(took) if took.greatest <= 1_048_576 => Ok(Some(took)),
+        _ => Ok(None),
+    }
+}
+
+/// More than 1 GiB is unpacked, of which no more is held than a slice unpacks to.
+#[test]
+fn a_gibibyte_is_unpacked(rt: HostRuntime) -> Result<(), Fail> {
+    let took = taken_of_packed(rt.alloc(), Order::Unpack, PACKED_ROWS)?;
+    assert!(rt; matches!(took, Some(took) if took.written == UNPACKED));
+    Ok(())
+}
+
+/// The messages of a packed stream are served one by one.
+#[test]
+fn packed_messages_are_picked(rt: HostRuntime) -> Result<(), Fail> {
+    let took = taken_of_packed(rt.alloc(), Order::Pick, 2)?;
+    assert!(rt; matches!(took, Some(took) if took.written == 65_536 * (2 * 978 - 1)));
+    Ok(())
+}
+
+/// And so are their lines.
+#[test]
+fn packed_messages_are_listed(rt: HostRuntime) -> Result<(), Fail> {
+    let took = taken_of_packed(rt.alloc(), Order::Archive(Task::List), 2)?;
+    assert!(rt; matches!(took, Some(took) if took.written != 0));
+    Ok(())
+}
+
+/// What is packed of a stream is written a piece at a time.
+#[test]
+fn a_stream_is_packed_in_pieces(rt: HostRuntime) -> Result<(), Fail> {
+    let row = times(rt.alloc(), &EMPTY, IN_A_ROW)?;
+    let took = taken(rt.alloc(), Order::Pack, Form::Stream, row.as_slice(), ROWS);
+    assert!(rt; matches!(took, Some(took) if took.greatest <= 1_048_576 && took.written != 0));
+    Ok(())
+}
