@@ -16,7 +16,7 @@ __all__ = ["Seen", "reader"]
 # From how many bytes on messages are long, and how many are looked at of these.
 _LONG, _FEW = 8192, 4096
 # From how many bytes on a message is passed over in a file that buffers: beyond a buffer that takes less than reading.
-_BEYOND = 2048
+_BEYOND, _NEVER = 2048, 1 << 64
 _BUFFERED = (BufferedReader, BufferedRandom)
 # How many messages are found at once.
 _MOST = 128
@@ -179,10 +179,12 @@ def reader(file: Any, splitter: Splitter) -> Messages:
     look = peek if callable(peek) else seen
     raw = file.raw if is_wound and kind is BufferedReader else file
     if is_wound and type(raw) is FileIO:
-        return Seen(file, from_system, look, 0 if raw is file else _BEYOND, splitter)
+        # A file that can be written is read, so that it gives what it has now.
+        short = _BEYOND if raw is not file else 0 if file.mode == "rb" else _NEVER
+        return Seen(file, from_system, look, short, splitter)
     # Of what Python itself buffers, a look takes no longer than a read.
     if is_wound and (type(raw) is BytesIO or callable(peek) and (splitter._packed or kind in _BUFFERED)):
-        return Seen(file, wound_back if type(raw) is BytesIO else peeked, look, 1 << 64, splitter)
+        return Seen(file, wound_back if type(raw) is BytesIO else peeked, look, _NEVER, splitter)
     if splitter._packed:
         return Packed(read, look if is_wound or callable(peek) else None, splitter)
     return Messages(read, splitter)

@@ -286,14 +286,17 @@ class Wound(unittest.TestCase):
         for packed in False, True:
             one, two, end = (capn.pack(each) if packed else each for each in (SMALL, other, SHAPES[1]))
             for last, message in (one, SMALL), (two, other), (end, SHAPES[1]):
-                file = io.BytesIO(one * 3)
-                found = capn.messages(file, packed=packed)
-                self.assertEqual(next(found), SMALL)
-                file.write(last)
-                file.truncate()
-                file.seek(len(one))
-                self.assertEqual([next(found), file.tell()], [message, len(one + last)])
-                self.assertRaises(StopIteration, next, found)
+                for make in io.BytesIO, tempfile.TemporaryFile, lambda: tempfile.TemporaryFile(buffering=0):
+                    with make() as file:
+                        file.write(one * 3)
+                        file.seek(0)
+                        found = capn.messages(file, packed=packed)
+                        self.assertEqual(next(found), SMALL)
+                        file.write(last)
+                        file.truncate()
+                        file.seek(len(one))
+                        self.assertEqual([next(found), file.tell()], [message, len(one + last)])
+                        self.assertRaises(StopIteration, next, found)
 
     def test_messages_of_each_length(self):
         source = random.Random(72)
