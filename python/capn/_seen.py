@@ -83,6 +83,8 @@ class Seen(Messages):
                 del self._ready[-1]
                 return frame
             self._seek(-taken, 1)
+            # What was seen says nothing of what comes next.
+            self._report.length = 0
         self._close()
         rest._number, rest._offset, rest._taken = self._number, self._offset, self._taken
         try:
