@@ -69,6 +69,7 @@ test:
 	mkdir -p $(BUILD) && rm -f $(BUILD)/PROVED
 	rt ci $(ANEW) 2>&1 | tee $(BUILD)/gate.log
 	tests/program/statuses
+	tests/program/full-disk
 	tests/program/failures
 	.ci/library
 	release/installs

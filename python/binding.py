@@ -19,6 +19,7 @@ if not ARCHIVE.is_file():
 DECLARED = """
     enum { CAPN_STREAM, CAPN_PACKED, CAPN_BARE, ... };
     enum { CAPN_STRICT, CAPN_PLAIN, ... };
+    enum { CAPN_STYLE_LINES, CAPN_STYLE_TEXT, CAPN_STYLE_JSON, ... };
 
     typedef struct { uint32_t message_words, budget, depth, tariff; } capn_limits;
     typedef struct {
@@ -63,6 +64,8 @@ DECLARED = """
                             capn_figures *figures, capn_report *report);
     capn_status capn_index(uint32_t form, const uint8_t *bytes, size_t size, const capn_limits *limits,
                            capn_entry *entries, size_t room, capn_report *report);
+    capn_status capn_show(uint32_t form, const uint8_t *bytes, size_t size, const capn_limits *limits, uint32_t style,
+                          char *out, size_t room, capn_report *report);
     const char *capn_version(void);
 
     typedef struct {

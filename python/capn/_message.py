@@ -428,14 +428,18 @@ class Message:
 
     Two messages are equal if their roots are. A message has no hash."""
 
-    __slots__ = ("_data", "_entries", "_form", "_places", "_views", "paid", "visits")
+    __slots__ = ("_data", "_entries", "_form", "_bounds", "_places", "_views", "paid", "visits")
     paid: int
     """Words that the walk paid."""
     visits: int
     """Slots that it visited, each as often as it was met; the root is one."""
 
-    def __init__(self, data: memoryview, entries: Any, paid: int, visits: int, form: int, in_place: bool) -> None:
-        self._data, self._entries, self.paid, self.visits, self._form = data, entries, paid, visits, form
+    def __init__(
+        self, data: memoryview, entries: Any, paid: int, visits: int, form: int, bounds: Any, in_place: bool
+    ) -> None:
+        self._data, self._entries, self.paid, self.visits = data, entries, paid, visits
+        # The form of the bytes, and the limits within which they were accepted.
+        self._form, self._bounds = form, bounds
         # Of an entry with objects below its slots, where the entries of these slots are.
         self._places: dict[int, Sequence[int]] = {}
         # The views of bytes that are not ours, to be released when the message is closed.
@@ -501,6 +505,11 @@ class Message:
     def __repr__(self) -> str:
         return f"<capn message, {self.paid} words paid, {self.visits} slots>"
 
+    def _whole(self) -> tuple[int, Any, Any]:
+        """What the library is given of a message: the number of its form, its bytes, its limits."""
+        self._entries[0]
+        return self._form, ffi.from_buffer(self._data), self._bounds
+
     def _object(self, at: int) -> Value:
         found: Value = _CLASSES[self._entries[at].kind](self, at)
         return found
@@ -560,7 +569,7 @@ def read(
         status = lib.capn_index(number, given, len(given), bounds, entries, room, report)
     if status != lib.CAPN_OK:
         raise failure(status, report)
-    message = Message(view, entries, report.paid, report.visits, number, in_place)
+    message = Message(view, entries, report.paid, report.visits, number, bounds, in_place)
     _reports.append(report)
     return message
 

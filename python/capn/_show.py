@@ -1,10 +1,11 @@
-"""The text of a message, as `capn show` writes it."""
+"""The text of a message, as `capn show` writes it: of a whole one the library's, of a part the package's own."""
 from __future__ import annotations
 
 from typing import Any, Iterable, Iterator
 
 from ._bytes import Buffer
-from ._calls import _USUAL, Form
+from ._calls import _USUAL, Form, _filled, _taken
+from ._capn import ffi, lib
 from ._limits import Limits
 from ._message import Message, Object, Row, read
 
@@ -24,19 +25,39 @@ def show(
     a list of bytes that is a text is shown as one, as by `--text`; with `json` it is a line of JSON, as by `--json`;
     `at` says which part is shown, by a way of numbers, as `--at` does.
 
-    It is the package's own, in Python, and not the proved text of the program."""
+    The text of a whole message is that of the library. The text of a part, or of an object, is the package's own, in
+    Python, and tested."""
     if text and json:
         raise ValueError("json goes without text")
     way = tuple(at)
+    found: Any = message
     if isinstance(message, (Object, Row)):
         if way:
             raise ValueError("at is a way from the root of a message")
-        found: Any = message
-    else:
+    elif way:
         found = (message if isinstance(message, Message) else read(message, form, limits)).at(*way)
+    else:
+        return _whole(message, form, limits, text, json)
     if json:
         return "".join(_json(found)) + "\n"
     return "".join(_lines(found, text)) + "end\n"
+
+
+def _whole(message: Message | Buffer, form: Form, limits: Limits, is_text: bool, is_json: bool) -> str:
+    """The text of a message by the library."""
+    style = lib.CAPN_STYLE_JSON if is_json else lib.CAPN_STYLE_TEXT if is_text else lib.CAPN_STYLE_LINES
+    if isinstance(message, Message):
+        number, given, bounds = message._whole()
+    else:
+        number, given, bounds = _taken(message, form, limits, False)
+    size = len(given)
+
+    def call(out: Any, room: int, report: Any) -> int:
+        status: int = lib.capn_show(number, given, size, bounds, style, ffi.cast("char *", out), room, report)
+        return status
+
+    # Mostly enough. If it isn't, the call reports the length, but makes the text for nothing.
+    return _filled(call, (16 if number == lib.CAPN_PACKED else 4) * size + 256).decode("ascii")
 
 
 def _lines(found: Any, is_text: bool) -> Iterator[str]:

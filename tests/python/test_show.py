@@ -74,6 +74,33 @@ class Shown(unittest.TestCase):
             with self.subTest(line=line, data=data.hex()):
                 self.assertEqual(ran(line[1:], data), (wrote.stdout, wrote.stderr.decode(), wrote.returncode))
 
+    def test_a_part_is_shown_as_the_whole_is(self):
+        # The one by the package, the other by the library; and a message that was read as its bytes are.
+        source, shown = random.Random(9), 0
+        for _ in range(1000):
+            data = archives.framed(archives.segments_of(source))
+            limits = capn.Limits(depth=source.choice([64, 4]), tariff=source.choice(["strict", "plain"]))
+            try:
+                message = capn.read(data, limits=limits)
+            except capn.Refusal as refusal:
+                with self.assertRaises(capn.Refusal) as caught:
+                    capn.show(data, limits=limits)
+                self.assertEqual(caught.exception.args, refusal.args)
+                continue
+            for options in {}, {"text": True}, {"json": True}:
+                with self.subTest(data=data.hex(), **options):
+                    text = capn.show(message.root, **options)
+                    self.assertEqual(capn.show(data, limits=limits, **options), text)
+                    self.assertEqual(capn.show(message, **options), text)
+                    self.assertEqual(capn.show(capn.pack(data), "packed", limits, **options), text)
+                    shown += 1
+        self.assertGreater(shown, 1500)
+
+    def test_a_closed_message(self):
+        message = capn.read(bytes(8), "bare")
+        message.close()
+        self.assertRaises(ValueError, capn.show, message)
+
     def test_deep(self):
         # 256 lists of structs, one in the other.
         words = []

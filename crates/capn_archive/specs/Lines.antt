@@ -1,10 +1,12 @@
 -- The lines that are written of messages. (Own.)
-use Rattle.std.specs.Prelude.{ℕ, ◌+◌, ◌*◌, ◌^◌, min, max, List, ◌++◌, codes, Bool, true, false, Option, Some, None}
-use Rattle.std.specs.Fmt.{decimal}
+use Rattle.std.specs.Prelude.{◌≡◌, ℕ, ◌+◌, ◌*◌, ◌^◌, min, max, List, [], ◌∷◌, ◌++◌, codes, Bool, true, false, Option}
+use Rattle.std.specs.Prelude.{Some, None, refl}
+use Rattle.std.specs.Fmt.{decimal, digits}
 use Rattle.hex.specs.Hex.{encode_lower}
 use Rattle.capn_value.specs.declared.tariff.Tariff.{Tariff}
 use Rattle.capn_value.specs.declared.tariff.Tariff.TheVariants as tariffs
 use Rattle.capn_canon.specs.declared.refusal.Refusal.{Refusal}
+use Rattle.capn_canon.specs.declared.refusal.Refusal.TheVariants as refusals
 use Rattle.capn_canon.specs.Display.{refusal_text}
 use Rattle.capn_archive.specs.declared.head.Head.{Head}
 use Rattle.capn_archive.specs.declared.findings.Findings.{Findings}
@@ -89,3 +91,55 @@ advice_text needs =
 -- the five lines of `limits`
 abbrev pub limits_text : Needs → List ℕ
 limits_text needs = needs_text needs ++ (codes "\n" ++ (advice_text needs ++ codes "\n"))
+
+-- ---- a line of each kind
+
+-- the second message of a stream, whose root has one word
+abbrev second : Head
+second = record { at = record { index = 1; offset = 16 }; bytes = 24; segments = 1; words = 2 }
+
+abbrev its_findings : Findings
+its_findings = record {
+  checked = record { paid = 2; visits = 1; capability = None; is_canonical = true };
+  depth = 1;
+}
+
+a_listed_message : list_line second its_findings
+    ≡ codes "2 at 16 bytes 24 segments 1 words 2 paid 2 visits 1 depth 1 capability no canonical yes\n"
+unfolding digits
+a_listed_message = refl
+
+no_digest : digests_line second its_findings None
+    ≡ codes "2 at 16 bytes 24 segments 1 words 2 paid 2 visits 1 depth 1 capability no canonical yes sha256 -\n"
+unfolding digits
+no_digest = refl
+
+two_bytes_of_a_digest : digest_text (Some (7 ∷ 171 ∷ [])) ≡ codes "07ab"
+two_bytes_of_a_digest = refl
+
+a_refused_message : refused_line second (refusals.Capability 3)
+    ≡ codes "2 at 16 bytes 24 segments 1 words 2 refused capability 3\n"
+unfolding digits
+a_refused_message = refl
+
+-- three messages, of which the second has the most words and is the deepest, and the first costs the most
+abbrev three_messages : Needs
+three_messages = record {
+  messages = 3;
+  tally = record {
+    skipped = None;
+    words = Some (record { amount = 5; index = 1 });
+    price = Some (record { amount = 4; index = 0 });
+    depth = Some (record { amount = 2; index = 1 });
+  };
+  tariff = tariffs.Plain;
+}
+
+their_limits : needs_text three_messages
+    ≡ codes "messages 3\nmessage-words 5 message 2\nbudget 4 message 1\ndepth 2 message 2"
+unfolding digits
+their_limits = refl
+
+their_advice : advice_text three_messages ≡ codes "use --message-words 20 --budget 16 --depth 4 --tariff plain"
+unfolding digits
+their_advice = refl

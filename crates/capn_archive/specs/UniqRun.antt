@@ -1,6 +1,6 @@
 -- What a run of `uniq` did. (Own.)
-use Rattle.std.specs.Prelude.{ℕ, List, [], ◌++◌, codes, length, Bool, true, false, Option, Result}
-use Rattle.std.specs.Fmt.{decimal}
+use Rattle.std.specs.Prelude.{◌≡◌, ℕ, List, [], ◌++◌, codes, length, Bool, true, false, Option, Result, refl}
+use Rattle.std.specs.Fmt.{decimal, digits}
 use Rattle.capn_archive.specs.declared.fault.ArchiveFault.{ArchiveFault}
 use Rattle.capn_serve.specs.declared.service.Run.{Run}
 use Rattle.capn_archive.specs.declared.uniq.Uniq.{Uniq}
@@ -20,6 +20,10 @@ first_run order = record { service = first_sieve order; at = start }
 -- the line of a count: how many messages are kept, of how many
 abbrev pub count_line : ℕ → ℕ → List ℕ
 count_line kept served = decimal kept ++ (codes " of " ++ (decimal served ++ codes "\n"))
+
+two_of_five : count_line 2 5 ≡ codes "2 of 5\n"
+unfolding digits
+two_of_five = refl
 
 -- what is written after the last message: the line of the count, where messages are only counted
 abbrev pub closing_by : Bool → ℕ → ℕ → List ℕ

@@ -2,7 +2,7 @@
 use Rattle.std.proofs.Common.{◌≡◌, ◌⊎◌, ◌↔◌, inl, inr, ℕ, ◌+◌, ◌<◌, ◌≤◌, List, [], ◌++◌, length, take}
 use Rattle.std.proofs.Common.{if◌then◌else◌, ◌%◌, eqb}
 use Rattle.std.proofs.Common.{Bool, true, false, Option, Ok, Err, refl, ap, sym, subst, ◌∙◌, append-nil}
-use Rattle.std.proofs.Common.{append_assoc}
+use Rattle.std.proofs.Common.{append_assoc, arith, length-append}
 use Rattle.std.proofs.Math.Seq.{take-append-add, take-length}
 use Rattle.std.proofs.lemmas.List.{take-append-le}
 use Rattle.std.specs.Io.KnownBytes.{Appends}
@@ -92,10 +92,14 @@ module _ (bytes text held : List ℕ) (s : Settles bytes text held) (count : ℕ
       (written_more bytes text held [] s c d e done
       (v, n, subst (λ (l : List ℕ). IsFront l v) (sym (append-nil held)) front, part))
 
-  pub packing_ends : (is_longer failed : Bool) (r : Ending) → Ends (packing_last count) held is_longer d e failed r
-      → Ends packing bytes is_longer c e failed r
-  packing_ends is_longer failed r ends =
-      record { exact = last_ended is_longer r ends.exact; io = ends.io; written = last_written ends.written }
+  pub packing_ends : length held ≤ count → (is_longer failed : Bool) (r : Ending)
+      → Ends (packing_last count) held is_longer d e failed r → Ends packing bytes is_longer c e failed r
+  packing_ends few is_longer failed r ends = record {
+    exact = last_ended is_longer r ends.exact;
+    io = ends.io;
+    written = last_written ends.written;
+    memory = λ h. omega (arith, few, size, ends.memory h);
+  }
 
 -- ---- the whole stream
 
@@ -135,14 +139,16 @@ wrote_fine true u io = absurd (let e = io.1 refl in cc)
 
 -- what is settled was written, and the rest is held
 pub packs_part : (before bytes held text rest : List ℕ) (c d : Option (List ℕ)) (failed : Bool) (u v : Unit {0})
-    → held ≡ before ++ bytes → Settles held text rest → length rest < most_held → Appends c d text
+    → held ≡ before ++ bytes → Settles held text rest → length rest < most_held → length rest ≤ length held
+    → Appends c d text
     → (wrote u ≡ Err faults.Io) ↔ (failed ≡ true) → PacksPart before bytes c d failed (Ok v) rest
-packs_part before bytes held text rest c d failed u v is s short done io = (
+packs_part before bytes held text rest c d failed u v is s short few done io = (
   text,
   subst (λ (l : List ℕ). Settles l text rest) is s,
   short,
   done,
   wrote_fine failed u io,
+  omega (arith, few, ap length is, length-append before bytes),
 )
 
 -- a beginning of what is settled was written, and the writer failed
@@ -162,6 +168,14 @@ no_whole : (is_whole : Bool) (count : ℕ) → whole_or_not is_whole count ≡ E
 no_whole true count e = cc
 no_whole false count e = cc
 
+no_memory_whole : (is_whole : Bool) (count : ℕ) → whole_or_not is_whole count ≡ Err faults.Memory → ⊥
+no_memory_whole true count e = cc
+no_memory_whole false count e = cc
+
+no_memory : (is_longer : Bool) (count : ℕ) → ending_of is_longer count ≡ Err faults.Memory → ⊥
+no_memory true count e = cc
+no_memory false count e = no_memory_whole (eqb (count % 8) 0) count e
+
 no_ending : (is_longer : Bool) (count : ℕ) → ending_of is_longer count ≡ Err faults.Io → ⊥
 no_ending true count e = cc
 no_ending false count e = no_whole (eqb (count % 8) 0) count e
@@ -180,6 +194,7 @@ last_packed held text count is_longer c d failed u r chosen done io is =
         λ h. absurd (let bad : true ≡ false = sym h ∙ fine in cc),
       );
       written = (text, length text, inr chosen, subst (Appends c d) (sym (take-length text)) done);
+      memory = λ h. absurd (no_memory is_longer count (sym is ∙ h));
     }
 
 -- a beginning of it was written, and the writer failed
@@ -191,13 +206,15 @@ last_unwritten held text count is_longer c d failed fault chosen (n, begun) io o
   exact = inr (inl (ap stopped only));
   io = (λ e. io.0 e, λ h. io.1 h);
   written = (text, n, inr chosen, begun);
+  memory = λ h. absurd (let bad : stopped faults.Io ≡ stopped faults.Memory = sym (ap stopped only) ∙ h in cc);
 }
 
 -- memory was refused for it
 pub last_memory : (held : List ℕ) (count : ℕ) (is_longer : Bool) (c : Option (List ℕ)) (failed : Bool)
-    → failed ≡ false → Ends (packing_last count) held is_longer c c failed (Err faults.Memory)
-last_memory held count is_longer c failed fine = record {
+    → failed ≡ false → 0 < length held → Ends (packing_last count) held is_longer c c failed (Err faults.Memory)
+last_memory held count is_longer c failed fine some = record {
   exact = inl refl;
   io = (λ h. absurd (cc), λ h. absurd (let bad : true ≡ false = sym h ∙ fine in cc));
   written = ([], 0, inl (held, settles_none held), Appends-nil c);
+  memory = λ h. some;
 }

@@ -1,7 +1,7 @@
 -- How a run ends.
 use Rattle.std.proofs.Common.{◌≡◌, ◌⊎◌, inl, inr, ℕ, ◌+◌, ◌-◌, ◌<◌, ◌≤◌, min, List, ◌++◌, length, take, Bool, true}
 use Rattle.std.proofs.Common.{false, Option, None, Some, IfSome, Err, refl, ap, sym, subst, ◌∙◌, arith}
-use Rattle.std.proofs.Common.{length-append, length-take-le}
+use Rattle.std.proofs.Common.{length-append, length-take, length-take-le}
 use Rattle.std.proofs.Math.Seq.{take-length, take_all}
 use Rattle.std.specs.Io.KnownBytes.{Appends, Consumes, IsAtEnd, Keeps}
 use Rattle.std.proofs.KnownBytes.{Appends-trans, Consumes-trans, Consumes-kept}
@@ -72,6 +72,7 @@ module _ (f : Flow) where
     io = (λ h. inr (ends.io.0 h), λ h. ends.io.1 (writer_only rf wf fine h));
     begun = begins_with a b c d bytes kept k.read k.bounded k.are ends.written;
     heard = λ h. absurd (not_read rf fine h);
+    memory = λ h. (bytes, k.read, omega (arith, ends.memory h, ap length k.are, length-take most bytes));
   }
 
   module _ (P : List ℕ → List ℕ → Type 0) (settles : (bytes text : List ℕ) → P bytes text → f.settles bytes text)
@@ -88,6 +89,7 @@ module _ (f : Flow) where
           begun = begins_with a b2 c d h.bytes h.bytes here (omega (arith, h.count, short)) all
               (all_written h.bytes h.text c d (begins h.bytes h.text h.holds) h.wrote);
           heard = λ e. (h.bytes, h.text, here, settles h.bytes h.text h.holds, h.wrote);
+          memory = λ e. absurd (cc);
         }
 
     -- the input ended
@@ -112,9 +114,9 @@ module _ (f : Flow) where
     -- the run stopped within a chunk
     pub run_stopped : (a b b2 c d e : Option (List ℕ)) (taken : ℕ) (buf : List ℕ) (w k : ℕ) (rf wf : Bool)
         (fault : FlowFault) → rf ≡ false → taken ≤ most → w ≡ min k (most - taken) → taken + k ≤ most + 1
-        → (h : Consumed P a b c d taken) → Consumes b b2 (take k buf) → k ≤ length buf
+        → 0 < k → (h : Consumed P a b c d taken) → Consumes b b2 (take k buf) → k ≤ length buf
         → Stops f (h.bytes ++ take w buf) c e wf fault → Runs f a b2 c e rf wf (Err fault)
-    run_stopped a b b2 c d e taken buf w k rf wf fault fine short least bound h more within stop =
+    run_stopped a b b2 c d e taken buf w k rf wf fault fine short least bound some h more within stop =
         let all = Consumes-trans a b b2 h.bytes (take k buf) h.read more in
         let front = taken_front h.bytes buf taken w k h.count short least within in
         record {
@@ -127,4 +129,9 @@ module _ (f : Flow) where
               (omega (arith, h.count, bound, length-append h.bytes (take k buf), length-take-le k buf within)) front
               stop.written;
           heard = λ e. absurd (not_read rf fine e);
+          memory = λ e. (
+            h.bytes ++ take k buf,
+            all,
+            omega (arith, some, length-append h.bytes (take k buf), length-take-le k buf within),
+          );
         }

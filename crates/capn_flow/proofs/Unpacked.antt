@@ -235,6 +235,12 @@ not_io true rest offset e = cc
 not_io false [] offset e = cc
 not_io false (b ∷ rest) offset e = cc
 
+-- nor Memory: that is reported only for bytes that were read
+not_memory : (is_longer : Bool) (rest : List ℕ) (offset : ℕ) → ending_of is_longer rest offset ≡ Err faults.Memory → ⊥
+not_memory true rest offset e = cc
+not_memory false [] offset e = cc
+not_memory false (b ∷ rest) offset e = cc
+
 -- all that is taken has come
 pub unpacking_ends : (rest bytes text : List ℕ) (is_longer : Bool) (c d : Option (List ℕ)) (wf : Bool) (offset : ℕ)
     (r : Ending) → wf ≡ false → FromStart rest bytes text → Appends c d text → offset + length rest ≡ length bytes
@@ -262,4 +268,5 @@ unpacking_ends rest bytes text is_longer c d wf offset r fine told wrote size is
         start_begins rest bytes text told,
         subst (Appends c d) (sym (take-length text)) wrote,
       );
+      memory = λ h. absurd (not_memory is_longer rest offset (sym is ∙ h));
     }

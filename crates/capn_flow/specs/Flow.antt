@@ -1,6 +1,6 @@
 -- A stream of bytes that comes in through a reader and goes out through a writer: what is written of it, and how it
 -- ends. (Own.)
-use Rattle.std.specs.Prelude.{◌≡◌, ◌⊎◌, ◌↔◌, ℕ, ◌+◌, ◌-◌, ◌^◌, ◌≤◌, nat_lt, List, length, take, Bool, true, false}
+use Rattle.std.specs.Prelude.{◌≡◌, ◌⊎◌, ◌↔◌, ℕ, ◌+◌, ◌-◌, ◌^◌, ◌<◌, ◌≤◌, nat_lt, List, length, take, Bool, true, false}
 use Rattle.std.specs.Prelude.{Option, IfSome, Result, Err}
 use Rattle.std.specs.Io.KnownBytes.{Consumes, Appends, IsAtEnd}
 use Rattle.capn_flow.specs.declared.fault.FlowFault.{FlowFault}
@@ -21,6 +21,10 @@ taken_of input = take most input
 -- whether the input has more
 abbrev pub has_more : List ℕ → Bool
 has_more input = nat_lt most (length input)
+
+-- a reader gave at least one byte
+abbrev pub TakesBytes : Option (List ℕ) → Option (List ℕ) → Type 0
+TakesBytes old new = (bytes : List ℕ) × Consumes old new bytes × (0 < length bytes)
 
 -- What is written of bytes: `gives`, of all that are taken, and whether there are more, the text and how it ends;
 -- `settles`, of the first ones, the text that is written before more are read; `begins`, a text of which a beginning
@@ -64,6 +68,7 @@ module _ (f : Flow) where
     pub io : (r ≡ Err faults.Io) ↔ ((reader_failed ≡ true) ⊎ (writer_failed ≡ true))
     pub begun : Begins a b c d
     pub heard : reader_failed ≡ true → KeepsUp a b c d
+    pub memory : r ≡ Err faults.Memory → TakesBytes a b
 
   -- ---- how far a run has come
 
@@ -73,6 +78,7 @@ module _ (f : Flow) where
       pub exact : HasEnded bytes is_longer c d r
       pub io : (r ≡ Err faults.Io) ↔ (failed ≡ true)
       pub written : HasWritten bytes c d
+      pub memory : r ≡ Err faults.Memory → 0 < length bytes
 
   -- the run stopped among these bytes: memory was refused, or the writer failed
   pub record Stops (bytes : List ℕ) (c d : Option (List ℕ)) (failed : Bool) (fault : FlowFault) : Type 0 where

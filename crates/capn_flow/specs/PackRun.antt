@@ -1,7 +1,7 @@
 -- Packing a stream: the packer's text of its whole words, and bytes that are no whole word. (Page: packing; the rest is
 -- own.)
 use Rattle.std.specs.Prelude.{◌≡◌, ◌⊎◌, ℕ, ◌+◌, ◌-◌, ◌*◌, ◌/◌, ◌%◌, ◌<◌, ◌≤◌, ◌==◌, if◌then◌else◌, List, ◌++◌, length}
-use Rattle.std.specs.Prelude.{take, drop, Bool, true, false, Option, Ok, Err}
+use Rattle.std.specs.Prelude.{take, drop, replicate, refl, Bool, true, false, Option, Ok, Err}
 use Rattle.std.specs.Io.KnownBytes.{Appends}
 use Rattle.capn_pack.specs.Chosen.{Chosen}
 use Rattle.capn_flow.specs.declared.fault.FlowFault.TheVariants as faults
@@ -15,6 +15,16 @@ whole_of bytes = take (length bytes / 8 * 8) bytes
 abbrev pub ending_of : Bool → ℕ → Ending
 ending_of true count = Err faults.InputTooLong
 ending_of false count = if count % 8 == 0 then Ok tt else Err (faults.NotWhole count)
+
+-- of 19 bytes two words are packed, and the three that are left end the run
+two_words : length (whole_of (replicate 19 7)) ≡ 16
+two_words = refl
+
+three_bytes_left : ending_of false 19 ≡ Err (faults.NotWhole 19)
+three_bytes_left = refl
+
+no_bytes_left : ending_of false 16 ≡ Ok tt
+no_bytes_left = refl
 
 -- the packer's text of the whole words was written, and packing ended so after a number of bytes
 pub record IsPacked (count : ℕ) (bytes : List ℕ) (is_longer : Bool) (text : List ℕ) (ending : Ending) : Type 0 where
@@ -62,9 +72,10 @@ pub record IsSettled (text words : List ℕ) (first at : ℕ) : Type 0 where
 abbrev pub last_word : List ℕ → List ℕ
 last_word bytes = drop (length bytes - 8) bytes
 
--- what is settled of bytes after those that were held was written, or the run stopped
+-- what is settled of bytes after those that were held was written, and no more bytes are held than there were; or the
+-- run stopped
 abbrev pub PacksPart : List ℕ → List ℕ → Option (List ℕ) → Option (List ℕ) → Bool → Ending → List ℕ → Type 0
 PacksPart before bytes c d failed (Ok u) after =
     (text : List ℕ) × Settles (before ++ bytes) text after × (length after < most_held) × Appends c d text
-    × (failed ≡ false)
+    × (failed ≡ false) × (length after ≤ length before + length bytes)
 PacksPart before bytes c d failed (Err fault) after = Stops packing (before ++ bytes) c d failed fault

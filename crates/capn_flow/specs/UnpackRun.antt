@@ -1,6 +1,9 @@
 -- Unpacking a stream: what its whole groups unpack to, and a group that is cut. (Page: packing; the rest is own.)
-use Rattle.std.specs.Prelude.{◌≡◌, ℕ, ◌+◌, ◌<◌, List, [], ◌∷◌, length, drop, Bool, true, false, Option, Result, Ok, Err}
+use Rattle.std.specs.Prelude.{◌≡◌, ℕ, ◌+◌, ◌<◌, List, [], ◌∷◌, length, drop, replicate, refl, Bool, true, false, Option}
+use Rattle.std.specs.Prelude.{Result, Ok, Err}
 use Rattle.std.specs.Io.KnownBytes.{Appends}
+use Rattle.capn_pack.specs.Packed.{Group, contents, texts}
+use Rattle.capn_pack.specs.Packed.Group.{Named, Zeros}
 use Rattle.capn_pack.specs.PackedPieces as packing
 use Rattle.capn_pack.specs.PackedPieces.{Splits}
 use Rattle.capn_pack.specs.WholeGroups.{UnpacksSome, most_group}
@@ -29,6 +32,23 @@ UnpacksTo bytes words = (group : List ℕ) × (offset : ℕ) × Splits bytes gro
 -- of packed bytes the words of their whole groups are written, before more are read too
 abbrev pub unpacking : Flow
 unpacking = record { gives = IsUnpacked; settles = UnpacksTo; begins = λ bytes words. packing.Begins bytes [] words }
+
+-- a named word and two words of zeros, and then a group that is cut: the words of the first two groups, and the offset
+-- of the third
+abbrev two_groups : List Group
+two_groups = Named 81 (8 ∷ 0 ∷ 0 ∷ 0 ∷ 3 ∷ 0 ∷ 2 ∷ 0 ∷ []) ∷ Zeros 1 ∷ []
+
+their_text : texts two_groups ≡ 81 ∷ 8 ∷ 3 ∷ 2 ∷ 0 ∷ 1 ∷ []
+their_text = refl
+
+their_words : contents two_groups ≡ 8 ∷ 0 ∷ 0 ∷ 0 ∷ 3 ∷ 0 ∷ 2 ∷ 0 ∷ replicate 16 0
+their_words = refl
+
+a_cut_behind_them : ending_of false (16 ∷ 9 ∷ []) (length (texts two_groups)) ≡ Err (faults.Cut 6)
+a_cut_behind_them = refl
+
+nothing_behind_them : ending_of false [] 6 ≡ Ok tt
+nothing_behind_them = refl
 
 -- ---- how far unpacking has come
 

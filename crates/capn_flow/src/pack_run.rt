@@ -166,6 +166,7 @@ fn settle<A: Allocator + Copy>(alloc: A, held: &[u8]) -> Result<Settlement<A>, A
     requires short { length held.now ≤ 131072 }
     ensures settled { IfOk result (λ s. Settles held.now s.text.items s.rest.items) }
     ensures short { IfOk result (λ s. length s.rest.items < most_held) }
+    ensures few { IfOk result (λ s. length s.rest.items ≤ length held.now) }
 {
     let whole = held.len() / 8 * 8;
     let cut = before_dense(&held[..whole]);
@@ -243,9 +244,9 @@ fn pack_last<W: Write, A: Allocator + Copy>(
 ///
 /// Of the stream at most 2^64 - 1 bytes are taken, and one more is read, to know whether there are more. The run ends
 /// as done, or with the first fault: `Io` if and only if the reader or the writer failed; `Memory` if a growth was
-/// refused; `InputTooLong` if there are more bytes; `NotWhole`, with their number, if it is no multiple of eight.
-/// Before the two last the text of all whole words was written, after `Memory` and `Io` a beginning of it. It holds a
-/// chunk, its text and its words, each at most twice: less than 2 MiB.
+/// refused, which takes a byte; `InputTooLong` if there are more bytes; `NotWhole`, with their number, if it is no
+/// multiple of eight. Before the two last the text of all whole words was written, after `Memory` and `Io` a beginning
+/// of it. It holds a chunk, its text and its words, each at most twice: less than 2 MiB.
 pub fn pack_stream<R: Read, W: Write, A: Allocator + Copy>(
     alloc: A,
     reader: &mut Watched<R>,

@@ -73,10 +73,10 @@ fn end_of_unpacking(rest: &[u8], offset: u64) -> Result<(), FlowFault>
 ///
 /// Of the stream at most 2^64 - 1 bytes are taken, and one more is read, to know whether there are more. There is no
 /// maximum of words. The run ends as done, or with the first fault: `Io` if and only if the reader or the writer
-/// failed; `Memory` if a growth was refused; `InputTooLong` if there are more bytes; `Cut`, with the offset of its tag,
-/// if the input ends within a group. The words of whole groups before it were written; after `Memory` and `Io` a
-/// beginning of them. It holds a chunk, an unfinished group of at most 2,049 bytes, and up to 16,384 words, which it
-/// writes at once, in room that grows by doubling: less than 512 KiB, whatever comes.
+/// failed; `Memory` if a growth was refused, which takes a byte; `InputTooLong` if there are more bytes; `Cut`, with
+/// the offset of its tag, if the input ends within a group. The words of whole groups before it were written; after
+/// `Memory` and `Io` a beginning of them. It holds a chunk, an unfinished group of at most 2,049 bytes, and up to
+/// 16,384 words, which it writes at once, in room that grows by doubling: less than 512 KiB, whatever comes.
 pub fn unpack_stream<R: Read, W: Write, A: Allocator + Copy>(
     alloc: A,
     reader: &mut Watched<R>,

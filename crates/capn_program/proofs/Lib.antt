@@ -5,3 +5,4 @@ pub mod Sources
 pub mod Ways
 pub mod PartServed
 pub mod PartRuns
+pub mod OneShown

@@ -1,7 +1,8 @@
 -- The texts that say why a run was not done. (Own.)
-use Rattle.std.specs.Prelude.{ℕ, ◌+◌, ◌≡◌, ◌⊎◌, List, [], ◌∷◌, ◌++◌, codes, Bool, false, Option, Result, Ok, Err}
-use Rattle.std.specs.Fmt.{decimal}
+use Rattle.std.specs.Prelude.{ℕ, ◌+◌, ◌≡◌, ◌⊎◌, List, [], ◌∷◌, ◌++◌, codes, Bool, false, Option, Result, Ok, Err, refl}
+use Rattle.std.specs.Fmt.{decimal, digits}
 use Rattle.capn_canon.specs.Display.{refusal_text}
+use Rattle.capn_canon.specs.declared.refusal.Refusal.TheVariants as refusals
 use Rattle.capn_tool.specs.FaultText.{WritesLine, fault_line}
 use Rattle.capn_tool.specs.declared.fault.ToolFault.TheVariants as tool_faults
 use Rattle.capn_serve.specs.declared.position.Position.{Position}
@@ -31,6 +32,19 @@ archive_text (faults.PassedOver passed) =
 -- its line
 abbrev pub fault_text_line : List ℕ → List ℕ
 fault_text_line text = codes "capn: " ++ text ++ 10 ∷ []
+
+-- the third message, at the offset 40
+abbrev third : Position
+third = record { index = 2; offset = 40 }
+
+passed_over : fault_text_line (archive_text (faults.PassedOver (record { refused = 3; messages = 12; first = third })))
+    ≡ codes "capn: 3 of 12 messages refused, the first is 3 at 40\n"
+unfolding digits
+passed_over = refl
+
+refused : archive_text (faults.Refused third (refusals.Capability 2)) ≡ codes "message 3 at 40: capability 2"
+unfolding digits
+refused = refl
 
 -- the line of this text was written, or that of refused memory if there was none for the line
 abbrev pub WritesFault : List ℕ → Option (List ℕ) → Option (List ℕ) → Bool → Type 0

@@ -5,5 +5,6 @@ pub mod Usage
 pub mod ExitStatus
 pub mod FaultText
 pub mod PartRun
+pub mod Laws
 pub mod Program
 pub mod inner

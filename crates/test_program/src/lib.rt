@@ -1,10 +1,15 @@
-//! Tests of the program's command line, and of the lines with which its runs end.
+//! Tests of the program's command line, of what its runs have written where the input or the output fails, and of the
+//! lines with which they end.
 //!
 //! They stand apart from the crate that they test, since a crate with tests is proved twice.
 #![tactic(auto)]
 
 #[cfg(test)]
 mod archive_orders;
+#[cfg(test)]
+mod broken;
+#[cfg(test)]
+mod broken_streams;
 #[cfg(test)]
 mod fault_lines;
 #[cfg(test)]

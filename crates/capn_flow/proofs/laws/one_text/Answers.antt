@@ -1,4 +1,4 @@
-use Rattle.std.proofs.Common.{◌≡◌, ℕ, List, [], ap, sym, ◌∙◌}
+use Rattle.std.proofs.Common.{ℕ, List, [], ap, sym, ◌∙◌}
 use Rattle.capn_pack.proofs.shared.ChosenLaws as chosen
 use Rattle.capn_pack.proofs.shared.SplitLaws.{one_split}
 use Rattle.capn_flow.specs.PackRun.{whole_of}

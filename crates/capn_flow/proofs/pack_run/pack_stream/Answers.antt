@@ -1,5 +1,5 @@
-use Rattle.std.proofs.Common.{◌≡◌, ◌+◌, ◌++◌, ℕ, List, [], Option, drop, length, length-append, length-take}
-use Rattle.std.proofs.Common.{take, true, false, sym, refl, subst, arith}
+use Rattle.std.proofs.Common.{◌≡◌, ◌+◌, ◌≤◌, ◌++◌, ℕ, List, [], Option, drop, length, length-append, length-take}
+use Rattle.std.proofs.Common.{take, true, false, ap, sym, refl, subst, arith}
 use Rattle.std.proofs.KnownBytes.{Appends-nil, Consumes-nil, Appends-trans}
 use Rattle.std.proofs.lemmas.List.{take-append-le}
 use Rattle.std.proofs.lemmas.Result.{err_from_is_err_and}
@@ -27,6 +27,7 @@ chunks-init g c = record {
   reader = c.requires.reader_fine;
   writer = c.requires.writer_fine;
   within = omega arith;
+  few = omega (arith, ap length c.new-held.ensures.items);
   heard = heard_none c.new-held.result.items _ _ c.new-held.ensures.items;
 }
 
@@ -47,7 +48,7 @@ returns-in-Ok-eq0 g c =
     c.read.new.buf c.in-Ok-eq0.field-0 _ _ c.pack_last.result
     (still_fine _ _ i.reader c.in-Ok-eq0.ensures.failed) i.within h c.in-Ok-eq0.field-0-test
     c.in-Ok-eq0.ensures.bytes (omega (arith, room))
-    (packing_ends h.bytes h.text held h.holds.0 c.chunks.taken h.count _ _ _ h.wrote false _ _
+    (packing_ends h.bytes h.text held h.holds.0 c.chunks.taken h.count _ _ _ h.wrote i.few false _ _
     (rw c.deref.ensures.value at c.pack_last.ensures))
 
 pub returns-in_err-pack_chunk-in-Ok : goal.returns-in_err-pack_chunk-in-Ok
@@ -65,8 +66,8 @@ returns-in_err-pack_chunk-in-Ok g c =
     rw (p.1, p.2)
     (run_stopped packing (Holds held) (holds_settles held) (holds_begins held) _ _ _ _ _ _ c.chunks.taken
     c.read.new.buf within c.in-Ok.count _ _ fault (still_fine _ _ i.reader c.in-Ok.ensures.failed) i.within
-    (omega (arith, c.min-within.ensures)) (omega (arith, bound.0, room, c.min-room.ensures, i.within)) h
-    c.in-Ok.ensures.bytes.0 bound.0
+    (omega (arith, c.min-within.ensures)) (omega (arith, bound.0, room, c.min-room.ensures, i.within))
+    (omega (arith, c.in-Ok.count-test)) h c.in-Ok.ensures.bytes.0 bound.0
     (packs_stop h.bytes h.text held (take within c.read.new.buf) h.holds.0 _ _ _ _ fault h.wrote stop))
 
 pub returns-then-within-count : goal.returns-then-within-count
@@ -92,12 +93,18 @@ returns-then-within-count g c =
       past,
       bound.0,
     ) in
+    let few : length next ≤ c.chunks.taken + within = omega (
+      arith,
+      done.5,
+      i.few,
+      length-take within (c.read.new.buf ++ drop (c.min-room.result + 1) c.chunks.buffer),
+    ) in
     run_long packing (Holds held) (holds_settles held) (holds_begins held) _ _ _ _ _ _ c.chunks.taken
     c.read.new.buf within c.in-Ok.count _ _ _ (still_fine _ _ i.reader c.in-Ok.ensures.failed)
     (omega (arith, i.within, c.min-within.ensures, past)) past
     (omega (arith, bound.0, room, c.min-room.ensures, i.within)) h c.in-Ok.ensures.bytes.0 bound.0
     (packing_ends (h.bytes ++ take within c.read.new.buf) (h.text ++ done.0) next all (c.chunks.taken + within) size
-    _ _ _ (Appends-trans _ _ _ h.text done.0 h.wrote done.3) true _ _
+    _ _ _ (Appends-trans _ _ _ h.text done.0 h.wrote done.3) few true _ _
     (rw c.deref-then-within-count.ensures.value at c.pack_last-then-within-count.ensures))
 
 pub chunks-preserved : goal.chunks-preserved
@@ -119,6 +126,12 @@ chunks-preserved g c =
       reader = still_fine _ _ i.reader c.in-Ok.ensures.failed;
       writer = done.4;
       within = omega (arith, i.within, c.min-within.ensures);
+      few = omega (
+        arith,
+        done.5,
+        i.few,
+        length-take within (c.read.new.buf ++ drop (c.min-room.result + 1) c.chunks.buffer),
+      );
       heard = heard_more (Holds held) (Holds next) _ _ _ _ _ _ c.chunks.taken within count c.read.new.buf
           done.0 same h c.in-Ok.ensures.bytes.0 bound.0 done.3
           (settles_more h.bytes h.text held (take count c.read.new.buf) h.holds.0 done.0 next part, done.2);

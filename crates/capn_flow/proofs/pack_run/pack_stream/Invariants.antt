@@ -1,4 +1,4 @@
-use Rattle.std.proofs.Common.{◌≡◌, ◌≤◌, ◌+◌, ◌-◌, false}
+use Rattle.std.proofs.Common.{◌≡◌, ◌≤◌, ◌+◌, ◌-◌, length, false}
 use Rattle.capn_words.specs.Watched.{inner_of, has_failed}
 use Rattle.capn_flow.specs.Flow.{Consumed, most}
 use Rattle.capn_flow.proofs.Packed.{Holds}
@@ -10,6 +10,7 @@ invariant-chunks g l = record {
   reader : has_failed l.reader ≡ false;
   writer : has_failed l.writer ≡ false;
   within : l.taken ≤ most;
+  few : length l.held.items ≤ l.taken;
   heard : Consumed (Holds l.held.items) (g.R.Read.remaining (inner_of l.fn.reader))
       (g.R.Read.remaining (inner_of l.reader))
       (g.W.Write.contents (inner_of l.fn.writer)) (g.W.Write.contents (inner_of l.writer)) l.taken;

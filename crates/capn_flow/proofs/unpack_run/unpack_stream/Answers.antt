@@ -69,7 +69,8 @@ returns-in_err-at-in-Ok g c =
     rw (p.1, p.2)
     (run_stopped unpacking (FromStart left) (start_settles left) (start_begins left) _ _ _ _ _ _ c.chunks.taken
     c.read.new.buf within c.in-Ok.count _ _ fault (still_fine _ _ i.reader c.in-Ok.ensures.failed) i.within
-    (omega (arith, c.min-within.ensures)) (omega (arith, bound.0, room, behind, c.min-room.ensures, i.within)) h
+    (omega (arith, c.min-within.ensures)) (omega (arith, bound.0, room, behind, c.min-room.ensures, i.within))
+    (omega (arith, c.in-Ok.count-test)) h
     c.in-Ok.ensures.bytes.0 bound.0
     (start_stop left h.bytes h.text (take within c.read.new.buf) h.holds _ _ _ _ fault h.wrote stop))
 

@@ -1,0 +1,160 @@
+-- What is shown of an input, in one way.
+use Rattle.std.proofs.Common.{◌≡◌, ◌⊎◌, inl, inr, ℕ, List, [], ◌∷◌, Option, Result, Ok, Err, refl, ap, sym, subst, ◌∙◌}
+use Rattle.capn_value.specs.Tree.{Tree}
+use Rattle.capn_walk.specs.Limits.{Bounds}
+use Rattle.capn_walk.specs.Accepted.{IsValueOf, IsWalkRefused, root}
+use Rattle.capn_walk.proofs.shared.Unique.{unique}
+use Rattle.capn_canon.specs.Refusal.{IsRefusedMessage}
+use Rattle.capn_canon.specs.declared.form.Form.{Form}
+use Rattle.capn_canon.specs.declared.form.Form.TheVariants as forms
+use Rattle.capn_canon.specs.declared.refusal.Refusal.{Refusal}
+use Rattle.capn_canon.specs.declared.refusal.Refusal.TheVariants as refusals
+use Rattle.capn_canon.proofs.shared.NotRefused.{accepted-not_refused}
+use Rattle.capn_canon.proofs.shared.OneRefusal.{one_message_refusal}
+use Rattle.capn_show.specs.declared.style.Style.{Style}
+use Rattle.capn_serve.specs.Fold.{AreServed, EndsRefused, EndsUnframed, Fold, IsFolded, Part}
+use Rattle.capn_serve.specs.BareRun.{EndsBare}
+use Rattle.capn_serve.specs.FormRun.{AreMessages}
+use Rattle.capn_serve.specs.declared.position.Position.{Position}
+use Rattle.capn_serve.specs.declared.service.Run.{Run}
+use Rattle.capn_serve.specs.declared.fault.RunFault.{RunFault}
+use Rattle.capn_serve.proofs.shared.OneServing.{Ending, IsOneWay}
+use Rattle.capn_program.specs.Laws.{Follows}
+use Rattle.capn_program.specs.PartRun.{ended_part, part_fold, refuses, serves}
+use Rattle.capn_program.specs.declared.order.Show.{Show}
+use Rattle.capn_program.specs.declared.part_texts.PartTexts.{PartTexts}
+
+-- ---- with each message one thing is done
+
+module _ (s : PartTexts) (at : Position) (frame : List ℕ) (m : List (List ℕ)) where
+  one_part : (t u : List ℕ) (p q : PartTexts) → serves s at frame m t p → serves s at frame m u q
+      → (t ≡ u) × (p ≡ q)
+  one_part t u p q ((v, is, e), same) ((w, also, h), alike) = (
+    e ∙ ap (λ (x : Tree). ended_part s.style s.way.now x) (unique m v w root is.is also.is) ∙ sym h,
+    same ∙ sym alike,
+  )
+
+  refused_message : (r : Refusal) → refuses s at frame m r → IsRefusedMessage m s.limits r
+  refused_message r (stop, e, h) = subst (λ (x : Refusal). IsRefusedMessage m s.limits x) (sym e) h
+
+  no_memory : (r : Refusal) → refuses s at frame m r → r ≡ refusals.Memory → ⊥
+  no_memory r (stop, e, h) k = let bad : refusals.Walk stop ≡ refusals.Memory = sym e ∙ k in cc
+
+  one_refusal : (r q : Refusal) → refuses s at frame m r → refuses s at frame m q → r ≡ q
+  one_refusal r q h k =
+      one_message_refusal m s.limits r q (no_memory r h) (no_memory q k) (refused_message r h) (refused_message q k)
+
+  not_both : (t : List ℕ) (p : PartTexts) (r : Refusal) → serves s at frame m t p → refuses s at frame m r → ⊥
+  not_both t p r ((v, is, e), same) (stop, why, h) = accepted-not_refused m s.limits stop is.accepted h
+
+pub part_one_way : (show : Show) → IsOneWay (part_fold show)
+part_one_way show = record {
+  steps = λ x frame m t u y z h k.
+      let same = one_part x.service x.at frame m t u y.service z.service h.0 k.0 in
+      let at : y.at ≡ z.at = h.1 ∙ sym k.1 in
+      (same.0, λ i. record { service = same.1 i; at = at i });
+  refusals = λ x frame m r s h k. one_refusal x.service x.at frame m r s h k;
+  never_both = λ x frame m t y r h k. not_both x.service x.at frame m t y.service r h.0 k;
+}
+
+-- ---- services with the same numbers, style and limits do the same
+
+record IsLike (p q : PartTexts) : Type 0 where
+  numbers : p.way.now ≡ q.way.now
+  style : p.style ≡ q.style
+  limits : p.limits ≡ q.limits
+
+pub both_follow : (show : Show) (way : List ℕ) (p q : PartTexts) → Follows show way p → Follows show way q → IsLike p q
+both_follow show way p q h k = record {
+  numbers = h.numbers ∙ sym k.numbers;
+  style = h.style ∙ sym k.style;
+  limits = h.limits ∙ sym k.limits;
+}
+
+module _ (show : Show) (q : PartTexts) where
+  abbrev f : Fold (Run PartTexts)
+  f = part_fold show
+
+  -- the same run, of this service
+  abbrev pub by : Run PartTexts → Run PartTexts
+  by x = record { service = q; at = x.at }
+
+  step_by : (x y : Run PartTexts) (frame text : List ℕ) (m : List (List ℕ)) → IsLike x.service q
+      → f.step x frame m text y → f.step (by x) frame m text (by y)
+  step_by x y frame text m like (((v, is, e), same), at) = (
+    (
+      (
+        v,
+        subst (λ (l : Bounds). IsValueOf m l v) like.limits is,
+        e ∙ ap (λ (w : List ℕ). ended_part x.service.style w v) like.numbers
+            ∙ ap (λ (s : Style). ended_part s q.way.now v) like.style,
+      ),
+      refl,
+    ),
+    at,
+  )
+
+  refuses_by : (x : Run PartTexts) (frame : List ℕ) (m : List (List ℕ)) (r : Refusal) → IsLike x.service q
+      → f.refuses x frame m r → f.refuses (by x) frame m r
+  refuses_by x frame m r like (stop, e, h) = (
+    stop,
+    e,
+    subst (λ (l : Bounds). IsWalkRefused m l stop.fault stop.place stop.paid stop.visits) like.limits h,
+  )
+
+  next_like : (x y : Run PartTexts) (frame text : List ℕ) (m : List (List ℕ)) → IsLike x.service q
+      → f.step x frame m text y → IsLike y.service q
+  next_like x y frame text m like (((v, is, e), same), at) = subst (λ (s : PartTexts). IsLike s q) (sym same) like
+
+  last_like : (x y : Run PartTexts) (ps : List Part) → IsLike x.service q → AreServed f x ps y → IsLike y.service q
+  last_like x y [] like is = subst (λ (r : Run PartTexts). IsLike r.service q) is like
+  last_like x y (p ∷ ps) like (mid, part, step, more) =
+      last_like mid y ps (next_like x mid p.frame p.text p.message like step) more
+
+  served_by : (x y : Run PartTexts) (ps : List Part) → IsLike x.service q → AreServed f x ps y
+      → AreServed f (by x) ps (by y)
+  served_by x y [] like is = ap (λ (r : Run PartTexts). by r) is
+  served_by x y (p ∷ ps) like (mid, part, step, more) = (
+    by mid,
+    part,
+    step_by x mid p.frame p.text p.message like step,
+    served_by mid y ps (next_like x mid p.frame p.text p.message like step) more,
+  )
+
+  ends_by : (y : Run PartTexts) (rest : List ℕ) (behind : Option RunFault) (r : Ending) → IsLike y.service q
+      → EndsUnframed f y rest behind r ⊎ EndsRefused f y rest r
+      → EndsUnframed f (by y) rest behind r ⊎ EndsRefused f (by y) rest r
+  ends_by y rest behind r like (inl h) = inl h
+  ends_by y rest behind r like (inr (frame, more, m, why, is, framed, room, h, e)) =
+      inr (frame, more, m, why, is, framed, room, refuses_by y frame m why like h, e)
+
+  folded_by : (x y : Run PartTexts) (bytes text : List ℕ) (behind : Option RunFault) (r : Ending)
+      → IsLike x.service q → IsFolded f x bytes behind text r y → IsFolded f (by x) bytes behind text r (by y)
+  folded_by x y bytes text behind r like h = record {
+    parts = h.parts;
+    rest = h.rest;
+    are = record { each = served_by x y h.parts like h.are.each; is = h.are.is };
+    joined = h.joined;
+    ends = ends_by y h.rest behind r (last_like x y h.parts like h.are.each) h.ends;
+  }
+
+  bare_by : (x : Run PartTexts) (bytes : List ℕ) (fault : RunFault) → IsLike x.service q → EndsBare f x bytes fault
+      → EndsBare f (by x) bytes fault
+  bare_by x bytes fault like (inl h) = inl h
+  bare_by x bytes fault like (inr (short, inl h)) = inr (short, inl h)
+  bare_by x bytes fault like (inr (short, inr (words, r, bare, h, e))) =
+      inr (short, inr (words, r, bare, refuses_by x bytes (words ∷ []) r like h, e))
+
+  pub messages_by : (form : Form) (x y : Run PartTexts) (input text : List ℕ) (r : Ending) → IsLike x.service q
+      → AreMessages f x form input text r y → AreMessages f (by x) form input text r (by y)
+  messages_by forms.Stream x y input text r like h = folded_by x y _ text _ r like h
+  messages_by forms.Packed x y input text r like h = record {
+    stream = h.stream;
+    group = h.group;
+    offset = h.offset;
+    split = h.split;
+    due = folded_by x y _ text _ r like h.due;
+  }
+  messages_by forms.Bare x y input text (Ok a) like (short, (words, bare, step)) =
+      (short, (words, bare, step_by x y input text (words ∷ []) like step))
+  messages_by forms.Bare x y input text (Err g) like (ends, none) = (bare_by x input g like ends, none)

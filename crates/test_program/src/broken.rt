@@ -1,0 +1,115 @@
+//! Runs of the program over a reader that fails after some bytes, or to a writer that takes some and then fails.
+
+use capn_program::{Watched, program};
+use std::alloc::Global;
+use std::io::{self, ErrorKind, Read, Write};
+
+/// A reader of pieces of at most so many bytes, which ends with its bytes, or fails there.
+#[derive(Drop)]
+struct Pieces<'a> {
+    bytes: &'a [u8],
+    most: usize,
+    fails: bool,
+}
+
+impl Read for Pieces<'_> {
+    fn read(&mut self, buf: &mut [u8]) -> io::Result<usize> {
+        if self.bytes.is_empty() && self.fails {
+            return Err(ErrorKind::Other.into());
+        }
+        let count = self.bytes.len().min(self.most).min(buf.len());
+        buf[..count].copy_from_slice(&self.bytes[..count]);
+        self.bytes = &self.bytes[count..];
+        Ok(count)
+    }
+}
+
+/// A writer that takes so many bytes, and then fails.
+#[derive(Drop)]
+struct Short {
+    bytes: Vec<u8>,
+    room: usize,
+}
+
+impl Write for Short {
+    fn write(&mut self, buf: &[u8]) -> io::Result<usize> {
+        let count = self.room.min(buf.len());
+        if count == 0 && !buf.is_empty() {
+            return Err(ErrorKind::Other.into());
+        }
+        self.bytes.extend_from_slice(&buf[..count])?;
+        self.room -= count;
+        Ok(count)
+    }
+
+    fn flush(&mut self) -> io::Result<()> {
+        Ok(())
+    }
+}
+
+/// What a run reads, and what becomes of that and of what it writes.
+#[derive(Clone, Copy)]
+pub(crate) struct Input<'a> {
+    /// The bytes that come.
+    pub(crate) bytes: &'a [u8],
+    /// The most bytes of a piece.
+    pub(crate) most: usize,
+    /// Whether the reader fails behind them.
+    pub(crate) fails: bool,
+    /// The most bytes that the writer takes.
+    pub(crate) room: usize,
+}
+
+impl<'a> Input<'a> {
+    /// These bytes, in pieces of at most so many, and then the end.
+    pub(crate) fn whole(bytes: &'a [u8], most: usize) -> Input<'a> {
+        Input {
+            bytes,
+            most,
+            fails: false,
+            room: usize::MAX,
+        }
+    }
+}
+
+/// What a run wrote, the line that it ended with, and its status.
+#[derive(Drop)]
+pub(crate) struct Ending {
+    pub(crate) text: Vec<u8>,
+    pub(crate) line: Vec<u8>,
+    pub(crate) status: u8,
+}
+
+impl Ending {
+    /// Whether it says that the input or the output failed.
+    pub(crate) fn is_broken(&self) -> bool {
+        self.status == 3 && self.line.as_slice() == b"capn: input or output failed\n".as_slice()
+    }
+
+    /// Whether it is the same as another.
+    pub(crate) fn is_as(&self, other: &Ending) -> bool {
+        self.text.as_slice() == other.text.as_slice()
+            && self.line.as_slice() == other.line.as_slice()
+            && self.status == other.status
+    }
+}
+
+/// How the program ends that is started with these words.
+pub(crate) fn ended(alloc: Global, words: &[&str], input: Input<'_>) -> Ending {
+    let mut reader = Watched::new(Pieces {
+        bytes: input.bytes,
+        most: input.most,
+        fails: input.fails,
+    });
+    let mut writer = Watched::new(Short {
+        bytes: Vec::new(alloc),
+        room: input.room,
+    });
+    let mut errors = Watched::new(Vec::new(alloc));
+    let status = program(alloc, words, &mut reader, &mut writer, &mut errors);
+    Ending {
+        text: writer.into_inner().bytes,
+        line: errors.into_inner(),
+        status,
+    }
+}

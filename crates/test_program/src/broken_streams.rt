@@ -1,0 +1,233 @@
+//! What each run has written once its reader fails, and once its writer does: no more and no less than what came, or
+//! the room that there is, decides.
+
+use crate::broken::{Ending, Input, ended};
+use std::alloc::Global;
+use std::process::Abort;
+
+/// Frames of a message with a word and a text, of one that is refused, of one that is null, and of the first again.
+const ARCHIVE: [u8; 112] = [
+    0, 0, 0, 0, 4, 0, 0, 0, 0, 0, 0, 0, 1, 0, 1, 0, 7, 0, 0, 0, 0, 0, 0, 0, 1, 0, 0, 0, 26, 0, 0,
+    0, 104, 105, 0, 0, 0, 0, 0, 0, 0, 0, 0, 0, 1, 0, 0, 0, 0, 0, 0, 0, 9, 0, 0, 0, 0, 0, 0, 0, 1,
+    0, 0, 0, 0, 0, 0, 0, 0, 0, 0, 0, 0, 0, 0, 0, 4, 0, 0, 0, 0, 0, 0, 0, 1, 0, 1, 0, 7, 0, 0, 0, 0,
+    0, 0, 0, 1, 0, 0, 0, 26, 0, 0, 0, 104, 105, 0, 0, 0, 0, 0, 0,
+];
+
+/// Runs over an archive that write what a message says once it came.
+const OVER_ARCHIVES: [&[&str]; 4] = [
+    &["capn", "list"],
+    &["capn", "list", "--keep-going"],
+    &["capn", "list", "--digest", "--keep-going"],
+    &["capn", "canonical", "--framed", "--keep-going"],
+];
+
+/// Runs that leave messages out.
+const WITH_FEWER: [&[&str]; 3] = [
+    &["capn", "uniq", "--keep-going"],
+    &["capn", "pick", "--from=2", "--to=3"],
+    &["capn", "pick"],
+];
+
+/// Runs that show messages, or parts of them.
+const SHOWING: [&[&str]; 3] = [
+    &["capn", "show", "--at=0"],
+    &["capn", "show", "--text"],
+    &["capn", "show", "--json"],
+];
+
+/// Runs that do so with the messages of a packed stream, or with its words.
+const OVER_PACKED: [&[&str]; 4] = [
+    &["capn", "list", "--form=packed", "--keep-going"],
+    &["capn", "pick", "--form=packed", "--from=2"],
+    &["capn", "show", "--form=packed", "--at=0"],
+    &["capn", "unpack", "--streaming"],
+];
+
+/// Runs that write at the end of their input.
+const AT_THE_END: [&[&str]; 2] = [
+    &["capn", "limits", "--keep-going"],
+    &["capn", "uniq", "--count", "--keep-going"],
+];
+
+/// How the program packs, before more comes.
+const PACK: [&str; 3] = ["capn", "pack", "--streaming"];
+
+/// How a run ends whose reader fails behind these bytes, which come in pieces of at most so many.
+fn unread(alloc: Global, words: &[&str], bytes: &[u8], most: usize) -> Ending {
+    let input = Input {
+        bytes,
+        most,
+        fails: true,
+        room: usize::MAX,
+    };
+    ended(alloc, words, input)
+}
+
+/// How a run ends whose writer takes so many bytes.
+fn unwritten(alloc: Global, words: &[&str], bytes: &[u8], room: usize) -> Ending {
+    let input = Input {
+        bytes,
+        most: usize::MAX,
+        fails: false,
+        room,
+    };
+    ended(alloc, words, input)
+}
+
+/// The bytes come one by one for an even number of them, and at once for an odd one.
+fn piece_of(count: usize) -> usize {
+    if count % 2 == 0 { 1 } else { usize::MAX }
+}
+
+/// After each number of bytes that came, all was written that the run writes whose input ends there; and the run has
+/// ended as that does, or says that its input failed.
+fn expect_all_that_came(rt: &impl Abort, alloc: Global, words: &[&str], bytes: &[u8]) {
+    for count in 0..=bytes.len() {
+        let (came, most) = (&bytes[..count], piece_of(count));
+        let whole = ended(alloc, words, Input::whole(came, most));
+        let cut = unread(alloc, words, came, most);
+        let is_same = cut.text.as_slice() == whole.text.as_slice();
+        assert!(rt;
+            is_same && (cut.is_broken() || cut.is_as(&whole)),
+            "{words:?} {count}"
+        );
+    }
+}
+
+#[test]
+fn the_reader_of_an_archive_fails_after_each_byte(rt: HostRuntime) {
+    for words in OVER_ARCHIVES {
+        expect_all_that_came(&rt, rt.alloc(), words, &ARCHIVE);
+    }
+}
+
+#[test]
+fn the_reader_of_fewer_messages_fails_after_each_byte(rt: HostRuntime) {
+    for words in WITH_FEWER {
+        expect_all_that_came(&rt, rt.alloc(), words, &ARCHIVE);
+    }
+}
+
+#[test]
+fn the_reader_of_what_is_shown_fails_after_each_byte(rt: HostRuntime) {
+    for words in SHOWING {
+        expect_all_that_came(&rt, rt.alloc(), words, &ARCHIVE);
+    }
+}
+
+/// The packed text of the archive.
+fn packed(alloc: Global) -> Ending {
+    let input = Input::whole(&ARCHIVE, usize::MAX);
+    ended(alloc, &["capn", "pack"], input)
+}
+
+#[test]
+fn the_reader_of_a_packed_stream_fails_after_each_byte(rt: HostRuntime) {
+    let packed = packed(rt.alloc());
+    for words in OVER_PACKED {
+        expect_all_that_came(&rt, rt.alloc(), words, packed.text.as_slice());
+    }
+}
+
+/// What is written at the end is not, where the reader fails before it.
+#[test]
+fn a_reader_fails_before_the_end(rt: HostRuntime) {
+    for words in AT_THE_END {
+        for count in 0..=ARCHIVE.len() {
+            let (came, most) = (&ARCHIVE[..count], piece_of(count));
+            let whole = ended(rt.alloc(), words, Input::whole(came, most));
+            let cut = unread(rt.alloc(), words, came, most);
+            assert!(rt;
+                cut.text.is_empty() && (cut.is_broken() || cut.is_as(&whole)),
+                "{words:?} {count}"
+            );
+        }
+    }
+}
+
+/// The text of the last word may go on where the word is zero, or has one zero byte at most; any other was written.
+fn may_go_on(bytes: &[u8]) -> bool {
+    let whole = bytes.len() / 8 * 8;
+    if whole == 0 {
+        return false;
+    }
+    let mut zeros = 0;
+    for byte in &bytes[whole - 8..whole] {
+        if *byte == 0 {
+            zeros += 1;
+        }
+    }
+    zeros < 2 || zeros == 8
+}
+
+/// What is packed of the bytes that came was written; but not the last group, if it may go on.
+#[test]
+fn the_reader_of_words_fails_after_each_byte(rt: HostRuntime) {
+    for count in 0..=ARCHIVE.len() {
+        let (came, most) = (&ARCHIVE[..count], piece_of(count));
+        let whole = ended(rt.alloc(), &PACK, Input::whole(came, most));
+        let cut = unread(rt.alloc(), &PACK, came, most);
+        let is_right = if may_go_on(came) {
+            whole.text.starts_with(cut.text.as_slice())
+        } else {
+            whole.text.as_slice() == cut.text.as_slice()
+        };
+        assert!(rt; is_right && cut.is_broken(), "{count}");
+    }
+}
+
+/// Of the whole text as much was written as the writer takes, and the run says that its output failed.
+fn expect_what_has_room(rt: &impl Abort, alloc: Global, words: &[&str], bytes: &[u8]) {
+    let whole = ended(alloc, words, Input::whole(bytes, usize::MAX));
+    assert!(rt; !whole.text.is_empty(), "{words:?}");
+    for room in 0..whole.text.len() {
+        let cut = unwritten(alloc, words, bytes, room);
+        assert!(rt;
+            cut.is_broken() && cut.text.as_slice() == &whole.text[..room],
+            "{words:?} {room}"
+        );
+    }
+}
+
+#[test]
+fn the_writer_of_lines_fails_after_each_byte(rt: HostRuntime) {
+    for words in [
+        &["capn", "list", "--keep-going"][..],
+        &["capn", "limits", "--keep-going"],
+        &["capn", "uniq", "--count", "--keep-going"],
+    ] {
+        expect_what_has_room(&rt, rt.alloc(), words, &ARCHIVE);
+    }
+}
+
+#[test]
+fn the_writer_of_digests_fails_after_each_byte(rt: HostRuntime) {
+    let words = ["capn", "list", "--digest", "--keep-going"];
+    expect_what_has_room(&rt, rt.alloc(), &words, &ARCHIVE);
+}
+
+#[test]
+fn the_writer_of_messages_fails_after_each_byte(rt: HostRuntime) {
+    for words in [
+        &["capn", "canonical", "--framed", "--keep-going"][..],
+        &["capn", "uniq", "--keep-going"],
+        &["capn", "pick"],
+        &PACK,
+    ] {
+        expect_what_has_room(&rt, rt.alloc(), words, &ARCHIVE);
+    }
+}
+
+#[test]
+fn the_writer_of_what_is_shown_fails_after_each_byte(rt: HostRuntime) {
+    for words in SHOWING {
+        expect_what_has_room(&rt, rt.alloc(), words, &ARCHIVE);
+    }
+}
+
+#[test]
+fn the_writer_of_words_fails_after_each_byte(rt: HostRuntime) {
+    let packed = packed(rt.alloc());
+    let words = ["capn", "unpack", "--streaming"];
+    expect_what_has_room(&rt, rt.alloc(), &words, packed.text.as_slice());
+}
