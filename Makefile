@@ -22,11 +22,14 @@ PAGES := $(addprefix docs/,GUIDE.md DIAGNOSTICS.md FORMAT.md PROFILE.md DIFFEREN
 # The headers, and the pages that are installed with them.
 HEADERS := $(wildcard c/*.h c/*.hpp)
 LIBRARY_PAGES := $(wildcard docs/C.md docs/CPP.md)
-# A file of a release, for verify-dist.
+# A file of a release, for verify-dist; and a clone where its commit is built already (BUILT), or where the gate passed
+# it, so that what it proved of the crates below the program and the library need not be proved again (OVER).
 FILE ?= dist/*
+BUILT ?=
+OVER ?=
 
 .PHONY: try program run test bench interop library linked install install-library uninstall uninstall-library
-.PHONY: dist verify-dist clean-root
+.PHONY: beside dist verify-dist clean-root
 
 # The stored run, tried before any proof, in about a minute: what runs is not the proved program.
 try:
@@ -104,6 +107,10 @@ library:
 	cd crates/capn_c && rt lib > /dev/null
 	$(MAKE) linked
 
+# What `make program library` leaves, proved several crates at a time where processors and memory allow.
+beside:
+	release/beside
+
 # The two libraries that are linked with: the archive, the allocator and the texts as one object, of which the names
 # capn_* alone are visible. Proves nothing, and compiles the texts alone.
 linked:
@@ -173,7 +180,7 @@ dist:
 
 # Whether files of a release, those of dist/ or FILE, are what their commit builds.
 verify-dist:
-	release/verify $(FILE)
+	release/verify $(if $(BUILT),--built $(BUILT)) $(if $(OVER),--over $(OVER)) $(FILE)
 
 # The files of dist/ installed, used and removed in a root that has nothing else.
 clean-root:

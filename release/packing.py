@@ -41,6 +41,14 @@ def said(*words, cwd=TOP, env=None, text=True):
     return ran.stdout.decode() if text else ran.stdout
 
 
+def write(path, text, mode=0o644):
+    """Writes a file of text or of bytes, in a folder that is made if it isn't there."""
+    os.makedirs(os.path.dirname(path), exist_ok=True)
+    with open(path, "wb") as file:
+        file.write(text if isinstance(text, bytes) else text.encode())
+    os.chmod(path, mode)
+
+
 def sum_of(path):
     """The SHA-256 of a file."""
     with open(path, "rb") as file:

@@ -1,0 +1,56 @@
+"""The list of components of a release, by what NOTICE says of each."""
+
+import datetime
+import json
+import os
+import re
+
+import packing
+from packing import VERSION
+
+
+def listed(made, seconds, commit, tree):
+    """The list, in the form of SPDX 2.3, of the files that were made. Of these no licence is concluded, since parts
+    that are linked into them state none."""
+    paths = {os.path.basename(it): it for it in made}
+    day = datetime.datetime.fromtimestamp(seconds, datetime.timezone.utc)
+    packages, relations, texts = [], [], {}
+    for name in sorted(os.path.basename(it) for it in made):
+        path = paths[name]
+        key = "SPDXRef-File-" + re.sub(r"[^A-Za-z0-9.]", "-", name)
+        packages.append({"SPDXID": key, "name": name, "versionInfo": VERSION, "downloadLocation": "NOASSERTION",
+                         "filesAnalyzed": False, "licenseConcluded": "NOASSERTION", "licenseDeclared": "MIT",
+                         "copyrightText": "Copyright (c) 2026 The authors of capn",
+                         "checksums": [{"algorithm": "SHA256", "checksumValue": packing.sum_of(path)}],
+                         "comment": f"made of commit {commit}, tree {tree}"})
+        relations.append(("SPDXRef-DOCUMENT", "DESCRIBES", key))
+    parts = {"program": [r"^capn_", r"\.tar\.gz$"], "libraries": [r"^libcapn", r"\.tar\.gz$"],
+             "package for Python": [r"^python3-capn", r"\.whl$"]}
+    for one in packing.components():
+        key = "SPDXRef-" + re.sub(r"[^A-Za-z0-9.]", "-", one["name"])
+        licence = one["License"][0]
+        if licence.startswith("LicenseRef-"):
+            texts[licence] = one["Upstream"][0]
+        packages.append({"SPDXID": key, "name": one["name"], "versionInfo": one["version"] or "NOASSERTION",
+                         "downloadLocation": "NOASSERTION", "filesAnalyzed": False, "licenseConcluded": licence,
+                         "licenseDeclared": licence, "comment": " ".join(one.get("Note", [])),
+                         "copyrightText": "\n".join("Copyright " + it if it != "none is stated" else "NONE"
+                                                    for it in one["Copyright"])})
+        for part in one["Linked into"][0].split(", "):
+            for name in sorted(os.path.basename(it) for it in made):
+                if any(re.search(it, name) for it in parts[part]):
+                    above = "SPDXRef-File-" + re.sub(r"[^A-Za-z0-9.]", "-", name)
+                    if (above, "CONTAINS", key) not in relations:
+                        relations.append((above, "CONTAINS", key))
+    whole = {
+        "spdxVersion": "SPDX-2.3", "dataLicense": "CC0-1.0", "SPDXID": "SPDXRef-DOCUMENT",
+        "name": f"capn-{VERSION}",
+        "documentNamespace": f"urn:capn:{VERSION}:{commit}",
+        "creationInfo": {"created": f"{day:%Y-%m-%dT%H:%M:%SZ}", "creators": ["Tool: release/dist of capn"]},
+        "packages": packages,
+        "relationships": [{"spdxElementId": a, "relationshipType": b, "relatedSpdxElement": c}
+                          for a, b, c in relations],
+        "hasExtractedLicensingInfos": [{"licenseId": key, "extractedText": text, "name": key}
+                                       for key, text in sorted(texts.items())],
+    }
+    return json.dumps(whole, indent=1, sort_keys=True) + "\n"
