@@ -50,9 +50,10 @@ run: program
 	@echo "out:"; $(PROGRAM)/out/capn $$(cat $(PROGRAM)/args) < $(PROGRAM)/stdin | od -An -v -tx1 -w8
 
 # The whole gate: no line is too long; no crate reaches into another one's proofs; README.md names the toolchain that
-# runs; each place has the version of the file VERSION; the tables of docs/VERIFY.md, PROMISES.md, TESTED.md and
-# ARCHITECTURE.md are true; completions complete; the list of symbols and capn(3) are those of the header; what `rt ci`
-# tries; the program that it built, once or more for each exit status and with too little memory; and the library for C.
+# runs; each place has the version of the file VERSION, and each list of statuses those of c/statuses.txt; the tables of
+# docs/VERIFY.md, PROMISES.md, TESTED.md and ARCHITECTURE.md are true; completions complete; the list of symbols and
+# capn(3) are those of the header; what `rt ci` tries; the program that it built, once or more for each exit status and
+# with too little memory; and the library for C.
 # The libraries that earlier checks built are removed first: after its run `rt ci` would put them back in place of its
 # own, and the library for C is built over its own. At the end it packs twice what it built, compares, and writes
 # build/PROVED: what passed, of which commit. With ANEW=--anew it proves again what earlier runs have passed.
@@ -61,6 +62,7 @@ test:
 	.ci/borders
 	.ci/toolchain
 	.ci/version
+	.ci/status-list
 	.ci/readings
 	.ci/counts
 	.ci/places

@@ -144,7 +144,7 @@ enum capn_status_code {
     CAPN_FRAME_EMPTY = 48,       /* of capn_first, `length`: how many bytes a frame has at least */
     CAPN_TOO_MANY_SEGMENTS = 49, /* at: how many are announced */
     CAPN_TOO_MANY_WORDS = 50,    /* at: how many are announced */
-    CAPN_FRAME_CUT = 51, /* of capn_first, `length`: how many bytes the frame has at least */
+    CAPN_FRAME_CUT = 51,         /* of capn_first, `length`: how many bytes the frame has at least */
     CAPN_TRAILING = 52, /* at: the offset of the first byte after the message; of CAPN_PACKED, in the unpacked bytes */
     /* the walk, at `segment` and `word` */
     CAPN_NO_ROOT = 64,

@@ -10,6 +10,7 @@ const char *capn_version(void) { return CAPN_VERSION_TEXT; }
 
 const char *capn_status_text(capn_status status) {
     switch (status) {
+    /* c/statuses.txt: texts */
     case CAPN_OK: return "the answer is there";
     case CAPN_NO_ROOM: return "the buffer has no room for the answer";
     case CAPN_BAD_FORM: return "the form is none that the call takes";
@@ -38,12 +39,14 @@ const char *capn_status_text(capn_status status) {
     case CAPN_TOO_DEEP: return "an object lies deeper than the limit";
     case CAPN_OVER_BUDGET: return "the walk pays more than the budget";
     case CAPN_CAPABILITY: return "the value has a capability";
+    /* c/statuses.txt ends */
     default: return "no status of this library";
     }
 }
 
 const char *capn_status_name(capn_status status) {
     switch (status) {
+    /* c/statuses.txt: names */
     case CAPN_OK: return "Ok";
     case CAPN_NO_ROOM: return "NoRoom";
     case CAPN_BAD_FORM: return "BadForm";
@@ -72,6 +75,7 @@ const char *capn_status_name(capn_status status) {
     case CAPN_TOO_DEEP: return "TooDeep";
     case CAPN_OVER_BUDGET: return "OverBudget";
     case CAPN_CAPABILITY: return "Capability";
+    /* c/statuses.txt ends */
     default: return "Unknown";
     }
 }

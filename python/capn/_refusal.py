@@ -19,6 +19,7 @@ _TEXTS = {
     lib.CAPN_CAPABILITY: ("Capability", "capability {}"),
 }
 _FAULTS = {
+    # c/statuses.txt: walk in cffi
     lib.CAPN_NO_ROOT: "NoRoot",
     lib.CAPN_ROOT_KIND: "RootKind",
     lib.CAPN_RESERVED: "Reserved",
@@ -30,6 +31,7 @@ _FAULTS = {
     lib.CAPN_TAG_OVERRUN: "TagOverrun",
     lib.CAPN_TOO_DEEP: "TooDeep",
     lib.CAPN_OVER_BUDGET: "OverBudget",
+    # c/statuses.txt ends
 }
 
 
