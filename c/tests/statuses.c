@@ -37,6 +37,8 @@ static capn_report each_call(const char *what, uint32_t form, const void *bytes,
         want("the report of a survey", memcmp(&report, &checked, sizeof report) != 0, 0);
         is(what, capn_index(form, bytes, size, limits, NULL, 0, &report), told == CAPN_OK ? CAPN_NO_ROOM : told);
     }
+    const capn_status shown = wanted == CAPN_OK || wanted == CAPN_CAPABILITY ? CAPN_NO_ROOM : wanted;
+    is(what, capn_show(form, bytes, size, limits, CAPN_STYLE_LINES, NULL, 0, &report), shown);
     is(what, capn_hash(form, bytes, size, limits, out, &report), wanted);
     is(what, capn_canonical(form, bytes, size, limits, out, 64, &report), wanted);
     is(what, capn_canonical(form, bytes, size, limits, NULL, 0, &report), wanted == CAPN_OK ? CAPN_NO_ROOM : wanted);
@@ -152,6 +154,9 @@ static void called(void) {
     is("no words allowed", capn_is_canonical(message, 24, &none, &report), CAPN_BAD_LIMITS);
     each_call("tariff 2", CAPN_STREAM, message, 24, &third, CAPN_BAD_TARIFF);
     is("tariff 2", capn_is_canonical(message, 24, &third, &report), CAPN_BAD_TARIFF);
+    is("style 3", capn_show(CAPN_STREAM, message, 24, &usual, 3, NULL, 0, &report), CAPN_BAD_STYLE);
+    is("style 3 and tariff 2", capn_show(CAPN_STREAM, message, 24, &third, 3, NULL, 0, &report), CAPN_BAD_TARIFF);
+    is("style 3 of no bytes", capn_show(CAPN_STREAM, NULL, 0, &usual, 3, NULL, 0, &report), CAPN_BAD_STYLE);
     is("room for 7 bytes", capn_canonical(CAPN_STREAM, message, 24, &usual, out, 7, &report), CAPN_NO_ROOM);
     want("its length", report.length, 8);
     is("room for no text", capn_pack(message, 24, out, 1, &report), CAPN_NO_ROOM);
@@ -169,6 +174,7 @@ static void without_memory(void) {
     each_call("packed", CAPN_PACKED, packed, 4, &usual, CAPN_MEMORY);
     is("no answer", capn_canonical(CAPN_BARE, two + 8, 8, &usual, out, 64, &report), CAPN_MEMORY);
     is("no digest", capn_hash(CAPN_BARE, two + 8, 8, &usual, out, &report), CAPN_MEMORY);
+    is("no lines", capn_show(CAPN_BARE, two + 8, 8, &usual, 0, (char *)out, 64, &report), CAPN_MEMORY);
     is("no text", capn_pack(two, 24, out, 64, &report), CAPN_MEMORY);
     is("no words", capn_unpack(packed, 4, 9, out, 64, &report), CAPN_MEMORY);
     is("no groups", capn_unpack_some(packed, 4, out, 64, &report), CAPN_MEMORY);

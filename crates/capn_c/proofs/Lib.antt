@@ -10,4 +10,5 @@ pub mod OneBare
 pub mod OutOfMemory
 pub mod Placed
 pub mod Short
+pub mod Shown
 pub mod Unpacked
