@@ -226,10 +226,10 @@ capn_status capn_first(const uint8_t *bytes, size_t size, const capn_limits *lim
  * something, or asks for more bytes. It takes memory for the words that it writes. */
 capn_status capn_unpack_some(const uint8_t *bytes, size_t size, uint8_t *out, size_t room, capn_report *report);
 
-/* The figures of one message, of CAPN_STREAM or CAPN_BARE; with CAPN_PACKED it answers CAPN_BAD_FORM: unpack it first.
- * It accepts and refuses what capn_check does, and takes memory where that does; the report has `paid` and `visits`.
- * Unless it answers CAPN_OK, the figures are as they were. It walks a message up to three times: use capn_check if what
- * it reports is enough. */
+/* The figures of one message; of CAPN_PACKED those of what it unpacks to. It accepts and refuses what capn_check does,
+ * and takes memory where that does; the report has `paid` and `visits`. Unless it answers CAPN_OK, the figures are as
+ * they were. It walks a message up to three times, and unpacks a packed one twice: use capn_check if what it reports is
+ * enough. */
 capn_status capn_survey(uint32_t form, const uint8_t *bytes, size_t size, const capn_limits *limits,
                         capn_figures *figures, capn_report *report);
 

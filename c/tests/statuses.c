@@ -23,22 +23,19 @@ static void is(const char *what, capn_status status, capn_status wanted) {
 
 static const capn_limits usual = CAPN_USUAL_LIMITS;
 
-/* What canonical, with room and without, hash and check answer of bytes, and survey and index, which don't take packed
- * ones: check, survey and index say OK of a value with a capability. */
+/* What canonical, with room and without, hash, check, survey and show answer of bytes, and index, which doesn't take
+ * packed ones: check, survey, show and index say OK of a value with a capability. */
 static capn_report each_call(const char *what, uint32_t form, const void *bytes, size_t size, const capn_limits *limits,
                              uint32_t wanted) {
     capn_report checked, report;
     uint8_t out[64];
     is(what, capn_check(form, bytes, size, limits, &checked), wanted == CAPN_CAPABILITY ? CAPN_OK : wanted);
-    if (form != CAPN_PACKED) {
-        const capn_status told = wanted == CAPN_CAPABILITY ? CAPN_OK : wanted;
-        capn_figures figures;
-        is(what, capn_survey(form, bytes, size, limits, &figures, &report), told);
-        want("the report of a survey", memcmp(&report, &checked, sizeof report) != 0, 0);
-        is(what, capn_index(form, bytes, size, limits, NULL, 0, &report), told == CAPN_OK ? CAPN_NO_ROOM : told);
-    }
-    const capn_status shown = wanted == CAPN_OK || wanted == CAPN_CAPABILITY ? CAPN_NO_ROOM : wanted;
-    is(what, capn_show(form, bytes, size, limits, CAPN_STYLE_LINES, NULL, 0, &report), shown);
+    const capn_status told = wanted == CAPN_CAPABILITY ? CAPN_OK : wanted, unread = told == CAPN_OK ? CAPN_NO_ROOM : told;
+    capn_figures figures;
+    is(what, capn_survey(form, bytes, size, limits, &figures, &report), told);
+    want("the report of a survey", memcmp(&report, &checked, sizeof report) != 0, 0);
+    if (form != CAPN_PACKED) is(what, capn_index(form, bytes, size, limits, NULL, 0, &report), unread);
+    is(what, capn_show(form, bytes, size, limits, CAPN_STYLE_LINES, NULL, 0, &report), unread);
     is(what, capn_hash(form, bytes, size, limits, out, &report), wanted);
     is(what, capn_canonical(form, bytes, size, limits, out, 64, &report), wanted);
     is(what, capn_canonical(form, bytes, size, limits, NULL, 0, &report), wanted == CAPN_OK ? CAPN_NO_ROOM : wanted);
