@@ -279,7 +279,8 @@ capn_status capn_survey_segments(const capn_segment *segments, size_t count, con
 /* The text that the program capn prints for a refusal of a message, with its place, as `Range at 3:623915, paid 0,
  * visits 1`, and for CAPN_MEMORY; for other statuses, and without a report, what capn_status_text says. Of capn_pack
  * the program leaves out `bare: `. It returns the length of the text, without the zero that ends it, and writes as much
- * of it as there is room for, always with a zero after it; with a room of 0 it writes nothing, and `out` may be null. */
+ * of it as there is room for, always with a zero after it; with a room of 0 it writes nothing, and `out` may be
+ * null. */
 size_t capn_refusal_text(capn_status status, const capn_report *report, char *out, size_t room);
 
 /* The name of a status, as `Range` of CAPN_RANGE and `NoRoot` of CAPN_NO_ROOT; `Unknown` of a number that is no status.
