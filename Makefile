@@ -61,6 +61,7 @@ test:
 	.ci/borders
 	.ci/toolchain
 	.ci/version
+	.ci/status-list
 	.ci/readings
 	.ci/counts
 	.ci/places
@@ -111,15 +112,20 @@ library:
 beside:
 	release/beside
 
-# The two libraries that are linked with: the archive, the allocator and the texts as one object, of which the names
-# capn_* alone are visible. Proves nothing, and compiles the texts alone.
+# The two libraries that are linked with: the archive, the allocator, the texts and the defaults as one object, of which
+# the names capn_* alone are visible. The proved calls are named proved_capn_*, and c/defaults.c passes on to them.
+# Proves nothing, and compiles the texts and the defaults alone.
 linked:
 	@test -f "$(KIT)c/liblibc_c.a" || { echo "there is no rt, whose folder has the allocator in C" >&2; exit 1; }
 	@test -f crates/capn_c/out/libcapn_c.a || { echo "there is no proved archive: run make library" >&2; exit 1; }
 	rm -f $(BUILD)/*.o $(BUILD)/libcapn.* && mkdir -p $(BUILD)
 	cd $(BUILD) && ar x ../crates/capn_c/out/libcapn_c.a && ar x $(KIT)c/liblibc_c.a heap.pic.o
 	$(CC) -O2 -fPIC -Wall -Wextra -Werror -DCAPN_VERSION_TEXT='"$(VERSION)"' -c c/text.c -o $(BUILD)/text.o
-	cd $(BUILD) && ld -r -o capn.o capn_c.o heap.pic.o text.o && objcopy --wildcard --keep-global-symbol='capn_*' capn.o
+	$(CC) -O2 -fPIC -Wall -Wextra -Werror -c c/defaults.c -o $(BUILD)/defaults.o
+	cd $(BUILD) && nm -g --defined-only capn_c.o | sed -n 's/.* \(capn_.*\)/\1 proved_\1/p' > proved.names
+	cd $(BUILD) && objcopy --redefine-syms=proved.names capn_c.o
+	cd $(BUILD) && ld -r -o capn.o capn_c.o heap.pic.o text.o defaults.o \
+		&& objcopy --wildcard --keep-global-symbol='capn_*' capn.o
 	cd $(BUILD) && ar rcsD libcapn.a capn.o
 	cd $(BUILD) && $(CC) -shared -o libcapn.so.1 -Wl,-soname,libcapn.so.1 -Wl,-z,defs,-z,now capn.o
 

@@ -5,8 +5,10 @@
  * of them. Copy first what another thread, another process or a device can write: shared memory, a mapped file.
  *
  * What the caller owes beside:
- *   - Each pointer leads to what its type and the size after it say. A pointer to no bytes may be null; no other may.
- *     Bytes may start at any address; limits, figures, entries and reports are aligned as their types are.
+ *   - Each pointer leads to what its type and the size after it say. A pointer to no bytes may be null, and so may
+ *     limits, which are then the usual ones, and a report that is not wanted; no other may. (Code in C sees to that,
+ *     which is tested, not proved.) Bytes may start at any address; limits, figures, entries and reports are aligned as
+ *     their types are.
  *   - What a call writes (`out`, `digest`, `figures`, `entries`, `report`) overlaps nothing else that it is given, and
  *     nothing else reads or writes it while the call runs.
  *   - No call is made from a signal handler, nor from the child of a `fork` of a process with several threads.
@@ -15,8 +17,8 @@
  *
  * A call reads bytes, writes into a buffer of the caller's, and keeps nothing: no state, no handle, nothing to free.
  * Calls may run in any threads at once, also on the same input. A call takes memory by malloc, and gives it back before
- * it returns. It takes at most 16 KiB of stack, and 352 bytes more for each level of depth that the limits allow:
- * 104 KiB at depth 256.
+ * it returns. It takes at most 16 KiB of stack, and 352 bytes more for each level of depth that the limits allow,
+ * capn_show 432: 104 KiB at depth 256, capn_show 124 KiB.
  *
  * Each call answers a status and fills its report in; a field that the status does not speak of is 0. */
 #ifndef CAPN_H
@@ -45,6 +47,13 @@ enum capn_tariff {
     CAPN_PLAIN = 1   /* nothing beside it, as the traversal limit of the C++ implementation counts */
 };
 
+/* How the text of a message is written. */
+enum capn_style {
+    CAPN_STYLE_LINES = 0, /* lines, with the digits of each list of bytes: as `capn show` writes it */
+    CAPN_STYLE_TEXT = 1,  /* the same, but a list of printable bytes stands between quotes: as `capn show --text` */
+    CAPN_STYLE_JSON = 2   /* one line of JSON: as `capn show --json` */
+};
+
 /* How much a call takes on. The root object has depth 1; walks pay words. */
 typedef struct capn_limits {
     uint32_t message_words; /* of one framed message: 1 to 2^28 */
@@ -60,7 +69,8 @@ typedef struct capn_report {
     uint64_t length;  /* bytes of an answer: those written, or at CAPN_NO_ROOM those that are enough; of a frame */
     uint64_t at;      /* a refusal's offset, count or index, as at its status below */
     uint32_t paid;    /* words that the walk paid; set with an answer and by refusals of the walk */
-    uint32_t visits;  /* visits that it made; set by capn_check, capn_survey, capn_index and by refusals of the walk */
+    uint32_t visits;  /* visits that it made; set by capn_check, capn_survey, capn_index, capn_show, and by refusals
+                         of the walk */
     uint32_t segment; /* the slot at which a walk was refused: its segment, */
     uint32_t word;    /* and its word there */
 } capn_report;
@@ -131,6 +141,7 @@ enum capn_status_code {
     CAPN_BAD_LIMITS = 3,    /* a limit is out of its range */
     CAPN_BAD_TARIFF = 4,    /* the tariff is none of the two */
     CAPN_NOT_CANONICAL = 5, /* of capn_is_canonical alone: the bytes are accepted, and are not canonical */
+    CAPN_BAD_STYLE = 6,     /* of capn_show alone: the style is none of the three */
     CAPN_MEMORY = 8,        /* memory was refused */
 
     /* refusals of what was passed */
@@ -144,7 +155,7 @@ enum capn_status_code {
     CAPN_FRAME_EMPTY = 48,       /* of capn_first, `length`: how many bytes a frame has at least */
     CAPN_TOO_MANY_SEGMENTS = 49, /* at: how many are announced */
     CAPN_TOO_MANY_WORDS = 50,    /* at: how many are announced */
-    CAPN_FRAME_CUT = 51, /* of capn_first, `length`: how many bytes the frame has at least */
+    CAPN_FRAME_CUT = 51,         /* of capn_first, `length`: how many bytes the frame has at least */
     CAPN_TRAILING = 52, /* at: the offset of the first byte after the message; of CAPN_PACKED, in the unpacked bytes */
     /* the walk, at `segment` and `word` */
     CAPN_NO_ROOT = 64,
@@ -215,10 +226,10 @@ capn_status capn_first(const uint8_t *bytes, size_t size, const capn_limits *lim
  * something, or asks for more bytes. It takes memory for the words that it writes. */
 capn_status capn_unpack_some(const uint8_t *bytes, size_t size, uint8_t *out, size_t room, capn_report *report);
 
-/* The figures of one message, of CAPN_STREAM or CAPN_BARE; with CAPN_PACKED it answers CAPN_BAD_FORM: unpack it first.
- * It accepts and refuses what capn_check does, and takes memory where that does; the report has `paid` and `visits`.
- * Unless it answers CAPN_OK, the figures are as they were. It walks a message up to three times: use capn_check if what
- * it reports is enough. */
+/* The figures of one message; of CAPN_PACKED those of what it unpacks to. It accepts and refuses what capn_check does,
+ * and takes memory where that does; the report has `paid` and `visits`. Unless it answers CAPN_OK, the figures are as
+ * they were. It walks a message up to three times, and unpacks a packed one twice: use capn_check if what it reports is
+ * enough. */
 capn_status capn_survey(uint32_t form, const uint8_t *bytes, size_t size, const capn_limits *limits,
                         capn_figures *figures, capn_report *report);
 
@@ -235,6 +246,17 @@ capn_status capn_survey(uint32_t form, const uint8_t *bytes, size_t size, const 
  * its kind and its numbers say. Of null and of a capability the offset says nothing. */
 capn_status capn_index(uint32_t form, const uint8_t *bytes, size_t size, const capn_limits *limits, capn_entry *entries,
                        size_t most_entries, capn_report *report);
+
+/* The call that shows a message is there. */
+#define CAPN_HAS_SHOW 1
+
+/* The text of one message: to the byte what the program `capn show` writes of it in a style, the line `end` too. No
+ * zero ends it. With too little room, also with none, it returns CAPN_NO_ROOM with the exact length.
+ * It accepts and refuses what capn_check does; the report has `length`, `paid` and `visits`. Unless it answers CAPN_OK,
+ * `out` is as it was. It takes memory where capn_check does, and for the text of a message that is accepted, with too
+ * little room too: the text of a small message may be long, so have limits. */
+capn_status capn_show(uint32_t form, const uint8_t *bytes, size_t size, const capn_limits *limits, uint32_t style,
+                      char *out, size_t room, capn_report *report);
 
 /* The calls for a message that is held in segments are there: those that end in `_segments`. */
 #define CAPN_HAS_SEGMENTS 1
@@ -255,9 +277,10 @@ capn_status capn_survey_segments(const capn_segment *segments, size_t count, con
                                  capn_figures *figures, capn_report *report);
 
 /* The text that the program capn prints for a refusal of a message, with its place, as `Range at 3:623915, paid 0,
- * visits 1`, and for CAPN_MEMORY; for other statuses what capn_status_text says. Of capn_pack the program leaves out
- * `bare: `. It returns the length of the text, without the zero that ends it, and writes as much of it as there is room
- * for, always with a zero after it; with a room of 0 it writes nothing, and `out` may be null. */
+ * visits 1`, and for CAPN_MEMORY; for other statuses, and without a report, what capn_status_text says. Of capn_pack
+ * the program leaves out `bare: `. It returns the length of the text, without the zero that ends it, and writes as much
+ * of it as there is room for, always with a zero after it; with a room of 0 it writes nothing, and `out` may be
+ * null. */
 size_t capn_refusal_text(capn_status status, const capn_report *report, char *out, size_t room);
 
 /* The name of a status, as `Range` of CAPN_RANGE and `NoRoot` of CAPN_NO_ROOT; `Unknown` of a number that is no status.

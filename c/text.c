@@ -10,12 +10,14 @@ const char *capn_version(void) { return CAPN_VERSION_TEXT; }
 
 const char *capn_status_text(capn_status status) {
     switch (status) {
+    /* c/statuses.txt: texts */
     case CAPN_OK: return "the answer is there";
     case CAPN_NO_ROOM: return "the buffer has no room for the answer";
     case CAPN_BAD_FORM: return "the form is none that the call takes";
     case CAPN_BAD_LIMITS: return "a limit is out of its range";
     case CAPN_BAD_TARIFF: return "the tariff is none of the two";
     case CAPN_NOT_CANONICAL: return "the bytes are not canonical";
+    case CAPN_BAD_STYLE: return "the style is none of the three";
     case CAPN_MEMORY: return "memory was refused";
     case CAPN_NOT_WHOLE: return "the bytes are not whole words";
     case CAPN_BARE_TOO_LONG: return "more words than a bare message may have";
@@ -38,18 +40,21 @@ const char *capn_status_text(capn_status status) {
     case CAPN_TOO_DEEP: return "an object lies deeper than the limit";
     case CAPN_OVER_BUDGET: return "the walk pays more than the budget";
     case CAPN_CAPABILITY: return "the value has a capability";
+    /* c/statuses.txt ends */
     default: return "no status of this library";
     }
 }
 
 const char *capn_status_name(capn_status status) {
     switch (status) {
+    /* c/statuses.txt: names */
     case CAPN_OK: return "Ok";
     case CAPN_NO_ROOM: return "NoRoom";
     case CAPN_BAD_FORM: return "BadForm";
     case CAPN_BAD_LIMITS: return "BadLimits";
     case CAPN_BAD_TARIFF: return "BadTariff";
     case CAPN_NOT_CANONICAL: return "NotCanonical";
+    case CAPN_BAD_STYLE: return "BadStyle";
     case CAPN_MEMORY: return "Memory";
     case CAPN_NOT_WHOLE: return "NotWhole";
     case CAPN_BARE_TOO_LONG: return "BareTooLong";
@@ -72,6 +77,7 @@ const char *capn_status_name(capn_status status) {
     case CAPN_TOO_DEEP: return "TooDeep";
     case CAPN_OVER_BUDGET: return "OverBudget";
     case CAPN_CAPABILITY: return "Capability";
+    /* c/statuses.txt ends */
     default: return "Unknown";
     }
 }
@@ -98,31 +104,36 @@ static void put_number(struct text *text, const char *before, uint64_t number, c
     put(text, after);
 }
 
-size_t capn_refusal_text(capn_status status, const capn_report *report, char *out, size_t room) {
-    struct text text = {out, room, 0};
+static void put_refusal(struct text *text, capn_status status, const capn_report *report) {
     switch (status) {
-    case CAPN_MEMORY: put(&text, "out of memory"); break;
-    case CAPN_NOT_WHOLE: put_number(&text, "bare: NotWhole(", report->at, ")"); break;
-    case CAPN_BARE_TOO_LONG: put_number(&text, "bare: TooLong(", report->at, ")"); break;
-    case CAPN_PACKED_CUT: put_number(&text, "packed: Cut at ", report->at, ""); break;
-    case CAPN_PACKED_TOO_LONG: put_number(&text, "packed: TooLong at ", report->at, ""); break;
-    case CAPN_FRAME_EMPTY: put(&text, "frame: Empty"); break;
-    case CAPN_TOO_MANY_SEGMENTS: put_number(&text, "frame: TooManySegments(", report->at, ")"); break;
-    case CAPN_TOO_MANY_WORDS: put_number(&text, "frame: TooManyWords(", report->at, ")"); break;
-    case CAPN_FRAME_CUT: put(&text, "frame: Cut"); break;
-    case CAPN_TRAILING: put_number(&text, "trailing bytes at ", report->at, ""); break;
-    case CAPN_CAPABILITY: put_number(&text, "capability ", report->at, ""); break;
+    case CAPN_MEMORY: put(text, "out of memory"); break;
+    case CAPN_NOT_WHOLE: put_number(text, "bare: NotWhole(", report->at, ")"); break;
+    case CAPN_BARE_TOO_LONG: put_number(text, "bare: TooLong(", report->at, ")"); break;
+    case CAPN_PACKED_CUT: put_number(text, "packed: Cut at ", report->at, ""); break;
+    case CAPN_PACKED_TOO_LONG: put_number(text, "packed: TooLong at ", report->at, ""); break;
+    case CAPN_FRAME_EMPTY: put(text, "frame: Empty"); break;
+    case CAPN_TOO_MANY_SEGMENTS: put_number(text, "frame: TooManySegments(", report->at, ")"); break;
+    case CAPN_TOO_MANY_WORDS: put_number(text, "frame: TooManyWords(", report->at, ")"); break;
+    case CAPN_FRAME_CUT: put(text, "frame: Cut"); break;
+    case CAPN_TRAILING: put_number(text, "trailing bytes at ", report->at, ""); break;
+    case CAPN_CAPABILITY: put_number(text, "capability ", report->at, ""); break;
     default:
         if (status < CAPN_NO_ROOT || status > CAPN_OVER_BUDGET) {
-            put(&text, capn_status_text(status));
+            put(text, capn_status_text(status));
             break;
         }
-        put(&text, capn_status_name(status));
-        put_number(&text, " at ", report->segment, ":");
-        put_number(&text, "", report->word, ", paid ");
-        put_number(&text, "", report->paid, ", visits ");
-        put_number(&text, "", report->visits, "");
+        put(text, capn_status_name(status));
+        put_number(text, " at ", report->segment, ":");
+        put_number(text, "", report->word, ", paid ");
+        put_number(text, "", report->paid, ", visits ");
+        put_number(text, "", report->visits, "");
     }
+}
+
+size_t capn_refusal_text(capn_status status, const capn_report *report, char *out, size_t room) {
+    struct text text = {out, room, 0};
+    if (report) put_refusal(&text, status, report);
+    else put(&text, capn_status_text(status));
     if (room) out[text.length < room ? text.length : room - 1] = 0;
     return text.length;
 }

@@ -29,8 +29,9 @@ static capn_status capn_look_at(const uint8_t *bytes, size_t size, const capn_li
 }
 
 /* Of a packed stream: at most `most` messages, which are unpacked into the room. Only a message that ends where a group
- * does is one of them. The answer is CAPN_OK, or the status of a call that refused; if there is no message in the room,
- * `length` of the report is how many bytes the first one has at least. */
+ * does is one of them. The answer is CAPN_OK, the status of a call that refused, or says why there is no further one:
+ * CAPN_PACKED_CUT, the text ends before it does; CAPN_PACKED_TOO_LONG, it ends within a group, or has no room. The
+ * `length` of the report is then how many bytes it has at least. */
 static capn_status capn_look_at_packed(const uint8_t *text, size_t size, const capn_limits *limits, uint8_t *out,
                                        size_t room, uint32_t most, capn_look *look, capn_report *report) {
     look->count = 0;
@@ -45,11 +46,11 @@ static capn_status capn_look_at_packed(const uint8_t *text, size_t size, const c
             got += report->length;
             if (got < need) {
                 report->length = need;
-                return CAPN_OK;
+                return status == CAPN_OK ? CAPN_PACKED_CUT : status;
             }
             status = capn_first(out + look->end, need, limits, report);
         }
-        if (status != CAPN_OK) return status == CAPN_FRAME_CUT ? CAPN_OK : status;
+        if (status != CAPN_OK) return status == CAPN_FRAME_CUT ? CAPN_PACKED_TOO_LONG : status;
         look->end += report->length;
         look->take = from;
         look->ends[look->count] = look->end;

@@ -39,12 +39,33 @@ class Packed(Messages):
         seen, look = peek(1), self._look
         if type(seen) is bytes and seen:
             status = _look_at_packed(seen, len(seen), self._bounds, self._out, PIECE, 1, look, self._report)
-            if status == MEMORY:
-                raise failure(status, self._report)
             if look.count:
                 need, taken = look.end, look.take
                 piece = self._read(taken)
                 if piece and len(piece) == taken:
+                    self._taken += taken
+                    self._number += 1
+                    self._offset += need
+                    return self._words[0:need]  # type: ignore[no-any-return]
+                self._came(piece)
+            elif status == PACKED_CUT and self._report.length <= PIECE:
+                self._came(self._read(len(seen)))
+                return self._crossing(peek)
+            elif status == MEMORY:
+                raise failure(status, self._report)
+        return self._any()
+
+    def _crossing(self, peek: Callable[[int], Any]) -> bytes:
+        """The next message, of which a part is held: by a look at what comes next, if that has the rest of it."""
+        held, look, seen = len(self._held), self._look, peek(1)
+        if seen:
+            text = bytes(self._held) + seen
+            _look_at_packed(text, len(text), self._bounds, self._out, PIECE, 1, look, self._report)
+            need, taken = look.end, look.take
+            if taken > held:
+                piece = self._read(taken - held)
+                if piece and len(piece) == taken - held:
+                    self._held = b""
                     self._taken += taken
                     self._number += 1
                     self._offset += need

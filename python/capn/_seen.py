@@ -1,7 +1,7 @@
 """The messages of a file that can be wound, and what is best for each file."""
 from __future__ import annotations
 
-from io import BufferedReader, BytesIO, FileIO
+from io import BufferedRandom, BufferedReader, BytesIO, FileIO
 from os import pread
 from typing import Any, Callable
 
@@ -16,7 +16,8 @@ __all__ = ["Seen", "reader"]
 # From how many bytes on messages are long, and how many are looked at of these.
 _LONG, _FEW = 8192, 4096
 # From how many bytes on a message is passed over in a file that buffers: beyond a buffer that takes less than reading.
-_BEYOND = 2048
+_BEYOND, _NEVER = 2048, 1 << 64
+_BUFFERED = (BufferedReader, BufferedRandom)
 # How many messages are found at once.
 _MOST = 128
 _look_at, _look_at_packed = lib.capn_look_at, lib.capn_look_at_packed
@@ -28,7 +29,7 @@ class Seen(Messages):
     it does not, since another one has wound the file, read of it or changed it, the file is wound back, and read as
     others are."""
 
-    __slots__ = ("_rest", "_others", "_bytes_at", "_seek", "_look", "_out", "_some", "_text", "_ready", "_count",
+    __slots__ = ("_rest", "_bytes_at", "_seek", "_look", "_out", "_some", "_text", "_ready", "_count",
                  "_ends", "_takes", "_short", "_place")
 
     def __init__(
@@ -41,11 +42,7 @@ class Seen(Messages):
     ) -> None:
         super().__init__(file.read, splitter)
         # What reads all other messages, as those that are longer.
-        self._rest: Messages = Messages(file.read, splitter)
-        self._others: Callable[[], bytes] = self._rest.__next__
-        if splitter._packed:
-            self._rest = Packed(file.read, peek, splitter)
-            self._others = self._rest._any
+        self._rest = Packed(file.read, peek, splitter) if splitter._packed else Messages(file.read, splitter)
         # What answers the bytes at a place of the file, at most so many, and how many are asked for.
         self._bytes_at, self._some = bytes_at, PIECE
         # To learn by `seek` where a file stands is faster than by `tell`, which asks the system.
@@ -86,10 +83,12 @@ class Seen(Messages):
                 del self._ready[-1]
                 return frame
             self._seek(-taken, 1)
+            # What was seen says nothing of what comes next.
+            self._report.length = 0
         self._close()
         rest._number, rest._offset, rest._taken = self._number, self._offset, self._taken
         try:
-            return self._long() or self._others()
+            return self._long() or next(rest)
         finally:
             self._number, self._offset, self._taken = rest._number, rest._offset, rest._taken
 
@@ -182,9 +181,12 @@ def reader(file: Any, splitter: Splitter) -> Messages:
     look = peek if callable(peek) else seen
     raw = file.raw if is_wound and kind is BufferedReader else file
     if is_wound and type(raw) is FileIO:
-        return Seen(file, from_system, look, 0 if raw is file else _BEYOND, splitter)
-    if is_wound and (type(raw) is BytesIO or callable(peek)):
-        return Seen(file, wound_back if type(raw) is BytesIO else peeked, look, 1 << 64, splitter)
+        # A file that can be written is read, so that it gives what it has now.
+        short = _BEYOND if raw is not file else 0 if file.mode == "rb" else _NEVER
+        return Seen(file, from_system, look, short, splitter)
+    # Of what Python itself buffers, a look takes no longer than a read.
+    if is_wound and (type(raw) is BytesIO or callable(peek) and (splitter._packed or kind in _BUFFERED)):
+        return Seen(file, wound_back if type(raw) is BytesIO else peeked, look, _NEVER, splitter)
     if splitter._packed:
         return Packed(read, look if is_wound or callable(peek) else None, splitter)
     return Messages(read, splitter)

@@ -117,6 +117,12 @@ static void message(uint32_t form, const uint8_t *bytes, size_t size) {
     capn_status check = capn_check(form, bytes, size, &limits, &checked);
     capn_status status = capn_canonical(form, bytes, size, &limits, NULL, 0, &report);
     if (form != CAPN_PACKED) indexed(form, bytes, size, check, &checked);
+    else {
+        capn_figures figures;
+        capn_report surveyed;
+        need(capn_survey(form, bytes, size, &limits, &figures, &surveyed) == check, "survey as check", bytes, size);
+        need(!memcmp(&surveyed, &checked, sizeof surveyed), "its report", bytes, size);
+    }
     need(check != CAPN_MEMORY && status != CAPN_MEMORY, "there is memory", bytes, size);
     if (check == CAPN_OK && status == CAPN_NO_ROOM) {
         need(report.length == 8 * ((uint64_t)report.paid + 1), "a length that is enough", bytes, size);

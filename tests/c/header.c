@@ -8,6 +8,7 @@ int main(void) {
     capn_figures figures;
     capn_report report;
     char text[16];
+    if (CAPN_HAS_SHOW != 1) return 20;
     uint8_t out[16], digest[32];
     if (CAPN_VERSION < 100) return 1;
     if (capn_canonical(CAPN_STREAM, null, 16, &limits, out, 16, &report) != CAPN_OK || report.length != 8) return 2;
@@ -20,6 +21,8 @@ int main(void) {
     if (capn_unpack_some(out, 4, out + 8, 8, &report) != CAPN_PACKED_TOO_LONG || report.at != 2) return 9;
     if (capn_survey(CAPN_STREAM, null, 16, &limits, &figures, &report) != CAPN_OK || figures.depth != 0) return 11;
     if (capn_index(CAPN_STREAM, null, 16, &limits, NULL, 0, &report) != CAPN_NO_ROOM || report.visits != 1) return 12;
+    if (capn_show(CAPN_BARE, null + 8, 8, &limits, CAPN_STYLE_JSON, text, 16, &report) != CAPN_OK || report.length != 5)
+        return 19;
     if (capn_check_segments(&segment, 1, &limits, &report) != CAPN_OK || report.visits != 1) return 13;
     if (capn_hash_segments(&segment, 1, &limits, digest, &report) != CAPN_OK) return 14;
     if (capn_canonical_segments(&segment, 1, &limits, out, 16, &report) != CAPN_OK || report.length != 8) return 15;

@@ -7,8 +7,11 @@ static uint8_t *guarded[2];
 
 /* Each status has a text, which no other has, and every other number has the same one. */
 static void texts(const char *version) {
-    static const capn_status all[] = {0, 1, 2, 3, 4, 5, 8, 16, 17, 32, 33, 48, 49, 50, 51, 52,
-                                      64, 65, 66, 67, 68, 69, 70, 71, 72, 73, 74, 80};
+    static const capn_status all[] = {
+        /* c/statuses.txt: numbers */
+        0, 1, 2, 3, 4, 5, 6, 8, 16, 17, 32, 33, 48, 49, 50, 51, 52, 64, 65, 66, 67, 68, 69, 70, 71, 72, 73, 74, 80
+        /* c/statuses.txt ends */
+    };
     const size_t count = sizeof all / sizeof *all;
     const char *none = capn_status_text(255);
     want("the version", strcmp(capn_version(), version), 0);

@@ -41,6 +41,9 @@ static void *run(void *status) {
     case 11: *told = capn_hash_segments(&whole, 1, &limits, digest, &report); break;
     case 12: *told = capn_survey_segments(&whole, 1, &limits, &figures, &report); break;
     case 13: *told = capn_check_segments(&whole, 1, &limits, &report); break;
+    case 14: *told = capn_show(CAPN_PACKED, text, packed_size, &limits, 0, (char *)out, ROOM, &report); break;
+    case 15: *told = capn_show(CAPN_BARE, in, size, &limits, 1, (char *)out, ROOM, &report); break;
+    case 16: *told = capn_show(CAPN_BARE, in, size, &limits, 2, (char *)out, ROOM, &report); break;
     default: *told = capn_unpack(text, packed_size, 1u << 20, out, ROOM, &report); break;
     }
     return NULL;
@@ -48,7 +51,7 @@ static void *run(void *status) {
 
 int main(void) {
     static const uint32_t depths[] = {1, 64, 65, 256};
-    size_t most[4] = {0};
+    size_t most[2][4] = {{0}};
     for (int d = 0; d < 4; d++)
         for (int kind = 0; kind < 6; kind++) {
             depth = depths[d];
@@ -73,7 +76,7 @@ int main(void) {
             capn_report report;
             if (capn_pack(framed, size + 8, text, ROOM, &report) != CAPN_OK) return 1;
             packed_size = report.length;
-            for (call = 0; call < 15; call++) {
+            for (call = 0; call < 18; call++) {
                 char *stack = aligned_alloc(4096, ROOM);
                 if (!stack) return 2;
                 memset(stack, 0x5a, ROOM);
@@ -90,15 +93,18 @@ int main(void) {
                     printf("stack: call %d at depth %u: status %u\n", call, depth, status);
                     return 4;
                 }
-                if (used > most[d]) most[d] = used;
+                const int shows = call >= 14 && call <= 16;
+                if (used > most[shows][d]) most[shows][d] = used;
                 free(stack);
             }
         }
     int failed = 0;
-    for (int d = 0; d < 4; d++) {
-        size_t stated = 16384 + 352 * (size_t)depths[d];
-        printf("stack: at most %zu bytes at depth %u, of %zu that are stated\n", most[d], depths[d], stated);
-        failed |= most[d] > stated;
-    }
+    for (int shows = 0; shows < 2; shows++)
+        for (int d = 0; d < 4; d++) {
+            const size_t stated = 16384 + (shows ? 432 : 352) * (size_t)depths[d];
+            printf("stack: %sat most %zu bytes at depth %u, of %zu that are stated\n", shows ? "capn_show " : "",
+                   most[shows][d], depths[d], stated);
+            failed |= most[shows][d] > stated;
+        }
     return failed;
 }

@@ -23,20 +23,20 @@ static void is(const char *what, capn_status status, capn_status wanted) {
 
 static const capn_limits usual = CAPN_USUAL_LIMITS;
 
-/* What canonical, with room and without, hash and check answer of bytes, and survey and index, which don't take packed
- * ones: check, survey and index say OK of a value with a capability. */
+/* What canonical, with room and without, hash, check, survey and show answer of bytes, and index, which doesn't take
+ * packed ones: check, survey, show and index say OK of a value with a capability. */
 static capn_report each_call(const char *what, uint32_t form, const void *bytes, size_t size, const capn_limits *limits,
                              uint32_t wanted) {
     capn_report checked, report;
     uint8_t out[64];
     is(what, capn_check(form, bytes, size, limits, &checked), wanted == CAPN_CAPABILITY ? CAPN_OK : wanted);
-    if (form != CAPN_PACKED) {
-        const capn_status told = wanted == CAPN_CAPABILITY ? CAPN_OK : wanted;
-        capn_figures figures;
-        is(what, capn_survey(form, bytes, size, limits, &figures, &report), told);
-        want("the report of a survey", memcmp(&report, &checked, sizeof report) != 0, 0);
-        is(what, capn_index(form, bytes, size, limits, NULL, 0, &report), told == CAPN_OK ? CAPN_NO_ROOM : told);
-    }
+    const capn_status told = wanted == CAPN_CAPABILITY ? CAPN_OK : wanted;
+    const capn_status unread = told == CAPN_OK ? CAPN_NO_ROOM : told;
+    capn_figures figures;
+    is(what, capn_survey(form, bytes, size, limits, &figures, &report), told);
+    want("the report of a survey", memcmp(&report, &checked, sizeof report) != 0, 0);
+    if (form != CAPN_PACKED) is(what, capn_index(form, bytes, size, limits, NULL, 0, &report), unread);
+    is(what, capn_show(form, bytes, size, limits, CAPN_STYLE_LINES, NULL, 0, &report), unread);
     is(what, capn_hash(form, bytes, size, limits, out, &report), wanted);
     is(what, capn_canonical(form, bytes, size, limits, out, 64, &report), wanted);
     is(what, capn_canonical(form, bytes, size, limits, NULL, 0, &report), wanted == CAPN_OK ? CAPN_NO_ROOM : wanted);
@@ -152,6 +152,9 @@ static void called(void) {
     is("no words allowed", capn_is_canonical(message, 24, &none, &report), CAPN_BAD_LIMITS);
     each_call("tariff 2", CAPN_STREAM, message, 24, &third, CAPN_BAD_TARIFF);
     is("tariff 2", capn_is_canonical(message, 24, &third, &report), CAPN_BAD_TARIFF);
+    is("style 3", capn_show(CAPN_STREAM, message, 24, &usual, 3, NULL, 0, &report), CAPN_BAD_STYLE);
+    is("style 3 and tariff 2", capn_show(CAPN_STREAM, message, 24, &third, 3, NULL, 0, &report), CAPN_BAD_TARIFF);
+    is("style 3 of no bytes", capn_show(CAPN_STREAM, NULL, 0, &usual, 3, NULL, 0, &report), CAPN_BAD_STYLE);
     is("room for 7 bytes", capn_canonical(CAPN_STREAM, message, 24, &usual, out, 7, &report), CAPN_NO_ROOM);
     want("its length", report.length, 8);
     is("room for no text", capn_pack(message, 24, out, 1, &report), CAPN_NO_ROOM);
@@ -169,6 +172,7 @@ static void without_memory(void) {
     each_call("packed", CAPN_PACKED, packed, 4, &usual, CAPN_MEMORY);
     is("no answer", capn_canonical(CAPN_BARE, two + 8, 8, &usual, out, 64, &report), CAPN_MEMORY);
     is("no digest", capn_hash(CAPN_BARE, two + 8, 8, &usual, out, &report), CAPN_MEMORY);
+    is("no lines", capn_show(CAPN_BARE, two + 8, 8, &usual, 0, (char *)out, 64, &report), CAPN_MEMORY);
     is("no text", capn_pack(two, 24, out, 64, &report), CAPN_MEMORY);
     is("no words", capn_unpack(packed, 4, 9, out, 64, &report), CAPN_MEMORY);
     is("no groups", capn_unpack_some(packed, 4, out, 64, &report), CAPN_MEMORY);

@@ -42,6 +42,16 @@ static void figures(const char *what, const uint64_t *words, uint32_t count, cap
             want("as check says", capn_check(form, in, size, &lower, &checked), status);
             want("its report", memcmp(&r, &checked, sizeof r) != 0, 0);
         }
+        /* The same of its packed text. */
+        if (segments) {
+            uint8_t text[128];
+            capn_figures same = {0, 0, 0, 0, 0, 0, 0, 0};
+            want("packing", capn_pack(in, size, text, sizeof text, &checked), CAPN_OK);
+            memset(&r, 0x55, sizeof r);
+            want("packed", capn_survey(CAPN_PACKED, text, checked.length, &usual, &same, &r), CAPN_OK);
+            want("the same", memcmp(&same, &f, sizeof f) != 0, 0);
+            want("its report", r.paid != f.paid || r.visits != f.visits || r.length || r.at || r.segment || r.word, 0);
+        }
         /* The same at each address. */
         for (size_t off = 1; off < 8; off++) {
             uint8_t *odd = memmove(in - off, in, size);
@@ -63,10 +73,8 @@ static void refused(const char *what, uint32_t form, const void *bytes, size_t s
     was = f;
     want(what, capn_survey(form, bytes, size, limits, &f, &r), wanted);
     want("the figures", memcmp(&f, &was, sizeof f) != 0, 0);
-    if (form != CAPN_PACKED) {
-        want("as check", capn_check(form, bytes, size, limits, &checked), wanted);
-        want("its report", memcmp(&r, &checked, sizeof r) != 0, 0);
-    } else want("no report", r.length | r.at | r.paid | r.visits | r.segment | r.word, 0);
+    want("as check", capn_check(form, bytes, size, limits, &checked), wanted);
+    want("its report", memcmp(&r, &checked, sizeof r) != 0, 0);
 }
 
 int main(void) {
@@ -82,7 +90,11 @@ int main(void) {
     figures("three structs", three, 5, (capn_figures){.depth = 3});
     figures("capabilities", holds, 3, (capn_figures){.depth = 1, .has_capability = 1, .capability = 8});
     const capn_limits none = {0, 1, 1, CAPN_STRICT}, third = {1, 1, 1, 2}, poor = {8, 1, 64, CAPN_STRICT};
-    refused("packed", CAPN_PACKED, number, 16, &usual, CAPN_BAD_FORM);
+    refused("a cut group", CAPN_PACKED, "\x10\2\0\0\xff\1", 6, &usual, CAPN_PACKED_CUT);
+    refused("a packed frame that is cut", CAPN_PACKED, "\x10\2\x10\1", 4, &usual, CAPN_FRAME_CUT);
+    refused("no packed bytes", CAPN_PACKED, NULL, 0, &usual, CAPN_FRAME_EMPTY);
+    refused("words after a packed frame", CAPN_PACKED, "\x10\2\x10\1\1\5\0", 8, &usual, CAPN_TRAILING);
+    refused("a packed number and a budget of 1", CAPN_PACKED, "\x10\2\x10\1\1\5", 6, &poor, CAPN_OVER_BUDGET);
     refused("form 3", 3, number, 16, &usual, CAPN_BAD_FORM);
     refused("the greatest form", UINT32_MAX, number, 16, &usual, CAPN_BAD_FORM);
     refused("no words allowed", CAPN_BARE, number, 16, &none, CAPN_BAD_LIMITS);

@@ -6,8 +6,12 @@ sys.path.insert(0, os.path.join(os.path.dirname(os.path.abspath(__file__)), ".."
 import capn
 
 FRAMES = {48: "Empty", 49: "TooManySegments({})", 50: "TooManyWords({})", 51: "Cut"}
-FAULTS = ["NoRoot", "RootKind", "Reserved", "NoSegment", "PadRange", "BadPad", "Range", "BadTag", "TagOverrun",
-          "TooDeep", "OverBudget"]
+FAULTS = [
+    # c/statuses.txt: walk in python
+    "NoRoot", "RootKind", "Reserved", "NoSegment", "PadRange", "BadPad", "Range", "BadTag", "TagOverrun", "TooDeep",
+    "OverBudget"
+    # c/statuses.txt ends
+]
 FORMS = {"stream": capn.STREAM, "packed": capn.PACKED, "bare": capn.BARE}
 
 

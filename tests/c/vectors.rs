@@ -6,6 +6,7 @@ mod capn;
 use capn::{Form, Limits, Refused, Tariff, USUAL};
 
 const FAULTS: [&str; 11] = [
+    // c/statuses.txt: walk in rust
     "NoRoot",
     "RootKind",
     "Reserved",
@@ -17,6 +18,7 @@ const FAULTS: [&str; 11] = [
     "TagOverrun",
     "TooDeep",
     "OverBudget",
+    // c/statuses.txt ends
 ];
 
 fn digits(bytes: &[u8]) -> String {

@@ -269,31 +269,70 @@ class Wound(unittest.TestCase):
         self.each(parts, run)
 
     def test_it_is_wound(self):
+        # Long ones come last, of which a look sees the beginning.
+        parts = [SMALL, SHAPES[1], SMALL, SMALL] + [stream(random.Random(73).randbytes(40_000))] * 2
+
         def run(file, found, sent):
-            self.assertEqual([next(found), next(found)], [SMALL, SHAPES[1]])
+            def reads(*numbers):
+                for number in numbers:
+                    self.assertEqual(next(found), parts[number])
+                    self.assertEqual(file.tell(), sum(map(len, sent[:number + 1])))
+
+            reads(0, 1)
             file.seek(0)
-            self.assertEqual([next(found), next(found), next(found)], [SMALL, SHAPES[1], SMALL])
+            reads(0, 1, 2)
             file.seek(len(sent[0]))
-            self.assertEqual([next(found), file.tell()], [SHAPES[1], len(sent[0]) + len(sent[1])])
+            reads(1, 2, 3, 4, 5)
+            file.seek(sum(map(len, sent[:4])))
+            reads(4)
+            file.seek(0)
+            reads(0)
             file.seek(0, 2)
             self.assertRaises(StopIteration, next, found)
-            self.assertEqual(found.number, 6)
+            self.assertEqual(found.number, 12)
 
-        self.each([SMALL, SHAPES[1], SMALL, SMALL], run)
+        self.each(parts, run)
+
+    def test_in_any_order(self):
+        source = random.Random(74)
+        words = [0, 0, 3, 3, 3, 40, 40, 300, 600, 1100, 5000, 8191, 9000]
+        parts = [stream(source.randbytes(8 * source.choice(words))) for _ in range(80)]
+
+        def run(file, found, sent):
+            places = [0]
+            for part in sent:
+                places.append(places[-1] + len(part))
+            at = 0
+            for _ in range(150):
+                if at == len(parts) or source.random() < 0.15:
+                    at = source.randrange(len(parts))
+                    file.seek(places[at])
+                elif source.random() < 0.1:
+                    # Another one reads a message.
+                    self.assertEqual(file.read(len(sent[at])), sent[at])
+                    at += 1
+                    continue
+                self.assertEqual((next(found), file.tell()), (parts[at], places[at + 1]))
+                at += 1
+
+        self.each(parts, run)
 
     def test_it_changes(self):
         other = SMALL.replace(b"\5", b"\6")
         for packed in False, True:
             one, two, end = (capn.pack(each) if packed else each for each in (SMALL, other, SHAPES[1]))
             for last, message in (one, SMALL), (two, other), (end, SHAPES[1]):
-                file = io.BytesIO(one * 3)
-                found = capn.messages(file, packed=packed)
-                self.assertEqual(next(found), SMALL)
-                file.write(last)
-                file.truncate()
-                file.seek(len(one))
-                self.assertEqual([next(found), file.tell()], [message, len(one + last)])
-                self.assertRaises(StopIteration, next, found)
+                for make in io.BytesIO, tempfile.TemporaryFile, lambda: tempfile.TemporaryFile(buffering=0):
+                    with make() as file:
+                        file.write(one * 3)
+                        file.seek(0)
+                        found = capn.messages(file, packed=packed)
+                        self.assertEqual(next(found), SMALL)
+                        file.write(last)
+                        file.truncate()
+                        file.seek(len(one))
+                        self.assertEqual([next(found), file.tell()], [message, len(one + last)])
+                        self.assertRaises(StopIteration, next, found)
 
     def test_messages_of_each_length(self):
         source = random.Random(72)

@@ -2,7 +2,7 @@
 use Rattle.std.specs.Prelude.{◌≡◌, ℕ, ◌+◌, ◌*◌, ◌^◌, min, max, List, [], ◌∷◌, ◌++◌, codes, Bool, true, false, Option}
 use Rattle.std.specs.Prelude.{Some, None, refl}
 use Rattle.std.specs.Fmt.{decimal, digits}
-use Rattle.hex.specs.Hex.{encode_lower}
+use Rattle.hex.specs.Hex.{encode_lower, encode_with}
 use Rattle.capn_value.specs.declared.tariff.Tariff.{Tariff}
 use Rattle.capn_value.specs.declared.tariff.Tariff.TheVariants as tariffs
 use Rattle.capn_canon.specs.declared.refusal.Refusal.{Refusal}
@@ -115,6 +115,7 @@ unfolding digits
 no_digest = refl
 
 two_bytes_of_a_digest : digest_text (Some (7 ∷ 171 ∷ [])) ≡ codes "07ab"
+unfolding encode_with
 two_bytes_of_a_digest = refl
 
 a_refused_message : refused_line second (refusals.Capability 3)

@@ -8,6 +8,8 @@ pub mod Listed
 pub mod Named
 pub mod OneBare
 pub mod OutOfMemory
+pub mod PackedText
 pub mod Placed
 pub mod Short
+pub mod Shown
 pub mod Unpacked

@@ -1,8 +1,9 @@
 //! The libraries, callable from C: one export for each call, over buffers that the caller owns.
 //!
-//! Each export answers a status and fills in a [`CapnReport`]. Statuses up to 5 speak of the call: 0, the answer is
-//! there; 1, its buffer has no room; 2, 3 and 4, the form, a limit or the tariff is out of its range; 5, bytes are not
-//! canonical. From 8 on they stand for a refusal, with its numbers in the report; what a status does not speak of is 0.
+//! Each export answers a status and fills in a [`CapnReport`]. Statuses up to 6 speak of the call: 0, the answer is
+//! there; 1, its buffer has no room; 2, 3, 4 and 6, the form, a limit, the tariff or the style is out of its range; 5,
+//! bytes are not canonical. From 8 on they stand for a refusal, with its numbers in the report; what a status does not
+//! speak of is 0.
 //! An export requires nothing but what its types say: memory that is there, and no overlap of what is written.
 #![tactic(auto)]
 
@@ -22,10 +23,13 @@ mod is_canonical_call;
 pub mod laws;
 mod limits;
 mod message_measures;
+mod message_text;
 mod output;
 mod pack_calls;
 mod report;
+mod show_call;
 mod status_codes;
+mod styles;
 mod survey_call;
 mod survey_segments_call;
 mod unpack_some_call;

@@ -15,7 +15,8 @@ ghost use Rattle.capn_canon.specs.declared.refusal.Refusal.TheVariants as refusa
 ghost use Rattle.capn_c.specs.Figures.{AreMeasures, IsCanonicalMessage, IsCanonicalSurvey, MeasuresIn};
 
 use capn_canon::{Refusal, measure_canonical};
-use capn_stream::first;
+use capn_pack::unpack;
+use capn_stream::{MOST_TABLE_WORDS, first};
 use capn_walk::{Limits, Surveyed, survey_depth};
 use capn_words::{Bare, Place, Space, total_words};
 use std::alloc::Global;
@@ -190,6 +191,18 @@ pub fn measure_frame(alloc: Global, bytes: &[u8], limits: Limits) -> Option<Meas
             }
             measure(alloc, &message, limits)
         }
+        Err(_) => None,
+    }
+}
+
+/// What the message of a packed stream comes to beside its price, or `None` if it is refused, or memory was.
+pub fn measure_packed(alloc: Global, bytes: &[u8], limits: Limits) -> Option<Measured>
+    ensures found { IfSome result (λ m. MeasuresIn forms.Packed bytes.now limits m) }
+    ensures memory { (v : Value) → Denotes forms.Packed bytes.now limits v → result ≡ None
+        → MayNeedMemory forms.Packed bytes.now limits }
+{
+    match unpack(alloc, bytes, limits.message_words() + MOST_TABLE_WORDS) {
+        Ok(stream) => measure_frame(alloc, stream.as_slice(), limits),
         Err(_) => None,
     }
 }

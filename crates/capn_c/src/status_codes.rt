@@ -30,6 +30,9 @@ pub const BAD_TARIFF: u32 = 4;
 /// The bytes are not the canonical ones of their value.
 pub const NOT_CANONICAL: u32 = 5;
 
+/// No style has this number.
+pub const BAD_STYLE: u32 = 6;
+
 /// A growth of memory was refused.
 pub const MEMORY: u32 = 8;
 

@@ -7,14 +7,13 @@ ghost use Rattle.capn_canon.specs.Denotes.{Denotes};
 ghost use Rattle.capn_canon.specs.Refusal.{IsUnacceptedIn};
 ghost use Rattle.capn_canon.specs.MemoryNeed.{MayNeedMemory};
 ghost use Rattle.capn_canon.specs.declared.refusal.Refusal.{Refusal as Refusals};
-ghost use Rattle.capn_canon.specs.declared.form.Form.TheVariants as forms;
-ghost use Rattle.capn_c.specs.Calls.{form_named, GiveLimits, IsTariff, bounds_of};
+ghost use Rattle.capn_c.specs.Calls.{IsForm, form_named, GiveLimits, IsTariff, bounds_of};
 ghost use Rattle.capn_c.specs.StatusCodes.{Reports, answered, at_number, is_status};
-ghost use Rattle.capn_c.specs.Figures.{FiguresIn, IsFlat, MeasuresIn};
+ghost use Rattle.capn_c.specs.Figures.{FiguresIn, MeasuresIn};
 
 use crate::figures::{CapnFigures, figures_of};
-use crate::limits::{CapnLimits, flat_form_of, limits_of};
-use crate::message_measures::{Measured, measure_bare, measure_frame};
+use crate::limits::{CapnLimits, form_of, limits_of};
+use crate::message_measures::{Measured, measure_bare, measure_frame, measure_packed};
 use crate::report::{CapnReport, answer_of, report_at};
 use crate::status_codes::{BAD_FORM, DONE, refuse};
 use capn_canon::{Form, Refusal, survey_bytes};
@@ -23,7 +22,6 @@ use std::alloc::Global;
 
 /// What a message in a form comes to beside its price, or `None` where memory was refused.
 fn measure_in(alloc: Global, form: Form, bytes: &[u8], limits: Limits) -> Option<Measured>
-    requires { (form ≡ forms.Stream) ⊎ (form ≡ forms.Bare) }
     ensures found { IfSome result (λ m. MeasuresIn form bytes.now limits m) }
     ensures memory { (v : Value) → Denotes form bytes.now limits v → result ≡ None
         → MayNeedMemory form bytes.now limits }
@@ -31,7 +29,7 @@ fn measure_in(alloc: Global, form: Form, bytes: &[u8], limits: Limits) -> Option
     match form {
         Form::Stream => measure_frame(alloc, bytes, limits),
         Form::Bare => measure_bare(alloc, bytes, limits),
-        Form::Packed => None,
+        Form::Packed => measure_packed(alloc, bytes, limits),
     }
 }
 
@@ -44,7 +42,6 @@ fn survey_in(
     figures: &mut CapnFigures,
     report: &mut CapnReport,
 ) -> u32
-    requires flat { (form ≡ forms.Stream) ⊎ (form ≡ forms.Bare) }
     ensures possible { (result ≡ 0) ⊎ (8 ≤ result) }
     ensures found { result ≡ 0 → FiguresIn form bytes.now limits figures.new
         × (report.new ≡ answered 0 figures.new.paid figures.new.visits) }
@@ -69,11 +66,11 @@ fn survey_in(
     }
 }
 
-/// The figures of a message that is a stream or bare: its words and segments, what its walk pays and visits, the least
-/// depth under which it is accepted, its first capability, and whether its bytes are canonical.
+/// The figures of a message: its words and segments, what its walk pays and visits, the least depth under which it is
+/// accepted, its first capability, and whether its bytes are canonical.
 ///
-/// 0: they are there. 2, 3 and 4: the form is neither, a limit or the tariff is out of its range. 8: memory was
-/// refused, as of `capn_check`. Others: the refusal, which is never that of a capability.
+/// 0: they are there. 2, 3 and 4: the form, a limit or the tariff is out of its range. 8: memory was refused, as of
+/// `capn_check`. Others: the refusal, which is never that of a capability.
 ///
 /// It walks a message of one segment three times, or twice if its bytes are canonical, and others twice.
 #[unsafe(no_mangle)]
@@ -86,21 +83,21 @@ pub extern "C" fn capn_survey(
     report: &mut CapnReport,
 ) -> u32
     // The form and the limits are tested first.
-    ensures form { (result ≡ 2) ↔ (IsFlat form → ⊥) }
-    ensures limits { (result ≡ 3) ↔ (IsFlat form × (GiveLimits limits.now → ⊥)) }
-    ensures tariff { (result ≡ 4) ↔ (IsFlat form × GiveLimits limits.now × (IsTariff limits.now.tariff → ⊥)) }
+    ensures form { (result ≡ 2) ↔ (IsForm form → ⊥) }
+    ensures limits { (result ≡ 3) ↔ (IsForm form × (GiveLimits limits.now → ⊥)) }
+    ensures tariff { (result ≡ 4) ↔ (IsForm form × GiveLimits limits.now × (IsTariff limits.now.tariff → ⊥)) }
     // The bytes are an accepted message, and these are its figures; the report says what its walk pays and visits.
     ensures found { result ≡ 0 → FiguresIn (form_named form) bytes.now (bounds_of limits.now) figures.new
         × (report.new ≡ answered 0 figures.new.paid figures.new.visits) }
     // A message that is accepted has them, unless memory runs out.
-    ensures only { IsFlat form → GiveLimits limits.now → IsTariff limits.now.tariff → (v : Value)
+    ensures only { IsForm form → GiveLimits limits.now → IsTariff limits.now.tariff → (v : Value)
         → Denotes (form_named form) bytes.now (bounds_of limits.now) v → (result ≡ 0) ⊎ (result ≡ 8) }
     ensures blank { 1 ≤ result → result ≤ 4 → report.new ≡ at_number 0 }
     ensures listed { IsTrue (is_status result) }
     // What each refusal means; no other status stands for it.
     ensures refused { 5 ≤ result → (e : Refusals) × Reports result report.new e
         × IsUnacceptedIn (form_named form) bytes.now (bounds_of limits.now) e }
-    // Memory is needed only for where two segments or more end.
+    // Memory is needed only for where two segments or more end, and for what a text packs.
     ensures memory { result ≡ 8 → MayNeedMemory (form_named form) bytes.now (bounds_of limits.now) }
     // No walk pays beyond its budget.
     ensures bounded { IsBounded limits.now.budget report.new.paid report.new.visits }
@@ -108,7 +105,7 @@ pub extern "C" fn capn_survey(
     ensures kept { result ≢ 0 → figures.new ≡ figures.old }
 {
     *report = report_at(0);
-    let Some(form) = flat_form_of(form) else {
+    let Some(form) = form_of(form) else {
         return BAD_FORM;
     };
     match limits_of(limits) {

@@ -1,5 +1,5 @@
 -- What is shown of an input, in one way.
-use Rattle.std.proofs.Common.{◌≡◌, ◌⊎◌, inl, inr, ℕ, List, [], ◌∷◌, Option, Result, Ok, Err, refl, ap, sym, subst, ◌∙◌}
+use Rattle.std.proofs.Common.{◌≡◌, ◌⊎◌, inl, inr, ℕ, List, [], ◌∷◌, Option, Ok, Err, refl, ap, sym, subst, ◌∙◌}
 use Rattle.capn_value.specs.Tree.{Tree}
 use Rattle.capn_walk.specs.Limits.{Bounds}
 use Rattle.capn_walk.specs.Accepted.{IsValueOf, IsWalkRefused, root}
@@ -59,10 +59,10 @@ part_one_way show = record {
 
 -- ---- services with the same numbers, style and limits do the same
 
-record IsLike (p q : PartTexts) : Type 0 where
-  numbers : p.way.now ≡ q.way.now
-  style : p.style ≡ q.style
-  limits : p.limits ≡ q.limits
+pub record IsLike (p q : PartTexts) : Type 0 where
+  pub numbers : p.way.now ≡ q.way.now
+  pub style : p.style ≡ q.style
+  pub limits : p.limits ≡ q.limits
 
 pub both_follow : (show : Show) (way : List ℕ) (p q : PartTexts) → Follows show way p → Follows show way q → IsLike p q
 both_follow show way p q h k = record {

@@ -95,6 +95,7 @@ enum Order {
 }
 
 /// What a run took: how many growths, the most bytes of one, and how many bytes it wrote.
+#[derive(Clone, Copy)]
 struct Taken {
     growths: u64,
     greatest: usize,
@@ -172,47 +173,71 @@ fn two_hundred_thousand_messages(rt: HostRuntime) -> Result<(), Fail> {
     Ok(())
 }
 
-/// Canonical bytes and digests are made for each message, and none is kept but a digest that is new.
+/// Whether a run that is done over 200,704 messages writes so many bytes, and asks for no growth of more than 256 KiB.
+fn writes(alloc: Global, order: Order, written: u64) -> Result<bool, AllocError> {
+    let row = times(alloc, &EMPTY, IN_A_ROW)?;
+    match taken(alloc, order, Form::Stream, row.as_slice(), ROWS) {
+        Some(took) => Ok(took.greatest <= 262_144 && took.written == written),
+        None => Ok(false),
+    }
+}
+
+/// Canonical bytes are made for each message, and none are kept.
 #[test]
 fn canonical_bytes_of_two_hundred_thousand_messages(rt: HostRuntime) -> Result<(), Fail> {
-    let row = times(rt.alloc(), &EMPTY, IN_A_ROW)?;
-    for (order, written) in [
-        (Order::Archive(Task::Canonical), 16 * 200_704),
-        (Order::Uniq(false), 16),
-        (Order::Uniq(true), 12),
-    ] {
-        let took = taken(rt.alloc(), order, Form::Stream, row.as_slice(), ROWS);
-        let is_right = match took {
-            Some(took) => took.greatest <= 262_144 && took.written == written,
-            None => false,
-        };
-        assert!(rt; is_right);
-    }
+    let order = Order::Archive(Task::Canonical);
+    let is_right = writes(rt.alloc(), order, 16 * 200_704)?;
+    assert!(rt; is_right);
     Ok(())
 }
 
-/// Of a packed stream that unpacks to more than 1 GiB no more is held than a slice unpacks to, and a message.
+/// Nothing is kept of a message but its digest, if that is new.
 #[test]
-fn a_packed_stream_of_a_gibibyte(rt: HostRuntime) -> Result<(), Fail> {
-    let frame = packed_zeros(rt.alloc())?;
-    let row = times(rt.alloc(), frame.as_slice(), PACKED_IN_A_ROW)?;
-    for (order, written) in [(Order::Unpack, UNPACKED), (Order::Pick, UNPACKED - 65_536)] {
-        let took = taken(rt.alloc(), order, Form::Packed, row.as_slice(), PACKED_ROWS);
-        let is_right = match took {
-            Some(took) => took.greatest <= 1_048_576 && took.written == written,
-            None => false,
-        };
-        assert!(rt; is_right);
+fn the_frame_of_two_hundred_thousand_that_are_one(rt: HostRuntime) -> Result<(), Fail> {
+    let is_right = writes(rt.alloc(), Order::Uniq(false), 16)?;
+    assert!(rt; is_right);
+    Ok(())
+}
+
+/// The line is `1 of 200704`.
+#[test]
+fn the_count_of_two_hundred_thousand_that_are_one(rt: HostRuntime) -> Result<(), Fail> {
+    let is_right = writes(rt.alloc(), Order::Uniq(true), 12)?;
+    assert!(rt; is_right);
+    Ok(())
+}
+
+/// What a run takes over so many packed rows, if it asks for no growth of more than 1 MiB.
+fn taken_of_packed(alloc: Global, order: Order, rows: u64) -> Result<Option<Taken>, AllocError> {
+    let frame = packed_zeros(alloc)?;
+    let row = times(alloc, frame.as_slice(), PACKED_IN_A_ROW)?;
+    match taken(alloc, order, Form::Packed, row.as_slice(), rows) {
+        Some(took) if took.greatest <= 1_048_576 => Ok(Some(took)),
+        _ => Ok(None),
     }
-    let listed = Order::Archive(Task::List);
-    let took = taken(
-        rt.alloc(),
-        listed,
-        Form::Packed,
-        row.as_slice(),
-        PACKED_ROWS,
-    );
-    assert!(rt; matches!(took, Some(took) if took.greatest <= 1_048_576));
+}
+
+/// More than 1 GiB is unpacked, of which no more is held than a slice unpacks to.
+#[test]
+fn a_gibibyte_is_unpacked(rt: HostRuntime) -> Result<(), Fail> {
+    let took = taken_of_packed(rt.alloc(), Order::Unpack, PACKED_ROWS)?;
+    assert!(rt; matches!(took, Some(took) if took.written == UNPACKED));
+    Ok(())
+}
+
+/// The messages of a packed stream are served one by one.
+#[test]
+fn packed_messages_are_picked(rt: HostRuntime) -> Result<(), Fail> {
+    let took = taken_of_packed(rt.alloc(), Order::Pick, 2)?;
+    assert!(rt; matches!(took, Some(took) if took.written == 65_536 * (2 * 978 - 1)));
+    Ok(())
+}
+
+/// And so are their lines.
+#[test]
+fn packed_messages_are_listed(rt: HostRuntime) -> Result<(), Fail> {
+    let took = taken_of_packed(rt.alloc(), Order::Archive(Task::List), 2)?;
+    assert!(rt; matches!(took, Some(took) if took.written != 0));
     Ok(())
 }
 

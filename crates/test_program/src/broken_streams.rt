@@ -151,10 +151,10 @@ fn may_go_on(bytes: &[u8]) -> bool {
     if whole == 0 {
         return false;
     }
-    let mut zeros = 0;
+    let mut zeros = 0u32;
     for byte in &bytes[whole - 8..whole] {
         if *byte == 0 {
-            zeros += 1;
+            zeros = zeros.saturating_add(1);
         }
     }
     zeros < 2 || zeros == 8

@@ -1,4 +1,4 @@
--- In each of the two forms memory is needed only where it may be.
+-- In each form memory is needed only where it may be.
 use Rattle.std.proofs.Common.{sym, subst}
 use Rattle.capn_canon.specs.Denotes.{Denotes}
 use Rattle.capn_canon.specs.MemoryNeed.{MayNeedMemory}
@@ -16,3 +16,9 @@ returns-in-Bare-clause-memory c v d e =
     let P : Form → Type 0 = λ f. Denotes f c.args.bytes.now c.args.limits v in
     let Q : Form → Type 0 = λ f. MayNeedMemory f c.args.bytes.now c.args.limits in
     subst Q (sym c.in-Bare.is) (c.measure_bare.ensures.memory v (subst P c.in-Bare.is d) e)
+
+pub returns-in-Packed-clause-memory : goal.returns-in-Packed-clause-memory
+returns-in-Packed-clause-memory c v d e =
+    let P : Form → Type 0 = λ f. Denotes f c.args.bytes.now c.args.limits v in
+    let Q : Form → Type 0 = λ f. MayNeedMemory f c.args.bytes.now c.args.limits in
+    subst Q (sym c.in-Packed.is) (c.measure_packed.ensures.memory v (subst P c.in-Packed.is d) e)

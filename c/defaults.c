@@ -1,0 +1,93 @@
+/* The calls as the header has them: limits or a report that is null is replaced, and the proved call of the same name
+ * is made. `make linked` names the proved ones proved_capn_*, and hides them. No proved code: where nothing is null it
+ * is two comparisons and a jump; it has no state, and reads and writes nothing but what it is given. */
+#include "capn.h"
+
+static const capn_limits usual = CAPN_USUAL_LIMITS;
+
+#if !defined(__GNUC__)
+#error "this needs the attributes of GCC or Clang"
+#endif
+#define HIDDEN __attribute__((visibility("hidden")))
+#define SELDOM __attribute__((cold, noinline))
+
+/* A call with limits and a report: its name, its parameters, and their names. */
+#define WITH_LIMITS(name, parameters, passed) \
+    HIDDEN capn_status proved_##name parameters; \
+    static SELDOM capn_status name##_by_default parameters { \
+        capn_report unwanted; \
+        if (!limits) limits = &usual; \
+        if (!report) report = &unwanted; \
+        return proved_##name passed; \
+    } \
+    capn_status name parameters { \
+        if (__builtin_expect(!limits | !report, 0)) return name##_by_default passed; \
+        return proved_##name passed; \
+    }
+
+/* A call with a report and no limits. */
+#define WITH_REPORT(name, parameters, passed) \
+    HIDDEN capn_status proved_##name parameters; \
+    static SELDOM capn_status name##_by_default parameters { \
+        capn_report unwanted; \
+        report = &unwanted; \
+        return proved_##name passed; \
+    } \
+    capn_status name parameters { \
+        if (__builtin_expect(!report, 0)) return name##_by_default passed; \
+        return proved_##name passed; \
+    }
+
+WITH_LIMITS(capn_canonical,
+            (uint32_t form, const uint8_t *bytes, size_t size, const capn_limits *limits, uint8_t *out, size_t room,
+             capn_report *report),
+            (form, bytes, size, limits, out, room, report))
+WITH_LIMITS(capn_is_canonical,
+            (const uint8_t *bytes, size_t size, const capn_limits *limits, capn_report *report),
+            (bytes, size, limits, report))
+WITH_LIMITS(capn_hash,
+            (uint32_t form, const uint8_t *bytes, size_t size, const capn_limits *limits, uint8_t digest[32],
+             capn_report *report),
+            (form, bytes, size, limits, digest, report))
+WITH_LIMITS(capn_check,
+            (uint32_t form, const uint8_t *bytes, size_t size, const capn_limits *limits, capn_report *report),
+            (form, bytes, size, limits, report))
+WITH_REPORT(capn_pack,
+            (const uint8_t *bytes, size_t size, uint8_t *out, size_t room, capn_report *report),
+            (bytes, size, out, room, report))
+WITH_REPORT(capn_unpack,
+            (const uint8_t *bytes, size_t size, uint32_t max_words, uint8_t *out, size_t room, capn_report *report),
+            (bytes, size, max_words, out, room, report))
+WITH_LIMITS(capn_first,
+            (const uint8_t *bytes, size_t size, const capn_limits *limits, capn_report *report),
+            (bytes, size, limits, report))
+WITH_REPORT(capn_unpack_some,
+            (const uint8_t *bytes, size_t size, uint8_t *out, size_t room, capn_report *report),
+            (bytes, size, out, room, report))
+WITH_LIMITS(capn_survey,
+            (uint32_t form, const uint8_t *bytes, size_t size, const capn_limits *limits, capn_figures *figures,
+             capn_report *report),
+            (form, bytes, size, limits, figures, report))
+WITH_LIMITS(capn_index,
+            (uint32_t form, const uint8_t *bytes, size_t size, const capn_limits *limits, capn_entry *entries,
+             size_t most_entries, capn_report *report),
+            (form, bytes, size, limits, entries, most_entries, report))
+WITH_LIMITS(capn_show,
+            (uint32_t form, const uint8_t *bytes, size_t size, const capn_limits *limits, uint32_t style, char *out,
+             size_t room, capn_report *report),
+            (form, bytes, size, limits, style, out, room, report))
+WITH_LIMITS(capn_canonical_segments,
+            (const capn_segment *segments, size_t count, const capn_limits *limits, uint8_t *out, size_t room,
+             capn_report *report),
+            (segments, count, limits, out, room, report))
+WITH_LIMITS(capn_hash_segments,
+            (const capn_segment *segments, size_t count, const capn_limits *limits, uint8_t digest[32],
+             capn_report *report),
+            (segments, count, limits, digest, report))
+WITH_LIMITS(capn_check_segments,
+            (const capn_segment *segments, size_t count, const capn_limits *limits, capn_report *report),
+            (segments, count, limits, report))
+WITH_LIMITS(capn_survey_segments,
+            (const capn_segment *segments, size_t count, const capn_limits *limits, capn_figures *figures,
+             capn_report *report),
+            (segments, count, limits, figures, report))

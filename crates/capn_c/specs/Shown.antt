@@ -1,0 +1,54 @@
+-- The text of a message in a style, as it is ordered and answered. (Own.)
+use Rattle.std.specs.Prelude.{◌≡◌, ◌⊎◌, ℕ, zero, suc, ◌≤◌, List, [], ◌∷◌, ◌++◌, codes, refl}
+use Rattle.capn_value.specs.Text.{line}
+use Rattle.capn_value.specs.Tree.{Tree, nil}
+use Rattle.capn_walk.specs.Accepted.{IsValueOf}
+use Rattle.capn_walk.specs.Limits.{Bounds}
+use Rattle.capn_show.specs.Styled.{styled}
+use Rattle.capn_show.specs.declared.style.Style.{Style}
+use Rattle.capn_show.specs.declared.style.Style.TheVariants as styles
+use Rattle.capn_canon.specs.Denotes.{Denotes}
+use Rattle.capn_canon.specs.MemoryNeed.{MayNeedMemory}
+use Rattle.capn_canon.specs.declared.form.Form.{Form}
+
+-- the style that a number names
+abbrev pub style_named : ℕ → Style
+style_named zero = styles.Lines
+style_named (suc zero) = styles.Quoted
+style_named (suc (suc n)) = styles.Json
+
+-- a number names a style
+abbrev pub IsStyle : ℕ → Type 0
+IsStyle n = n ≤ 2
+
+-- what ends the text of a message: the line `end`, but nothing in JSON, where the text is one line
+abbrev pub end_of : Style → List ℕ
+end_of styles.Lines = codes "end" ++ 10 ∷ []
+end_of styles.Quoted = codes "end" ++ 10 ∷ []
+end_of styles.Json = []
+
+-- the text of a message with this value: that of all of it, and what ends it
+abbrev pub message_text : Style → Tree → List ℕ
+message_text style v = styled style [] v ++ end_of style
+
+-- the message is accepted, and this is its text
+pub record ShowsMessage (message : List (List ℕ)) (limits : Bounds) (style : Style) (text : List ℕ) : Type 0 where
+  pub value : Tree
+  pub is : IsValueOf message limits value
+  pub same : text ≡ message_text style value
+
+-- the bytes are read as an accepted message, and this is its text
+pub record ShowsIn (form : Form) (bs : List ℕ) (limits : Bounds) (style : Style) (text : List ℕ) : Type 0 where
+  pub value : Tree
+  pub denotes : Denotes form bs limits value
+  pub same : text ≡ message_text style value
+
+-- memory may be needed to show bytes: it may be needed to survey them, or they denote a value, which has a text
+abbrev pub MayNeedText : Form → List ℕ → Bounds → Type 0
+MayNeedText form bs limits = MayNeedMemory form bs limits ⊎ ((v : Tree) × Denotes form bs limits v)
+
+null_in_lines : message_text styles.Lines nil ≡ line 0 (codes "null") ++ codes "end\n"
+null_in_lines = refl
+
+null_in_json : message_text styles.Json nil ≡ codes "null\n"
+null_in_json = refl

@@ -1,0 +1,150 @@
+//! Texts of messages.
+
+ghost use Rattle.std.specs.Prelude.{IsTrue, ◌≡◌, ◌≢◌, ◌⊎◌, ◌↔◌, ◌≤◌, ℕ, List};
+ghost use Rattle.capn_value.specs.Tree.{Tree as Value};
+ghost use Rattle.capn_walk.specs.Accepted.{IsBounded};
+ghost use Rattle.capn_walk.specs.declared.survey_answer.Surveyed.{Surveyed as Survey};
+ghost use Rattle.capn_canon.specs.Denotes.{Denotes};
+ghost use Rattle.capn_canon.specs.Refusal.{IsUnacceptedIn};
+ghost use Rattle.capn_canon.specs.SurveyedBytes.{Surveys};
+ghost use Rattle.capn_canon.specs.declared.refusal.Refusal.{Refusal as Refusals};
+ghost use Rattle.capn_c.specs.Calls.{IsForm, form_named, GiveLimits, IsTariff, bounds_of, Delivers};
+ghost use Rattle.capn_c.specs.Shown.{IsStyle, MayNeedText, ShowsIn, message_text, style_named};
+ghost use Rattle.capn_c.specs.StatusCodes.{Reports, answered, at_number, is_status};
+
+use crate::limits::{CapnLimits, form_of, limits_of};
+use crate::message_text::text_in;
+use crate::output::deliver;
+use crate::report::{CapnReport, answer_of, report_at};
+use crate::status_codes::{BAD_FORM, BAD_STYLE, refuse};
+use crate::styles::style_of;
+use capn_canon::{Form, Refusal, survey_bytes};
+use capn_show::Style;
+use capn_walk::Limits;
+use std::alloc::Global;
+
+/// The text of a message, into a buffer.
+fn show_in(
+    alloc: Global,
+    form: Form,
+    bytes: &[u8],
+    limits: Limits,
+    style: Style,
+    out: &mut [u8],
+    report: &mut CapnReport,
+) -> u32
+    ensures possible { (result ≤ 1) ⊎ (8 ≤ result) }
+    ensures found { result ≤ 1 → (text : List ℕ) × ShowsIn form bytes.now limits style text
+        × Delivers text result report.new.length out.old out.new }
+    ensures only { (v : Value) → Denotes form bytes.now limits v
+        → (result ≡ 8) ⊎ Delivers (message_text style v) result report.new.length out.old out.new }
+    ensures rest { result ≤ 1 → (s : Survey) × Surveys form bytes.now limits s
+        × (report.new ≡ answered report.new.length s.paid s.visits) }
+    ensures listed { IsTrue (is_status result) }
+    ensures refused { 8 ≤ result → (e : Refusals) × Reports result report.new e
+        × IsUnacceptedIn form bytes.now limits e }
+    ensures memory { result ≡ 8 → MayNeedText form bytes.now limits }
+    ensures bounded { IsBounded limits.budget report.new.paid report.new.visits }
+    ensures kept { result ≢ 0 → out.new ≡ out.old }
+{
+    match survey_bytes(alloc, form, bytes, limits) {
+        Ok(surveyed) => match text_in(alloc, form, bytes, limits, style) {
+            Some(text) => {
+                *report = answer_of(text.len() as u64, surveyed.paid, surveyed.visits);
+                deliver(text.as_slice(), out)
+            }
+            None => refuse(Refusal::Memory, report),
+        },
+        Err(refusal) => refuse(refusal, report),
+    }
+}
+
+/// The text of a message in the style of a number, into a buffer.
+fn show_styled(
+    alloc: Global,
+    form: Form,
+    bytes: &[u8],
+    limits: Limits,
+    style: u32,
+    out: &mut [u8],
+    report: &mut CapnReport,
+) -> u32
+    ensures possible { (result ≤ 1) ⊎ (result ≡ 6) ⊎ (8 ≤ result) }
+    ensures style { (result ≡ 6) ↔ (IsStyle style → ⊥) }
+    ensures found { result ≤ 1 → (text : List ℕ) × ShowsIn form bytes.now limits (style_named style) text
+        × Delivers text result report.new.length out.old out.new }
+    ensures only { IsStyle style → (v : Value) → Denotes form bytes.now limits v
+        → (result ≡ 8) ⊎ Delivers (message_text (style_named style) v) result report.new.length out.old out.new }
+    ensures rest { result ≤ 1 → (s : Survey) × Surveys form bytes.now limits s
+        × (report.new ≡ answered report.new.length s.paid s.visits) }
+    ensures blank { result ≡ 6 → report.new ≡ at_number 0 }
+    ensures listed { IsTrue (is_status result) }
+    ensures refused { 8 ≤ result → (e : Refusals) × Reports result report.new e
+        × IsUnacceptedIn form bytes.now limits e }
+    ensures memory { result ≡ 8 → MayNeedText form bytes.now limits }
+    ensures bounded { IsBounded limits.budget report.new.paid report.new.visits }
+    ensures kept { result ≢ 0 → out.new ≡ out.old }
+{
+    match style_of(style) {
+        Some(style) => show_in(alloc, form, bytes, limits, style, out, report),
+        None => {
+            *report = report_at(0);
+            BAD_STYLE
+        }
+    }
+}
+
+/// The text of a message in a style, into a buffer: lines, lines with texts between quotes, or a line of JSON.
+///
+/// 0: the text is at the start of the buffer. 1: the buffer has no room for it, and is as it was; `length` is what it
+/// needs, exactly. In both, `paid` and `visits` are those of the walk. 2, 3, 4 and 6: the form, a limit, the tariff or
+/// the style is out of its range. 8: memory was refused: where `capn_check` may need it, or for the text. Others: the
+/// refusal, which is never that of a capability.
+#[unsafe(no_mangle)]
+pub extern "C" fn capn_show(
+    alloc: Global,
+    form: u32,
+    bytes: &[u8],
+    limits: &CapnLimits,
+    style: u32,
+    out: &mut [u8],
+    report: &mut CapnReport,
+) -> u32
+    // The form, the limits and the style are tested first.
+    ensures form { (result ≡ 2) ↔ (IsForm form → ⊥) }
+    ensures limits { (result ≡ 3) ↔ (IsForm form × (GiveLimits limits.now → ⊥)) }
+    ensures tariff { (result ≡ 4) ↔ (IsForm form × GiveLimits limits.now × (IsTariff limits.now.tariff → ⊥)) }
+    ensures style { (result ≡ 6)
+        ↔ (IsForm form × GiveLimits limits.now × IsTariff limits.now.tariff × (IsStyle style → ⊥)) }
+    // The answer: the bytes are an accepted message, and this is its text.
+    ensures found { result ≤ 1 → (text : List ℕ)
+        × ShowsIn (form_named form) bytes.now (bounds_of limits.now) (style_named style) text
+        × Delivers text result report.new.length out.old out.new }
+    // A message that is accepted is shown, unless memory runs out.
+    ensures only { IsForm form → GiveLimits limits.now → IsTariff limits.now.tariff → IsStyle style → (v : Value)
+        → Denotes (form_named form) bytes.now (bounds_of limits.now) v
+        → (result ≡ 8) ⊎ Delivers (message_text (style_named style) v) result report.new.length out.old out.new }
+    // The report of an answer has its length, and what the walk pays and visits; what no status speaks of is 0.
+    ensures rest { result ≤ 1 → (s : Survey) × Surveys (form_named form) bytes.now (bounds_of limits.now) s
+        × (report.new ≡ answered report.new.length s.paid s.visits) }
+    ensures blank { 2 ≤ result → result ≤ 6 → report.new ≡ at_number 0 }
+    ensures listed { IsTrue (is_status result) }
+    // What each refusal means; no other status stands for it.
+    ensures refused { 5 ≤ result → result ≢ 6 → (e : Refusals) × Reports result report.new e
+        × IsUnacceptedIn (form_named form) bytes.now (bounds_of limits.now) e }
+    // Memory is needed only where `capn_check` may need it, and for the text of a message that is accepted.
+    ensures memory { result ≡ 8 → MayNeedText (form_named form) bytes.now (bounds_of limits.now) }
+    // No walk pays beyond its budget.
+    ensures bounded { IsBounded limits.now.budget report.new.paid report.new.visits }
+    // Where nothing is answered, the buffer is as it was.
+    ensures kept { result ≢ 0 → out.new ≡ out.old }
+{
+    *report = report_at(0);
+    let Some(form) = form_of(form) else {
+        return BAD_FORM;
+    };
+    match limits_of(limits) {
+        Ok(limits) => show_styled(alloc, form, bytes, limits, style, out, report),
+        Err(status) => status,
+    }
+}

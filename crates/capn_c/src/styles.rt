@@ -1,0 +1,30 @@
+//! How the text of a message is written, as C passes it.
+
+ghost use Rattle.std.specs.Prelude.{◌≡◌, ◌↔◌, IsSome, IfSome};
+ghost use Rattle.capn_c.specs.Shown as shown;
+ghost use Rattle.capn_c.specs.Shown.{IsStyle, style_named};
+
+use capn_show::Style;
+
+/// The style of a number.
+pub fn style_of(number: u32) -> Option<Style>
+    ensures some { IsSome result ↔ IsStyle number }
+    ensures value { IfSome result (λ s. s ≡ style_named number) }
+{
+    match number {
+        0 => Some(Style::Lines),
+        1 => Some(Style::Quoted),
+        2 => Some(Style::Json),
+        _ => None,
+    }
+}
+
+/// What ends the text of a message: the line `end`, but nothing in JSON, where the text is one line.
+pub fn end_of(style: Style) -> &'static [u8]
+    ensures { result.now ≡ shown.end_of style }
+{
+    match style {
+        Style::Lines | Style::Quoted => b"end\n",
+        Style::Json => b"",
+    }
+}

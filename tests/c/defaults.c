@@ -1,0 +1,111 @@
+/* Calls without limits, without a report, and without both: each answers, writes and reports what it does with the
+ * usual limits and a report. The inputs are the bytes that end each line of standard input, in hexadecimal, in each
+ * form. */
+#define TEST "defaults"
+#include "wanted.h"
+
+enum { ROOM = 1 << 12, ENTRIES = 64 };
+
+/* What a call is given, and where it writes. */
+struct given {
+    uint32_t form;
+    const uint8_t *bytes;
+    size_t size;
+    const capn_limits *limits;
+    capn_report *report;
+    union {
+        uint8_t bytes[ROOM];
+        char text[ROOM];
+        capn_entry entries[ENTRIES];
+        capn_figures figures;
+    } out;
+};
+
+#define CALL(name, ...) static capn_status try_##name(struct given *g) { return capn_##name(__VA_ARGS__); }
+#define INPUT g->form, g->bytes, g->size, g->limits
+CALL(canonical, INPUT, g->out.bytes, ROOM, g->report)
+CALL(is_canonical, g->bytes, g->size, g->limits, g->report)
+CALL(hash, INPUT, g->out.bytes, g->report)
+CALL(check, INPUT, g->report)
+CALL(pack, g->bytes, g->size, g->out.bytes, ROOM, g->report)
+CALL(unpack, g->bytes, g->size, ROOM / 8, g->out.bytes, ROOM, g->report)
+CALL(first, g->bytes, g->size, g->limits, g->report)
+CALL(unpack_some, g->bytes, g->size, g->out.bytes, ROOM, g->report)
+CALL(survey, INPUT, &g->out.figures, g->report)
+CALL(index, INPUT, g->out.entries, ENTRIES, g->report)
+CALL(show, INPUT, CAPN_STYLE_TEXT, g->out.text, ROOM, g->report)
+
+/* The words as two segments: so some pointers lead out of theirs. */
+#define HALVES {{g->bytes, g->size / 16}, {g->bytes + 8 * (g->size / 16), g->size / 8 - g->size / 16}}
+#define HELD(name, ...) \
+    static capn_status try_##name##_segments(struct given *g) { \
+        const capn_segment segments[2] = HALVES; \
+        return capn_##name##_segments(segments, g->form ? 2 : 1, g->limits, __VA_ARGS__); \
+    }
+HELD(canonical, g->out.bytes, ROOM, g->report)
+HELD(hash, g->out.bytes, g->report)
+HELD(check, g->report)
+HELD(survey, &g->out.figures, g->report)
+
+static const struct {
+    const char *name;
+    capn_status (*call)(struct given *);
+    int of_forms;
+} calls[] = {
+#define ONE(name, of_forms) {#name, try_##name, of_forms}
+    ONE(canonical, 1), ONE(is_canonical, 0), ONE(hash, 1), ONE(check, 1), ONE(pack, 0), ONE(unpack, 0), ONE(first, 0),
+    ONE(unpack_some, 0), ONE(survey, 1), ONE(index, 1), ONE(show, 1), ONE(canonical_segments, 1), ONE(hash_segments, 1),
+    ONE(check_segments, 1), ONE(survey_segments, 1)
+};
+enum { CALLS = sizeof calls / sizeof *calls };
+
+static unsigned long long answered, refused;
+
+/* A call with limits and a report, and then with each of them null, and both. */
+static void compare(size_t call, uint32_t form, const uint8_t *bytes, size_t size) {
+    static struct given with, without;
+    capn_report wanted, got;
+    memset(&with, 0x55, sizeof with);
+    memset(&wanted, 0x55, sizeof wanted);
+    with.form = form, with.bytes = bytes, with.size = size, with.limits = &usual, with.report = &wanted;
+    const capn_status status = calls[call].call(&with);
+    if (status == CAPN_OK) answered++;
+    else refused++;
+    for (int null = 1; null < 4; null++) {
+        memset(&without, 0x55, sizeof without);
+        memset(&got, 0x55, sizeof got);
+        without.form = form, without.bytes = bytes, without.size = size;
+        without.limits = null & 1 ? NULL : &usual;
+        without.report = null & 2 ? NULL : &got;
+        want(calls[call].name, calls[call].call(&without), status);
+        if (!(null & 2)) want("its report", memcmp(&got, &wanted, sizeof got) != 0, 0);
+        want("what it writes", memcmp(&with.out, &without.out, sizeof with.out) != 0, 0);
+    }
+}
+
+int main(void) {
+    static char line[1 << 20];
+    char text[64];
+    uint8_t *pages = between_pages();
+    while (fgets(line, sizeof line, stdin)) {
+        char *digits = strrchr(line, ' ');
+        digits = digits ? digits + 1 : line;
+        const size_t size = strspn(digits, "0123456789abcdef") / 2;
+        if (size > ALL_PAGES) continue;
+        uint8_t *bytes = at_end(pages, size);
+        for (size_t i = 0; i < size; i++) {
+            unsigned byte;
+            sscanf(digits + 2 * i, "%2x", &byte);
+            bytes[i] = (uint8_t)byte;
+        }
+        for (size_t call = 0; call < CALLS; call++)
+            for (uint32_t form = 0; form < (calls[call].of_forms ? 4 : 1); form++) compare(call, form, bytes, size);
+    }
+    /* A refusal without its report has no place. */
+    const size_t length = capn_refusal_text(CAPN_RANGE, NULL, text, sizeof text);
+    want("the text without a report", strcmp(text, capn_status_text(CAPN_RANGE)), 0);
+    want("its length", length, strlen(text));
+    printf("c: %zu calls by default: %llu answers and %llu refusals, as with the usual limits and a report\n",
+           (size_t)CALLS, answered, refused);
+    return failed != 0 || !answered || !refused;
+}
