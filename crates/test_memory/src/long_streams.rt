@@ -94,16 +94,16 @@ enum Order {
     Unpack,
 }
 
-/// What a run took: how many growths, the most bytes of one, and how many bytes it wrote.
+/// What a run asked of memory and wrote: how many growths, the most bytes of one, and how many bytes it wrote.
 #[derive(Clone, Copy)]
-struct Taken {
+struct Demand {
     growths: u64,
     greatest: usize,
     written: u64,
 }
 
 /// What a run takes over these bytes, so many times; nothing where it is not done.
-fn taken(alloc: Global, order: Order, form: Form, row: &[u8], left: u64) -> Option<Taken> {
+fn taken(alloc: Global, order: Order, form: Form, row: &[u8], left: u64) -> Option<Demand> {
     let heap = Refusing::nth(alloc, 0);
     let limits = Limits::new(MOST, 8_388_608, 64)?;
     let mut reader = Watched::new(Again { row, left });
@@ -143,7 +143,7 @@ fn taken(alloc: Global, order: Order, form: Form, row: &[u8], left: u64) -> Opti
         Order::Unpack => unpack_stream(&heap, &mut reader, &mut writer).is_ok(),
     };
     if is_done {
-        Some(Taken {
+        Some(Demand {
             growths: heap.count(),
             greatest: heap.greatest(),
             written: writer.into_inner().bytes,
@@ -208,7 +208,7 @@ fn the_count_of_two_hundred_thousand_that_are_one(rt: HostRuntime) -> Result<(),
 }
 
 /// What a run takes over so many packed rows, if it asks for no growth of more than 1 MiB.
-fn taken_of_packed(alloc: Global, order: Order, rows: u64) -> Result<Option<Taken>, AllocError> {
+fn taken_of_packed(alloc: Global, order: Order, rows: u64) -> Result<Option<Demand>, AllocError> {
     let frame = packed_zeros(alloc)?;
     let row = times(alloc, frame.as_slice(), PACKED_IN_A_ROW)?;
     match taken(alloc, order, Form::Packed, row.as_slice(), rows) {
