@@ -11,7 +11,7 @@ use crate::end_of_archive::{fault_of, outcome, write_closing};
 use crate::fault::ArchiveFault;
 use crate::tally::no_tally;
 use crate::task::Archive;
-use capn_serve::{Position, Run, RunFault, serve_form};
+use capn_serve::{Run, RunFault, serve_form};
 use capn_words::Watched;
 use std::alloc::Allocator;
 use std::io::{Read, Write};
@@ -20,16 +20,10 @@ use std::io::{Read, Write};
 fn first_run(order: Archive) -> Run<Archivist>
     ensures { result ≡ spec.first_run order }
 {
-    Run {
-        service: Archivist {
-            order,
-            tally: no_tally(),
-        },
-        at: Position {
-            index: 0,
-            offset: 0,
-        },
-    }
+    Run::new(Archivist {
+        order,
+        tally: no_tally(),
+    })
 }
 
 /// Serves the messages of an input in its form.

@@ -212,10 +212,18 @@ impl Archivist {
 
 impl Service for Archivist {
     ghost use Rattle.capn_archive.specs.Tasks as spec;
+    ghost use Rattle.capn_serve.specs.Fold.{never};
 
     ghost serves = { spec.serves };
 
     ghost refuses = { spec.refuses };
+
+    ghost done = { never };
+
+    #[inline(always)]
+    fn is_done(&self, _at: Position) -> bool {
+        false
+    }
 
     fn serve<S: Space, W: Write, A: Allocator + Copy>(
         &mut self,

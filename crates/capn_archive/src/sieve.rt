@@ -139,10 +139,18 @@ impl<B: Allocator + Copy> Sieve<B> {
 
 impl<B: Allocator + Copy> Service for Sieve<B> {
     ghost use Rattle.capn_archive.specs.Sieve as spec;
+    ghost use Rattle.capn_serve.specs.Fold.{never};
 
     ghost serves = { spec.serves };
 
     ghost refuses = { spec.refuses };
+
+    ghost done = { never };
+
+    #[inline(always)]
+    fn is_done(&self, _at: Position) -> bool {
+        false
+    }
 
     fn serve<S: Space, W: Write, A: Allocator + Copy>(
         &mut self,

@@ -12,7 +12,7 @@ use crate::end_of_archive::{fault_of, outcome};
 use crate::fault::ArchiveFault;
 use crate::sieve::Sieve;
 use crate::uniq::Uniq;
-use capn_serve::{Position, Run, RunFault, serve_form, write_all};
+use capn_serve::{Run, RunFault, serve_form, write_all};
 use capn_words::Watched;
 use std::alloc::Allocator;
 use std::io::{Read, Write};
@@ -21,13 +21,7 @@ use std::io::{Read, Write};
 fn first_run<A: Allocator>(alloc: A, order: Uniq) -> Run<Sieve<A>>
     ensures { result ≡ spec.first_run order }
 {
-    Run {
-        service: Sieve::new(alloc, order),
-        at: Position {
-            index: 0,
-            offset: 0,
-        },
-    }
+    Run::new(Sieve::new(alloc, order))
 }
 
 /// The line of a count: how many messages are kept, of how many.

@@ -7,7 +7,7 @@ ghost use Rattle.capn_program.specs.PartRun.{PartsShown};
 use crate::order::Show;
 use crate::part_texts::PartTexts;
 use crate::way::numbers_of;
-use capn_serve::{Position, Run, serve_form};
+use capn_serve::{Run, serve_form};
 use capn_tool::{ToolFault, Watched};
 use std::alloc::Allocator;
 use std::io::{Read, Write};
@@ -32,17 +32,11 @@ pub fn show_parts<R: Read, W: Write, A: Allocator + Copy>(
 {
     let way = numbers_of(alloc, show.way)?;
     let most = show.limits.message_words();
-    let mut run = Run {
-        service: PartTexts {
-            way: &way,
-            style: show.style,
-            limits: show.limits,
-        },
-        at: Position {
-            index: 0,
-            offset: 0,
-        },
-    };
+    let mut run = Run::new(PartTexts {
+        way: &way,
+        style: show.style,
+        limits: show.limits,
+    });
     serve_form(alloc, show.form, most, &mut run, reader, writer)?;
     Ok(())
 }

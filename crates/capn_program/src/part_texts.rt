@@ -90,10 +90,18 @@ fn add_part<S: Space, W: Write, A: Allocator + Copy>(
 
 impl<'w> Service for PartTexts<'w> {
     ghost use Rattle.capn_program.specs.PartRun as spec;
+    ghost use Rattle.capn_serve.specs.Fold.{never};
 
     ghost serves = { spec.serves };
 
     ghost refuses = { spec.refuses };
+
+    ghost done = { never };
+
+    #[inline(always)]
+    fn is_done(&self, _at: Position) -> bool {
+        false
+    }
 
     fn serve<S: Space, W: Write, A: Allocator + Copy>(
         &mut self,

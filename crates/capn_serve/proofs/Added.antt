@@ -7,7 +7,7 @@ use Rattle.capn_serve.specs.declared.fault.RunFault.{RunFault}
 use Rattle.capn_serve.specs.declared.fault.RunFault.TheVariants as faults
 use Rattle.capn_serve.specs.declared.fault.ServeFault.{ServeFault}
 use Rattle.capn_serve.specs.declared.fault.ServeFault.TheVariants as serve_faults
-use Rattle.capn_serve.specs.Fold.{after, fold_of}
+use Rattle.capn_serve.specs.Fold.{after, fold_until}
 use Rattle.capn_serve.specs.Outgoing.{Outgoing}
 use Rattle.capn_serve.specs.ChunkRun.{AddsMessage}
 use Rattle.capn_serve.specs.Service.{DoesService}
@@ -22,15 +22,15 @@ told_at at serve_faults.Io = faults.Io
 told_at at (serve_faults.Refused r) = faults.Refused at r
 
 module _ {S : Type 0} (serves : S → Position → List ℕ → List (List ℕ) → List ℕ → S → Type 0)
-    (refuses : S → Position → List ℕ → List (List ℕ) → Refusal → Type 0) (most : ℕ) (x y : Run S) (frame : List ℕ)
-    (message : List (List ℕ)) (a b : Outgoing) (failed : Bool) (t : S) where
+    (refuses : S → Position → List ℕ → List (List ℕ) → Refusal → Type 0) (done : S → Position → Bool) (most : ℕ)
+    (x y : Run S) (frame : List ℕ) (message : List (List ℕ)) (a b : Outgoing) (failed : Bool) (t : S) where
   -- the run after the message
   abbrev next : S → Run S
   next u = record { service = u; at = after x.at frame }
 
   stops : (fault : ServeFault)
       → DoesService serves refuses x.service x.at frame message a b failed (stopped fault) t
-      → AddsMessage (fold_of serves refuses most) x frame message a b failed (stopped (told_at x.at fault)) y
+      → AddsMessage (fold_until serves refuses done most) x frame message a b failed (stopped (told_at x.at fault)) y
   stops serve_faults.Memory (inl none, fine) = (inl none, fine)
   stops serve_faults.Memory (inr (text, u, count, step, adds), fine) =
       (inr (text, next u, count, (step, refl), adds), fine)
@@ -40,7 +40,8 @@ module _ {S : Type 0} (serves : S → Position → List ℕ → List (List ℕ) 
   -- it was not served to its end
   pub added_stop : (fault : ServeFault) (told : RunFault) → told ≡ told_at x.at fault
       → DoesService serves refuses x.service x.at frame message a b failed (stopped fault) t
-      → AddsMessage (fold_of serves refuses most) x frame message a b failed (stopped told) y
+      → AddsMessage (fold_until serves refuses done most) x frame message a b failed (stopped told) y
   added_stop fault told is served =
-      subst (λ (g : RunFault). AddsMessage (fold_of serves refuses most) x frame message a b failed (stopped g) y)
+      subst (λ (g : RunFault). AddsMessage (fold_until serves refuses done most) x frame message a b failed (stopped g)
+      y)
       (sym is) (stops fault served)

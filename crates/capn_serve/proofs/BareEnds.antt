@@ -3,7 +3,7 @@ use Rattle.std.proofs.Common.{◌≡◌, ◌⊎◌, ◌↔◌, inl, inr, ℕ, �
 use Rattle.std.proofs.Common.{false, Option, None, Some, IfSome, Result, Ok, Err, Vec, OnOk, IsErrOf, IsOkUnless, refl}
 use Rattle.std.proofs.Common.{ap, sym, subst, ◌∙◌, append-nil, arith, length-append}
 use Rattle.std.specs.Io.KnownBytes.{Appends}
-use Rattle.std.proofs.KnownBytes.{Appends-nil}
+use Rattle.std.proofs.KnownBytes.{Appends-nil, Consumes-nil}
 use Rattle.std.proofs.Math.Seq.{take-nil, take_all}
 use Rattle.capn_words.specs.Watched.{HasBegun}
 use Rattle.capn_words.specs.Message.{IsBare, ReadsBare}
@@ -13,12 +13,14 @@ use Rattle.capn_serve.specs.declared.position.Position.{Position}
 use Rattle.capn_serve.specs.declared.whole_input.WholeInput.{WholeInput}
 use Rattle.capn_serve.specs.declared.fault.RunFault.{RunFault}
 use Rattle.capn_serve.specs.declared.fault.RunFault.TheVariants as faults
-use Rattle.capn_serve.specs.Fold.{Fold}
+use Rattle.capn_serve.specs.Fold.{Fold, IfGoing}
 use Rattle.capn_serve.specs.Outgoing.{Adds, AddsBeginning, Breaks, outgoing, sent}
 use Rattle.capn_serve.specs.WholeInput.{HasGiven, HasGivenAll, IsBeginning, IsUntaken, TakesAll, most_input}
-use Rattle.capn_serve.specs.BareRun.{Begins, EndsAs, HasWritten, IsShortBare, IsUnbare, RefusesBare, RunsBare}
+use Rattle.capn_serve.specs.BareRun.{Begins, EndsAs, EndsBare, HasWritten, WritesBare, WritesBy}
+use Rattle.capn_serve.specs.BareRun.{IsShortBare, IsUnbare, RefusesBare, RunsBare}
 use Rattle.capn_serve.specs.BareRun.{ServesBare}
 use Rattle.capn_serve.proofs.Sends.{adds_all, adds_begun, adds_sent, begun_less, breaks_rest}
+use Rattle.capn_serve.proofs.shared.Until.{if_going, not_both}
 
 abbrev Ending : Type 0
 Ending = Result (Unit {0}) RunFault
@@ -81,14 +83,29 @@ is_longer (Some all) (Some rest) failed bytes h long =
 
 -- ---- how the run ends
 
-module _ {X : Type 0} (f : Fold X) (x y : X) (a b c : Option (List ℕ)) where
+module _ {X : Type 0} (f : Fold X) (x y : X) (going : f.done x ≡ false) (a b c : Option (List ℕ)) where
+  -- more is served
+  ends_bare : (bytes : List ℕ) (fault : RunFault) → EndsBare f x bytes fault → IfGoing (f.done x) (EndsBare f x bytes
+      fault)
+  ends_bare bytes fault why = if_going (f.done x) (EndsBare f x bytes fault) going why
+
+  writes_bare : (bytes text : List ℕ) → length bytes ≤ most_input → WritesBare f x bytes text y
+      → WritesBy f x (f.done x) bytes text y
+  writes_bare bytes text short writes = subst (λ (m : Bool). WritesBy f x m bytes text y) (sym going) (short, writes)
+
+  none_needed : (bytes : List ℕ) → f.done x ≡ true → bytes ≡ []
+  none_needed bytes done = absurd (not_both (f.done x) done going)
+
   -- nothing is written of the bytes
   ends_none : (d : Option (List ℕ)) (failed : Bool) (bytes : List ℕ) (fault : RunFault) → HasGivenAll a b failed bytes
       → IsUnbare (f.place x) bytes fault ⊎ RefusesBare f x bytes fault → Appends c d []
       → IfSome a (EndsAs f x c d (Err fault) y)
   ends_none d failed bytes fault all why wrote =
       some_so a (λ input. bytes ≡ input) (EndsAs f x c d (Err fault) y)
-      (λ input same. subst (EndsAs f x c d (Err fault) y) same (inr (inr (inr (all.within, why), wrote))))
+      (λ input same. subst (EndsAs f x c d (Err fault) y) same (inr (inr (
+        ends_bare bytes fault (inr (all.within, why)),
+        wrote,
+      ))))
       (is_given a b failed bytes all)
 
   ends_unread : (d : Option (List ℕ)) (fault : RunFault) → (fault ≡ faults.Memory) ⊎ (fault ≡ faults.Io)
@@ -98,7 +115,13 @@ module _ {X : Type 0} (f : Fold X) (x y : X) (a b c : Option (List ℕ)) where
 
   begins_none : (bytes : List ℕ) (failed : Bool) → HasGiven a b failed bytes → Begins f x a b c c
   begins_none bytes failed h =
-      record { bytes = bytes; read = h.read; bounded = h.bounded; written = inl (Appends-nil c) }
+      record {
+        bytes = bytes;
+        read = h.read;
+        bounded = h.bounded;
+        needed = none_needed bytes;
+        written = inl (Appends-nil c);
+      }
 
   -- it ends with a fault other than Io, and neither has failed
   io_none : (r w : Bool) (fault : RunFault) → r ≡ false → w ≡ false → (fault ≡ faults.Io → ⊥)
@@ -130,7 +153,8 @@ module _ {X : Type 0} (f : Fold X) (x y : X) (a b c : Option (List ℕ)) where
   }
   runs_unread r w fault good (inl (bytes, inl (h, inr (is, long)))) = record {
     exact = some_so a (λ input. most_input < length input) (EndsAs f x c c (Err fault) y)
-        (λ input more. inr (inr (inl (more, is), Appends-nil c))) (is_longer a b r bytes h long);
+        (λ input more. inr (inr (ends_bare input fault (inl (more, is)), Appends-nil c))) (is_longer a b r bytes h
+        long);
     io = io_none r w fault h.fine good (λ e. let bad : faults.InputTooLong ≡ faults.Io = sym is ∙ e in cc);
     begun = begins_none bytes r h;
     heard = λ e. Appends-nil c;
@@ -140,7 +164,13 @@ module _ {X : Type 0} (f : Fold X) (x y : X) (a b c : Option (List ℕ)) where
   runs_unread r w fault good (inl (bytes, inr (read, bounded, broken, is))) = record {
     exact = ends_unread c fault (inr is);
     io = (λ h. inl broken, λ h. ap stopped is);
-    begun = record { bytes = bytes; read = read; bounded = bounded; written = inl (Appends-nil c) };
+    begun = record {
+      bytes = bytes;
+      read = read;
+      bounded = bounded;
+      needed = none_needed bytes;
+      written = inl (Appends-nil c);
+    };
     heard = λ e. Appends-nil c;
     memory = λ e. absurd (let bad : stopped faults.Io ≡ stopped faults.Memory = sym (ap stopped is) ∙ e in cc);
   }
@@ -168,6 +198,7 @@ module _ {X : Type 0} (f : Fold X) (x y : X) (a b c : Option (List ℕ)) where
       bytes = bytes;
       read = all_given.given.read;
       bounded = all_given.given.bounded;
+      needed = none_needed bytes;
       written = wrote;
     }
 
@@ -246,7 +277,7 @@ module _ {X : Type 0} (f : Fold X) (x y : X) (a b c : Option (List ℕ)) where
             let all = adds_sent c e text (adds_all (sent c) d e kept text adds ok) in
             some_so a (λ input. bytes ≡ input) (EndsAs f x c e (Ok u) y)
             (λ input same. subst (EndsAs f x c e (Ok u) y) same
-            (text, all_given.within, (words, bare, step), all)) (is_given a b r bytes all_given)
+            (text, writes_bare bytes text all_given.within (words, bare, step), all)) (is_given a b r bytes all_given)
         sent_ends (Err fault) ok only =
             some_all a (EndsAs f x c e (Err fault) y) (λ input. inr (inl only))
 
@@ -267,3 +298,21 @@ module _ {X : Type 0} (f : Fold X) (x y : X) (a b c : Option (List ℕ)) where
         (subst (λ (l : List ℕ). ServesBare f x bytes (outgoing c l) (outgoing d kept) fine (Ok tt) y) none served)
         (subst (λ (l : List ℕ). OnOk ending (Appends d e l)) is ok)
         (subst (λ (l : List ℕ). HasBegun d e l) is begun) io only
+
+-- no more is served before the first read
+pub runs_done : {X : Type 0} (f : Fold X) (x : X) (a c : Option (List ℕ)) (r w : Bool) → f.done x ≡ true → r ≡ false
+    → w ≡ false → RunsBare f x a a c c r w (Ok tt) x
+runs_done f x a c r w done fine good = record {
+  exact = some_all a (EndsAs f x c c (Ok tt) x)
+      (λ input. ([], subst (λ (m : Bool). WritesBy f x m input [] x) (sym done) (refl, refl), Appends-nil c));
+  io = (λ h. absurd (cc), λ h. absurd (elim h [ inl bad ↦ not_both r bad fine | inr bad ↦ not_both w bad good ]));
+  begun = record {
+    bytes = [];
+    read = Consumes-nil a;
+    bounded = omega arith;
+    needed = λ h. refl;
+    written = inl (Appends-nil c);
+  };
+  heard = λ h. Appends-nil c;
+  memory = λ h. absurd (cc);
+}

@@ -30,6 +30,7 @@ module _ {X : Type 0} (f : Fold X) (x : X) where
       bytes = run.begun.bytes;
       read = run.begun.read;
       bounded = (run.begun.bounded, run.begun.lazy);
+      needed = run.begun.needed;
       written = run.begun.written;
     };
     heard = run.heard;
@@ -55,6 +56,7 @@ module _ {X : Type 0} (f : Fold X) (x : X) where
       bytes = run.begun.bytes;
       read = run.begun.read;
       bounded = (run.begun.bounded, run.begun.lazy);
+      needed = run.begun.needed;
       written = run.begun.written;
     };
     heard = run.heard;
@@ -66,7 +68,7 @@ module _ {X : Type 0} (f : Fold X) (x : X) where
   bare_exact : (a c d : Option (List ℕ)) (r : Served) (y : X)
       → IfSome a (bares.EndsAs f x c d r y) → IfSome a (MessagesEnd f x forms.Bare c d r y)
   bare_exact None c d r y is = tt
-  bare_exact (Some input) c d (Ok u) y (text, short, writes, wrote) = (text, (short, writes), wrote)
+  bare_exact (Some input) c d (Ok u) y is = is
   bare_exact (Some input) c d (Err e) y (inl memory) = inl memory
   bare_exact (Some input) c d (Err e) y (inr (inl io)) = inr (inl io)
   bare_exact (Some input) c d (Err e) y (inr (inr (ends, wrote))) = inr (inr ([], y, (ends, refl), wrote))
@@ -80,6 +82,7 @@ module _ {X : Type 0} (f : Fold X) (x : X) where
       bytes = run.begun.bytes;
       read = run.begun.read;
       bounded = run.begun.bounded;
+      needed = run.begun.needed;
       written = run.begun.written;
     };
     heard = run.heard;

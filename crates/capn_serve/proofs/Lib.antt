@@ -10,7 +10,5 @@ pub mod BareEnds
 pub mod PackedMore
 pub mod PackedEnds
 pub mod Picks
-pub mod StreamPicks
-pub mod PackedPicks
 pub mod EachForm
 pub mod OnePick

@@ -17,6 +17,7 @@ use Rattle.capn_serve.specs.ChunkRun.{AddsMessage, Tells, TellsBegun, TellsFront
 use Rattle.capn_serve.specs.declared.fault.RunFault.{RunFault}
 use Rattle.capn_serve.specs.declared.fault.RunFault.TheVariants as faults
 use Rattle.capn_serve.proofs.Sends.{adds_more, adds_none, adds_sent, breaks_behind}
+use Rattle.capn_serve.proofs.shared.Until.{ends_going}
 
 module _ {X : Type 0} (f : Fold X) where
   served_append : (x y z : X) (ps qs : List Part) → AreServed f x ps y → AreServed f y qs z → AreServed f x (ps ++ qs) z
@@ -41,6 +42,14 @@ module _ {X : Type 0} (f : Fold X) where
   texts_more a b c ps qs g h =
       subst (Adds a c) (sym (flat_map-append text_of ps qs)) (adds_more a b c (texts_of ps) (texts_of qs) g h)
 
+  -- parts of some bytes are parts of more of them
+  pub parts_longer : (x y : X) (bytes rest more : List ℕ) (parts : List Part) → AreParts f x bytes parts rest y
+      → AreParts f x (bytes ++ more) parts (rest ++ more) y
+  parts_longer x y bytes rest more parts are = record {
+    each = are.each;
+    is = ap (λ (l : List ℕ). l ++ more) are.is ∙ append_assoc (frames_of parts) rest more;
+  }
+
   -- nothing was served, and all is left
   pub parts_none : (x : X) (stream : List ℕ) → AreParts f x stream [] stream x
   parts_none x stream = record { each = refl; is = refl }
@@ -54,21 +63,22 @@ module _ {X : Type 0} (f : Fold X) where
       (g.0 ++ h.0, parts_more x y z s mid e rest g.0 h.0 g.1 h.1, texts_more a b c g.0 h.0 g.2 h.2)
 
   one_part : (x y : X) (frame : List ℕ) (message : List (List ℕ)) (text e : List ℕ) → Frames frame message
-      → total message ≤ f.most → f.step x frame message text y
+      → total message ≤ f.most → f.done x ≡ false → f.step x frame message text y
       → AreParts f x (frame ++ e) ((record { frame = frame; message = message; text = text }) ∷ []) e y
-  one_part x y frame message text e is room step = record {
-    each = (y, record { frame = is; room = room }, step, refl);
+  one_part x y frame message text e is room going step = record {
+    each = (y, record { frame = is; room = room; going = going }, step, refl);
     is = ap (λ (p : List ℕ). p ++ e) (sym (append-nil frame));
   }
 
   -- a message and its text
   pub tells_one : (x y : X) (frame : List ℕ) (message : List (List ℕ)) (text : List ℕ) (a b : Outgoing)
       → Frames frame message
-      → total message ≤ f.most → f.step x frame message text y → Adds a b text → Tells f x frame [] a b y
-  tells_one x y frame message text a b is room step wrote = (
+      → total message ≤ f.most → f.done x ≡ false → f.step x frame message text y → Adds a b text
+      → Tells f x frame [] a b y
+  tells_one x y frame message text a b is room going step wrote = (
     (record { frame = frame; message = message; text = text }) ∷ [],
     subst (λ (p : List ℕ). AreParts f x p ((record { frame = frame; message = message; text = text }) ∷ []) [] y)
-        (append-nil frame) (one_part x y frame message text [] is room step),
+        (append-nil frame) (one_part x y frame message text [] is room going step),
     subst (Adds a b) (sym (append-nil text)) wrote,
   )
 
@@ -170,9 +180,9 @@ module _ {X : Type 0} (f : Fold X) where
 
   -- no frame can follow
   pub stops_framed : (x : X) (stream : List ℕ) (a : Outgoing) (failed : Bool) (e : FrameFault) → failed ≡ false
-      → e ≢ frame_faults.Memory → IsHeadRefused stream f.most e
+      → e ≢ frame_faults.Memory → IsHeadRefused stream f.most e → f.done x ≡ false
       → Stops f x stream a a failed (faults.Refused (f.place x) (refusals.Frame e))
-  stops_framed x stream a failed e fine other stop = record {
+  stops_framed x stream a failed e fine other stop going = record {
     told = λ h. begun_none x stream a a (adds_none a);
     front = λ h. absurd (let broken : true ≡ false = sym h ∙ fine in cc);
     io = (λ h. absurd (cc), λ h. absurd (cc));
@@ -197,34 +207,40 @@ module _ {X : Type 0} (f : Fold X) where
         rest = stream ++ more;
         are = parts_none x (stream ++ more);
         joined = refl;
-        ends = inl (frame_faults.TooManySegments n, other, stop, refl);
+        ends = ends_going f x (stream ++ more) behind _ going (inl (frame_faults.TooManySegments n, other, stop, refl));
       }
       due more behind (frame_faults.TooManyWords n) other stop = record {
         parts = [];
         rest = stream ++ more;
         are = parts_none x (stream ++ more);
         joined = refl;
-        ends = inl (frame_faults.TooManyWords n, other, stop, refl);
+        ends = ends_going f x (stream ++ more) behind _ going (inl (frame_faults.TooManyWords n, other, stop, refl));
       }
 
   -- a beginning of the text of the first message was added
   begun_one : (x : X) (frame e : List ℕ) (message : List (List ℕ)) (a b : Outgoing) → Frames frame message
-      → total message ≤ f.most → AddsBeginning (f.step x frame message) a b → TellsBegun f x (frame ++ e) a b
-  begun_one x frame e message a b is room (inl none) = begun_none x (frame ++ e) a b none
-  begun_one x frame e message a b is room (inr (text, mid, count, step, adds)) = (
+      → total message ≤ f.most → f.done x ≡ false → AddsBeginning (f.step x frame message) a b
+      → TellsBegun f x (frame ++ e) a b
+  begun_one x frame e message a b is room going (inl none) = begun_none x (frame ++ e) a b none
+  begun_one x frame e message a b is room going (inr (text, mid, count, step, adds)) = (
     (record { frame = frame; message = message; text = text }) ∷ [],
     e,
     mid,
     count,
-    one_part x mid frame message text e is room step,
+    one_part x mid frame message text e is room going step,
     subst (λ (t : List ℕ). Adds a b (take count t)) (sym (append-nil text)) adds,
   )
 
   -- a message is refused, or memory was, or the writer failed
   pub stops_message : (x y : X) (frame e : List ℕ) (message : List (List ℕ)) (a b : Outgoing) (failed : Bool)
-      (fault : RunFault) → Frames frame message → total message ≤ f.most
+      (fault : RunFault) → Frames frame message → total message ≤ f.most → f.done x ≡ false
       → AddsMessage f x frame message a b failed (Err fault) y → Stops f x (frame ++ e) a b failed fault
-  stops_message x y frame e message a b failed (faults.Refused at r) is room (place, refuses, none, fine) = record {
+  stops_message x y frame e message a b failed (faults.Refused at r) is room going (
+    place,
+    refuses,
+    none,
+    fine,
+  ) = record {
     told = λ h. begun_none x (frame ++ e) a b none;
     front = λ h. absurd (let bad : true ≡ false = sym h ∙ fine in cc);
     io = (λ h. absurd (cc), λ h. absurd (let bad : true ≡ false = sym h ∙ fine in cc));
@@ -239,7 +255,7 @@ module _ {X : Type 0} (f : Fold X) where
         are = parts_none x ((frame ++ e) ++ more);
         joined = refl;
         ends =
-            inr (
+            ends_going f x ((frame ++ e) ++ more) behind _ going (inr (
               frame,
               e ++ more,
               message,
@@ -249,25 +265,28 @@ module _ {X : Type 0} (f : Fold X) where
               room,
               refuses,
               ap (λ (p : Position). Err (faults.Refused p r)) place,
-            );
+            ));
       }
-  stops_message x y frame e message a b failed faults.Memory is room (begun, fine) = record {
-    told = λ h. begun_one x frame e message a b is room begun;
+  stops_message x y frame e message a b failed faults.Memory is room going (begun, fine) = record {
+    told = λ h. begun_one x frame e message a b is room going begun;
     front = λ h. absurd (let bad : true ≡ false = sym h ∙ fine in cc);
     io = (λ h. absurd (cc), λ h. absurd (let bad : true ≡ false = sym h ∙ fine in cc));
     due = inl refl;
   }
-  stops_message x y frame e message a b failed faults.Io is room ((text, mid, count, step, wrote), broken) = record {
+  stops_message x y frame e message a b failed faults.Io is room going (
+    (text, mid, count, step, wrote),
+    broken,
+  ) = record {
     told = λ h. absurd (let bad : true ≡ false = sym broken ∙ h in cc);
     front = λ h. (
       (record { frame = frame; message = message; text = text }) ∷ [],
       e,
       mid,
       count,
-      one_part x mid frame message text e is room step,
+      one_part x mid frame message text e is room going step,
       subst (Breaks a b count) (sym (append-nil text)) wrote,
     );
     io = (λ h. broken, λ h. refl);
     due = inr (inl refl);
   }
-  stops_message x y frame e message a b failed faults.InputTooLong is room none = absurd none
+  stops_message x y frame e message a b failed faults.InputTooLong is room going none = absurd none

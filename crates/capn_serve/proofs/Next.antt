@@ -18,7 +18,7 @@ use Rattle.capn_serve.specs.declared.position.Position.{Position}
 use Rattle.capn_serve.specs.declared.service.Run.{Run}
 use Rattle.capn_serve.specs.declared.fault.RunFault.{RunFault}
 use Rattle.capn_serve.specs.declared.fault.RunFault.TheVariants as faults
-use Rattle.capn_serve.specs.Fold.{Fold, Part, AreServed, after, fold_of, frames_of, texts_of}
+use Rattle.capn_serve.specs.Fold.{Fold, Part, AreParts, AreServed, after, fold_until, frames_of, texts_of}
 use Rattle.capn_serve.specs.Outgoing.{Outgoing, Adds, SendsRest, outgoing, sent}
 use Rattle.capn_serve.specs.ChunkRun.{AddsMessage, HasRoom, IsDueSo, IsListening, Passes, Serves, ServesHeld}
 use Rattle.capn_serve.specs.ChunkRun.{ServesNext}
@@ -39,9 +39,9 @@ frame_some frame message most is room = (frame_whole frame most (message, is, ro
 -- ---- where the next message begins
 
 module _ {S : Type 0} (serves : S → Position → List ℕ → List (List ℕ) → List ℕ → S → Type 0)
-    (refuses : S → Position → List ℕ → List (List ℕ) → Refusal → Type 0) (most : ℕ) where
+    (refuses : S → Position → List ℕ → List (List ℕ) → Refusal → Type 0) (done : S → Position → Bool) (most : ℕ) where
   abbrev f : Fold (Run S)
-  f = fold_of serves refuses most
+  f = fold_until serves refuses done most
 
   -- messages that were served leave the room that they didn't take
   room_after : (x y : Run S) (ps : List Part) (k : ℕ) → AreServed f x ps y
@@ -117,15 +117,15 @@ module _ {X : Type 0} (f : Fold X) (x : X) (before : Framing) (good : before.fai
     (same : before.most ≡ f.most) where
   -- it was served
   pub held_some : (y : X) (after : Framing) (frame : List ℕ) (message : List (List ℕ)) (a b : Outgoing) (failed : Bool)
-      (u : Unit {0}) → frame ≡ before.rest → Frames frame message → total message ≤ f.most
+      (u : Unit {0}) → frame ≡ before.rest → Frames frame message → total message ≤ f.most → f.done x ≡ false
       → AddsMessage f x frame message a b failed (Ok u) y
       → after ≡ record { rest = []; most = before.most; failed = false }
       → ServesHeld f x before a b failed (Ok tt) after y
-  held_some y after frame message a b failed u all is room (text, step, adds, fine) clear =
+  held_some y after frame message a b failed u all is room going (text, step, adds, fine) clear =
       let rest : after.rest ≡ [] = ap (λ (g : Framing). g.rest) clear in (
         rw rest
             (subst (λ (p : List ℕ). Tells f x p [] a b y) all
-            (tells_one f x y frame message text a b is room step adds)),
+            (tells_one f x y frame message text a b is room going step adds)),
         record {
           good = ap (λ (g : Framing). g.failed) clear;
           part = rw rest (empty_unfinished after.most);
@@ -136,12 +136,12 @@ module _ {X : Type 0} (f : Fold X) (x : X) (before : Framing) (good : before.fai
 
   -- it is refused, or the writer failed
   pub held_stop : (y : X) (frame : List ℕ) (message : List (List ℕ)) (a b : Outgoing) (failed : Bool)
-      (fault : RunFault) → frame ≡ before.rest → Frames frame message → total message ≤ f.most
+      (fault : RunFault) → frame ≡ before.rest → Frames frame message → total message ≤ f.most → f.done x ≡ false
       → AddsMessage f x frame message a b failed (Err fault) y → (more : List ℕ)
       → Stops f x (before.rest ++ more) a b failed fault
-  held_stop y frame message a b failed fault all is room adds more =
+  held_stop y frame message a b failed fault all is room going adds more =
       subst (λ (p : List ℕ). Stops f x (p ++ more) a b failed fault) all
-      (stops_message f x y frame more message a b failed fault is room adds)
+      (stops_message f x y frame more message a b failed fault is room going adds)
 
   -- there was none
   pub held_none : (a : Outgoing) (failed : Bool) → failed ≡ false → IsUnfinished before.rest before.most
@@ -199,23 +199,24 @@ module _ {X : Type 0} (f : Fold X) (x : X) (before : Framing) (bytes : List ℕ)
       subst (λ (p : List ℕ). Stops f x p a b failed fault) whole (stop (drop n bytes))
 
   -- the bytes are refused, or memory is
-  pub next_refused : (e : FrameFault) (after : Framing) (a : Outgoing) (failed : Bool) → failed ≡ false
+  pub next_refused : (e : FrameFault) (after : Framing) (a : Outgoing) (failed : Bool) → failed ≡ false → f.done x ≡
+      false
       → FeedGives before bytes (Err e) after
       → Stops f x (before.rest ++ bytes) a a failed (fault_at (f.place x) e)
-  next_refused frame_faults.Memory after a failed fine fed =
+  next_refused frame_faults.Memory after a failed fine going fed =
       stops_memory f x (before.rest ++ bytes) a failed fine
-  next_refused frame_faults.Empty after a failed fine fed = absurd fed
-  next_refused frame_faults.Cut after a failed fine fed = absurd fed
-  next_refused frame_faults.Failed after a failed fine fed =
+  next_refused frame_faults.Empty after a failed fine going fed = absurd fed
+  next_refused frame_faults.Cut after a failed fine going fed = absurd fed
+  next_refused frame_faults.Failed after a failed fine going fed =
       absurd (let e : true ≡ false = sym fed.0 ∙ listening.good in cc)
-  next_refused (frame_faults.TooManySegments k) after a failed fine fed =
-      stops_framed f x (before.rest ++ bytes) a failed (frame_faults.TooManySegments k) fine (λ h. cc) fed.1
-  next_refused (frame_faults.TooManyWords k) after a failed fine fed =
+  next_refused (frame_faults.TooManySegments k) after a failed fine going fed =
+      stops_framed f x (before.rest ++ bytes) a failed (frame_faults.TooManySegments k) fine (λ h. cc) fed.1 going
+  next_refused (frame_faults.TooManyWords k) after a failed fine going fed =
       stops_framed f x (before.rest ++ bytes) a failed (frame_faults.TooManyWords k) fine (λ h. cc) (
         fed.1.0,
         fed.1.1,
         omega (arith, fed.1.2, listening.most),
-      )
+      ) going
 
 -- ---- more of the bytes
 
@@ -247,7 +248,7 @@ module _ {X : Type 0} (f : Fold X) (x y : X) (first before : Framing) (bytes : L
 
 module _ {X : Type 0} (f : Fold X) (x y : X) (bytes : List ℕ) (at : ℕ) (a b : Outgoing)
     (told : Tells f x (take at bytes) [] a b y) (message : List (List ℕ)) (taken most : ℕ)
-    (same : most ≡ f.most)
+    (same : most ≡ f.most) (going : f.done y ≡ false)
     (first : StandsFirst (take (length bytes - at) (drop at bytes)) most message taken) where
   abbrev front : List ℕ
   front = take taken (take (length bytes - at) (drop at bytes))
@@ -261,7 +262,7 @@ module _ {X : Type 0} (f : Fold X) (x y : X) (bytes : List ℕ) (at : ℕ) (a b 
   pub whole_more : (z : X) (c : Outgoing) (text : List ℕ) → f.step y front message text z → Adds b c text
       → Tells f x (take (at + taken) bytes) [] a c z
   whole_more z c text step adds =
-      let one = tells_one f y z front message text b c first.frame front_room step adds in
+      let one = tells_one f y z front message text b c first.frame front_room going step adds in
       let part = subst (λ (p : List ℕ). Tells f y (take taken p) [] b c z) (take_rest bytes at) one in
       subst (λ (p : List ℕ). Tells f x p [] a c z) (sym (take-add at taken bytes))
       (tells_more f x y z (take at bytes) [] (take taken (drop at bytes)) [] a b c told part)
@@ -270,7 +271,7 @@ module _ {X : Type 0} (f : Fold X) (x y : X) (bytes : List ℕ) (at : ℕ) (a b 
       → AddsMessage f y front message b c failed (Err fault) z → Stops f x bytes a c failed fault
   whole_stop z c failed fault adds =
       let here = stops_message f y z front (drop taken (drop at bytes)) message b c failed fault first.frame front_room
-      adds in
+      going adds in
       let same_front = subst (λ (p : List ℕ). Stops f y (take taken p ++ drop taken (drop at bytes)) b c failed fault)
       (take_rest bytes at) here in
       let split = take-append-drop taken (drop at bytes) in
@@ -287,6 +288,22 @@ whole_memory f x y bytes at a b failed told fine =
     (stops_more f x y (take at bytes) [] (drop at bytes) a b b failed faults.Memory told here)
 
 -- ---- whole messages, or the next one
+
+-- where no byte was served the state is as it was
+pub state_same : {X : Type 0} (f : Fold X) (x y : X) (parts : List Part) → AreParts f x [] parts [] y → x ≡ y
+state_same f x y [] are = are.each
+state_same f x y (p ∷ ps) are =
+    let (mid, part, step, rest) = are.each in
+    let some = frame_some p.frame p.message f.most part.frame part.room in
+    let size = length-append p.frame (frames_of ps) in
+    let more = length-append (p.frame ++ frames_of ps) [] in
+    absurd (omega (arith, some, size, more, ap length are.is))
+
+pub still_going : {X : Type 0} (f : Fold X) (x y : X) (bytes : List ℕ) (n : ℕ) (a b : Outgoing) → n ≡ 0
+    → Tells f x (take n bytes) [] a b y → f.done x ≡ false → f.done y ≡ false
+still_going {X = X} f x y bytes n a b none (parts, are, adds) going =
+    let nothing : AreParts f x [] parts [] y = subst (λ (k : ℕ). AreParts f x (take k bytes) parts [] y) none are in
+    subst (λ (z : X). f.done z ≡ false) (state_same f x y parts nothing) going
 
 module _ {X : Type 0} (f : Fold X) (x y : X) (before : Framing) (bytes : List ℕ) (a b : Outgoing) where
   -- messages were served of which the framer holds nothing
@@ -389,7 +406,7 @@ module _ {X : Type 0} (f : Fold X) (x : X) where
       → SendsRest served text d e broken failed result
       → Serves f x before bytes (sent c) (sent e) failed result after y
   serves_sent y before after bytes c d e text true failed (Ok u) result s r =
-      absurd (let bad : true ≡ false = s.2 in cc)
+      absurd (let bad : true ≡ false = s.3 in cc)
   serves_sent y before after bytes c d e text true failed (Err fault) result s (same, broken, is) =
       subst (λ (r : Result (Unit {0}) RunFault). Serves f x before bytes (sent c) (sent e) failed r after y)
       (sym is)
@@ -398,7 +415,7 @@ module _ {X : Type 0} (f : Fold X) (x : X) where
   serves_sent y before after bytes c d e text false false (Ok u) result s (wrote, is) =
       subst (λ (r : Result (Unit {0}) RunFault). Serves f x before bytes (sent c) (sent e) false r after y)
       (sym is)
-      (tells_sent f x c d e text y (before.rest ++ bytes) after.rest s.0 wrote, s.1, refl)
+      (s.0, tells_sent f x c d e text y (before.rest ++ bytes) s.0 s.1 wrote, s.2, refl)
   serves_sent y before after bytes c d e text false false (Err fault) result s (wrote, is) =
       subst (λ (r : Result (Unit {0}) RunFault). Serves f x before bytes (sent c) (sent e) false r after y)
       (sym is)
@@ -406,7 +423,7 @@ module _ {X : Type 0} (f : Fold X) (x : X) where
   serves_sent y before after bytes c d e text false true (Ok u) result s (wrote, is) =
       subst (λ (r : Result (Unit {0}) RunFault). Serves f x before bytes (sent c) (sent e) true r after y)
       (sym is)
-      (tells_broken f x c d e text y (before.rest ++ bytes) after.rest s.0 wrote)
+      (tells_broken f x c d e text y (before.rest ++ bytes) s.0 s.1 wrote)
   serves_sent y before after bytes c d e text false true (Err fault) result s (wrote, is) =
       subst (λ (r : Result (Unit {0}) RunFault). Serves f x before bytes (sent c) (sent e) true r after y)
       (sym is)

@@ -102,7 +102,7 @@ module _ (most : ℕ) where
         omega (arith, short, past, ap (λ (r : Run Pick). r.at.index) h, ap (λ (r : Run Pick). r.at.index) k)
     too_few ends x y z [] (b ∷ qs) rest other r h (mean, also, move, others) e behind short past =
         no_end f pick_one_way (λ w. ends) x mean rest b.frame (frames_of qs ++ other) b.text b.message r also.frame
-        also.room move (e ∙ append_assoc b.frame (frames_of qs) other)
+        also.room also.going move (e ∙ append_assoc b.frame (frames_of qs) other)
         (subst (λ (w : Run Pick). Behind f pick_one_way (λ w. ends) w rest r) (sym h) behind)
     too_few ends x y z (a ∷ ps) [] rest other r h k e behind short past =
         omega (arith, short, past, grows x y (a ∷ ps) h, ap (λ (r : Run Pick). r.at.index) k)

@@ -3,7 +3,7 @@ use Rattle.std.proofs.Common.{◌≡◌, ◌≢◌, ◌⊎◌, inl, inr, ℕ, �
 use Rattle.std.proofs.Common.{take, Bool, true, false, Option, None, Some, IfSome}
 use Rattle.std.proofs.Common.{Result, Ok, Err, refl, ap, sym, subst, ◌∙◌}
 use Rattle.std.proofs.Common.{append-nil, append_assoc, arith, length-append, length-take-le}
-use Rattle.std.proofs.Math.Seq.{take_all}
+use Rattle.std.proofs.Math.Seq.{take-nil, take_all}
 use Rattle.std.proofs.lemmas.List.{take-append-le}
 use Rattle.std.proofs.lemmas.Grind.{flat_map-append}
 use Rattle.std.specs.Io.KnownBytes.{Appends, Consumes, IsAtEnd, Keeps}
@@ -21,18 +21,22 @@ use Rattle.capn_stream.specs.declared.fault.FrameFault.TheVariants as frames
 use Rattle.capn_serve.specs.declared.position.Position.{Position}
 use Rattle.capn_serve.specs.declared.fault.RunFault.{RunFault}
 use Rattle.capn_serve.specs.declared.fault.RunFault.TheVariants as faults
-use Rattle.capn_serve.specs.Fold.{Fold, IsFolded, end_of, texts_of}
+use Rattle.capn_serve.specs.Fold.{AreParts, Fold, IsFolded, end_of, texts_of}
 use Rattle.capn_serve.specs.Outgoing.{sent}
 use Rattle.capn_serve.specs.ChunkRun.{Tells, TellsFront}
-use Rattle.capn_serve.specs.StreamRun.{IsAhead, Kept, has_more, taken_of}
+use Rattle.capn_serve.specs.StreamRun.{IsAhead, IsNeeded, Kept, has_more, taken_of}
 use Rattle.capn_serve.specs.PackedRun.{BeginsPacked, EndsPackedAs, HasEndedPacked, HasWrittenAllPacked}
-use Rattle.capn_serve.specs.PackedRun.{HasWrittenPacked, IsDuePacked, RunsPacked, cut_group, unless_more}
+use Rattle.capn_serve.specs.PackedRun.{HasWrittenPacked, IsDuePacked, IsShortPacked, RunsPacked, cut_group}
+use Rattle.capn_serve.specs.PackedRun.{unless_more}
 use Rattle.capn_serve.specs.PackedChunkRun.{EndsPacked, HaltsPacked, HearsPacked, IsDueWithin, IsUnpacking}
-use Rattle.capn_serve.specs.PackedChunkRun.{Pending, TellsPacked, fresh}
+use Rattle.capn_serve.specs.PackedChunkRun.{Pending, ReachesPacked, TellsPacked, fresh}
 use Rattle.capn_serve.proofs.InputRead.{kept_all, kept_end, kept_past, taken_front, taken_more}
 use Rattle.capn_serve.proofs.Sends.{adds_sent}
-use Rattle.capn_serve.proofs.More.{begun_front, tells_begun}
-use Rattle.capn_serve.proofs.PackedMore.{all_taken, begins_all, not_more, packed_more, packed_none, packed_stop}
+use Rattle.capn_serve.proofs.More.{begun_front, parts_longer, tells_begun}
+use Rattle.capn_serve.proofs.Next.{empty_unfinished}
+use Rattle.capn_serve.proofs.PackedMore.{all_taken, begins_all, not_more, packed_more, packed_none, packed_reach}
+use Rattle.capn_serve.proofs.PackedMore.{packed_stop, reach_all}
+use Rattle.capn_serve.proofs.shared.Until.{ends_done, ends_going, if_going}
 
 abbrev Ending : Type 0
 Ending = Result (Unit {0}) RunFault
@@ -164,6 +168,30 @@ module _ {X : Type 0} (f : Fold X) (x : X) (limit : ℕ) where
   ahead_piece y bytes piece more q c d e told part small then_wrote =
       (bytes, piece, d, more, refl, small, written_all y bytes q c d told part, then_wrote)
 
+  -- no piece was read that was not needed
+  short : (y : X) (bytes : List ℕ) (q : Pending) (c d : Option (List ℕ))
+      → TellsPacked f x (fresh limit) bytes q (sent c) (sent d) y → IsUnfinished q.rest f.most → f.done y ≡ false
+      → IsShortPacked f x limit bytes
+  short y bytes q c d told part going = let all = told.told in (
+    told.stream,
+    q.group.rest,
+    told.len,
+    told.split,
+    (all.0, q.rest, y, all.1, part, going),
+  )
+
+  needed_none : (y : X) (bytes : List ℕ) (q : Pending) (c d : Option (List ℕ))
+      → TellsPacked f x (fresh limit) bytes q (sent c) (sent d) y → IsUnfinished q.rest f.most → f.done y ≡ false
+      → IsNeeded (IsShortPacked f x limit) bytes
+  needed_none y bytes q c d told part going =
+      inr (bytes, [], sym (append-nil bytes), omega arith, short y bytes q c d told part going)
+
+  needed_piece : (y : X) (bytes piece : List ℕ) (q : Pending) (c d : Option (List ℕ))
+      → TellsPacked f x (fresh limit) bytes q (sent c) (sent d) y → IsUnfinished q.rest f.most → f.done y ≡ false
+      → length piece ≤ 65536 → IsNeeded (IsShortPacked f x limit) (bytes ++ piece)
+  needed_piece y bytes piece q c d told part going small =
+      inr (bytes, piece, refl, small, short y bytes q c d told part going)
+
   -- something was written where a run stopped
   halt_wrote : (y : X) (q : Pending) (s : List ℕ) (d e : Option (List ℕ)) (failed : Bool) (fault : RunFault)
       → HaltsPacked f y q s (sent d) (sent e) failed fault → (more : List ℕ) × Appends d e more
@@ -175,20 +203,22 @@ module _ {X : Type 0} (f : Fold X) (x : X) (limit : ℕ) where
 
   begins_packed : (most_packed : ℕ) (a b c d : Option (List ℕ)) (all s : List ℕ) → Consumes a b all
       → length all ≤ most_packed + 1 → IsAhead (HasWrittenAllPacked f x limit) all c d
-      → taken_of most_packed all ≡ s → Fronts s c d → BeginsPacked f x most_packed limit a b c d
-  begins_packed most_packed a b c d all s read bound ahead is front = record {
+      → IsNeeded (IsShortPacked f x limit) all → taken_of most_packed all ≡ s → Fronts s c d → BeginsPacked f x
+      most_packed limit a b c d
+  begins_packed most_packed a b c d all s read bound ahead needed is front = record {
     bytes = all;
     read = read;
     bounded = bound;
     lazy = ahead;
+    needed = needed;
     written = subst (λ (l : List ℕ). HasWrittenPacked f x limit l c d) (sym is) (wrote_front s c d front);
   }
 
   begins_kept : (most_packed : ℕ) (a b c d : Option (List ℕ)) (kept bytes : List ℕ) (is_longer : Bool)
       → Kept most_packed a b kept is_longer bytes → IsAhead (HasWrittenAllPacked f x limit) bytes c d
-      → Fronts kept c d → BeginsPacked f x most_packed limit a b c d
-  begins_kept most_packed a b c d kept bytes is_longer k ahead front =
-      begins_packed most_packed a b c d bytes kept k.read k.bounded ahead k.are front
+      → IsNeeded (IsShortPacked f x limit) bytes → Fronts kept c d → BeginsPacked f x most_packed limit a b c d
+  begins_kept most_packed a b c d kept bytes is_longer k ahead needed front =
+      begins_packed most_packed a b c d bytes kept k.read k.bounded ahead needed k.are front
 
   -- ---- how a run ends
 
@@ -210,11 +240,11 @@ module _ {X : Type 0} (f : Fold X) (x : X) (limit : ℕ) where
 
   -- what has to hold where no whole frame is left of what was unpacked
   pub due_open : (y : X) (s : List ℕ) (q : Pending) (is_longer : Bool) (ending : Ending) (e : FrameFault)
-      (c d : Option (List ℕ)) (told : TellsPacked f x (fresh limit) s q (sent c) (sent d) y) → e ≢ frames.Memory
-      → frame_rules.IsFrameRefused q.rest f.most e
+      (c d : Option (List ℕ)) (told : TellsPacked f x (fresh limit) s q (sent c) (sent d) y) → f.done y ≡ false
+      → e ≢ frames.Memory → frame_rules.IsFrameRefused q.rest f.most e
       → ending ≡ end_of (f.place y) e (unless_more is_longer (cut_group (f.place y) q.group.rest told.len))
       → (text : List ℕ) × IsDuePacked f x limit s is_longer text ending y × Appends c d text
-  due_open y s q is_longer ending e c d told other refused is =
+  due_open y s q is_longer ending e c d told going other refused is =
       let all = taken_told y s q c d told in
       let behind = unless_more is_longer (cut_group (f.place y) q.group.rest told.len) in
       let due : IsFolded f x (taken_of limit told.stream) behind (texts_of all.0) ending y = record {
@@ -222,7 +252,7 @@ module _ {X : Type 0} (f : Fold X) (x : X) (limit : ℕ) where
         rest = q.rest;
         are = all.1;
         joined = refl;
-        ends = inl (e, other, refused, is);
+        ends = ends_going f y q.rest behind ending going (inl (e, other, refused, is));
       } in
       let no_more = not_more limit q.left told.stream told.size in (
         texts_of all.0,
@@ -239,16 +269,17 @@ module _ {X : Type 0} (f : Fold X) (x : X) (limit : ℕ) where
 
   pub due_unfinished : (y : X) (s : List ℕ) (q : Pending) (is_longer : Bool) (c d : Option (List ℕ))
       → TellsPacked f x (fresh limit) s q (sent c) (sent d) y → IsUnfinished q.rest f.most
-      → (ending : Ending) × (text : List ℕ) × IsDuePacked f x limit s is_longer text ending y × Appends c d text
-  due_unfinished y s q is_longer c d told (inl none) =
+      → f.done y ≡ false → (ending : Ending) × (text : List ℕ) × IsDuePacked f x limit s is_longer text ending y ×
+      Appends c d text
+  due_unfinished y s q is_longer c d told (inl none) going =
       let ending = end_of (f.place y) frames.Empty
       (unless_more is_longer (cut_group (f.place y) q.group.rest told.len)) in
-      let due = due_open y s q is_longer ending frames.Empty c d told (λ h. cc) none refl in
+      let due = due_open y s q is_longer ending frames.Empty c d told going (λ h. cc) none refl in
       (ending, due.0, due.1, due.2)
-  due_unfinished y s q is_longer c d told (inr cut) =
+  due_unfinished y s q is_longer c d told (inr cut) going =
       let ending = end_of (f.place y) frames.Cut
       (unless_more is_longer (cut_group (f.place y) q.group.rest told.len)) in
-      let due = due_open y s q is_longer ending frames.Cut c d told (λ h. cc) cut refl in
+      let due = due_open y s q is_longer ending frames.Cut c d told going (λ h. cc) cut refl in
       (ending, due.0, due.1, due.2)
 
   -- the offset of the unfinished group
@@ -281,18 +312,20 @@ module _ {X : Type 0} (f : Fold X) (x : X) (limit : ℕ) where
   -- the reader failed: all of the text of what it gave is written
   pub packed_unread : (most_packed : ℕ) (y : X) (a b b2 c d : Option (List ℕ)) (taken : ℕ) (q : Pending)
       (reader_failed writer_failed : Bool) → reader_failed ≡ true → taken ≤ most_packed
-      → HearsPacked f x limit a b taken q c d y → IsUnfinished q.rest f.most → Keeps b b2
+      → HearsPacked f x limit a b taken q c d y → IsUnfinished q.rest f.most → f.done y ≡ false
+      → Keeps b b2
       → RunsPacked f x most_packed limit a b2 c d reader_failed writer_failed (Err faults.Io) y
   packed_unread most_packed y a b b2 c d taken q reader_failed writer_failed broken short
-      (bytes, read, count, told) part kept =
+      (bytes, read, count, told) part going kept =
       let here = Consumes-kept a b b2 bytes read kept in
       let all : taken_of most_packed bytes ≡ bytes = take_all most_packed bytes (omega (arith, count, short)) in
-      let due = due_unfinished y bytes q (has_more most_packed bytes) c d told part in
+      let due = due_unfinished y bytes q (has_more most_packed bytes) c d told part going in
       record {
         exact = ends_unread most_packed y a c d faults.Io (inr refl);
         io = (λ h. inl broken, λ h. refl);
         begun = begins_packed most_packed a b2 c d bytes bytes here (omega (arith, count, short))
-            (ahead_none y bytes q c d told part) all (fronts_told y bytes q c d told);
+            (ahead_none y bytes q c d told part) (needed_none y bytes q c d told part going) all (fronts_told y bytes q
+            c d told);
         memory = λ h. absurd (cc);
         heard = λ h. (
           bytes,
@@ -300,7 +333,10 @@ module _ {X : Type 0} (f : Fold X) (x : X) (limit : ℕ) where
           due.0,
           y,
           here,
-          subst (λ (p : List ℕ). IsDuePacked f x limit p (has_more most_packed bytes) due.1 due.0 y) (sym all) due.2,
+          if_going (f.done y)
+              (IsDuePacked f x limit (taken_of most_packed bytes) (has_more most_packed bytes) due.1 due.0 y) going
+              (subst (λ (p : List ℕ). IsDuePacked f x limit p (has_more most_packed bytes) due.1 due.0 y) (sym all)
+              due.2),
           due.3,
         );
       }
@@ -315,7 +351,8 @@ module _ {X : Type 0} (f : Fold X) (x : X) (limit : ℕ) where
   pub packed_end : (most_packed : ℕ) → most_packed ≤ 2 ^ 64 - 1 → (y : X) (a b b2 c d : Option (List ℕ))
       (taken : ℕ) (q : Pending) (buf : List ℕ) (n : ℕ)
       (reader_failed writer_failed : Bool) (r : Ending) → reader_failed ≡ false → writer_failed ≡ false
-      → taken ≤ most_packed → HearsPacked f x limit a b taken q c d y → IsUnfinished q.rest f.most → n ≡ 0
+      → taken ≤ most_packed → HearsPacked f x limit a b taken q c d y → IsUnfinished q.rest f.most → f.done y ≡ false
+      → n ≡ 0
       → Consumes b b2 (take n buf)
       × (n ≡ 0 → 0 < length buf → IsAtEnd b2) → 0 < length buf
       → EndsPacked (f.place y) q.group.rest q.group.offset q.rest f.most r
@@ -325,46 +362,48 @@ module _ {X : Type 0} (f : Fold X) (x : X) (limit : ℕ) where
     read,
     count,
     told,
-  ) part zero more some (e, other, refused, is, no_io) =
+  ) part going zero more some (e, other, refused, is, no_io) =
       let kept = kept_end most_packed a b b2 bytes buf n zero read more some (omega (arith, count, short)) in
       let at = offset_is y bytes q c d told (omega (arith, count, short, fits)) in
       let ending : r ≡ end_of (f.place y) e (cut_group (f.place y) q.group.rest told.len) = is
       ∙ ap (λ (k : ℕ). end_of (f.place y) e (cut_group (f.place y) q.group.rest k)) at in
-      let due = due_open y bytes q false r e c d told other refused ending in
+      let due = due_open y bytes q false r e c d told going other refused ending in
       record {
         exact = ends_kept most_packed y a b2 c d bytes false r (bytes, kept) (ended y bytes false c d r due);
         io = (λ h. absurd (no_io h), λ h. absurd (not_failed reader_failed writer_failed reader_fine writer_fine h));
         begun = begins_kept most_packed a b2 c d bytes bytes false kept (ahead_none y bytes q c d told part)
-            (fronts_told y bytes q c d told);
+            (needed_none y bytes q c d told part going) (fronts_told y bytes q c d told);
         heard = λ h. absurd (not_failed reader_failed writer_failed reader_fine writer_fine (inl h));
         memory = λ h. absurd (end_unrefused (f.place y) e q.group.rest q.group.offset other (sym is ∙ h));
       }
 
   -- a byte past the greatest number was read, after messages that were served
   pub due_long : (y : X) (s : List ℕ) (q : Pending) (c d : Option (List ℕ))
-      → TellsPacked f x (fresh limit) s q (sent c) (sent d) y → IsUnfinished q.rest f.most → (text : List ℕ)
+      → TellsPacked f x (fresh limit) s q (sent c) (sent d) y → IsUnfinished q.rest f.most → f.done y ≡ false
+      → (text : List ℕ)
       × IsDuePacked f x limit s true text (stopped faults.InputTooLong) y × Appends c d text
-  due_long y s q c d told (inl none) =
-      due_open y s q true (stopped faults.InputTooLong) frames.Empty c d told (λ h. cc) none refl
-  due_long y s q c d told (inr cut) =
-      due_open y s q true (stopped faults.InputTooLong) frames.Cut c d told (λ h. cc) cut refl
+  due_long y s q c d told (inl none) going =
+      due_open y s q true (stopped faults.InputTooLong) frames.Empty c d told going (λ h. cc) none refl
+  due_long y s q c d told (inr cut) going =
+      due_open y s q true (stopped faults.InputTooLong) frames.Cut c d told going (λ h. cc) cut refl
 
   pub packed_long : (most_packed : ℕ) (y z : X) (a b b2 c d e : Option (List ℕ)) (taken : ℕ) (q r : Pending)
       (buf tail : List ℕ) (w k : ℕ)
       (reader_failed writer_failed : Bool) → reader_failed ≡ false → writer_failed ≡ false
       → taken + w ≡ most_packed → w < k → taken + k ≤ most_packed + 1 → k ≤ 65536
-      → HearsPacked f x limit a b taken q c d y → IsUnfinished q.rest f.most → Consumes b b2 (take k buf)
-      → k ≤ length buf
+      → HearsPacked f x limit a b taken q c d y → IsUnfinished q.rest f.most → f.done y ≡ false
+      → Consumes b b2 (take k buf) → k ≤ length buf
       → TellsPacked f y q (take w (buf ++ tail)) r (sent d) (sent e) z → IsUnfinished r.rest f.most
+      → f.done z ≡ false
       → RunsPacked f x most_packed limit a b2 c e reader_failed writer_failed (Err faults.InputTooLong) z
   packed_long most_packed y z a b b2 c d e taken q r buf tail w k reader_failed writer_failed reader_fine writer_fine
-      full past bound small (bytes, read, count, told) unfinished more within served part =
+      full past bound small (bytes, read, count, told) unfinished going more within served part going_on =
       let kept = kept_past most_packed a b b2 bytes buf k w read more within (omega (arith, count, full)) past
       (omega (arith, count, bound)) in
       let front = subst (λ (l : List ℕ). TellsPacked f y q l r (sent d) (sent e) z)
       (take-append-le w buf tail (omega (arith, past, within))) served in
       let all = packed_more f x y (fresh limit) q bytes (take w buf) (sent c) (sent d) told z r (sent e) front in
-      let due = due_long z (bytes ++ take w buf) r c e all part in
+      let due = due_long z (bytes ++ take w buf) r c e all part going_on in
       record {
         exact = ends_kept most_packed z a b2 c e (bytes ++ take w buf) true (Err faults.InputTooLong)
             (bytes ++ take k buf, kept)
@@ -374,6 +413,8 @@ module _ {X : Type 0} (f : Fold X) (x : X) (limit : ℕ) where
             (ahead_piece y bytes (take k buf) (texts_of front.told.0) q c d e told unfinished
             (omega (arith, small, length-take-le k buf within))
             (adds_sent d e (texts_of front.told.0) front.told.2))
+            (needed_piece y bytes (take k buf) q c d told unfinished going
+            (omega (arith, small, length-take-le k buf within)))
             (fronts_told z (bytes ++ take w buf) r c e all);
         heard = λ h. absurd (not_failed reader_failed writer_failed reader_fine writer_fine (inl h));
         memory = λ h. absurd (cc);
@@ -417,12 +458,12 @@ module _ {X : Type 0} (f : Fold X) (x : X) (limit : ℕ) where
       (buf tail : List ℕ)
       (w k : ℕ) (reader_failed writer_failed : Bool) (fault : RunFault) → reader_failed ≡ false → taken ≤ most_packed
       → w ≡ min k (most_packed - taken) → taken + k ≤ most_packed + 1 → k ≤ 65536 → 0 < k
-      → HearsPacked f x limit a b taken q c d y → IsUnfinished q.rest f.most → Consumes b b2 (take k buf)
-      → k ≤ length buf
+      → HearsPacked f x limit a b taken q c d y → IsUnfinished q.rest f.most → f.done y ≡ false
+      → Consumes b b2 (take k buf) → k ≤ length buf
       → HaltsPacked f y q (take w (buf ++ tail)) (sent d) (sent e) writer_failed fault
       → RunsPacked f x most_packed limit a b2 c e reader_failed writer_failed (Err fault) z
   packed_stopped most_packed y z a b b2 c d e taken q buf tail w k reader_failed writer_failed fault reader_fine short
-      least bound small some (bytes, read, count, told) unfinished more within stop =
+      least bound small some (bytes, read, count, told) unfinished going more within stop =
       let all = Consumes-trans a b b2 bytes (take k buf) read more in
       let front = taken_front most_packed bytes buf taken w k count short least within in
       let part = subst (λ (p : List ℕ). HaltsPacked f y q p (sent d) (sent e) writer_failed fault)
@@ -441,6 +482,7 @@ module _ {X : Type 0} (f : Fold X) (x : X) (limit : ℕ) where
         begun = begins_packed most_packed a b2 c e (bytes ++ take k buf) (bytes ++ take w buf) all
             (omega (arith, count, bound, length-append bytes (take k buf), size))
             (ahead_piece y bytes (take k buf) piece.0 q c d e told unfinished (omega (arith, small, size)) piece.1)
+            (needed_piece y bytes (take k buf) q c d told unfinished going (omega (arith, small, size)))
             front (fronts_stop (bytes ++ take w buf) c e writer_failed fault whole);
         heard = λ h. absurd (let g : true ≡ false = sym h ∙ reader_fine in cc);
         memory = λ h. (
@@ -448,6 +490,99 @@ module _ {X : Type 0} (f : Fold X) (x : X) (limit : ℕ) where
           all,
           omega (arith, some, length-append bytes (take k buf), size),
         );
+      }
+
+  -- ---- no more is served
+
+  done_ended : (most_packed : ℕ) (z : X) (a b2 c e : Option (List ℕ)) (all s : List ℕ) → Consumes a b2 all
+      → taken_of most_packed all ≡ s → ReachesPacked f x (fresh limit) s (sent c) (sent e) z → f.done z ≡ true
+      → IfSome a (EndsPackedAs f x most_packed limit c e (Ok tt) z)
+  done_ended most_packed z None b2 c e all s read is reached done = tt
+  done_ended most_packed z (Some input) None c e all s read is reached done = absurd read
+  done_ended most_packed z (Some input) (Some left) c e all s read is (stream, begins, rest, (parts, are, adds)) done =
+      let tail = taken_more most_packed all left in
+      let front : taken_of most_packed input ≡ s ++ tail.0 =
+      ap (taken_of most_packed) read ∙ tail.1 ∙ ap (λ (p : List ℕ). p ++ tail.0) is in
+      let split = split_after s tail.0 stream begins in
+      let more = taken_more limit stream split.1 in
+      let longer : AreParts f x (taken_of limit (stream ++ split.1)) parts (rest ++ more.0) z =
+      subst (λ (p : List ℕ). AreParts f x p parts (rest ++ more.0) z) (sym more.1)
+      (parts_longer f x z (taken_of limit stream) rest more.0 parts are) in
+      let behind = unless_more (has_more limit (stream ++ split.1))
+      (unless_more (has_more most_packed input) (cut_group (f.place z) split.0 split.2)) in (
+        texts_of parts,
+        record {
+          stream = stream ++ split.1;
+          group = split.0;
+          offset = split.2;
+          split = subst (λ (p : List ℕ). Splits p split.0 [] (stream ++ split.1) split.2) (sym front) split.3;
+          due = record {
+            parts = parts;
+            rest = rest ++ more.0;
+            are = longer;
+            joined = refl;
+            ends = ends_done f z (rest ++ more.0) behind (Ok tt) done refl;
+          };
+        },
+        adds_sent c e (texts_of parts) adds,
+      )
+
+  fronts_reach : (z : X) (s : List ℕ) (c e : Option (List ℕ))
+      → ReachesPacked f x (fresh limit) s (sent c) (sent e) z → Fronts s c e
+  fronts_reach z s c e (stream, begins, rest, told) =
+      (stream, begins, told_front z (taken_of limit stream) rest c e told)
+
+  -- before the first read
+  pub packed_done_first : (most_packed : ℕ) (a c : Option (List ℕ)) (reader_failed writer_failed : Bool)
+      → reader_failed ≡ false → writer_failed ≡ false → f.done x ≡ true
+      → RunsPacked f x most_packed limit a a c c reader_failed writer_failed (Ok tt) x
+  packed_done_first most_packed a c reader_failed writer_failed reader_fine writer_fine done =
+      let unpacking : IsUnpacking (fresh limit).group =
+      record { good = refl; group = nothing_first; offset = omega arith } in
+      let told = packed_none f x (fresh limit) (sent c) unpacking in
+      let read = Consumes-nil a in
+      let part : IsUnfinished [] f.most = empty_unfinished f.most in
+      let none : taken_of most_packed [] ≡ [] = take-nil most_packed in
+      let reached = reach_all f x (fresh limit) x [] (fresh limit) (sent c) (sent c) told in
+      record {
+        exact = done_ended most_packed x a a c c [] [] read none reached done;
+        io = (λ h. absurd (cc), λ h. absurd (not_failed reader_failed writer_failed reader_fine writer_fine h));
+        begun = begins_packed most_packed a a c c [] [] read (omega arith)
+            (ahead_none x [] (fresh limit) c c told part) (inl refl) none
+            (fronts_told x [] (fresh limit) c c told);
+        heard = λ h. absurd (not_failed reader_failed writer_failed reader_fine writer_fine (inl h));
+        memory = λ h. absurd (cc);
+      }
+
+  -- within a chunk
+  pub packed_done : (most_packed : ℕ) (y z : X) (a b b2 c d e : Option (List ℕ)) (taken : ℕ) (q : Pending)
+      (buf tail : List ℕ) (w k : ℕ) (reader_failed writer_failed : Bool) → reader_failed ≡ false
+      → writer_failed ≡ false → taken ≤ most_packed
+      → w ≡ min k (most_packed - taken) → taken + k ≤ most_packed + 1 → k ≤ 65536
+      → HearsPacked f x limit a b taken q c d y → IsUnfinished q.rest f.most → f.done y ≡ false
+      → Consumes b b2 (take k buf) → k ≤ length buf
+      → ReachesPacked f y q (take w (buf ++ tail)) (sent d) (sent e) z → f.done z ≡ true
+      → RunsPacked f x most_packed limit a b2 c e reader_failed writer_failed (Ok tt) z
+  packed_done most_packed y z a b b2 c d e taken q buf tail w k reader_failed writer_failed reader_fine writer_fine
+      short_of least bound small (bytes, read, count, told) unfinished going more within reached done =
+      let all = Consumes-trans a b b2 bytes (take k buf) read more in
+      let front = taken_front most_packed bytes buf taken w k count short_of least within in
+      let part = subst (λ (p : List ℕ). ReachesPacked f y q p (sent d) (sent e) z)
+      (take-append-le w buf tail (omega (arith, least, within))) reached in
+      let size = length-take-le k buf within in
+      let whole = packed_reach f x y (fresh limit) q bytes (take w buf) (sent c) (sent d) told z (sent e) part in
+      let texts = part.3 in
+      record {
+        exact = done_ended most_packed z a b2 c e (bytes ++ take k buf) (bytes ++ take w buf) all front whole done;
+        io = (λ h. absurd (cc), λ h. absurd (not_failed reader_failed writer_failed reader_fine writer_fine h));
+        begun = begins_packed most_packed a b2 c e (bytes ++ take k buf) (bytes ++ take w buf) all
+            (omega (arith, count, bound, length-append bytes (take k buf), size))
+            (ahead_piece y bytes (take k buf) (texts_of texts.0) q c d e told unfinished (omega (arith, small, size))
+            (adds_sent d e (texts_of texts.0) texts.2))
+            (needed_piece y bytes (take k buf) q c d told unfinished going (omega (arith, small, size)))
+            front (fronts_reach z (bytes ++ take w buf) c e whole);
+        heard = λ h. absurd (not_failed reader_failed writer_failed reader_fine writer_fine (inl h));
+        memory = λ h. absurd (cc);
       }
 
   -- a chunk was served

@@ -22,18 +22,20 @@ use Rattle.capn_serve.specs.declared.position.Position.{Position}
 use Rattle.capn_serve.specs.declared.service.Run.{Run}
 use Rattle.capn_serve.specs.declared.fault.RunFault.{RunFault}
 use Rattle.capn_serve.specs.declared.fault.RunFault.TheVariants as faults
-use Rattle.capn_serve.specs.Fold.{Fold, Part, AreParts, EndsUnframed, IsFolded, end_of, fold_of, text_of, texts_of}
+use Rattle.capn_serve.specs.Fold.{Fold, Part, AreParts, EndsBy, EndsUnframed, IsFolded, end_of, fold_until}
+use Rattle.capn_serve.specs.Fold.{text_of, texts_of}
 use Rattle.capn_serve.specs.Outgoing.{Outgoing, SendsRest, outgoing, sent}
-use Rattle.capn_serve.specs.ChunkRun.{HasRoom, IsDueSo, Stops, Tells, TellsBegun, TellsFront}
+use Rattle.capn_serve.specs.ChunkRun.{HasRoom, IsDueSo, IsListening, Stops, Tells, TellsBegun, TellsFront}
 use Rattle.capn_serve.specs.StreamRun.{has_more, taken_of}
 use Rattle.capn_serve.specs.PackedRun.{unless_more}
 use Rattle.capn_serve.specs.PackedChunkRun.{Halts, HaltsPacked, IsDueWithin, IsUnpacking, Pending, ServesPacked}
-use Rattle.capn_serve.specs.PackedChunkRun.{ServesPart, TellsPacked, pending}
+use Rattle.capn_serve.specs.PackedChunkRun.{ReachesPacked, ServesPart, TellsPacked, pending}
 use Rattle.capn_serve.proofs.InputRead.{taken_more}
 use Rattle.capn_serve.proofs.More.{begun_behind, front_behind, parts_more, stops_memory, tells_begun, tells_more}
 use Rattle.capn_serve.proofs.More.{tells_none}
 use Rattle.capn_serve.proofs.Next.{begun_broken, begun_sent, room_told, tells_broken, tells_sent}
 use Rattle.capn_serve.proofs.Sends.{adds_all, adds_more}
+use Rattle.capn_serve.proofs.shared.Until.{ends_going, not_both}
 
 abbrev Ending : Type 0
 Ending = Result (Unit {0}) RunFault
@@ -64,6 +66,14 @@ module _ {X : Type 0} (f : Fold X) where
       (frames.TooManyWords n, some, refused, is)
   unframed_any y rest other fault frames.Failed apart some refused is behind = (frames.Failed, some, refused, is)
 
+  ends_any : (y : X) (rest : List ℕ) (other fault : RunFault) → (fault ≡ other → ⊥) → (is_done : Bool)
+      → EndsBy f is_done y rest (Some other) (stopped fault) → (behind : Option RunFault)
+      → EndsBy f is_done y rest behind (stopped fault)
+  ends_any y rest other fault apart true is behind = absurd (cc)
+  ends_any y rest other fault apart false (inl why) behind =
+      inl (unframed_any y rest other fault why.0 apart why.1 why.2 why.3 behind)
+  ends_any y rest other fault apart false (inr why) behind = inr why
+
   folded_any : (x y : X) (bytes text : List ℕ) (other fault : RunFault) → (fault ≡ other → ⊥)
       → IsFolded f x bytes (Some other) text (stopped fault) y → (behind : Option RunFault)
       → IsFolded f x bytes behind text (stopped fault) y
@@ -72,10 +82,7 @@ module _ {X : Type 0} (f : Fold X) where
     rest = due.rest;
     are = due.are;
     joined = due.joined;
-    ends = elim due.ends [
-      | inl why ↦ inl (unframed_any y due.rest other fault why.0 apart why.1 why.2 why.3 behind)
-      | inr why ↦ inr why
-    ];
+    ends = ends_any y due.rest other fault apart (f.done y) due.ends behind;
   }
 
   -- the text and the ending of messages that were served, and of what follows them
@@ -148,8 +155,9 @@ module _ {X : Type 0} (f : Fold X) (x : X) (left : ℕ) (rest stream : List ℕ)
 module _ {X : Type 0} (f : Fold X) (x y : X) (left : ℕ) (rest stream end : List ℕ) (a b : Outgoing) where
   long_due : (e : FrameFault) → e ≢ frames.Memory → frame_rules.IsFrameRefused end f.most e
       → stopped faults.InputTooLong ≡ end_of (f.place y) e (Some faults.InputTooLong) → left < length stream
-      → Tells f x (rest ++ taken_of left stream) end a b y → IsDueWithin f x left rest stream a b faults.InputTooLong
-  long_due e other refused is past (parts, are, adds) more =
+      → f.done y ≡ false → Tells f x (rest ++ taken_of left stream) end a b y → IsDueWithin f x left rest stream a b
+      faults.InputTooLong
+  long_due e other refused is past going (parts, are, adds) more =
       let whole : taken_of left (stream ++ more) ≡ taken_of left stream =
       take-append-le left stream more (omega (arith, past)) in
       let longer : has_more left (stream ++ more) ≡ true =
@@ -162,7 +170,8 @@ module _ {X : Type 0} (f : Fold X) (x y : X) (left : ℕ) (rest stream end : Lis
               rest = end;
               are = are;
               joined = refl;
-              ends = inl (e, other, refused, is);
+              ends = ends_going f y end (Some faults.InputTooLong) (stopped faults.InputTooLong) going
+                  (inl (e, other, refused, is));
             } in
             subst (λ (p : List ℕ). IsFolded f x (rest ++ p) (unless_more (has_more left (stream ++ more)) behind)
             (texts_of parts) (stopped faults.InputTooLong) y) (sym whole)
@@ -173,15 +182,15 @@ module _ {X : Type 0} (f : Fold X) (x y : X) (left : ℕ) (rest stream end : Lis
 
   -- it stopped since there are more bytes than are taken
   pub halts_long : (failed : Bool) → failed ≡ false → left < length stream → IsUnfinished end f.most
-      → Tells f x (rest ++ taken_of left stream) end a b y
+      → f.done y ≡ false → Tells f x (rest ++ taken_of left stream) end a b y
       → Halts f x left rest stream a b failed faults.InputTooLong
-  halts_long failed fine past part told = record {
+  halts_long failed fine past part going told = record {
     told = λ h. tells_begun f x y (rest ++ taken_of left stream) end a b told;
     front = λ h. absurd (let bad : true ≡ false = sym h ∙ fine in cc);
     io = (λ h. absurd (cc), λ h. absurd (let bad : true ≡ false = sym h ∙ fine in cc));
     due = inr (inr (elim part [
-      | inl none ↦ long_due frames.Empty (λ e. cc) none refl past told
-      | inr cut ↦ long_due frames.Cut (λ e. cc) cut refl past told
+      | inl none ↦ long_due frames.Empty (λ e. cc) none refl past going told
+      | inr cut ↦ long_due frames.Cut (λ e. cc) cut refl past going told
     ]));
   }
 
@@ -206,11 +215,39 @@ module _ {X : Type 0} (f : Fold X) (x : X) (left within count : ℕ) (rest strea
       (within_taken left within count stream got same size least) stop)
 
   pub part_long : (y : X) (end : List ℕ) → failed ≡ false → within < count → IsUnfinished end f.most
-      → Tells f x (rest ++ take within got) end a b y → Halts f x left rest stream a b failed faults.InputTooLong
-  part_long y end fine past part told =
-      halts_long f x y left rest stream end a b failed fine (omega (arith, past, size, least)) part
+      → f.done y ≡ false → Tells f x (rest ++ take within got) end a b y → Halts f x left rest stream a b failed
+      faults.InputTooLong
+  part_long y end fine past part going told =
+      halts_long f x y left rest stream end a b failed fine (omega (arith, past, size, least)) part going
       (subst (λ (p : List ℕ). Tells f x (rest ++ p) end a b y)
       (within_taken left within count stream got same size least) told)
+
+  -- as far as it is taken, and no more is served
+  pub part_done : (y : X) (end : List ℕ) (room : ℕ) (before after : Framing) → before.rest ≡ rest → failed ≡ false
+      → f.done y ≡ true → Tells f x (rest ++ take within got) end a b y
+      → ServesPart f x left before stream a b failed (Ok tt) room after y
+  part_done y end room before after held fine done told = (
+    end,
+    subst (λ (p : List ℕ). Tells f x (p ++ taken_of left stream) end a b y) (sym held)
+        (subst (λ (p : List ℕ). Tells f x (rest ++ p) end a b y)
+        (within_taken left within count stream got same size least) told),
+    λ going. absurd (not_both (f.done y) done going),
+    fine,
+  )
+
+  -- all of it
+  pub part_all : (y : X) (end : List ℕ) (room : ℕ) (before after : Framing) → before.rest ≡ rest → failed ≡ false
+      → within ≡ count → left ≡ within + room → after.rest ≡ end → IsListening f after
+      → Tells f x (rest ++ take within got) end a b y
+      → ServesPart f x left before stream a b failed (Ok tt) room after y
+  part_all y end room before after held fine all rooms is listening told = (
+    end,
+    subst (λ (p : List ℕ). Tells f x (p ++ taken_of left stream) end a b y) (sym held)
+        (subst (λ (p : List ℕ). Tells f x (rest ++ p) end a b y)
+        (within_taken left within count stream got same size least) told),
+    λ going. (omega (arith, all, rooms, size), is, listening),
+    fine,
+  )
 
 -- it stopped after messages that were served
 module _ {X : Type 0} (f : Fold X) (x y : X) (left room : ℕ) (rest mid w v : List ℕ) (a b c : Outgoing)
@@ -295,6 +332,21 @@ module _ {X : Type 0} (f : Fold X) (x y : X) (p q : Pending) (s t : List ℕ) (a
             (tells_more f x y z (p.rest ++ w) q.rest v r.rest a b c told.told more.told);
       }
 
+  -- messages were reached after it
+  pub packed_reach : (z : X) (c : Outgoing) → ReachesPacked f y q t b c z → ReachesPacked f x p (s ++ t) a c z
+  packed_reach z c (v, begins, rest, next) =
+      let w = told.stream in
+      let all = begins_then (p.group.rest ++ s) q.group.rest t w v told.len told.split begins in
+      let part = tells_more f x y z (p.rest ++ w) q.rest (taken_of q.left v) rest a b c told.told next in
+      let taken : (p.rest ++ w) ++ taken_of q.left v ≡ p.rest ++ taken_of p.left (w ++ v) =
+      append_assoc p.rest w (taken_of q.left v)
+      ∙ ap (λ (l : List ℕ). p.rest ++ l) (sym (taken_after q.left p.left v w told.size)) in (
+        w ++ v,
+        subst (λ (l : List ℕ). packing.Begins l [] (w ++ v)) (append_assoc p.group.rest s t) all,
+        rest,
+        subst (λ (l : List ℕ). Tells f x l rest a c z) taken part,
+      )
+
   pub packed_stop : (c : Outgoing) (failed : Bool) (fault : RunFault) → HaltsPacked f y q t b c failed fault
       → HaltsPacked f x p (s ++ t) a c failed fault
   packed_stop c failed fault (v, begins, halt) =
@@ -305,6 +357,21 @@ module _ {X : Type 0} (f : Fold X) (x y : X) (p q : Pending) (s t : List ℕ) (a
         halts_more f x y p.left q.left p.rest q.rest w v a b c told.size told.told failed fault halt,
       )
 
+-- groups that come first in some bytes come first in more of them
+begins_longer : (held s bytes more stream : List ℕ) → s ++ more ≡ bytes → packing.Begins (held ++ s) [] stream
+    → packing.Begins (held ++ bytes) [] stream
+begins_longer held s bytes more stream whole begins = record {
+  groups = begins.groups;
+  rest = begins.rest ++ more;
+  each = begins.each;
+  text =
+      ap (λ (l : List ℕ). held ++ l) (sym whole)
+      ∙ sym (append_assoc held s more)
+      ∙ ap (λ (l : List ℕ). l ++ more) begins.text
+      ∙ append_assoc (texts begins.groups) begins.rest more;
+  content = begins.content;
+}
+
 module _ {X : Type 0} (f : Fold X) (x : X) (p : Pending) where
   -- memory was refused while a slice was unpacked
   pub packed_memory : (bytes : List ℕ) (a : Outgoing) (failed : Bool) → failed ≡ false
@@ -314,6 +381,27 @@ module _ {X : Type 0} (f : Fold X) (x : X) (p : Pending) where
     record { groups = []; rest = p.group.rest ++ bytes; each = tt; text = refl; content = refl },
     halts_of f x p.left p.rest [] a a failed faults.Memory
         (stops_memory f x (p.rest ++ taken_of p.left []) a failed fine),
+  )
+
+  -- what was told was reached
+  pub reach_all : (y : X) (bytes : List ℕ) (q : Pending) (a b : Outgoing) → TellsPacked f x p bytes q a b y
+      → ReachesPacked f x p bytes a b y
+  reach_all y bytes q a b told = (
+    told.stream,
+    begins_all (p.group.rest ++ bytes) q.group.rest told.stream told.len told.split,
+    q.rest,
+    subst (λ (l : List ℕ). Tells f x (p.rest ++ l) q.rest a b y)
+        (sym (all_taken p.left q.left told.stream told.size)) told.told,
+  )
+
+  -- what was reached over some bytes is reached over more of them
+  pub reach_longer : (y : X) (s bytes more : List ℕ) (a b : Outgoing) → s ++ more ≡ bytes
+      → ReachesPacked f x p s a b y → ReachesPacked f x p bytes a b y
+  reach_longer y s bytes more a b whole (stream, begins, rest, told) = (
+    stream,
+    begins_longer p.group.rest s bytes more stream whole begins,
+    rest,
+    told,
   )
 
   -- nothing has come
@@ -332,21 +420,8 @@ module _ {X : Type 0} (f : Fold X) (x : X) (p : Pending) where
   -- where a run stops over some bytes it stops over more of them
   pub packed_longer : (s bytes more : List ℕ) (a b : Outgoing) (failed : Bool) (fault : RunFault) → s ++ more ≡ bytes
       → HaltsPacked f x p s a b failed fault → HaltsPacked f x p bytes a b failed fault
-  packed_longer s bytes more a b failed fault whole (stream, begins, halt) = (
-    stream,
-    record {
-      groups = begins.groups;
-      rest = begins.rest ++ more;
-      each = begins.each;
-      text =
-          ap (λ (l : List ℕ). p.group.rest ++ l) (sym whole)
-          ∙ sym (append_assoc p.group.rest s more)
-          ∙ ap (λ (l : List ℕ). l ++ more) begins.text
-          ∙ append_assoc (texts begins.groups) begins.rest more;
-      content = begins.content;
-    },
-    halt,
-  )
+  packed_longer s bytes more a b failed fault whole (stream, begins, halt) =
+      (stream, begins_longer p.group.rest s bytes more stream whole begins, halt)
 
 -- a slice was unpacked, and what came was served
 module _ {X : Type 0} (f : Fold X) (x : X) (held next : Held) (before : Framing) (left : ℕ) (bytes old new : List ℕ)
@@ -357,17 +432,22 @@ module _ {X : Type 0} (f : Fold X) (x : X) (held next : Held) (before : Framing)
   pub served_slice : (y : X) (after : Framing) (room : ℕ) (a b : Outgoing) (failed : Bool) (r : Ending)
       (last : Held) → last ≡ next → ServesPart f x left before new a b failed r room after y
       → ServesPacked f x (pending held before left) bytes a b failed r last after room y
-  served_slice y after room a b failed (Ok u) last same (size, told, listening, fine) = (
-    record {
-      stream = new;
-      len = fed.len;
-      split = subst (λ (h : Held). Splits (held.rest ++ bytes) h.rest [] new fed.len) (sym same) split;
-      offset = ap (λ (h : Held). h.offset) same ∙ fed.offset;
-      good = ap (λ (h : Held). h.failed) same ∙ fed.is_good;
-      size = size;
-      told = told;
-    },
-    listening,
+  served_slice y after room a b failed (Ok u) last same (rest, told, keeps, fine) = (
+    (new, begins_all (held.rest ++ bytes) next.rest new fed.len split, rest, told),
+    (λ going. (let kept = keeps going in
+        let taken : taken_of left new ≡ new = all_taken left room new kept.0 in
+        let full = subst (λ (l : List ℕ). Tells f x (before.rest ++ l) rest a b y) taken told in (
+          record {
+            stream = new;
+            len = fed.len;
+            split = subst (λ (h : Held). Splits (held.rest ++ bytes) h.rest [] new fed.len) (sym same) split;
+            offset = ap (λ (h : Held). h.offset) same ∙ fed.offset;
+            good = ap (λ (h : Held). h.failed) same ∙ fed.is_good;
+            size = kept.0;
+            told = subst (λ (l : List ℕ). Tells f x (before.rest ++ new) l a b y) (sym kept.1) full;
+          },
+          kept.2,
+        ))),
     fine,
   )
   served_slice y after room a b failed (Err fault) last same halt =
@@ -385,6 +465,13 @@ module _ {X : Type 0} (f : Fold X) (x y : X) (p q : Pending) (bytes : List ℕ) 
   slice_more z r c more =
       subst (λ (l : List ℕ). TellsPacked f x p l r a c z) joined
       (packed_more f x y p q (take at bytes) (take (end - at) (drop at bytes)) a b told z r c more)
+
+  pub slice_reach : (z : X) (c : Outgoing)
+      → ReachesPacked f y q (take (end - at) (drop at bytes)) b c z → ReachesPacked f x p bytes a c z
+  slice_reach z c more =
+      let part = packed_reach f x y p q (take at bytes) (take (end - at) (drop at bytes)) a b told z c more in
+      reach_longer f x p z (take at bytes ++ take (end - at) (drop at bytes)) bytes (drop end bytes) a c
+      (ap (λ (l : List ℕ). l ++ drop end bytes) joined ∙ take-append-drop end bytes) part
 
   pub slice_stop : (c : Outgoing) (failed : Bool) (fault : RunFault)
       → HaltsPacked f y q (take (end - at) (drop at bytes)) b c failed fault
@@ -447,32 +534,33 @@ module _ {X : Type 0} (f : Fold X) (x y : X) (p : Pending) (next : Held) (after 
       subst (λ (r : Ending). Served (sent e) failed r) (sym is)
       (subst (λ (b : Bool). HaltsPacked f x p bytes (sent c) (sent e) b fault) (sym broken)
       (stream, begins, halts_kept f x p.left p.rest stream c d e text fault same halt))
-  packed_sent false false (Ok u) result (told, listening, ok) (wrote, is) =
+  packed_sent false false (Ok u) result ((stream, begins, rest, reached), keeps, ok) (wrote, is) =
       subst (λ (r : Ending). Served (sent e) false r) (sym is) (
-        record {
-          stream = told.stream;
-          len = told.len;
-          split = told.split;
-          offset = told.offset;
-          good = told.good;
-          size = told.size;
-          told = tells_sent f x c d e text y (p.rest ++ told.stream) after.rest told.told wrote;
-        },
-        listening,
+        (stream, begins, rest, tells_sent f x c d e text y (p.rest ++ taken_of p.left stream) rest reached wrote),
+        (λ going. (let kept = keeps going in
+            let told = kept.0 in (
+              record {
+                stream = told.stream;
+                len = told.len;
+                split = told.split;
+                offset = told.offset;
+                good = told.good;
+                size = told.size;
+                told = tells_sent f x c d e text y (p.rest ++ told.stream) after.rest told.told wrote;
+              },
+              kept.1,
+            ))),
         refl,
       )
   packed_sent false false (Err fault) result (stream, begins, halt) (wrote, is) =
       subst (λ (r : Ending). Served (sent e) false r) (sym is)
       (stream, begins, halts_sent f x p.left p.rest stream c d e text fault halt wrote)
-  packed_sent false true (Ok u) result (told, listening, ok) (wrote, is) =
-      let all : p.rest ++ taken_of p.left told.stream ≡ p.rest ++ told.stream =
-      ap (λ (l : List ℕ). p.rest ++ l) (all_taken p.left room told.stream told.size) in
+  packed_sent false true (Ok u) result ((stream, begins, rest, reached), keeps, ok) (wrote, is) =
       subst (λ (r : Ending). Served (sent e) true r) (sym is) (
-        told.stream,
-        begins_all (p.group.rest ++ bytes) next.rest told.stream told.len told.split,
-        halts_of f x p.left p.rest told.stream (sent c) (sent e) true faults.Io
-            (tells_broken f x c d e text y (p.rest ++ taken_of p.left told.stream) after.rest
-            (subst (λ (l : List ℕ). Tells f x l after.rest (sent c) (outgoing d text) y) (sym all) told.told) wrote),
+        stream,
+        begins,
+        halts_of f x p.left p.rest stream (sent c) (sent e) true faults.Io
+            (tells_broken f x c d e text y (p.rest ++ taken_of p.left stream) rest reached wrote),
       )
   packed_sent false true (Err fault) result (stream, begins, halt) (wrote, is) =
       subst (λ (r : Ending). Served (sent e) true r) (sym is)
@@ -490,11 +578,12 @@ module _ {X : Type 0} (f : Fold X) (x y : X) (p : Pending) (next : Held) (after 
 
 -- messages that were served leave the room that is not taken
 pub packed_room : {S : Type 0} (serves : S → Position → List ℕ → List (List ℕ) → List ℕ → S → Type 0)
-    (refuses : S → Position → List ℕ → List (List ℕ) → Refusal → Type 0) (most : ℕ) (x y : Run S) (p q : Pending)
-    (bytes : List ℕ) (a b : Outgoing) → TellsPacked (fold_of serves refuses most) x p bytes q a b y
+    (refuses : S → Position → List ℕ → List (List ℕ) → Refusal → Type 0) (done : S → Position → Bool) (most : ℕ)
+    (x y : Run S) (p q : Pending) (bytes : List ℕ) (a b : Outgoing)
+    → TellsPacked (fold_until serves refuses done most) x p bytes q a b y
     → HasRoom x.at (length p.rest + p.left) → HasRoom y.at (length q.rest + q.left)
-packed_room serves refuses most x y p q bytes a b told room =
-    room_told serves refuses most x y (p.rest ++ told.stream) q.rest a b q.left told.told (record {
+packed_room serves refuses done most x y p q bytes a b told room =
+    room_told serves refuses done most x y (p.rest ++ told.stream) q.rest a b q.left told.told (record {
       offset = omega (arith, room.offset, told.size, length-append p.rest told.stream);
       index = room.index;
     })

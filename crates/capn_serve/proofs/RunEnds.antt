@@ -3,10 +3,10 @@ use Rattle.std.proofs.Common.{◌≡◌, ◌≢◌, ◌⊎◌, inl, inr, ℕ, �
 use Rattle.std.proofs.Common.{Bool, append-nil}
 use Rattle.std.proofs.Common.{true, false, Option, None, Some, IfSome, Result, Ok, Err, refl, ap, sym, subst, ◌∙◌}
 use Rattle.std.proofs.Common.{arith, length-append, length-take-le}
-use Rattle.std.proofs.Math.Seq.{take-length, take_all}
+use Rattle.std.proofs.Math.Seq.{take-length, take-nil, take_all}
 use Rattle.std.proofs.lemmas.List.{take-append-le}
 use Rattle.std.specs.Io.KnownBytes.{Appends, Consumes, IsAtEnd, Keeps}
-use Rattle.std.proofs.KnownBytes.{Appends-nil, Consumes-trans, Consumes-kept}
+use Rattle.std.proofs.KnownBytes.{Appends-nil, Consumes-nil, Consumes-trans, Consumes-kept}
 use Rattle.capn_canon.specs.declared.refusal.Refusal.{Refusal}
 use Rattle.capn_stream.specs.StreamPieces.{IsUnfinished}
 use Rattle.capn_stream.specs.FrameRefusal as frame_rules
@@ -16,15 +16,16 @@ use Rattle.capn_serve.specs.declared.fault.RunFault.{RunFault}
 use Rattle.capn_serve.specs.declared.fault.RunFault.TheVariants as faults
 use Rattle.capn_serve.specs.declared.position.Position.{Position}
 use Rattle.capn_serve.specs.declared.service.Run.{Run}
-use Rattle.capn_serve.specs.Fold.{Fold, AreParts, IsFolded, end_of, fold_of, texts_of}
+use Rattle.capn_serve.specs.Fold.{Fold, AreParts, IsFolded, end_of, fold_until, texts_of}
 use Rattle.capn_serve.specs.Outgoing.{sent}
 use Rattle.capn_serve.specs.ChunkRun.{HasRoom, IsDueSo, Stops, Tells, TellsFront}
 use Rattle.capn_serve.specs.StreamRun.{Begins, EndsAs, EndsInput, HasEnded, HasWritten, HasWrittenAll, Hears, IsAhead}
-use Rattle.capn_serve.specs.StreamRun.{IsDue, Kept, Runs, behind, has_more, start, taken_of}
-use Rattle.capn_serve.proofs.More.{begun_front, stops_more, tells_begun, tells_more}
+use Rattle.capn_serve.specs.StreamRun.{IsDue, IsNeeded, IsShort, Kept, Runs, behind, has_more, start, taken_of}
+use Rattle.capn_serve.proofs.More.{begun_front, parts_longer, stops_more, tells_begun, tells_more, tells_none}
 use Rattle.capn_serve.proofs.InputRead.{kept_all, kept_end, kept_past, taken_front, taken_more}
-use Rattle.capn_serve.proofs.Next.{room_told}
+use Rattle.capn_serve.proofs.Next.{empty_unfinished, room_told}
 use Rattle.capn_serve.proofs.Sends.{adds_sent}
+use Rattle.capn_serve.proofs.shared.Until.{ends_done, ends_going, if_going}
 
 abbrev Ending : Type 0
 Ending = Result (Unit {0}) RunFault
@@ -80,45 +81,66 @@ module _ {X : Type 0} (f : Fold X) (x : X) (limit : ℕ) where
     then_wrote,
   )
 
+  -- ---- no piece was read that was not needed
+
+  short : (y : X) (bytes rest : List ℕ) (c d : Option (List ℕ)) → Tells f x bytes rest (sent c) (sent d) y
+      → IsUnfinished rest f.most → f.done y ≡ false → IsShort f x limit bytes
+  short y bytes rest c d (parts, are, wrote) part going = (parts, rest, y, are, part, going)
+
+  -- of all that was read
+  needed_none : (y : X) (bytes rest : List ℕ) (c d : Option (List ℕ)) → Tells f x bytes rest (sent c) (sent d) y
+      → IsUnfinished rest f.most → f.done y ≡ false → IsNeeded (IsShort f x limit) bytes
+  needed_none y bytes rest c d told part going =
+      inr (bytes, [], sym (append-nil bytes), omega arith, short y bytes rest c d told part going)
+
+  -- of the piece that came after it
+  needed_piece : (y : X) (bytes rest piece : List ℕ) (c d : Option (List ℕ))
+      → Tells f x bytes rest (sent c) (sent d) y → IsUnfinished rest f.most → f.done y ≡ false → length piece ≤ 65536
+      → IsNeeded (IsShort f x limit) (bytes ++ piece)
+  needed_piece y bytes rest piece c d told part going small =
+      inr (bytes, piece, refl, small, short y bytes rest c d told part going)
+
   -- a beginning of the text was written
   begins_front : (a b c d : Option (List ℕ)) (all s : List ℕ) → Consumes a b all → length all ≤ limit + 1
-      → IsAhead (HasWrittenAll f x limit) all c d → taken_of limit all ≡ s → TellsFront f x s (sent c) (sent d)
+      → IsAhead (HasWrittenAll f x limit) all c d → IsNeeded (IsShort f x limit) all → taken_of limit all ≡ s
+      → TellsFront f x s (sent c) (sent d)
       → Begins f x limit a b c d
-  begins_front a b c d all s read bound ahead is (parts, rest, y, count, are, wrote) = record {
+  begins_front a b c d all s read bound ahead needed is (parts, rest, y, count, are, wrote) = record {
     bytes = all;
     read = read;
     bounded = bound;
     lazy = ahead;
+    needed = needed;
     written = (parts, rest, y, count, subst (λ (p : List ℕ). AreParts f x p parts rest y) (sym is) are, wrote);
   }
 
   -- what is left is no whole frame
   pub due_open : (y : X) (stream rest : List ℕ) (more : Option RunFault) (ending : Ending)
-      (e : FrameFault) (c d : Option (List ℕ)) → Tells f x stream rest (sent c) (sent d) y → e ≢ frames.Memory
-      → frame_rules.IsFrameRefused rest f.most e → ending ≡ end_of (f.place y) e more
+      (e : FrameFault) (c d : Option (List ℕ)) → Tells f x stream rest (sent c) (sent d) y → f.done y ≡ false
+      → e ≢ frames.Memory → frame_rules.IsFrameRefused rest f.most e → ending ≡ end_of (f.place y) e more
       → (text : List ℕ) × IsFolded f x stream more text ending y × Appends c d text
-  due_open y stream rest more ending e c d (parts, are, wrote) other refused is = (
+  due_open y stream rest more ending e c d (parts, are, wrote) going other refused is = (
     texts_of parts,
     record {
       parts = parts;
       rest = rest;
       are = are;
       joined = refl;
-      ends = inl (e, other, refused, is);
+      ends = ends_going f y rest more ending going (inl (e, other, refused, is));
     },
     adds_sent c d (texts_of parts) wrote,
   )
 
   pub due_unfinished : (y : X) (stream rest : List ℕ) (more : Option RunFault) (c d : Option (List ℕ))
-      → Tells f x stream rest (sent c) (sent d) y → IsUnfinished rest f.most
+      → Tells f x stream rest (sent c) (sent d) y → IsUnfinished rest f.most → f.done y ≡ false
       → (ending : Ending) × (text : List ℕ) × IsFolded f x stream more text ending y × Appends c d text
-  due_unfinished y stream rest more c d told (inl none) =
-      let due = due_open y stream rest more (end_of (f.place y) frames.Empty more) frames.Empty c d told (λ h. cc) none
-      refl in
+  due_unfinished y stream rest more c d told (inl none) going =
+      let due = due_open y stream rest more (end_of (f.place y) frames.Empty more) frames.Empty c d told going (λ h. cc)
+      none refl in
       (end_of (f.place y) frames.Empty more, due.0, due.1, due.2)
-  due_unfinished y stream rest more c d told (inr cut) =
-      let due = due_open y stream rest more (end_of (f.place y) frames.Cut more) frames.Cut c d told (λ h. cc) cut refl
-      in
+  due_unfinished y stream rest more c d told (inr cut) going =
+      let due = due_open y stream rest more (end_of (f.place y) frames.Cut more) frames.Cut c d told going (λ h. cc) cut
+      refl in
       (end_of (f.place y) frames.Cut more, due.0, due.1, due.2)
 
   -- memory was refused, or the reader or the writer failed
@@ -140,12 +162,13 @@ module _ {X : Type 0} (f : Fold X) (x : X) (limit : ℕ) where
 
   begins_kept : (a b c d : Option (List ℕ)) (kept bytes : List ℕ) (is_longer : Bool)
       → Kept limit a b kept is_longer bytes → IsAhead (HasWrittenAll f x limit) bytes c d
-      → HasWritten f x limit kept c d → Begins f x limit a b c d
-  begins_kept a b c d kept bytes is_longer k ahead h = record {
+      → IsNeeded (IsShort f x limit) bytes → HasWritten f x limit kept c d → Begins f x limit a b c d
+  begins_kept a b c d kept bytes is_longer k ahead needed h = record {
     bytes = bytes;
     read = k.read;
     bounded = k.bounded;
     lazy = ahead;
+    needed = needed;
     written = subst (λ (xs : List ℕ). HasWritten f x limit xs c d) (sym k.are) h;
   }
 
@@ -155,17 +178,19 @@ module _ {X : Type 0} (f : Fold X) (x : X) (limit : ℕ) where
   pub runs_unread : (y : X) (a b b2 c d : Option (List ℕ)) (taken : ℕ) (rest : List ℕ)
       (reader_failed writer_failed : Bool)
       → reader_failed ≡ true → taken ≤ limit → Hears f x a b taken rest c d y
-      → IsUnfinished rest f.most → Keeps b b2
+      → IsUnfinished rest f.most → f.done y ≡ false → Keeps b b2
       → Runs f x limit a b2 c d reader_failed writer_failed (Err faults.Io) y
-  runs_unread y a b b2 c d taken rest reader_failed writer_failed broken short (bytes, read, count, told) part kept =
+  runs_unread y a b b2 c d taken rest reader_failed writer_failed broken short (bytes, read, count, told) part going
+      kept =
       let here = Consumes-kept a b b2 bytes read kept in
       let all : taken_of limit bytes ≡ bytes = take_all limit bytes (omega (arith, count, short)) in
-      let due = due_unfinished y bytes rest (behind (has_more limit bytes)) c d told part in
+      let due = due_unfinished y bytes rest (behind (has_more limit bytes)) c d told part going in
       record {
         exact = ends_unread y a c d faults.Io (inr refl);
         io = (λ h. inl broken, λ h. refl);
         begun = begins_front a b2 c d bytes bytes here (omega (arith, count, short))
-            (ahead_none y bytes rest c d told part) all (tells_front y bytes rest c d told);
+            (ahead_none y bytes rest c d told part) (needed_none y bytes rest c d told part going) all (tells_front y
+            bytes rest c d told);
         memory = λ h. absurd (cc);
         heard = λ h. (
           bytes,
@@ -173,7 +198,8 @@ module _ {X : Type 0} (f : Fold X) (x : X) (limit : ℕ) where
           due.0,
           y,
           here,
-          subst (λ (p : List ℕ). IsDue f x limit p (has_more limit bytes) due.1 due.0 y) (sym all) due.2,
+          if_going (f.done y) (IsDue f x limit (taken_of limit bytes) (has_more limit bytes) due.1 due.0 y) going
+              (subst (λ (p : List ℕ). IsDue f x limit p (has_more limit bytes) due.1 due.0 y) (sym all) due.2),
           due.3,
         );
       }
@@ -191,12 +217,12 @@ module _ {X : Type 0} (f : Fold X) (x : X) (limit : ℕ) where
 
   -- the input ended
   ended : (y : X) (stream rest : List ℕ) (c d : Option (List ℕ)) (r : Ending)
-      → Tells f x stream rest (sent c) (sent d) y → EndsInput (f.place y) rest f.most r
-      → HasEnded f x limit stream false c d r y
-  ended y stream rest c d (Ok u) told none =
-      due_open y stream rest None (Ok u) frames.Empty c d told (λ h. cc) none refl
-  ended y stream rest c d (Err fault) told (cut, is) =
-      let due = due_open y stream rest None (Err fault) frames.Cut c d told (λ h. cc) cut
+      → Tells f x stream rest (sent c) (sent d) y → f.done y ≡ false
+      → EndsInput (f.place y) rest f.most r → HasEnded f x limit stream false c d r y
+  ended y stream rest c d (Ok u) told going none =
+      due_open y stream rest None (Ok u) frames.Empty c d told going (λ h. cc) none refl
+  ended y stream rest c d (Err fault) told going (cut, is) =
+      let due = due_open y stream rest None (Err fault) frames.Cut c d told going (λ h. cc) cut
       (ap (λ (g : RunFault). Err g) is) in
       inr (inr (due.0, y, due.1, due.2))
 
@@ -212,7 +238,8 @@ module _ {X : Type 0} (f : Fold X) (x : X) (limit : ℕ) where
   pub runs_end : (y : X) (a b b2 c d : Option (List ℕ)) (taken : ℕ) (rest buf : List ℕ) (n : ℕ)
       (reader_failed writer_failed : Bool) (r : Ending) → reader_failed ≡ false
       → writer_failed ≡ false → taken ≤ limit
-      → Hears f x a b taken rest c d y → IsUnfinished rest f.most → n ≡ 0 → Consumes b b2 (take n buf)
+      → Hears f x a b taken rest c d y → IsUnfinished rest f.most → f.done y ≡ false → n ≡ 0
+      → Consumes b b2 (take n buf)
       × (n ≡ 0 → 0 < length buf → IsAtEnd b2) → 0 < length buf → EndsInput (f.place y) rest f.most r
       → Runs f x limit a b2 c d reader_failed writer_failed r y
   runs_end y a b b2 c d taken rest buf n reader_failed writer_failed r reader_fine writer_fine short (
@@ -220,13 +247,14 @@ module _ {X : Type 0} (f : Fold X) (x : X) (limit : ℕ) where
     read,
     count,
     told,
-  ) part zero more some ends =
+  ) part going zero more some ends =
       let kept = kept_end limit a b b2 bytes buf n zero read more some (omega (arith, count, short)) in
       let known = end_known (f.place y) rest r ends in
       record {
-        exact = ends_kept y a b2 c d bytes false r (bytes, kept) (ended y bytes rest c d r told ends);
+        exact = ends_kept y a b2 c d bytes false r (bytes, kept) (ended y bytes rest c d r told going ends);
         io = (λ h. absurd (known h), λ h. absurd (not_failed reader_failed writer_failed reader_fine writer_fine h));
         begun = begins_kept a b2 c d bytes bytes false kept (ahead_none y bytes rest c d told part)
+            (needed_none y bytes rest c d told part going)
             (written_front y bytes rest c d told);
         heard = λ h. absurd (not_failed reader_failed writer_failed reader_fine writer_fine (inl h));
         memory = λ h. absurd (end_unrefused (f.place y) rest r ends h);
@@ -234,30 +262,32 @@ module _ {X : Type 0} (f : Fold X) (x : X) (limit : ℕ) where
 
   -- a byte past the greatest number was read, after messages that were served
   pub due_long : (y : X) (stream rest : List ℕ) (c d : Option (List ℕ)) → Tells f x stream rest (sent c) (sent d) y
-      → IsUnfinished rest f.most → (text : List ℕ)
+      → IsUnfinished rest f.most → f.done y ≡ false → (text : List ℕ)
       × IsFolded f x stream (Some faults.InputTooLong) text (Err faults.InputTooLong) y × Appends c d text
-  due_long y stream rest c d told (inl none) =
-      due_open y stream rest (Some faults.InputTooLong) (Err faults.InputTooLong) frames.Empty c d told (λ h. cc) none
+  due_long y stream rest c d told (inl none) going =
+      due_open y stream rest (Some faults.InputTooLong) (Err faults.InputTooLong) frames.Empty c d told going (λ h. cc)
+      none refl
+  due_long y stream rest c d told (inr cut) going =
+      due_open y stream rest (Some faults.InputTooLong) (Err faults.InputTooLong) frames.Cut c d told going (λ h. cc)
+      cut
       refl
-  due_long y stream rest c d told (inr cut) =
-      due_open y stream rest (Some faults.InputTooLong) (Err faults.InputTooLong) frames.Cut c d told (λ h. cc) cut refl
 
   pub runs_long : (y z : X) (a b b2 c d e : Option (List ℕ)) (taken : ℕ) (rest new buf tail : List ℕ) (w k : ℕ)
       (reader_failed writer_failed : Bool) → reader_failed ≡ false → writer_failed ≡ false → taken + w ≡ limit → w < k
       → taken + k ≤ limit + 1 → k ≤ 65536
-      → Hears f x a b taken rest c d y → IsUnfinished rest f.most → Consumes b b2 (take k buf) → k ≤ length buf
-      → Tells f y (rest ++ take w (buf ++ tail)) new (sent d) (sent e) z
-      → IsUnfinished new f.most
+      → Hears f x a b taken rest c d y → IsUnfinished rest f.most → f.done y ≡ false → Consumes b b2 (take k buf)
+      → k ≤ length buf → Tells f y (rest ++ take w (buf ++ tail)) new (sent d) (sent e) z
+      → IsUnfinished new f.most → f.done z ≡ false
       → Runs f x limit a b2 c e reader_failed writer_failed (Err faults.InputTooLong) z
   runs_long y z a b b2 c d e taken rest new buf tail w k reader_failed writer_failed reader_fine writer_fine full past
-      bound small (bytes, read, count, told) unfinished more within next part =
+      bound small (bytes, read, count, told) unfinished going more within next part going_on =
       let kept = kept_past limit a b b2 bytes buf k w read more within (omega (arith, count, full)) past
       (omega (arith, count, bound)) in
       let part_told =
       subst (λ (p : List ℕ). Tells f y (rest ++ p) new (sent d) (sent e) z)
       (take-append-le w buf tail (omega (arith, past, within))) next in
       let all = tells_more f x y z bytes rest (take w buf) new (sent c) (sent d) (sent e) told part_told in
-      let due = due_long z (bytes ++ take w buf) new c e all part in
+      let due = due_long z (bytes ++ take w buf) new c e all part going_on in
       record {
         exact = ends_kept z a b2 c e (bytes ++ take w buf) true (Err faults.InputTooLong)
             (bytes ++ take k buf, kept)
@@ -267,6 +297,8 @@ module _ {X : Type 0} (f : Fold X) (x : X) (limit : ℕ) where
             (ahead_piece y bytes rest (take k buf) (texts_of part_told.0) c d e told unfinished
             (omega (arith, small, length-take-le k buf within))
             (adds_sent d e (texts_of part_told.0) part_told.2))
+            (needed_piece y bytes rest (take k buf) c d told unfinished going
+            (omega (arith, small, length-take-le k buf within)))
             (written_front z (bytes ++ take w buf) new c e all);
         heard = λ h. absurd (not_failed reader_failed writer_failed reader_fine writer_fine (inl h));
         memory = λ h. absurd (cc);
@@ -302,11 +334,11 @@ module _ {X : Type 0} (f : Fold X) (x : X) (limit : ℕ) where
   pub runs_stopped : (y z : X) (a b b2 c d e : Option (List ℕ)) (taken : ℕ) (rest buf tail : List ℕ) (w k : ℕ)
       (reader_failed writer_failed : Bool) (fault : RunFault) → reader_failed ≡ false → taken ≤ limit
       → w ≡ min k (limit - taken) → taken + k ≤ limit + 1 → k ≤ 65536 → 0 < k
-      → Hears f x a b taken rest c d y → IsUnfinished rest f.most → Consumes b b2 (take k buf) → k ≤ length buf
-      → Stops f y (rest ++ take w (buf ++ tail)) (sent d) (sent e) writer_failed fault
+      → Hears f x a b taken rest c d y → IsUnfinished rest f.most → f.done y ≡ false → Consumes b b2 (take k buf)
+      → k ≤ length buf → Stops f y (rest ++ take w (buf ++ tail)) (sent d) (sent e) writer_failed fault
       → Runs f x limit a b2 c e reader_failed writer_failed (Err fault) z
   runs_stopped y z a b b2 c d e taken rest buf tail w k reader_failed writer_failed fault reader_fine short least bound
-      small some (bytes, read, count, told) unfinished more within stop =
+      small some (bytes, read, count, told) unfinished going more within stop =
       let all = Consumes-trans a b b2 bytes (take k buf) read more in
       let size = length-take-le k buf within in
       let piece = stops_front y (rest ++ take w buf) d e writer_failed fault
@@ -325,7 +357,8 @@ module _ {X : Type 0} (f : Fold X) (x : X) (limit : ℕ) where
         begun = begins_front a b2 c e (bytes ++ take k buf) (bytes ++ take w buf) all
             (omega (arith, count, bound, length-append bytes (take k buf), size))
             (ahead_piece y bytes rest (take k buf) (take piece.3 (texts_of piece.0)) c d e told unfinished
-            (omega (arith, small, size)) piece.5) front
+            (omega (arith, small, size)) piece.5)
+            (needed_piece y bytes rest (take k buf) c d told unfinished going (omega (arith, small, size))) front
             (stops_front x (bytes ++ take w buf) c e writer_failed fault whole);
         heard = λ h. absurd (let g : true ≡ false = sym h ∙ reader_fine in cc);
         memory = λ h. (
@@ -333,6 +366,82 @@ module _ {X : Type 0} (f : Fold X) (x : X) (limit : ℕ) where
           all,
           omega (arith, some, length-append bytes (take k buf), size),
         );
+      }
+
+  -- ---- no more is served
+
+  -- whatever comes after the messages that led to that, the run ends as done
+  done_due : (z : X) (s rest tail : List ℕ) (more : Option RunFault) (c e : Option (List ℕ))
+      → Tells f x s rest (sent c) (sent e) z → f.done z ≡ true → (text : List ℕ)
+      × IsFolded f x (s ++ tail) more text (Ok tt) z × Appends c e text
+  done_due z s rest tail more c e (parts, are, adds) done = (
+    texts_of parts,
+    record {
+      parts = parts;
+      rest = rest ++ tail;
+      are = parts_longer f x z s rest tail parts are;
+      joined = refl;
+      ends = ends_done f z (rest ++ tail) more (Ok tt) done refl;
+    },
+    adds_sent c e (texts_of parts) adds,
+  )
+
+  done_ended : (z : X) (a b2 c e : Option (List ℕ)) (all s rest : List ℕ) → Consumes a b2 all → taken_of limit all ≡ s
+      → Tells f x s rest (sent c) (sent e) z → f.done z ≡ true → IfSome a (EndsAs f x limit c e (Ok tt) z)
+  done_ended z None b2 c e all s rest read is told done = tt
+  done_ended z (Some input) None c e all s rest read is told done = absurd read
+  done_ended z (Some input) (Some left) c e all s rest read is told done =
+      let tail = taken_more limit all left in
+      let front : taken_of limit input ≡ s ++ tail.0 =
+      ap (taken_of limit) read ∙ tail.1 ∙ ap (λ (p : List ℕ). p ++ tail.0) is in
+      let part = done_due z s rest tail.0 (behind (has_more limit input)) c e told done in (
+        part.0,
+        subst (λ (p : List ℕ). IsDue f x limit p (has_more limit input) part.0 (Ok tt) z) (sym front) part.1,
+        part.2,
+      )
+
+  -- before the first read
+  pub runs_none : (a c : Option (List ℕ)) (reader_failed writer_failed : Bool) → reader_failed ≡ false
+      → writer_failed ≡ false → f.done x ≡ true → Runs f x limit a a c c reader_failed writer_failed (Ok tt) x
+  runs_none a c reader_failed writer_failed reader_fine writer_fine done =
+      let told = tells_none f x [] (sent c) in
+      let part : IsUnfinished [] f.most = empty_unfinished f.most in
+      let read = Consumes-nil a in
+      record {
+        exact = done_ended x a a c c [] [] [] read (take-nil limit) told done;
+        io = (λ h. absurd (cc), λ h. absurd (not_failed reader_failed writer_failed reader_fine writer_fine h));
+        begun = begins_front a a c c [] [] read (omega arith) (ahead_none x [] [] c c told part) (inl refl)
+            (take-nil limit) (tells_front x [] [] c c told);
+        heard = λ h. absurd (not_failed reader_failed writer_failed reader_fine writer_fine (inl h));
+        memory = λ h. absurd (cc);
+      }
+
+  -- within a chunk
+  pub runs_done : (y z : X) (a b b2 c d e : Option (List ℕ)) (taken : ℕ) (rest new buf tail : List ℕ) (w k : ℕ)
+      (reader_failed writer_failed : Bool) → reader_failed ≡ false → writer_failed ≡ false → taken ≤ limit
+      → w ≡ min k (limit - taken) → taken + k ≤ limit + 1 → k ≤ 65536
+      → Hears f x a b taken rest c d y → IsUnfinished rest f.most → f.done y ≡ false → Consumes b b2 (take k buf)
+      → k ≤ length buf → Tells f y (rest ++ take w (buf ++ tail)) new (sent d) (sent e) z → f.done z ≡ true
+      → Runs f x limit a b2 c e reader_failed writer_failed (Ok tt) z
+  runs_done y z a b b2 c d e taken rest new buf tail w k reader_failed writer_failed reader_fine writer_fine short least
+      bound small (bytes, read, count, told) unfinished going more within next done =
+      let all = Consumes-trans a b b2 bytes (take k buf) read more in
+      let size = length-take-le k buf within in
+      let front = taken_front limit bytes buf taken w k count short least within in
+      let part = subst (λ (p : List ℕ). Tells f y (rest ++ p) new (sent d) (sent e) z)
+      (take-append-le w buf tail (omega (arith, least, within))) next in
+      let whole = tells_more f x y z bytes rest (take w buf) new (sent c) (sent d) (sent e) told part in
+      record {
+        exact = done_ended z a b2 c e (bytes ++ take k buf) (bytes ++ take w buf) new all front whole done;
+        io = (λ h. absurd (cc), λ h. absurd (not_failed reader_failed writer_failed reader_fine writer_fine h));
+        begun = begins_front a b2 c e (bytes ++ take k buf) (bytes ++ take w buf) all
+            (omega (arith, count, bound, length-append bytes (take k buf), size))
+            (ahead_piece y bytes rest (take k buf) (texts_of part.0) c d e told unfinished (omega (arith, small, size))
+            (adds_sent d e (texts_of part.0) part.2))
+            (needed_piece y bytes rest (take k buf) c d told unfinished going (omega (arith, small, size))) front
+            (tells_front z (bytes ++ take w buf) new c e whole);
+        heard = λ h. absurd (not_failed reader_failed writer_failed reader_fine writer_fine (inl h));
+        memory = λ h. absurd (cc);
       }
 
   -- a chunk was served
@@ -352,12 +461,13 @@ module _ {X : Type 0} (f : Fold X) (x : X) (limit : ℕ) where
 
 -- a run that began at the start of its stream has room for more bytes
 pub room_heard : {S : Type 0} (serves : S → Position → List ℕ → List (List ℕ) → List ℕ → S → Type 0)
-    (refuses : S → Position → List ℕ → List (List ℕ) → Refusal → Type 0) (most : ℕ) (x y : Run S)
+    (refuses : S → Position → List ℕ → List (List ℕ) → Refusal → Type 0) (done : S → Position → Bool) (most : ℕ) (x y :
+    Run S)
     (a b c d : Option (List ℕ)) (taken : ℕ) (rest : List ℕ) (k : ℕ) → x.at ≡ start
-    → Hears (fold_of serves refuses most) x a b taken rest c d y → taken + k < 2 ^ 64
+    → Hears (fold_until serves refuses done most) x a b taken rest c d y → taken + k < 2 ^ 64
     → HasRoom y.at (length rest + k)
-room_heard serves refuses most x y a b c d taken rest k fresh (bytes, read, count, told) small =
-    room_told serves refuses most x y bytes rest (sent c) (sent d) k told
+room_heard serves refuses done most x y a b c d taken rest k fresh (bytes, read, count, told) small =
+    room_told serves refuses done most x y bytes rest (sent c) (sent d) k told
     (subst (λ (at : Position). HasRoom at (length bytes + k)) (sym fresh) (record {
       offset = omega (arith, count, small);
       index = omega arith;

@@ -2,3 +2,4 @@
 pub mod Appending
 pub mod Adding
 pub mod OneServing
+pub mod Until

@@ -9,7 +9,7 @@ use Rattle.capn_canon.specs.declared.refusal.Refusal.TheVariants as refusals
 use Rattle.capn_serve.specs.declared.position.Position.{Position}
 use Rattle.capn_serve.specs.declared.fault.RunFault.{RunFault}
 use Rattle.capn_serve.specs.declared.fault.RunFault.TheVariants as faults
-use Rattle.capn_serve.specs.Fold.{Fold}
+use Rattle.capn_serve.specs.Fold.{Fold, IfGoing}
 use Rattle.capn_serve.specs.Outgoing.{Outgoing, Adds}
 use Rattle.capn_serve.specs.ChunkRun.{AddsMessage}
 use Rattle.capn_serve.specs.StreamRun.{TakesBytes}
@@ -39,6 +39,13 @@ module _ {X : Type 0} (f : Fold X) (x : X) where
   EndsBare bytes fault = ((most_input < length bytes) × (fault ≡ faults.InputTooLong))
       ⊎ ((length bytes ≤ most_input) × (IsUnbare (f.place x) bytes fault ⊎ RefusesBare bytes fault))
 
+  -- the text of the bytes and the state after it, by whether the state before it is one in which no more is served:
+  -- none,
+  -- and nothing is read; else the text of their message
+  abbrev pub WritesBy : Bool → List ℕ → List ℕ → X → Type 0
+  WritesBy true bytes text y = (text ≡ []) × (y ≡ x)
+  WritesBy false bytes text y = (length bytes ≤ most_input) × WritesBare bytes text y
+
   -- the one message of the bytes was served, or they are no segment and nothing was added
   abbrev pub ServesBare : List ℕ → Outgoing → Outgoing → Bool → Result (Unit {0}) RunFault → X → Type 0
   ServesBare bytes old new failed (Ok u) y =
@@ -50,21 +57,22 @@ module _ {X : Type 0} (f : Fold X) (x : X) where
   -- a run has written the text of its input, in the state after it; or nothing of an input that has none, and ended
   -- with the reason; or memory was refused, or the reader or the writer failed
   abbrev pub EndsAs : Option (List ℕ) → Option (List ℕ) → Result (Unit {0}) RunFault → X → List ℕ → Type 0
-  EndsAs old new (Ok u) y input = (text : List ℕ) × (length input ≤ most_input) × WritesBare input text y
-      × Appends old new text
+  EndsAs old new (Ok u) y input = (text : List ℕ) × WritesBy (f.done x) input text y × Appends old new text
   EndsAs old new (Err e) y input =
-      (e ≡ faults.Memory) ⊎ ((e ≡ faults.Io) ⊎ (EndsBare input e × Appends old new []))
+      (e ≡ faults.Memory) ⊎ ((e ≡ faults.Io) ⊎ (IfGoing (f.done x) (EndsBare input e) × Appends old new []))
 
   -- nothing was written of the bytes, or a beginning of their text
   abbrev pub HasWritten : List ℕ → Option (List ℕ) → Option (List ℕ) → Type 0
   HasWritten bytes old new = Appends old new []
       ⊎ ((text : List ℕ) × (y : X) × (count : ℕ) × WritesBare bytes text y × Appends old new (take count text))
 
-  -- a reader gave some bytes, at most one more than an input may have, and a writer took a beginning of their text
+  -- a reader gave some bytes, at most one more than an input may have, and none where no more is served; and a writer
+  -- took a beginning of their text
   pub record Begins (a b c d : Option (List ℕ)) : Type 0 where
     pub bytes : List ℕ
     pub read : Consumes a b bytes
     pub bounded : length bytes ≤ most_input + 1
+    pub needed : f.done x ≡ true → bytes ≡ []
     pub written : HasWritten bytes c d
 
   -- what a run did, over a reader (from a to b) and a writer (from c to d), and the state after it

@@ -62,11 +62,13 @@ module _ {X : Type 0} (f : Fold X) where
     pub part : IsUnfinished framer.rest framer.most
     pub most : framer.most ≡ f.most
 
-  -- bytes after what a framer holds were served: all that they made whole, or up to where the run stopped
+  -- bytes after what a framer holds were served: all that they made whole, and the framer holds what is left; or up to
+  -- a state in which no more is served, or to where the run stopped
   abbrev pub Serves : X → Framing → List ℕ → Outgoing → Outgoing → Bool → Result (Unit {0}) RunFault → Framing → X
       → Type 0
-  Serves x before bytes old new failed (Ok u) after y =
-      Tells x (before.rest ++ bytes) after.rest old new y × IsListening after × (failed ≡ false)
+  Serves x before bytes old new failed (Ok u) after y = (rest : List ℕ)
+      × Tells x (before.rest ++ bytes) rest old new y
+      × (f.done y ≡ false → (after.rest ≡ rest) × IsListening after) × (failed ≡ false)
   Serves x before bytes old new failed (Err fault) after y = Stops x (before.rest ++ bytes) old new failed fault
 
   -- the message that a framer held was served, and it holds none; or what it holds is no whole message; or the run
@@ -81,7 +83,7 @@ module _ {X : Type 0} (f : Fold X) where
   abbrev pub ServesNext : X → Framing → List ℕ → Outgoing → Outgoing → Bool → Result ℕ RunFault → Framing → X → Type 0
   ServesNext x before bytes old new failed (Ok n) after y =
       (n ≤ length bytes) × (0 < length bytes → 0 < n)
-      × Serves x before (take n bytes) old new failed (Ok tt) after y
+      × (Tells x (before.rest ++ take n bytes) after.rest old new y × IsListening after × (failed ≡ false))
   ServesNext x before bytes old new failed (Err fault) after y =
       Stops x (before.rest ++ bytes) old new failed fault
 

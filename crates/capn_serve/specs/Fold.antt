@@ -1,7 +1,7 @@
 -- A fold over the messages of a stream: what each does to a state and writes, and why the stream ends. (Page:
 -- serialization over a stream; the order of the faults is own.)
-use Rattle.std.specs.Prelude.{◌≡◌, ◌≢◌, ◌⊎◌, ℕ, ◌+◌, ◌≤◌, List, [], ◌∷◌, ◌++◌, length, Option}
-use Rattle.std.specs.Prelude.{Some, None, Result, Ok, Err}
+use Rattle.std.specs.Prelude.{◌≡◌, ◌≢◌, ◌⊎◌, ℕ, ◌+◌, ◌≤◌, List, [], ◌∷◌, ◌++◌, length, Bool, true, Option}
+use Rattle.std.specs.Prelude.{false, Some, None, Result, Ok, Err}
 use Rattle.std.specs.List.{flat_map}
 use Rattle.capn_words.specs.Message.{total}
 use Rattle.capn_stream.specs.Frames.{Frames}
@@ -16,26 +16,42 @@ use Rattle.capn_serve.specs.declared.fault.RunFault.{RunFault}
 use Rattle.capn_serve.specs.declared.fault.RunFault.TheVariants as faults
 
 -- what a message with its frame does to a state of type X: the text that it writes and the next state, or the refusal;
--- where the next message begins in a state; and how many words a message may have
+-- where the next message begins in a state; how many words a message may have; and in which states no more is served
 pub record Fold (X : Type 0) : Type 1 where
   pub step : X → List ℕ → List (List ℕ) → List ℕ → X → Type 0
   pub refuses : X → List ℕ → List (List ℕ) → Refusal → Type 0
   pub place : X → Position
   pub most : ℕ
+  pub done : X → Bool
+
+-- this holds, and more is served
+abbrev pub IfGoing : Bool → Type 0 → Type 0
+IfGoing true P = ⊥
+IfGoing false P = P
 
 -- where the message after a frame begins
 abbrev pub after : Position → List ℕ → Position
 after at frame = record { index = at.index + 1; offset = at.offset + length frame }
 
--- the fold of a service, whose states are the runs of it
-abbrev pub fold_of : {S : Type 0} → (S → Position → List ℕ → List (List ℕ) → List ℕ → S → Type 0)
-    → (S → Position → List ℕ → List (List ℕ) → Refusal → Type 0) → ℕ → Fold (Run S)
-fold_of serves refuses most = record {
+-- the fold of a service, whose states are the runs of it, up to the first position at which the service is done
+abbrev pub fold_until : {S : Type 0} → (S → Position → List ℕ → List (List ℕ) → List ℕ → S → Type 0)
+    → (S → Position → List ℕ → List (List ℕ) → Refusal → Type 0) → (S → Position → Bool) → ℕ → Fold (Run S)
+fold_until serves refuses done most = record {
   step = λ x frame message text y. serves x.service x.at frame message text y.service × (y.at ≡ after x.at frame);
   refuses = λ x frame message r. refuses x.service x.at frame message r;
   place = λ x. x.at;
   most = most;
+  done = λ x. done x.service x.at;
 }
+
+-- a service that is done at no position
+abbrev pub never : {S : Type 0} → S → Position → Bool
+never s at = false
+
+-- the fold of such a service, over all messages
+abbrev pub fold_of : {S : Type 0} → (S → Position → List ℕ → List (List ℕ) → List ℕ → S → Type 0)
+    → (S → Position → List ℕ → List (List ℕ) → Refusal → Type 0) → ℕ → Fold (Run S)
+fold_of serves refuses most = fold_until serves refuses never most
 
 -- the bytes of one frame, its message, and what is written of it
 pub record Part : Type 0 where
@@ -60,16 +76,17 @@ abbrev pub texts_of : List Part → List ℕ
 texts_of parts = flat_map text_of parts
 
 module _ {X : Type 0} (f : Fold X) where
-  -- the frame is that of the message, which has no more words than allowed
-  pub record IsPart (part : Part) : Type 0 where
+  -- the frame is that of the message, which has no more words than allowed, and in this state it is still served
+  pub record IsPart (x : X) (part : Part) : Type 0 where
     pub frame : Frames part.frame part.message
     pub room : total part.message ≤ f.most
+    pub going : f.done x ≡ false
 
   -- from one state to another, the messages are served one after the other, and each writes its text
   abbrev pub AreServed : X → List Part → X → Type 0
   AreServed x [] y = x ≡ y
   AreServed x (p ∷ ps) y =
-      (mid : X) × IsPart p × f.step x p.frame p.message p.text mid × AreServed mid ps y
+      (mid : X) × IsPart x p × f.step x p.frame p.message p.text mid × AreServed mid ps y
 
   -- the bytes are a row of frames whose messages are served, and what is left after these
   pub record AreParts (x : X) (bytes : List ℕ) (parts : List Part) (rest : List ℕ) (y : X) : Type 0 where
@@ -103,12 +120,18 @@ module _ {X : Type 0} (f : Fold X) where
       × Frames frame message × (total message ≤ f.most) × f.refuses x frame message r
       × (ending ≡ Err (faults.Refused (f.place x) r))
 
+  -- how a run ends in a state, by whether it is one in which no more is served: as done, whatever is left; else by what
+  -- is left
+  abbrev pub EndsBy : Bool → X → List ℕ → Option RunFault → Result (Unit {0}) RunFault → Type 0
+  EndsBy true y rest behind ending = ending ≡ Ok tt
+  EndsBy false y rest behind ending = EndsUnframed y rest behind ending ⊎ EndsRefused y rest ending
+
   -- the text and the ending of a stream of which these bytes are taken, and the state after them: the texts of its
-  -- messages, up to the first that is refused
+  -- messages, up to the first that is refused, or to the first state in which no more is served
   pub record IsFolded (x : X) (bytes : List ℕ) (behind : Option RunFault) (text : List ℕ)
       (ending : Result (Unit {0}) RunFault) (y : X) : Type 0 where
     pub parts : List Part
     pub rest : List ℕ
     pub are : AreParts f x bytes parts rest y
     pub joined : text ≡ texts_of parts
-    pub ends : EndsUnframed y rest behind ending ⊎ EndsRefused y rest ending
+    pub ends : EndsBy (f.done y) y rest behind ending

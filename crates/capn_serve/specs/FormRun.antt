@@ -6,9 +6,9 @@ use Rattle.capn_canon.specs.declared.form.Form.{Form}
 use Rattle.capn_canon.specs.declared.form.Form.TheVariants as forms
 use Rattle.capn_serve.specs.declared.fault.RunFault.{RunFault}
 use Rattle.capn_serve.specs.declared.fault.RunFault.TheVariants as faults
-use Rattle.capn_serve.specs.Fold.{Fold}
+use Rattle.capn_serve.specs.Fold.{Fold, IfGoing}
 use Rattle.capn_serve.specs.StreamRun as streams
-use Rattle.capn_serve.specs.StreamRun.{IsAhead, TakesBytes}
+use Rattle.capn_serve.specs.StreamRun.{IsAhead, IsNeeded, TakesBytes}
 use Rattle.capn_serve.specs.PackedRun as packings
 use Rattle.capn_serve.specs.BareRun as bares
 use Rattle.capn_serve.specs.WholeInput.{most_input}
@@ -32,8 +32,8 @@ module _ {X : Type 0} (f : Fold X) (x : X) where
   AreMessages forms.Packed input text ending y =
       packings.IsDuePacked f x most_stream (streams.taken_of most_stream input)
       (streams.has_more most_stream input) text ending y
-  AreMessages forms.Bare input text (Ok u) y = (length input ≤ most_input) × bares.WritesBare f x input text y
-  AreMessages forms.Bare input text (Err fault) y = bares.EndsBare f x input fault × (text ≡ [])
+  AreMessages forms.Bare input text (Ok u) y = bares.WritesBy f x (f.done x) input text y
+  AreMessages forms.Bare input text (Err fault) y = IfGoing (f.done x) (bares.EndsBare f x input fault) × (text ≡ [])
 
   -- a beginning of the texts of the messages that these bytes begin with was written
   abbrev pub HasWritten : Form → List ℕ → Option (List ℕ) → Option (List ℕ) → Type 0
@@ -61,11 +61,18 @@ module _ {X : Type 0} (f : Fold X) (x : X) where
       × IsAhead (packings.HasWrittenAllPacked f x most_stream) bytes old new
   IsReadSoFar forms.Bare bytes old new = length bytes ≤ most_input + 1
 
+  -- no piece was read after one that leads to the end, and of a bare input none where no more is served
+  abbrev pub IsNeededSoFar : Form → List ℕ → Type 0
+  IsNeededSoFar forms.Stream bytes = IsNeeded (streams.IsShort f x most_stream) bytes
+  IsNeededSoFar forms.Packed bytes = IsNeeded (packings.IsShortPacked f x most_stream) bytes
+  IsNeededSoFar forms.Bare bytes = f.done x ≡ true → bytes ≡ []
+
   -- a reader gave some bytes, not more than that, and a writer took a beginning of the texts of the messages in them
   pub record BeginsMessages (form : Form) (a b c d : Option (List ℕ)) : Type 0 where
     pub bytes : List ℕ
     pub read : Consumes a b bytes
     pub bounded : IsReadSoFar form bytes c d
+    pub needed : IsNeededSoFar form bytes
     pub written : HasWritten form bytes c d
 
   -- all texts of the messages in the bytes that a reader gave were written; of a bare input, which is served at its

@@ -53,11 +53,13 @@ module _ {X : Type 0} (f : Fold X) where
     pub io : (fault ≡ faults.Io) ↔ (failed ≡ true)
     pub due : (fault ≡ faults.Memory) ⊎ ((fault ≡ faults.Io) ⊎ IsDueWithin x left rest stream old new fault)
 
-  -- unpacked bytes were served, up to their end, or to where the run stopped
+  -- unpacked bytes were served, up to their end, or to a state in which no more is served, or to where the run stopped
   abbrev pub ServesPart : X → ℕ → Framing → List ℕ → Outgoing → Outgoing → Bool → Result (Unit {0}) RunFault → ℕ
       → Framing → X → Type 0
-  ServesPart x left before stream old new failed (Ok u) room after y = (length stream + room ≡ left)
-      × Tells f x (before.rest ++ stream) after.rest old new y × IsListening f after × (failed ≡ false)
+  ServesPart x left before stream old new failed (Ok u) room after y = (rest : List ℕ)
+      × Tells f x (before.rest ++ taken_of left stream) rest old new y
+      × (f.done y ≡ false → (length stream + room ≡ left) × (after.rest ≡ rest) × IsListening f after)
+      × (failed ≡ false)
   ServesPart x left before stream old new failed (Err fault) room after y =
       Halts x left before.rest stream old new failed fault
 
@@ -73,17 +75,25 @@ module _ {X : Type 0} (f : Fold X) where
     pub size : length stream + after.left ≡ before.left
     pub told : Tells f x (before.rest ++ stream) after.rest old new y
 
+  -- of what some of the groups unpack to, as far as it is taken, messages were served
+  abbrev pub ReachesPacked : X → Pending → List ℕ → Outgoing → Outgoing → X → Type 0
+  ReachesPacked x before bytes old new y = (stream : List ℕ) × packing.Begins (before.group.rest ++ bytes) [] stream
+      × (rest : List ℕ) × Tells f x (before.rest ++ taken_of before.left stream) rest old new y
+
   -- the run stopped over what some of the groups unpack to
   abbrev pub HaltsPacked : X → Pending → List ℕ → Outgoing → Outgoing → Bool → RunFault → Type 0
   HaltsPacked x before bytes old new failed fault = (stream : List ℕ)
       × packing.Begins (before.group.rest ++ bytes) [] stream
       × Halts x before.left before.rest stream old new failed fault
 
-  -- packed bytes were served: all messages that they made whole, or up to where the run stopped
+  -- packed bytes were served: all messages that they made whole, or up to a state in which no more is served, or to
+  -- where the run stopped
   abbrev pub ServesPacked : X → Pending → List ℕ → Outgoing → Outgoing → Bool → Result (Unit {0}) RunFault → Held
       → Framing → ℕ → X → Type 0
   ServesPacked x before bytes old new failed (Ok u) held framer left y =
-      TellsPacked x before bytes (pending held framer left) old new y × IsListening f framer × (failed ≡ false)
+      ReachesPacked x before bytes old new y
+      × (f.done y ≡ false → TellsPacked x before bytes (pending held framer left) old new y × IsListening f framer)
+      × (failed ≡ false)
   ServesPacked x before bytes old new failed (Err fault) held framer left y =
       HaltsPacked x before bytes old new failed fault
 

@@ -8,9 +8,9 @@ use Rattle.capn_canon.specs.declared.refusal.Refusal.TheVariants as refusals
 use Rattle.capn_serve.specs.declared.position.Position.{Position}
 use Rattle.capn_serve.specs.declared.fault.RunFault.{RunFault}
 use Rattle.capn_serve.specs.declared.fault.RunFault.TheVariants as faults
-use Rattle.capn_serve.specs.Fold.{Fold, Part, AreParts, IsFolded, texts_of}
+use Rattle.capn_serve.specs.Fold.{Fold, Part, AreParts, IfGoing, IsFolded, texts_of}
 use Rattle.capn_stream.specs.StreamPieces.{IsUnfinished}
-use Rattle.capn_serve.specs.StreamRun.{IsAhead, TakesBytes, has_more, taken_of}
+use Rattle.capn_serve.specs.StreamRun.{IsAhead, IsNeeded, IsShort, TakesBytes, has_more, taken_of}
 
 -- why no more bytes follow: there are too many, and else as it was
 abbrev pub unless_more : Bool → Option RunFault → Option RunFault
@@ -59,6 +59,12 @@ module _ {X : Type 0} (f : Fold X) (x : X) (limit : ℕ) where
       × packing.Splits bytes group [] stream offset × (length stream ≤ limit) × (parts : List Part) × (rest : List ℕ)
       × (y : X) × AreParts f x stream parts rest y × IsUnfinished rest f.most × Appends old new (texts_of parts)
 
+  -- the whole messages in what the whole groups of these bytes unpack to lead to a state in which more is served, and
+  -- what is left of that is no whole frame
+  abbrev pub IsShortPacked : List ℕ → Type 0
+  IsShortPacked bytes = (stream : List ℕ) × (group : List ℕ) × (offset : ℕ)
+      × packing.Splits bytes group [] stream offset × IsShort f x limit stream
+
 -- a run that takes at most `most_packed` packed bytes, and at most `limit` of the bytes that they unpack to
 module _ {X : Type 0} (f : Fold X) (x : X) (most_packed limit : ℕ) where
   -- it has ended so over what it takes of a whole input
@@ -66,20 +72,21 @@ module _ {X : Type 0} (f : Fold X) (x : X) (most_packed limit : ℕ) where
   EndsPackedAs old new ending y input =
       HasEndedPacked f x limit (taken_of most_packed input) (has_more most_packed input) old new ending y
 
-  -- a reader gave some bytes, at most one more than are taken, and no more than a piece beyond what was served and
-  -- written; and a writer took a beginning of their text
+  -- a reader gave some bytes, at most one more than are taken, no more than a piece beyond what was served and written,
+  -- and no piece after one that leads to the end; and a writer took a beginning of their text
   pub record BeginsPacked (a b c d : Option (List ℕ)) : Type 0 where
     pub bytes : List ℕ
     pub read : Consumes a b bytes
     pub bounded : length bytes ≤ most_packed + 1
     pub lazy : IsAhead (HasWrittenAllPacked f x limit) bytes c d
+    pub needed : IsNeeded (IsShortPacked f x limit) bytes
     pub written : HasWrittenPacked f x limit (taken_of most_packed bytes) c d
 
-  -- all of the text of the bytes that a reader gave was written
+  -- all of the text of the bytes that a reader gave was written, and more is served
   abbrev pub KeepsUpPacked : Option (List ℕ) → Option (List ℕ) → Option (List ℕ) → Option (List ℕ) → Type 0
   KeepsUpPacked a b c d = (bytes : List ℕ) × (text : List ℕ) × (ending : Result (Unit {0}) RunFault) × (y : X)
-      × Consumes a b bytes × IsDuePacked f x limit (taken_of most_packed bytes) (has_more most_packed bytes) text
-      ending y × Appends c d text
+      × Consumes a b bytes × IfGoing (f.done y) (IsDuePacked f x limit (taken_of most_packed bytes)
+      (has_more most_packed bytes) text ending y) × Appends c d text
 
   -- what a run did, over a reader (from a to b) and a writer (from c to d), and the state after it
   pub record RunsPacked (a b c d : Option (List ℕ)) (reader_failed writer_failed : Bool)

@@ -1,12 +1,13 @@
 -- Which messages of a stream are picked, and what each writes. (Own.)
-use Rattle.std.specs.Prelude.{◌≡◌, ℕ, ◌+◌, ◌<◌, ◌≤◌, nat_lt, if◌then◌else◌, List, [], ◌∷◌, refl}
+use Rattle.std.specs.Prelude.{◌≡◌, ℕ, ◌+◌, ◌<◌, ◌≤◌, nat_lt, if◌then◌else◌, List, [], ◌∷◌, Bool, true}
+use Rattle.std.specs.Prelude.{false, refl}
 use Rattle.capn_canon.specs.declared.refusal.Refusal.{Refusal}
 use Rattle.capn_stream.specs.StreamPieces.{IsUnfinished}
 use Rattle.capn_serve.specs.declared.pick.Pick.{Pick}
 use Rattle.capn_serve.specs.declared.position.Position.{Position}
 use Rattle.capn_serve.specs.declared.service.Run.{Run}
 use Rattle.capn_serve.specs.Fold.{Fold, Part, AreParts, fold_of, texts_of}
-use Rattle.capn_serve.specs.StreamRun.{start}
+use Rattle.capn_serve.specs.StreamRun as runs
 
 -- what the message of a number, counted from 1, writes if those from one number to another are picked: its frame or
 -- nothing
@@ -37,6 +38,20 @@ none_picked = refl
 none_looked : last_of 3 2 ≡ 0
 none_looked = refl
 
+-- whether the message after this number of others comes after the last that is looked at
+abbrev pub is_past : ℕ → ℕ → ℕ → Bool
+is_past from to index = nat_lt (last_of from to) (index + 1)
+
+-- of the messages 2 to 3 the third is looked at, and the fourth is not; of the messages 3 to 2 not even the first
+third_looked : is_past 2 3 2 ≡ false
+third_looked = refl
+
+fourth_past : is_past 2 3 3 ≡ true
+fourth_past = refl
+
+first_past : is_past 3 2 0 ≡ true
+first_past = refl
+
 -- the number of the last message that is looked at
 abbrev pub last : Pick → ℕ
 last p = last_of p.from p.to
@@ -48,13 +63,17 @@ serves p at frame message text q = (text ≡ picked p.from p.to (at.index + 1) f
 abbrev pub refuses : Pick → Position → List ℕ → List (List ℕ) → Refusal → Type 0
 refuses p at frame message r = ⊥
 
+-- no more is served once the number of the next message is beyond the last that is looked at
+abbrev pub done : Pick → Position → Bool
+done p at = is_past p.from p.to at.index
+
 -- the fold over the messages of a stream
 abbrev pub pick_fold : ℕ → Fold (Run Pick)
 pick_fold most = fold_of serves refuses most
 
 -- no message has been looked at
 abbrev pub first_run : Pick → Run Pick
-first_run p = record { service = p; at = start }
+first_run p = runs.first_run p
 
 module _ (most : ℕ) (p : Pick) where
   -- the messages up to the last are whole in these bytes, and this is picked of them, whatever comes after

@@ -1,5 +1,5 @@
 -- A run that picks messages: what it writes, how it ends, and how far it reads. (Own.)
-use Rattle.std.specs.Prelude.{◌≡◌, ◌⊎◌, ◌↔◌, ℕ, ◌+◌, ◌-◌, ◌^◌, ◌<◌, ◌≤◌, nat_lt, if◌then◌else◌, List, [], ◌++◌, length}
+use Rattle.std.specs.Prelude.{◌≡◌, ◌⊎◌, ◌↔◌, ℕ, ◌+◌, ◌-◌, ◌^◌, ◌<◌, ◌≤◌, List, [], ◌++◌, length}
 use Rattle.std.specs.Prelude.{Bool, true, Option, IfSome, Result, Ok, Err}
 use Rattle.std.specs.Io.KnownBytes.{Consumes, Appends}
 use Rattle.capn_pack.specs.PackedPieces as packing
@@ -10,27 +10,13 @@ use Rattle.capn_serve.specs.declared.pick.StreamForm.{StreamForm}
 use Rattle.capn_serve.specs.declared.pick.StreamForm.TheVariants as forms
 use Rattle.capn_serve.specs.declared.service.Run.{Run}
 use Rattle.capn_serve.specs.Pick.{IsEnough, IsTooFew, first_run, last, pick_fold}
-use Rattle.capn_serve.specs.Outgoing.{sent}
-use Rattle.capn_serve.specs.ChunkRun.{Tells}
 use Rattle.capn_serve.specs.StreamRun as streams
 use Rattle.capn_serve.specs.StreamRun.{TakesBytes, has_more, taken_of}
 use Rattle.capn_serve.specs.PackedRun as packings
-use Rattle.capn_serve.specs.PackedChunkRun.{Pending, TellsPacked, fresh}
 
 -- the most bytes that are taken of an input, and of what it unpacks to
 abbrev pub most_taken : ℕ
 most_taken = 2 ^ 64 - 1
-
--- how a run ends that stopped with a fault: as done, if that is at a position after the last message
-abbrev pub settled : ℕ → RunFault → Result (Unit {0}) RunFault
-settled last (faults.Refused at r) = if nat_lt at.index last then Err (faults.Refused at r) else Ok tt
-settled last faults.Memory = Err faults.Memory
-settled last faults.Io = Err faults.Io
-settled last faults.InputTooLong = Err faults.InputTooLong
-
--- how a run ends whose input has more bytes than are taken, after this number of messages
-abbrev pub full : ℕ → ℕ → Result (Unit {0}) RunFault
-full last index = if nat_lt index last then Err faults.InputTooLong else Ok tt
 
 module _ (most : ℕ) (p : Pick) where
   -- This is picked of the bytes that are taken of an input, and a run over them ends so: as done, if the messages up
@@ -101,16 +87,3 @@ module _ (most : ℕ) (p : Pick) where
     pub begun : Begins form a b c d
     pub heard : reader_failed ≡ true → KeepsUp form a b c d
     pub memory : r ≡ Err faults.Memory → TakesBytes a b
-
-  -- a reader gave bytes, in this number and no more pieces than needed, and the whole messages in them were looked at
-  abbrev pub Hears : Option (List ℕ) → Option (List ℕ) → ℕ → List ℕ → Option (List ℕ) → Option (List ℕ) → Run Pick
-      → Type 0
-  Hears a b taken rest c d y = (bytes : List ℕ) × Consumes a b bytes × (length bytes ≡ taken)
-      × Tells (pick_fold most) (first_run p) bytes rest (sent c) (sent d) y × IsLazy forms.Stream bytes
-
-  -- the same for the bytes of a packed stream, of which this is held
-  abbrev pub HearsPacked : Option (List ℕ) → Option (List ℕ) → ℕ → Pending → Option (List ℕ) → Option (List ℕ)
-      → Run Pick → Type 0
-  HearsPacked a b taken q c d y = (bytes : List ℕ) × Consumes a b bytes × (length bytes ≡ taken)
-      × TellsPacked (pick_fold most) (first_run p) (fresh most_taken) bytes q (sent c) (sent d) y
-      × IsLazy forms.Packed bytes

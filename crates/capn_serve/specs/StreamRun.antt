@@ -9,7 +9,8 @@ use Rattle.capn_canon.specs.declared.refusal.Refusal.TheVariants as refusals
 use Rattle.capn_serve.specs.declared.position.Position.{Position}
 use Rattle.capn_serve.specs.declared.fault.RunFault.{RunFault}
 use Rattle.capn_serve.specs.declared.fault.RunFault.TheVariants as faults
-use Rattle.capn_serve.specs.Fold.{Fold, Part, AreParts, IsFolded, texts_of}
+use Rattle.capn_serve.specs.declared.service.Run.{Run}
+use Rattle.capn_serve.specs.Fold.{Fold, Part, AreParts, IfGoing, IsFolded, texts_of}
 use Rattle.capn_serve.specs.Outgoing.{sent}
 use Rattle.capn_serve.specs.ChunkRun.{Tells}
 
@@ -29,6 +30,10 @@ behind false = None
 -- where a stream begins
 abbrev pub start : Position
 start = record { index = 0; offset = 0 }
+
+-- a run of a service before its first message
+abbrev pub first_run : {S : Type 0} → S → Run S
+first_run s = record { service = s; at = start }
 
 -- a reader gave these bytes, all that it had or one more than are taken; the first of them were taken; and whether
 -- there are more
@@ -50,6 +55,11 @@ abbrev pub IsAhead : (List ℕ → Option (List ℕ) → Option (List ℕ) → T
     → Option (List ℕ) → Type 0
 IsAhead Written bytes old new = (before : List ℕ) × (piece : List ℕ) × (mid : Option (List ℕ)) × (more : List ℕ)
     × (bytes ≡ before ++ piece) × (length piece ≤ 65536) × Written before old mid × Appends mid new more
+
+-- no byte was read, or what this says holds of all bytes before the last piece, which has at most 65,536
+abbrev pub IsNeeded : (List ℕ → Type 0) → List ℕ → Type 0
+IsNeeded Short bytes = (bytes ≡ [])
+    ⊎ ((before : List ℕ) × (piece : List ℕ) × (bytes ≡ before ++ piece) × (length piece ≤ 65536) × Short before)
 
 module _ {X : Type 0} (f : Fold X) (x : X) (limit : ℕ) where
   -- the text and the ending of a run over these bytes, and the state after its messages
@@ -80,19 +90,26 @@ module _ {X : Type 0} (f : Fold X) (x : X) (limit : ℕ) where
   HasWrittenAll bytes old new = (parts : List Part) × (rest : List ℕ) × (y : X) × AreParts f x bytes parts rest y
       × IsUnfinished rest f.most × Appends old new (texts_of parts)
 
-  -- a reader gave some bytes, at most one more than are taken, and no more than a piece beyond what was served and
-  -- written; and a writer took a beginning of their text
+  -- the whole messages in these bytes lead to a state in which more is served, and what is left is no whole frame
+  abbrev pub IsShort : List ℕ → Type 0
+  IsShort bytes = (parts : List Part) × (rest : List ℕ) × (y : X) × AreParts f x bytes parts rest y
+      × IsUnfinished rest f.most × (f.done y ≡ false)
+
+  -- a reader gave some bytes, at most one more than are taken, no more than a piece beyond what was served and written,
+  -- and no piece after one that leads to the end; and a writer took a beginning of their text
   pub record Begins (old_reader new_reader old_writer new_writer : Option (List ℕ)) : Type 0 where
     pub bytes : List ℕ
     pub read : Consumes old_reader new_reader bytes
     pub bounded : length bytes ≤ limit + 1
     pub lazy : IsAhead HasWrittenAll bytes old_writer new_writer
+    pub needed : IsNeeded IsShort bytes
     pub written : HasWritten (taken_of limit bytes) old_writer new_writer
 
-  -- all of the text of the bytes that a reader gave was written
+  -- all of the text of the bytes that a reader gave was written, and more is served
   abbrev pub KeepsUp : Option (List ℕ) → Option (List ℕ) → Option (List ℕ) → Option (List ℕ) → Type 0
   KeepsUp a b c d = (bytes : List ℕ) × (text : List ℕ) × (ending : Result (Unit {0}) RunFault) × (y : X)
-      × Consumes a b bytes × IsDue (taken_of limit bytes) (has_more limit bytes) text ending y × Appends c d text
+      × Consumes a b bytes
+      × IfGoing (f.done y) (IsDue (taken_of limit bytes) (has_more limit bytes) text ending y) × Appends c d text
 
   -- what a run did, over a reader (from a to b) and a writer (from c to d), and the state after it
   pub record Runs (a b c d : Option (List ℕ)) (reader_failed writer_failed : Bool) (r : Result (Unit {0}) RunFault)

@@ -4,13 +4,14 @@ ghost use Rattle.std.specs.Prelude.{◌≡◌, ℕ, ◌*◌, ◌<◌, List, leng
 ghost use Rattle.capn_words.specs.Message.{most_words, ReadsBare};
 ghost use Rattle.capn_words.specs.Watched.{inner_of, has_failed};
 ghost use Rattle.capn_serve.specs.BareRun.{IsShortBare, RunsBare, ServesBare};
-ghost use Rattle.capn_serve.specs.Fold.{fold_of};
+ghost use Rattle.capn_serve.specs.Fold.{fold_until};
 ghost use Rattle.capn_serve.specs.Outgoing.{outgoing};
 ghost use Rattle.capn_serve.specs.ChunkRun.{HasRoom};
 ghost use Rattle.capn_serve.specs.StreamRun.{start};
 ghost use Rattle.capn_serve.specs.WholeInput.{TakesAll};
 
-use crate::fault::{RunFault, ServeFault};
+use crate::fault::RunFault;
+use crate::message::add_message;
 use crate::output::write_all;
 use crate::position::Position;
 use crate::service::{Run, Service};
@@ -60,32 +61,18 @@ fn serve_bare<S: Service, W: Write, A: Allocator + Copy>(
 ) -> Result<(), RunFault>
     requires fine { has_failed writer.old ≡ false }
     requires room { HasRoom run.old.at (length bytes.now) }
-    ensures { (most : ℕ) → ServesBare (fold_of S.serves S.refuses most) run.old bytes.now
+    ensures { (most : ℕ) → ServesBare (fold_until S.serves S.refuses S.done most) run.old bytes.now
         (outgoing (W.contents (inner_of writer.old)) text.old.items)
         (outgoing (W.contents (inner_of writer.new)) text.new.items) (has_failed writer.new) result run.new }
 {
-    let message = match Bare::new(bytes) {
-        Ok(message) => message,
-        Err(fault) => return Err(RunFault::Refused(run.at, Refusal::Bare(fault))),
-    };
-    match run
-        .service
-        .serve(alloc, run.at, bytes, &message, text, writer)
-    {
-        Ok(()) => {
-            run.at = Position {
-                index: run.at.index + 1,
-                offset: run.at.offset + bytes.len() as u64,
-            };
-            Ok(())
-        }
-        Err(ServeFault::Memory) => Err(RunFault::Memory),
-        Err(ServeFault::Io) => Err(RunFault::Io),
-        Err(ServeFault::Refused(refusal)) => Err(RunFault::Refused(run.at, refusal)),
+    match Bare::new(bytes) {
+        Ok(message) => add_message(alloc, run, bytes, &message, text, writer),
+        Err(fault) => Err(RunFault::Refused(run.at, Refusal::Bare(fault))),
     }
 }
 
-/// Reads a bare input to its end, in chunks of at most 65,536 bytes, and has the one message served that it is.
+/// Reads a bare input to its end, in chunks of at most 65,536 bytes, and has the one message served that it is. If the
+/// service is done before that, nothing is read.
 ///
 /// Its frame is the input itself. An input that is not whole words, or has more than 2^28 + 1 of them, is refused where
 /// it begins; of more than 2^32 bytes the run ends as `InputTooLong`. The run ends as done, or with the first fault:
@@ -101,11 +88,14 @@ pub fn run_bare<S: Service, R: Read, W: Write, A: Allocator + Copy>(
     requires fresh { run.old.at ≡ start }
     requires reader_fine { has_failed reader.old ≡ false }
     requires writer_fine { has_failed writer.old ≡ false }
-    ensures { (most : ℕ) → RunsBare (fold_of S.serves S.refuses most) run.old (R.remaining (inner_of reader.old))
-        (R.remaining (inner_of reader.new))
+    ensures { (most : ℕ) → RunsBare (fold_until S.serves S.refuses S.done most) run.old
+        (R.remaining (inner_of reader.old)) (R.remaining (inner_of reader.new))
         (W.contents (inner_of writer.old)) (W.contents (inner_of writer.new)) (has_failed reader.new)
         (has_failed writer.new) result run.new }
 {
+    if run.is_done() {
+        return Ok(());
+    }
     let bytes = read_bare(alloc, run.at, reader)?;
     let mut text = Vec::new(alloc);
     serve_bare(alloc, run, &bytes, &mut text, writer)?;

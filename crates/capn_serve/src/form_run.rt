@@ -3,7 +3,7 @@
 ghost use Rattle.std.specs.Prelude.{◌≡◌, ◌≤◌, false};
 ghost use Rattle.capn_words.specs.Message.{most_message_words};
 ghost use Rattle.capn_words.specs.Watched.{inner_of, has_failed};
-ghost use Rattle.capn_serve.specs.Fold.{fold_of};
+ghost use Rattle.capn_serve.specs.Fold.{fold_until};
 ghost use Rattle.capn_serve.specs.FormRun.{ServesMessages};
 ghost use Rattle.capn_serve.specs.StreamRun.{start};
 
@@ -31,8 +31,8 @@ pub fn serve_form<S: Service, R: Read, W: Write, A: Allocator + Copy>(
     requires fresh { run.old.at ≡ start }
     requires reader_fine { has_failed reader.old ≡ false }
     requires writer_fine { has_failed writer.old ≡ false }
-    ensures { ServesMessages (fold_of S.serves S.refuses most) run.old form (R.remaining (inner_of reader.old))
-        (R.remaining (inner_of reader.new))
+    ensures { ServesMessages (fold_until S.serves S.refuses S.done most) run.old form
+        (R.remaining (inner_of reader.old)) (R.remaining (inner_of reader.new))
         (W.contents (inner_of writer.old)) (W.contents (inner_of writer.new)) (has_failed reader.new)
         (has_failed writer.new) result run.new }
 {

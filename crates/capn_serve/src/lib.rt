@@ -2,9 +2,9 @@
 //!
 //! A [`Service`] is what is done with each message: a fold whose state is the service. [`Run`] is how far it has come.
 //! [`run_stream`], [`run_packed`] and [`run_bare`] are the loops over the three forms, and [`serve_form`] is the loop
-//! of a given form.
+//! of a given form. Each ends where the service is done, and does not read on.
 //!
-//! [`run_pick`] writes the frames of some messages as they stand, and does not read on after them.
+//! [`run_pick`] writes the frames of some messages as they stand; its service is done after the last of them.
 #![tactic(auto)]
 
 mod adding;

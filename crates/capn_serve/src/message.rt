@@ -2,7 +2,7 @@
 
 ghost use Rattle.std.specs.Prelude.{◌≡◌, ℕ, length, false};
 ghost use Rattle.capn_words.specs.Watched.{inner_of, has_failed};
-ghost use Rattle.capn_serve.specs.Fold.{fold_of};
+ghost use Rattle.capn_serve.specs.Fold.{fold_until};
 ghost use Rattle.capn_serve.specs.Outgoing.{outgoing};
 ghost use Rattle.capn_serve.specs.ChunkRun.{AddsMessage, HasRoom};
 
@@ -25,7 +25,8 @@ pub(crate) fn add_message<M: Space, S: Service, W: Write, A: Allocator + Copy>(
 ) -> Result<(), RunFault>
     requires fine { has_failed writer.old ≡ false }
     requires room { HasRoom run.old.at (length frame.now) }
-    ensures { (most : ℕ) → AddsMessage (fold_of S.serves S.refuses most) run.old frame.now (M.message message.now)
+    ensures { (most : ℕ) → AddsMessage (fold_until S.serves S.refuses S.done most) run.old frame.now
+        (M.message message.now)
         (outgoing (W.contents (inner_of writer.old)) text.old.items)
         (outgoing (W.contents (inner_of writer.new)) text.new.items) (has_failed writer.new) result run.new }
 {

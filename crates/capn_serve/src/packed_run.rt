@@ -4,7 +4,7 @@ ghost use Rattle.std.specs.Prelude.{◌≡◌, ◌+◌, ◌≤◌, length, false
 ghost use Rattle.capn_words.specs.Message.{most_message_words};
 ghost use Rattle.capn_words.specs.Watched.{inner_of, has_failed};
 ghost use Rattle.capn_stream.specs.StreamPieces.{IsUnfinished};
-ghost use Rattle.capn_serve.specs.Fold.{fold_of};
+ghost use Rattle.capn_serve.specs.Fold.{fold_until};
 ghost use Rattle.capn_serve.specs.PackedRun.{RunsPacked};
 ghost use Rattle.capn_serve.specs.PackedChunkRun.{EndsPacked, IsUnpacking, ServesPacked, ServesPart, pending};
 ghost use Rattle.capn_serve.specs.Outgoing.{outgoing, sent};
@@ -41,7 +41,8 @@ pub(crate) struct Packed<A: Allocator + Copy> {
     pub left: u64,
 }
 
-/// Serves all messages that a part makes whole, as far as `left` goes. Of a longer one the rest is not served.
+/// Serves all messages that a part makes whole, as far as `left` goes, until the service is done. Of a longer one the
+/// rest is not served.
 fn serve_part<S: Service, W: Write, A: Allocator + Copy>(
     alloc: A,
     most: u32,
@@ -53,8 +54,9 @@ fn serve_part<S: Service, W: Write, A: Allocator + Copy>(
     requires small { most ≤ most_message_words }
     requires fine { has_failed writer.old ≡ false }
     requires room { HasRoom run.old.at (length packed.old.framer.rest + packed.old.left) }
-    requires listening { IsListening (fold_of S.serves S.refuses most) packed.old.framer }
-    ensures served { ServesPart (fold_of S.serves S.refuses most) run.old packed.old.left packed.old.framer
+    requires going { S.done run.old.service run.old.at ≡ false }
+    requires listening { IsListening (fold_until S.serves S.refuses S.done most) packed.old.framer }
+    ensures served { ServesPart (fold_until S.serves S.refuses S.done most) run.old packed.old.left packed.old.framer
         packed.old.part.items (outgoing (W.contents (inner_of writer.old)) text.old.items)
         (outgoing (W.contents (inner_of writer.new)) text.new.items) (has_failed writer.new) result
         packed.new.left packed.new.framer run.new }
@@ -71,6 +73,9 @@ fn serve_part<S: Service, W: Write, A: Allocator + Copy>(
         text,
         writer,
     )?;
+    if run.is_done() {
+        return Ok(());
+    }
     if within < count {
         return Err(RunFault::InputTooLong);
     }
@@ -91,9 +96,10 @@ fn serve_slice<S: Service, W: Write, A: Allocator + Copy>(
     requires small { most ≤ most_message_words }
     requires fine { has_failed writer.old ≡ false }
     requires room { HasRoom run.old.at (length packed.old.framer.rest + packed.old.left) }
-    requires listening { IsListening (fold_of S.serves S.refuses most) packed.old.framer }
+    requires going { S.done run.old.service run.old.at ≡ false }
+    requires listening { IsListening (fold_until S.serves S.refuses S.done most) packed.old.framer }
     requires held { packed.old.unpacker.failed ≡ false }
-    ensures { ServesPacked (fold_of S.serves S.refuses most) run.old
+    ensures { ServesPacked (fold_until S.serves S.refuses S.done most) run.old
         (pending packed.old.unpacker packed.old.framer packed.old.left) bytes.now
         (outgoing (W.contents (inner_of writer.old)) text.old.items)
         (outgoing (W.contents (inner_of writer.new)) text.new.items) (has_failed writer.new) result
@@ -106,7 +112,7 @@ fn serve_slice<S: Service, W: Write, A: Allocator + Copy>(
     }
 }
 
-/// Serves all messages that packed bytes make whole, slice by slice.
+/// Serves all messages that packed bytes make whole, slice by slice, until the service is done.
 fn serve_slices<S: Service, W: Write, A: Allocator + Copy>(
     alloc: A,
     most: u32,
@@ -119,10 +125,11 @@ fn serve_slices<S: Service, W: Write, A: Allocator + Copy>(
     requires small { most ≤ most_message_words }
     requires fine { has_failed writer.old ≡ false }
     requires room { HasRoom run.old.at (length packed.old.framer.rest + packed.old.left) }
-    requires listening { IsListening (fold_of S.serves S.refuses most) packed.old.framer }
+    requires going { S.done run.old.service run.old.at ≡ false }
+    requires listening { IsListening (fold_until S.serves S.refuses S.done most) packed.old.framer }
     requires unpacking { IsUnpacking packed.old.unpacker }
     requires short { length bytes.now ≤ 65536 }
-    ensures { ServesPacked (fold_of S.serves S.refuses most) run.old
+    ensures { ServesPacked (fold_until S.serves S.refuses S.done most) run.old
         (pending packed.old.unpacker packed.old.framer packed.old.left) bytes.now
         (outgoing (W.contents (inner_of writer.old)) text.old.items)
         (outgoing (W.contents (inner_of writer.new)) text.new.items) (has_failed writer.new) result
@@ -132,6 +139,9 @@ fn serve_slices<S: Service, W: Write, A: Allocator + Copy>(
     while at < bytes.len() {
         let end = (at + SLICE).min(bytes.len());
         serve_slice(alloc, most, run, packed, &bytes[at..end], text, writer)?;
+        if run.is_done() {
+            break;
+        }
         at = end;
     }
     Ok(())
@@ -150,10 +160,11 @@ pub(crate) fn serve_packed<S: Service, W: Write, A: Allocator + Copy>(
     requires small { most ≤ most_message_words }
     requires fine { has_failed writer.old ≡ false }
     requires room { HasRoom run.old.at (length packed.old.framer.rest + packed.old.left) }
-    requires listening { IsListening (fold_of S.serves S.refuses most) packed.old.framer }
+    requires going { S.done run.old.service run.old.at ≡ false }
+    requires listening { IsListening (fold_until S.serves S.refuses S.done most) packed.old.framer }
     requires unpacking { IsUnpacking packed.old.unpacker }
     requires short { length bytes.now ≤ 65536 }
-    ensures { ServesPacked (fold_of S.serves S.refuses most) run.old
+    ensures { ServesPacked (fold_until S.serves S.refuses S.done most) run.old
         (pending packed.old.unpacker packed.old.framer packed.old.left) bytes.now
         (sent (W.contents (inner_of writer.old))) (sent (W.contents (inner_of writer.new)))
         (has_failed writer.new) result packed.new.unpacker packed.new.framer packed.new.left run.new }
@@ -182,14 +193,15 @@ pub(crate) fn end_of_packed<A: Allocator + Copy>(
 /// Reads a packed stream, in chunks of at most 65,536 bytes, and has each message served that is whole before it reads
 /// again.
 ///
-/// A chunk is unpacked in slices of 512 bytes, of which come at most 512 KiB and an unfinished group. Positions are in
-/// what the stream unpacks to; of that at most `limit` bytes are taken, and of the stream itself `most_packed`. `most`
-/// is the greatest number of words of a message. The run ends as done, or with the first fault: a frame or a message
-/// that is refused, at its position; `InputTooLong`; a group that is cut at the end of the input, at the position of
-/// the message that has begun or would begin; `Io` if and only if the reader or the writer failed; `Memory` if a growth
-/// was refused. The texts of the messages before it have been written; at `Memory` a beginning of one more may have
-/// been too. It holds an unfinished message, what a slice unpacks to, the texts of a chunk that are not written yet,
-/// and what the service holds.
+/// Where the service is done nothing more is read or served, and what comes after is not looked at. A chunk is unpacked
+/// in slices of 512 bytes, of which come at most 512 KiB and an unfinished group. Positions are in what the stream
+/// unpacks to; of that at most `limit` bytes are taken, and of the stream itself `most_packed`. `most` is the greatest
+/// number of words of a message. The run ends as done, or with the first fault: a frame or a message that is refused,
+/// at its position; `InputTooLong`; a group that is cut at the end of the input, at the position of the message that
+/// has begun or would begin; `Io` if and only if the reader or the writer failed; `Memory` if a growth was refused. The
+/// texts of the messages before it have been written; at `Memory` a beginning of one more may have been too. It holds
+/// an unfinished message, what a slice unpacks to, the texts of a chunk that are not written yet, and what the service
+/// holds.
 pub fn run_packed<S: Service, R: Read, W: Write, A: Allocator + Copy>(
     alloc: A,
     most: u32,
@@ -203,11 +215,14 @@ pub fn run_packed<S: Service, R: Read, W: Write, A: Allocator + Copy>(
     requires fresh { run.old.at ≡ start }
     requires reader_fine { has_failed reader.old ≡ false }
     requires writer_fine { has_failed writer.old ≡ false }
-    ensures { RunsPacked (fold_of S.serves S.refuses most) run.old most_packed limit
+    ensures { RunsPacked (fold_until S.serves S.refuses S.done most) run.old most_packed limit
         (R.remaining (inner_of reader.old)) (R.remaining (inner_of reader.new))
         (W.contents (inner_of writer.old)) (W.contents (inner_of writer.new)) (has_failed reader.new)
         (has_failed writer.new) result run.new }
 {
+    if run.is_done() {
+        return Ok(());
+    }
     let mut packed = Packed {
         unpacker: Unpacker::new(),
         framer: Framer::new(alloc, most),
@@ -234,6 +249,9 @@ pub fn run_packed<S: Service, R: Read, W: Write, A: Allocator + Copy>(
                     &mut text,
                     writer,
                 )?;
+                if run.is_done() {
+                    return Ok(());
+                }
                 if within < count as u64 {
                     return Err(RunFault::InputTooLong);
                 }

@@ -52,6 +52,13 @@ impl Service for Pick {
 
     ghost refuses = { spec.refuses };
 
+    ghost done = { spec.done };
+
+    #[inline(always)]
+    fn is_done(&self, at: Position) -> bool {
+        self.last() <= at.index
+    }
+
     fn serve<S: Space, W: Write, A: Allocator + Copy>(
         &mut self,
         _alloc: A,

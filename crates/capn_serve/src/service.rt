@@ -1,11 +1,12 @@
 //! What is done with the messages of a stream.
 
-ghost use Rattle.std.specs.Prelude.{◌≡◌, List, ℕ, false};
+ghost use Rattle.std.specs.Prelude.{◌≡◌, Bool, List, ℕ, false};
 ghost use Rattle.capn_words.specs.Watched.{inner_of, has_failed};
 ghost use Rattle.capn_canon.specs.declared.refusal.Refusal.{Refusal};
 ghost use Rattle.capn_serve.specs.declared.position.Position.{Position};
 ghost use Rattle.capn_serve.specs.Outgoing.{outgoing};
 ghost use Rattle.capn_serve.specs.Service.{DoesService};
+ghost use Rattle.capn_serve.specs.StreamRun.{first_run};
 
 use crate::fault::ServeFault;
 use crate::position::Position;
@@ -20,6 +21,16 @@ pub trait Service {
 
     /// In a state, the message at a position, with its frame, is refused.
     ghost refuses: { Self → Position → List ℕ → List (List ℕ) → Refusal → Type 0 };
+
+    /// In a state, at the position of the next message, no more is served.
+    ghost done: { Self → Position → Bool };
+
+    /// Whether no more is served, asked with the position of the next message.
+    ///
+    /// It is asked before each read and after each message. Where it answers true nothing more is read or served, and
+    /// the run ends as done, whatever comes after. A service of all messages answers false.
+    fn is_done(&self, at: Position) -> bool
+        ensures { result ≡ done self.now at };
 
     /// Adds what the message writes: to the text, which goes out next, or to the writer after the text.
     ///
@@ -49,4 +60,29 @@ pub struct Run<S> {
     pub service: S,
     /// Where the next message begins.
     pub at: Position,
+}
+
+impl<S> Run<S> {
+    /// The run of a service, before the first message.
+    pub fn new(service: S) -> Run<S>
+        ensures { result ≡ first_run service }
+    {
+        Run {
+            service,
+            at: Position {
+                index: 0,
+                offset: 0,
+            },
+        }
+    }
+}
+
+impl<S: Service> Run<S> {
+    /// Whether the service serves no more.
+    #[inline(always)]
+    pub(crate) fn is_done(&self) -> bool
+        ensures { result ≡ S.done self.now.service self.now.at }
+    {
+        self.service.is_done(self.at)
+    }
 }

@@ -4,7 +4,7 @@ ghost use Rattle.std.specs.Prelude.{◌≡◌, ◌⊎◌, ℕ, ◌≤◌, ◌+�
 ghost use Rattle.capn_words.specs.Message.{most_message_words};
 ghost use Rattle.capn_words.specs.Watched.{inner_of, has_failed};
 ghost use Rattle.capn_stream.specs.StreamPieces.{IsFrame, IsUnfinished};
-ghost use Rattle.capn_serve.specs.Fold.{fold_of};
+ghost use Rattle.capn_serve.specs.Fold.{fold_until};
 ghost use Rattle.capn_serve.specs.Outgoing.{outgoing, sent};
 ghost use Rattle.capn_serve.specs.ChunkRun as spec;
 ghost use Rattle.capn_serve.specs.ChunkRun.{AddsMessage, HasRoom, IsListening, Passes, Serves, ServesHeld, ServesNext};
@@ -54,15 +54,15 @@ fn add_framed<S: Service, W: Write, A: Allocator + Copy>(
 ) -> Result<(), RunFault>
     requires fine { has_failed writer.old ≡ false }
     requires room { HasRoom run.old.at (length frame.now) }
-    ensures { (most : ℕ) → AddsMessage (fold_of S.serves S.refuses most) run.old frame.now message.now
+    ensures { (most : ℕ) → AddsMessage (fold_until S.serves S.refuses S.done most) run.old frame.now message.now
         (outgoing (W.contents (inner_of writer.old)) text.old.items)
         (outgoing (W.contents (inner_of writer.new)) text.new.items) (has_failed writer.new) result run.new }
 {
     add_message(alloc, run, frame, message, text, writer)
 }
 
-/// Serves the messages that lie whole in these bytes, of which no byte is copied. Answers how many bytes they take. Why
-/// no other follows is for the framer to say.
+/// Serves the messages that lie whole in these bytes, of which no byte is copied, until the service is done. Answers
+/// how many bytes they take. Why no other follows is for the framer to say.
 #[inline(always)]
 fn serve_whole<S: Service, W: Write, A: Allocator + Copy>(
     alloc: A,
@@ -75,12 +75,15 @@ fn serve_whole<S: Service, W: Write, A: Allocator + Copy>(
     requires small { most ≤ most_message_words }
     requires fine { has_failed writer.old ≡ false }
     requires room { HasRoom run.old.at (length bytes.now) }
-    ensures { ServesWhole (fold_of S.serves S.refuses most) run.old bytes.now
+    ensures { ServesWhole (fold_until S.serves S.refuses S.done most) run.old bytes.now
         (outgoing (W.contents (inner_of writer.old)) text.old.items)
         (outgoing (W.contents (inner_of writer.new)) text.new.items) (has_failed writer.new) result run.new }
 {
     let mut at = 0;
     while at < bytes.len() {
+        if run.is_done() {
+            break;
+        }
         let rest = &bytes[at..];
         if let Some((message, size)) = first_bare(rest, most) {
             add_message(alloc, run, &rest[..size], &message, text, writer)?;
@@ -124,8 +127,9 @@ fn serve_held<S: Service, W: Write, A: Allocator + Copy>(
     requires room { HasRoom run.old.at (length framer.old.rest) }
     requires good { framer.old.failed ≡ false }
     requires same { framer.old.most ≡ most }
+    requires going { S.done run.old.service run.old.at ≡ false }
     requires held { IsFrame framer.old.rest most ⊎ IsUnfinished framer.old.rest most }
-    ensures { ServesHeld (fold_of S.serves S.refuses most) run.old framer.old
+    ensures { ServesHeld (fold_until S.serves S.refuses S.done most) run.old framer.old
         (outgoing (W.contents (inner_of writer.old)) text.old.items)
         (outgoing (W.contents (inner_of writer.new)) text.new.items) (has_failed writer.new) result framer.new run.new }
 {
@@ -153,8 +157,9 @@ fn serve_next<S: Service, W: Write, A: Allocator + Copy>(
     requires small { most ≤ most_message_words }
     requires fine { has_failed writer.old ≡ false }
     requires room { HasRoom run.old.at (length framer.old.rest + length bytes.now) }
-    requires listening { IsListening (fold_of S.serves S.refuses most) framer.old }
-    ensures { ServesNext (fold_of S.serves S.refuses most) run.old framer.old bytes.now
+    requires going { S.done run.old.service run.old.at ≡ false }
+    requires listening { IsListening (fold_until S.serves S.refuses S.done most) framer.old }
+    ensures { ServesNext (fold_until S.serves S.refuses S.done most) run.old framer.old bytes.now
         (outgoing (W.contents (inner_of writer.old)) text.old.items)
         (outgoing (W.contents (inner_of writer.new)) text.new.items) (has_failed writer.new) result framer.new run.new }
 {
@@ -180,9 +185,10 @@ fn serve_fresh<S: Service, W: Write, A: Allocator + Copy>(
     requires small { most ≤ most_message_words }
     requires fine { has_failed writer.old ≡ false }
     requires room { HasRoom run.old.at (length framer.old.rest + length bytes.now) }
-    requires listening { IsListening (fold_of S.serves S.refuses most) framer.old }
+    requires going { S.done run.old.service run.old.at ≡ false }
+    requires listening { IsListening (fold_until S.serves S.refuses S.done most) framer.old }
     requires empty { framer.old.rest ≡ [] }
-    ensures { ServesNext (fold_of S.serves S.refuses most) run.old framer.old bytes.now
+    ensures { ServesNext (fold_until S.serves S.refuses S.done most) run.old framer.old bytes.now
         (outgoing (W.contents (inner_of writer.old)) text.old.items)
         (outgoing (W.contents (inner_of writer.new)) text.new.items) (has_failed writer.new) result framer.new run.new }
 {
@@ -207,8 +213,9 @@ fn serve_some<S: Service, W: Write, A: Allocator + Copy>(
     requires small { most ≤ most_message_words }
     requires fine { has_failed writer.old ≡ false }
     requires room { HasRoom run.old.at (length framer.old.rest + length bytes.now) }
-    requires listening { IsListening (fold_of S.serves S.refuses most) framer.old }
-    ensures { ServesNext (fold_of S.serves S.refuses most) run.old framer.old bytes.now
+    requires going { S.done run.old.service run.old.at ≡ false }
+    requires listening { IsListening (fold_until S.serves S.refuses S.done most) framer.old }
+    ensures { ServesNext (fold_until S.serves S.refuses S.done most) run.old framer.old bytes.now
         (outgoing (W.contents (inner_of writer.old)) text.old.items)
         (outgoing (W.contents (inner_of writer.new)) text.new.items) (has_failed writer.new) result framer.new run.new }
 {
@@ -218,7 +225,7 @@ fn serve_some<S: Service, W: Write, A: Allocator + Copy>(
     serve_next(alloc, most, run, framer, bytes, text, writer)
 }
 
-/// Serves all messages that these bytes make whole.
+/// Serves all messages that these bytes make whole, until the service is done.
 pub(crate) fn serve_bytes<S: Service, W: Write, A: Allocator + Copy>(
     alloc: A,
     most: u32,
@@ -231,19 +238,24 @@ pub(crate) fn serve_bytes<S: Service, W: Write, A: Allocator + Copy>(
     requires small { most ≤ most_message_words }
     requires fine { has_failed writer.old ≡ false }
     requires room { HasRoom run.old.at (length framer.old.rest + length bytes.now) }
-    requires listening { IsListening (fold_of S.serves S.refuses most) framer.old }
-    ensures { Serves (fold_of S.serves S.refuses most) run.old framer.old bytes.now
+    requires going { S.done run.old.service run.old.at ≡ false }
+    requires listening { IsListening (fold_until S.serves S.refuses S.done most) framer.old }
+    ensures { Serves (fold_until S.serves S.refuses S.done most) run.old framer.old bytes.now
         (outgoing (W.contents (inner_of writer.old)) text.old.items)
         (outgoing (W.contents (inner_of writer.new)) text.new.items) (has_failed writer.new) result framer.new run.new }
 {
     let mut at = 0;
     while at < bytes.len() {
         at += serve_some(alloc, most, run, framer, &bytes[at..], text, writer)?;
+        if run.is_done() {
+            break;
+        }
     }
     Ok(())
 }
 
-/// Serves all messages that these bytes make whole, and writes their texts. The text is room for them.
+/// Serves all messages that these bytes make whole, until the service is done, and writes their texts. The text is room
+/// for them.
 pub(crate) fn serve_chunk<S: Service, W: Write, A: Allocator + Copy>(
     alloc: A,
     most: u32,
@@ -256,8 +268,9 @@ pub(crate) fn serve_chunk<S: Service, W: Write, A: Allocator + Copy>(
     requires small { most ≤ most_message_words }
     requires fine { has_failed writer.old ≡ false }
     requires room { HasRoom run.old.at (length framer.old.rest + length bytes.now) }
-    requires listening { IsListening (fold_of S.serves S.refuses most) framer.old }
-    ensures { Serves (fold_of S.serves S.refuses most) run.old framer.old bytes.now
+    requires going { S.done run.old.service run.old.at ≡ false }
+    requires listening { IsListening (fold_until S.serves S.refuses S.done most) framer.old }
+    ensures { Serves (fold_until S.serves S.refuses S.done most) run.old framer.old bytes.now
         (sent (W.contents (inner_of writer.old))) (sent (W.contents (inner_of writer.new)))
         (has_failed writer.new) result framer.new run.new }
 {

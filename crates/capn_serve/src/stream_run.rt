@@ -4,7 +4,7 @@ ghost use Rattle.std.specs.Prelude.{◌≡◌, ◌≤◌, false};
 ghost use Rattle.capn_words.specs.Message.{most_message_words};
 ghost use Rattle.capn_words.specs.Watched.{inner_of, has_failed};
 ghost use Rattle.capn_stream.specs.StreamPieces.{IsUnfinished};
-ghost use Rattle.capn_serve.specs.Fold.{fold_of};
+ghost use Rattle.capn_serve.specs.Fold.{fold_until};
 ghost use Rattle.capn_serve.specs.StreamRun.{EndsInput, Runs, start};
 
 use crate::chunk::CHUNK;
@@ -34,8 +34,9 @@ pub(crate) fn end_of_input<A: Allocator + Copy>(
 
 /// Reads a stream, in chunks of at most 65,536 bytes, and has each message served that is whole before it reads again.
 ///
-/// At most `limit` bytes are taken, and one more is read, to know whether there are more. `most` is the greatest number
-/// of words of a message. The run ends as done, or with the first fault: a frame or a message that is refused, at its
+/// Where the service is done nothing more is read or served, and what comes after is not looked at. At most `limit`
+/// bytes are taken, and one more is read, to know whether there are more. `most` is the greatest number of words of a
+/// message. The run ends as done, or with the first fault: a frame or a message that is refused, at its
 /// position; `InputTooLong`; `Io` if and only if the reader or the writer failed; `Memory` if a growth was refused. The
 /// texts of the messages before it have been written; at `Memory` a beginning of one more may have been too. It holds
 /// an unfinished message, the texts of a chunk that are not written yet, and what the service holds.
@@ -51,11 +52,14 @@ pub fn run_stream<S: Service, R: Read, W: Write, A: Allocator + Copy>(
     requires fresh { run.old.at ≡ start }
     requires reader_fine { has_failed reader.old ≡ false }
     requires writer_fine { has_failed writer.old ≡ false }
-    ensures { Runs (fold_of S.serves S.refuses most) run.old limit (R.remaining (inner_of reader.old))
+    ensures { Runs (fold_until S.serves S.refuses S.done most) run.old limit (R.remaining (inner_of reader.old))
         (R.remaining (inner_of reader.new))
         (W.contents (inner_of writer.old)) (W.contents (inner_of writer.new)) (has_failed reader.new)
         (has_failed writer.new) result run.new }
 {
+    if run.is_done() {
+        return Ok(());
+    }
     let mut framer = Framer::new(alloc, most);
     let mut text = Vec::new(alloc);
     let mut buffer = [0; CHUNK as usize];
@@ -77,6 +81,9 @@ pub fn run_stream<S: Service, R: Read, W: Write, A: Allocator + Copy>(
                     &mut text,
                     writer,
                 )?;
+                if run.is_done() {
+                    return Ok(());
+                }
                 if within < count as u64 {
                     return Err(RunFault::InputTooLong);
                 }

@@ -88,7 +88,7 @@ module _ (piece : MessageText) (limits : Bounds) (other : piece ≢ kinds.Price)
       → IfSome a (served.EndsAs (fold_of serves refuses most) x c d r y)
       → IfSome a (PlanEndsAs (plans.Whole one) c d (ending_of r))
   ends_as y None c d r h = tt
-  ends_as y (Some input) c d (Ok u) (text, short, writes, wrote) =
+  ends_as y (Some input) c d (Ok u) (text, (short, writes), wrote) =
       inr (inr (text, due input text short (makes input text y writes), wrote))
   ends_as y (Some input) c d (Err e) (inl m) = inl (ap (λ (f : RunFault). Err (unplaced f)) m)
   ends_as y (Some input) c d (Err e) (inr (inl i)) = inr (inl (ap (λ (f : RunFault). Err (unplaced f)) i))

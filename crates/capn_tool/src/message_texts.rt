@@ -37,13 +37,7 @@ pub struct MessageTexts {
 pub(crate) fn first_run(piece: MessageText, limits: Limits) -> Run<MessageTexts>
     ensures { result ≡ spec.first_run piece limits }
 {
-    Run {
-        service: MessageTexts { piece, limits },
-        at: Position {
-            index: 0,
-            offset: 0,
-        },
-    }
+    Run::new(MessageTexts { piece, limits })
 }
 
 /// How a message ends whose survey has stopped.
@@ -137,11 +131,19 @@ fn end_piece<W: Write, A: Allocator>(
 }
 
 impl Service for MessageTexts {
+    ghost use Rattle.capn_serve.specs.Fold.{never};
     ghost use Rattle.capn_tool.specs.inner.MessageTexts as spec;
 
     ghost serves = { spec.serves };
 
     ghost refuses = { spec.refuses };
+
+    ghost done = { never };
+
+    #[inline(always)]
+    fn is_done(&self, _at: Position) -> bool {
+        false
+    }
 
     #[inline(always)]
     fn serve<S: Space, W: Write, A: Allocator + Copy>(

@@ -8,20 +8,22 @@ use std::alloc::{Allocator, Global};
 use std::io::{self, Read, Write};
 use std::test::Fail;
 
-/// Where an input begins.
-const START: Position = Position {
-    index: 0,
-    offset: 0,
-};
-
 /// Writes of each message its index, its offset and the number of bytes of its frame, a byte each.
 #[derive(Drop)]
 struct Places;
 
 impl Service for Places {
+    ghost use Rattle.capn_serve.specs.Fold.{never};
+
     ghost serves = { λ s at frame message text t. ⊤ };
 
     ghost refuses = { λ s at frame message r. ⊥ };
+
+    ghost done = { never };
+
+    fn is_done(&self, _at: Position) -> bool {
+        false
+    }
 
     fn serve<S: Space, W: Write, A: Allocator + Copy>(
         &mut self,
@@ -65,10 +67,7 @@ impl<'a> Read for Single<'a> {
 
 /// How a run over a packed input ends, and what it writes.
 fn packed<R: Read + Drop>(alloc: Global, input: R, limit: u64) -> (Result<(), RunFault>, Vec<u8>) {
-    let mut run = Run {
-        service: Places,
-        at: START,
-    };
+    let mut run = Run::new(Places);
     let mut reader = Watched::new(input);
     let mut writer = Watched::new(Vec::new(alloc));
     let ending = run_packed(

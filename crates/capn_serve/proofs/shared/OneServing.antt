@@ -1,5 +1,6 @@
 -- One text and one ending of the messages of an input, for a fold that does one thing with each message.
 use Rattle.std.proofs.Common.{◌≡◌, ◌≢◌, ◌⊎◌, inl, inr, ℕ, ◌≤◌, List, [], ◌∷◌, ◌++◌, length, take, Bool, Option, Some}
+use Rattle.std.proofs.Common.{true, false}
 use Rattle.std.proofs.Common.{Result, Ok, Err, refl, ap, sym, subst, ◌∙◌, append_assoc, arith, length-append}
 use Rattle.std.proofs.Math.Seq.{take-length, take-append-le}
 use Rattle.capn_words.specs.Message.{IsBare, total}
@@ -17,11 +18,13 @@ use Rattle.capn_canon.specs.declared.refusal.Refusal.{Refusal}
 use Rattle.capn_canon.specs.declared.refusal.Refusal.TheVariants as refusals
 use Rattle.capn_serve.specs.declared.fault.RunFault.{RunFault}
 use Rattle.capn_serve.specs.declared.fault.RunFault.TheVariants as faults
-use Rattle.capn_serve.specs.Fold.{AreServed, EndsRefused, EndsUnframed, Fold, IsFolded, Part, end_of, frames_of}
+use Rattle.capn_serve.proofs.shared.Until.{ends_open, is_done, known}
+use Rattle.capn_serve.specs.Fold.{AreServed, EndsBy, EndsRefused, EndsUnframed, Fold, IfGoing, IsFolded, Part, end_of}
+use Rattle.capn_serve.specs.Fold.{frames_of}
 use Rattle.capn_serve.specs.Fold.{texts_of}
 use Rattle.capn_serve.specs.StreamRun.{behind, has_more, taken_of}
 use Rattle.capn_serve.specs.PackedRun.{IsDuePacked, cut_group, unless_more}
-use Rattle.capn_serve.specs.BareRun.{EndsBare, IsUnbare, RefusesBare, WritesBare}
+use Rattle.capn_serve.specs.BareRun.{EndsBare, IsUnbare, RefusesBare, WritesBare, WritesBy}
 use Rattle.capn_serve.specs.WholeInput.{most_input}
 use Rattle.capn_serve.specs.FormRun.{AreMessages, most_stream}
 
@@ -68,7 +71,11 @@ one_front most a b x y m n framed room also few joined =
 module _ {X : Type 0} (f : Fold X) (one : IsOneWay f) (last : X → Option RunFault) where
   -- how a run ends after its parts
   abbrev pub Behind : X → List ℕ → Ending → Type 0
-  Behind y rest ending = EndsUnframed f y rest (last y) ending ⊎ EndsRefused f y rest ending
+  Behind y rest ending = EndsBy f (f.done y) y rest (last y) ending
+
+  -- how it ends where more is served
+  abbrev pub Open : X → List ℕ → Ending → Type 0
+  Open y rest ending = EndsUnframed f y rest (last y) ending ⊎ EndsRefused f y rest ending
 
   -- a message that is refused is the first that is left
   refused_first : (y : X) (rest : List ℕ) (r : Ending) → EndsRefused f y rest r → (message : List (List ℕ))
@@ -85,30 +92,44 @@ module _ {X : Type 0} (f : Fold X) (one : IsOneWay f) (last : X → Option RunFa
       let first = refused_first y rest s why in
       other (refused_whole rest f.most e (whole_of rest f.most first.0 first.1 first.2) refused)
 
-  one_behind : (y : X) (rest : List ℕ) (r s : Ending) → Behind y rest r → Behind y rest s → r ≡ s
-  one_behind y rest r s (inl (e, n, h, a)) (inl (d, o, k, b)) =
+  one_open : (y : X) (rest : List ℕ) (r s : Ending) → Open y rest r → Open y rest s → r ≡ s
+  one_open y rest r s (inl (e, n, h, a)) (inl (d, o, k, b)) =
       a ∙ ap (λ (x : FrameFault). end_of (f.place y) x (last y)) (frame_laws.one_refusal rest f.most e d h k n o)
       ∙ sym b
-  one_behind y rest r s (inl h) (inr k) = absurd (apart y rest r s h k)
-  one_behind y rest r s (inr h) (inl k) = absurd (apart y rest s r k h)
-  one_behind y rest r s (inr (a, x, m, p, is, framed, room, why, e)) (inr (b, z, n, q, also, fits, few, ought, d)) =
+  one_open y rest r s (inl h) (inr k) = absurd (apart y rest r s h k)
+  one_open y rest r s (inr h) (inl k) = absurd (apart y rest s r k h)
+  one_open y rest r s (inr (a, x, m, p, is, framed, room, why, e)) (inr (b, z, n, q, also, fits, few, ought, d)) =
       let same = one_front f.most a b x z m n framed room fits few (sym is ∙ also) in
       let first = subst (λ (l : List ℕ). f.refuses y l m p) same.1.0 why in
       let fault = one.refusals y b n p q (subst (λ (l : List (List ℕ)). f.refuses y b l p) same.0 first) ought in
       e ∙ ap (λ (g : Refusal). stopped (faults.Refused (f.place y) g)) fault ∙ sym d
 
-  -- a run does not end where a message that is served comes first
-  pub no_end : (y z : X) (rest frame more text : List ℕ) (message : List (List ℕ)) (r : Ending) → Frames frame message
-      → total message ≤ f.most → f.step y frame message text z → rest ≡ frame ++ more → Behind y rest r → ⊥
-  no_end y z rest frame more text message r framed room step is (inl (e, other, refused, a)) =
+  one_behind : (y : X) (rest : List ℕ) (r s : Ending) → Behind y rest r → Behind y rest s → r ≡ s
+  one_behind y rest r s h k =
+      elim (known (f.done y)) [
+        | inl over ↦ is_done f y rest (last y) r over h ∙ sym (is_done f y rest (last y) s over k)
+        | inr going ↦
+            one_open y rest r s (ends_open f y rest (last y) r going h) (ends_open f y rest (last y) s going k)
+      ]
+
+  no_open : (y z : X) (rest frame more text : List ℕ) (message : List (List ℕ)) (r : Ending) → Frames frame message
+      → total message ≤ f.most → f.step y frame message text z → rest ≡ frame ++ more → Open y rest r → ⊥
+  no_open y z rest frame more text message r framed room step is (inl (e, other, refused, a)) =
       let first = subst (λ (xs : List ℕ). StandsFirst xs f.most message (length frame)) (sym is)
       (stands_first f.most frame more message framed room) in
       other (refused_whole rest f.most e (whole_of rest f.most message (length frame) first) refused)
-  no_end y z rest frame more text message r framed room step is (inr (a, x, m, p, also, fits, few, why, e)) =
+  no_open y z rest frame more text message r framed room step is (inr (a, x, m, p, also, fits, few, why, e)) =
       let same = one_front f.most a frame x more m message fits few framed room (sym also ∙ is) in
       let first = subst (λ (l : List ℕ). f.refuses y l m p) same.1.0 why in
       one.never_both y frame message text z p step
       (subst (λ (l : List (List ℕ)). f.refuses y frame l p) same.0 first)
+
+  -- a run does not end where a message that is served comes first
+  pub no_end : (y z : X) (rest frame more text : List ℕ) (message : List (List ℕ)) (r : Ending) → Frames frame message
+      → total message ≤ f.most → f.done y ≡ false → f.step y frame message text z → rest ≡ frame ++ more
+      → Behind y rest r → ⊥
+  no_end y z rest frame more text message r framed room going step is behind =
+      no_open y z rest frame more text message r framed room step is (ends_open f y rest (last y) r going behind)
 
   one_row : (x y z : X) (ps qs : List Part) (rest other : List ℕ) (r s : Ending) → AreServed f x ps y
       → AreServed f x qs z → frames_of ps ++ rest ≡ frames_of qs ++ other → Behind y rest r → Behind z other s
@@ -123,10 +144,12 @@ module _ {X : Type 0} (f : Fold X) (one : IsOneWay f) (last : X → Option RunFa
         ),
       )
   one_row x y z [] (q ∷ qs) rest other r s h (mid, part, step, more) e a b =
-      absurd (no_end x mid rest q.frame (frames_of qs ++ other) q.text q.message r part.frame part.room step
+      absurd (no_end x mid rest q.frame (frames_of qs ++ other) q.text q.message r part.frame part.room part.going
+      step
       (e ∙ append_assoc q.frame (frames_of qs) other) (subst (λ (w : X). Behind w rest r) (sym h) a))
   one_row x y z (p ∷ ps) [] rest other r s (mid, part, step, more) k e a b =
-      absurd (no_end x mid other p.frame (frames_of ps ++ rest) p.text p.message s part.frame part.room step
+      absurd (no_end x mid other p.frame (frames_of ps ++ rest) p.text p.message s part.frame part.room part.going
+      step
       (sym e ∙ append_assoc p.frame (frames_of ps) rest) (subst (λ (w : X). Behind w other s) (sym k) b))
   one_row x y z (p ∷ ps) (q ∷ qs) rest other r s (mid, part, step, more) (mean, also, move, last_ones) e a b =
       let joined : p.frame ++ (frames_of ps ++ rest) ≡ q.frame ++ (frames_of qs ++ other) =
@@ -184,11 +207,25 @@ module _ {X : Type 0} (f : Fold X) (one : IsOneWay f) (x : X) where
       (subst (λ (l : List ℕ). f.refuses x bytes (l ∷ []) p) words refuses) declines in
       a ∙ ap (λ (r : Refusal). faults.Refused (f.place x) r) fault ∙ sym b
 
-  bare_apart : (bytes t : List ℕ) (y : X) (g : RunFault) → length bytes ≤ most_input → WritesBare f x bytes t y
-      → EndsBare f x bytes g → ⊥
-  bare_apart bytes t y g short writes (inl (long, a)) = absurd (omega (arith, long, short))
-  bare_apart bytes t y g short (ws, bare, step) (inr (few, inl (e, a, why))) = bare_not_refused bytes ws e bare why
-  bare_apart bytes t y g short (ws, bare, step) (inr (few, inr (vs, r, also, refuses, a))) =
+  one_unbare_by : (over : Bool) (bytes : List ℕ) (g h : RunFault) → IfGoing over (EndsBare f x bytes g)
+      → IfGoing over (EndsBare f x bytes h) → g ≡ h
+  one_unbare_by true bytes g h a b = absurd a
+  one_unbare_by false bytes g h a b = one_unbare bytes g h a b
+
+  one_written : (over : Bool) (bytes t u : List ℕ) (y z : X) → WritesBy f x over bytes t y → WritesBy f x over bytes u z
+      → (t ≡ u) × (y ≡ z)
+  one_written true bytes t u y z (none, same) (nothing, also) = (none ∙ sym nothing, same ∙ sym also)
+  one_written false bytes t u y z (short, (ws, bare, step)) (few, (vs, also, move)) =
+      let words : ws ≡ vs = one_bare bytes ws vs bare also in
+      one.steps x bytes (vs ∷ []) t u y z (subst (λ (l : List ℕ). f.step x bytes (l ∷ []) t y) words step) move
+
+  bare_apart : (over : Bool) (bytes t : List ℕ) (y : X) (g : RunFault) → WritesBy f x over bytes t y
+      → IfGoing over (EndsBare f x bytes g) → ⊥
+  bare_apart true bytes t y g writes ends = ends
+  bare_apart false bytes t y g (short, writes) (inl (long, a)) = absurd (omega (arith, long, short))
+  bare_apart false bytes t y g (short, (ws, bare, step)) (inr (few, inl (e, a, why))) =
+      bare_not_refused bytes ws e bare why
+  bare_apart false bytes t y g (short, (ws, bare, step)) (inr (few, inr (vs, r, also, refuses, a))) =
       let words : vs ≡ ws = one_bare bytes vs ws also bare in
       one.never_both x bytes (ws ∷ []) t y r step
       (subst (λ (l : List ℕ). f.refuses x bytes (l ∷ []) r) words refuses)
@@ -203,14 +240,11 @@ module _ {X : Type 0} (f : Fold X) (one : IsOneWay f) (x : X) where
   one_serving forms.Packed input t u r s y z h k =
       let same = one_packed (taken_of most_stream input) t u (has_more most_stream input) r s y z h k in
       (same.0, (same.1.0, λ e. same.1.1))
-  one_serving forms.Bare input t u (Ok a) (Ok b) y z (short, (ws, bare, step)) (few, (vs, also, move)) =
-      let words : ws ≡ vs = one_bare input ws vs bare also in
-      let same = one.steps x input (vs ∷ []) t u y z
-      (subst (λ (l : List ℕ). f.step x input (l ∷ []) t y) words step) move in
-      (same.0, (refl, λ e. same.1))
-  one_serving forms.Bare input t u (Ok a) (Err g) y z (short, writes) (ends, none) =
-      absurd (bare_apart input t y g short writes ends)
-  one_serving forms.Bare input t u (Err g) (Ok b) y z (ends, none) (short, writes) =
-      absurd (bare_apart input u z g short writes ends)
+  one_serving forms.Bare input t u (Ok a) (Ok b) y z h k =
+      let same = one_written (f.done x) input t u y z h k in (same.0, (refl, λ e. same.1))
+  one_serving forms.Bare input t u (Ok a) (Err g) y z writes (ends, none) =
+      absurd (bare_apart (f.done x) input t y g writes ends)
+  one_serving forms.Bare input t u (Err g) (Ok b) y z (ends, none) writes =
+      absurd (bare_apart (f.done x) input u z g writes ends)
   one_serving forms.Bare input t u (Err g) (Err h) y z (ends, none) (close, nothing) =
-      (none ∙ sym nothing, (ap stopped (one_unbare input g h ends close), λ e. absurd (cc)))
+      (none ∙ sym nothing, (ap stopped (one_unbare_by (f.done x) input g h ends close), λ e. absurd (cc)))

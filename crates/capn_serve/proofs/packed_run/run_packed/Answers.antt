@@ -1,18 +1,19 @@
 use Rattle.std.proofs.Common.{◌≡◌, ◌+◌, ◌<◌, ◌^◌, ◌∙◌, ℕ, List, [], Option, false, drop, length, length-take, ap, sym}
+use Rattle.std.proofs.Common.{true}
 use Rattle.std.proofs.Common.{subst, arith}
 use Rattle.std.proofs.lemmas.Result.{err_from_is_err_and}
 use Rattle.capn_words.specs.Watched.{inner_of}
 use Rattle.capn_pack.specs.PackedPieces.{Held}
 use Rattle.capn_stream.specs.StreamPieces.{Framing, IsUnfinished}
 use Rattle.capn_serve.specs.declared.position.Position.{Position}
-use Rattle.capn_serve.specs.Fold.{Fold, fold_of}
+use Rattle.capn_serve.specs.Fold.{Fold, fold_until}
 use Rattle.capn_serve.specs.ChunkRun.{HasRoom, IsListening}
 use Rattle.capn_serve.specs.StreamRun.{start}
 use Rattle.capn_serve.specs.PackedChunkRun.{EndsPacked, HearsPacked, IsUnpacking, Pending, fresh, pending}
 use Rattle.capn_serve.proofs.InputRead.{has_broken, still_fine}
 use Rattle.capn_serve.proofs.Next.{empty_unfinished}
 use Rattle.capn_serve.proofs.PackedEnds.{packed_begin, packed_end, packed_hears, packed_long, packed_stopped}
-use Rattle.capn_serve.proofs.PackedEnds.{packed_unread}
+use Rattle.capn_serve.proofs.PackedEnds.{packed_done, packed_done_first, packed_unread}
 use Rattle.capn_serve.proofs.PackedMore.{packed_room}
 use Rattle.capn_serve.proofs.packed_run.run_packed.Goals as goal
 
@@ -46,15 +47,24 @@ unpacking : {X : Type 0} (f : Fold X) (x y : X) (limit : ℕ) (a b c d : Option 
 unpacking f x y limit a b c d taken q (bytes, read, count, told) =
     record { good = told.good; group = told.split.open_rest; offset = omega (arith, told.offset) }
 
+pub returns-then-is_done : goal.returns-then-is_done
+returns-then-is_done g c =
+    packed_done_first (fold_until g.S.Service.serves g.S.Service.refuses g.S.Service.done c.args.most) c.args.run.now
+    c.args.limit c.args.most_packed _ _ _ _ c.requires.reader_fine c.requires.writer_fine
+    (sym c.is_done.ensures ∙ c.if-is_done.true)
+
 pub chunks-init : goal.chunks-init
 chunks-init g c = record {
   reader = c.requires.reader_fine;
   writer = c.requires.writer_fine;
-  listening = new_listening (fold_of g.S.Service.serves g.S.Service.refuses c.args.most) c.new-2.result c.new-2.ensures;
+  listening = new_listening (fold_until g.S.Service.serves g.S.Service.refuses g.S.Service.done c.args.most)
+      c.new-2.result c.new-2.ensures;
   room = new_room c.args.run.now.at c.new-2.result c.args.most c.args.limit c.requires.fresh c.new-2.ensures
       (omega (arith, c.ranges.limit));
+  going = sym c.is_done.ensures ∙ c.if-is_done.false;
   within = omega arith;
-  heard = packed_begin (fold_of g.S.Service.serves g.S.Service.refuses c.args.most) c.args.run.now c.args.limit
+  heard = packed_begin (fold_until g.S.Service.serves g.S.Service.refuses g.S.Service.done c.args.most) c.args.run.now
+      c.args.limit
       (g.R.Read.remaining (inner_of c.args.reader.now)) (g.W.Write.contents (inner_of c.args.writer.now))
       (pending c.new.result c.new-2.result c.args.limit)
       (new_pending c.new.result c.new-2.result c.args.most c.args.limit c.new.ensures c.new-2.ensures);
@@ -63,12 +73,13 @@ chunks-init g c = record {
 pub returns-in-Err : goal.returns-in-Err
 returns-in-Err g c =
     let i = c.chunks.invariant in
-    packed_unread (fold_of g.S.Service.serves g.S.Service.refuses c.args.most) c.args.run.now c.args.limit
+    packed_unread (fold_until g.S.Service.serves g.S.Service.refuses g.S.Service.done c.args.most) c.args.run.now
+    c.args.limit
     c.args.most_packed
     c.chunks.run _ _ _ _ _ c.chunks.taken
     (pending c.chunks.packed.unpacker c.chunks.packed.framer c.chunks.packed.left) _ _
     (has_broken _ _ c.in-Err.ensures.failed) i.within i.heard
-    (subst (λ (m : ℕ). IsUnfinished c.chunks.packed.framer.rest m) i.listening.most i.listening.part)
+    (subst (λ (m : ℕ). IsUnfinished c.chunks.packed.framer.rest m) i.listening.most i.listening.part) i.going
     c.in-Err.ensures.bytes
 
 pub returns-in-Ok-eq0 : goal.returns-in-Ok-eq0
@@ -78,13 +89,14 @@ returns-in-Ok-eq0 g c =
     let ends = subst (λ (m : ℕ). EndsPacked c.chunks.run.at c.chunks.packed.unpacker.rest
     c.chunks.packed.unpacker.offset c.chunks.packed.framer.rest m c.end_of_packed.result) i.listening.most
     c.end_of_packed.ensures in
-    packed_end (fold_of g.S.Service.serves g.S.Service.refuses c.args.most) c.args.run.now c.args.limit
+    packed_end (fold_until g.S.Service.serves g.S.Service.refuses g.S.Service.done c.args.most) c.args.run.now
+    c.args.limit
     c.args.most_packed (omega (arith, c.ranges.most_packed))
     c.chunks.run _ _ _ _ _ c.chunks.taken
     (pending c.chunks.packed.unpacker c.chunks.packed.framer c.chunks.packed.left)
     c.read.new.buf c.in-Ok-eq0.field-0 _ _ c.end_of_packed.result
     (still_fine _ _ i.reader c.in-Ok-eq0.ensures.failed) i.writer i.within i.heard
-    (subst (λ (m : ℕ). IsUnfinished c.chunks.packed.framer.rest m) i.listening.most i.listening.part)
+    (subst (λ (m : ℕ). IsUnfinished c.chunks.packed.framer.rest m) i.listening.most i.listening.part) i.going
     c.in-Ok-eq0.field-0-test
     c.in-Ok-eq0.ensures.bytes (omega arith) ends
 
@@ -95,7 +107,8 @@ returns-in_err-serve_packed-in-Ok g c =
     let bound = c.in-Ok.ensures.bound in
     let room = length-take (c.min-room.result + 1) c.chunks.buffer in
     rw (p.1, p.2)
-    (packed_stopped (fold_of g.S.Service.serves g.S.Service.refuses c.args.most) c.args.run.now c.args.limit
+    (packed_stopped (fold_until g.S.Service.serves g.S.Service.refuses g.S.Service.done c.args.most) c.args.run.now
+    c.args.limit
     c.args.most_packed
     c.chunks.run c.serve_packed.new.run _ _ _ _ _ _ c.chunks.taken
     (pending c.chunks.packed.unpacker c.chunks.packed.framer c.chunks.packed.left) c.read.new.buf
@@ -103,7 +116,7 @@ returns-in_err-serve_packed-in-Ok g c =
     c.in_err-serve_packed-in-Ok.field-0.0 (still_fine _ _ i.reader c.in-Ok.ensures.failed) i.within
     (omega (arith, c.min-within.ensures)) (omega (arith, bound.0, room, c.min-room.ensures, i.within))
     (omega (arith, bound.0, room, c.min-room.ensures)) (omega (arith, c.in-Ok.count-test)) i.heard
-    (subst (λ (m : ℕ). IsUnfinished c.chunks.packed.framer.rest m) i.listening.most i.listening.part)
+    (subst (λ (m : ℕ). IsUnfinished c.chunks.packed.framer.rest m) i.listening.most i.listening.part) i.going
     c.in-Ok.ensures.bytes.0 bound.0 c.in_err-serve_packed-in-Ok.ensures)
 
 pub returns-then-within-count : goal.returns-then-within-count
@@ -113,7 +126,10 @@ returns-then-within-count g c =
     let room = length-take (c.min-room.result + 1) c.chunks.buffer in
     let served = c.in_ok-serve_packed-in-Ok.ensures in
     let packed = c.serve_packed.new.packed in
-    packed_long (fold_of g.S.Service.serves g.S.Service.refuses c.args.most) c.args.run.now c.args.limit
+    let on = sym c.is_done-in-Ok.ensures ∙ c.if-is_done-2.false in
+    let kept = served.1 on in
+    packed_long (fold_until g.S.Service.serves g.S.Service.refuses g.S.Service.done c.args.most) c.args.run.now
+    c.args.limit
     c.args.most_packed
     c.chunks.run c.serve_packed.new.run _ _ _ _ _ _ c.chunks.taken
     (pending c.chunks.packed.unpacker c.chunks.packed.framer c.chunks.packed.left)
@@ -123,9 +139,26 @@ returns-then-within-count g c =
     (omega (arith, i.within, c.min-within.ensures, c.if-within-count.true)) c.if-within-count.true
     (omega (arith, bound.0, room, c.min-room.ensures, i.within))
     (omega (arith, bound.0, room, c.min-room.ensures)) i.heard
-    (subst (λ (m : ℕ). IsUnfinished c.chunks.packed.framer.rest m) i.listening.most i.listening.part)
-    c.in-Ok.ensures.bytes.0 bound.0 served.0
-    (subst (λ (m : ℕ). IsUnfinished packed.framer.rest m) served.1.most served.1.part)
+    (subst (λ (m : ℕ). IsUnfinished c.chunks.packed.framer.rest m) i.listening.most i.listening.part) i.going
+    c.in-Ok.ensures.bytes.0 bound.0 kept.0
+    (subst (λ (m : ℕ). IsUnfinished packed.framer.rest m) kept.1.most kept.1.part) on
+
+-- no more is served
+pub returns-then-is_done-2 : goal.returns-then-is_done-2
+returns-then-is_done-2 g c =
+    let i = c.chunks.invariant in
+    let bound = c.in-Ok.ensures.bound in
+    let room = length-take (c.min-room.result + 1) c.chunks.buffer in
+    let served = c.in_ok-serve_packed-in-Ok.ensures in
+    packed_done (fold_until g.S.Service.serves g.S.Service.refuses g.S.Service.done c.args.most) c.args.run.now
+    c.args.limit c.args.most_packed c.chunks.run c.serve_packed.new.run _ _ _ _ _ _ c.chunks.taken
+    (pending c.chunks.packed.unpacker c.chunks.packed.framer c.chunks.packed.left) c.read.new.buf
+    (drop (c.min-room.result + 1) c.chunks.buffer) c.min-within.result c.in-Ok.count _ _
+    (still_fine _ _ i.reader c.in-Ok.ensures.failed) served.2 i.within (omega (arith, c.min-within.ensures))
+    (omega (arith, bound.0, room, c.min-room.ensures, i.within))
+    (omega (arith, bound.0, room, c.min-room.ensures)) i.heard
+    (subst (λ (m : ℕ). IsUnfinished c.chunks.packed.framer.rest m) i.listening.most i.listening.part) i.going
+    c.in-Ok.ensures.bytes.0 bound.0 served.0 (sym c.is_done-in-Ok.ensures ∙ c.if-is_done-2.true)
 
 pub chunks-preserved : goal.chunks-preserved
 chunks-preserved g c =
@@ -133,22 +166,27 @@ chunks-preserved g c =
     let bound = c.in-Ok.ensures.bound in
     let served = c.in_ok-serve_packed-in-Ok.ensures in
     let packed = c.serve_packed.new.packed in
+    let on = sym c.is_done-in-Ok.ensures ∙ c.if-is_done-2.false in
+    let kept = served.1 on in
     record {
       reader = still_fine _ _ i.reader c.in-Ok.ensures.failed;
       writer = served.2;
-      listening = served.1;
-      room = packed_room g.S.Service.serves g.S.Service.refuses c.args.most c.chunks.run c.serve_packed.new.run
+      listening = kept.1;
+      going = on;
+      room = packed_room g.S.Service.serves g.S.Service.refuses g.S.Service.done c.args.most c.chunks.run
+          c.serve_packed.new.run
           (pending c.chunks.packed.unpacker c.chunks.packed.framer c.chunks.packed.left)
           (pending packed.unpacker packed.framer packed.left) _ _ _
-          served.0 i.room;
+          kept.0 i.room;
       within = omega (arith, i.within, c.min-within.ensures);
-      heard = packed_hears (fold_of g.S.Service.serves g.S.Service.refuses c.args.most) c.args.run.now
+      heard = packed_hears (fold_until g.S.Service.serves g.S.Service.refuses g.S.Service.done c.args.most)
+          c.args.run.now
           c.args.limit c.chunks.run c.serve_packed.new.run _ _ _ _ _ _ c.chunks.taken
           (pending c.chunks.packed.unpacker c.chunks.packed.framer c.chunks.packed.left)
           (pending packed.unpacker packed.framer packed.left) c.read.new.buf
           (drop (c.min-room.result + 1) c.chunks.buffer) c.min-within.result c.in-Ok.count
           (omega (arith, c.min-within.ensures, c.if-within-count.false)) i.heard c.in-Ok.ensures.bytes.0 bound.0
-          served.0;
+          kept.0;
     }
 
 pub serve_packed-requires-clause-fine : goal.serve_packed-requires-clause-fine
@@ -162,7 +200,8 @@ serve_packed-requires-clause-listening g c = c.chunks.invariant.listening
 
 pub serve_packed-requires-clause-unpacking : goal.serve_packed-requires-clause-unpacking
 serve_packed-requires-clause-unpacking g c =
-    unpacking (fold_of g.S.Service.serves g.S.Service.refuses c.args.most) c.args.run.now c.chunks.run
+    unpacking (fold_until g.S.Service.serves g.S.Service.refuses g.S.Service.done c.args.most) c.args.run.now
+    c.chunks.run
     c.args.limit _ _ _ _ c.chunks.taken
     (pending c.chunks.packed.unpacker c.chunks.packed.framer c.chunks.packed.left)
     c.chunks.invariant.heard

@@ -1,11 +1,11 @@
-use Rattle.capn_serve.specs.Fold.{fold_of}
+use Rattle.capn_serve.specs.Fold.{fold_until}
 use Rattle.capn_serve.specs.PackedChunkRun.{pending}
 use Rattle.capn_serve.proofs.PackedMore.{packed_chunk}
 use Rattle.capn_serve.proofs.packed_run.serve_packed.Goals as goal
 
 pub returns : goal.returns
 returns g c =
-    packed_chunk (fold_of g.S.Service.serves g.S.Service.refuses c.args.most) c.args.run.now
+    packed_chunk (fold_until g.S.Service.serves g.S.Service.refuses g.S.Service.done c.args.most) c.args.run.now
     c.serve_slices-served.new.run
     (pending c.args.packed.now.unpacker c.args.packed.now.framer c.args.packed.now.left)
     c.serve_slices-served.new.packed.unpacker c.serve_slices-served.new.packed.framer

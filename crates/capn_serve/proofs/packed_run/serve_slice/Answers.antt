@@ -1,18 +1,23 @@
-use Rattle.capn_serve.specs.Fold.{fold_of}
+use Rattle.capn_serve.specs.Fold.{fold_until}
+use Rattle.capn_words.specs.Watched.{inner_of, has_failed}
+use Rattle.capn_serve.specs.Outgoing.{outgoing}
 use Rattle.capn_serve.specs.PackedChunkRun.{pending}
 use Rattle.capn_serve.proofs.PackedMore.{packed_memory, served_slice}
 use Rattle.capn_serve.proofs.packed_run.serve_slice.Goals as goal
 
 pub returns-in-Ok : goal.returns-in-Ok
 returns-in-Ok g c =
-    served_slice (fold_of g.S.Service.serves g.S.Service.refuses c.args.most) c.args.run.now
+    served_slice (fold_until g.S.Service.serves g.S.Service.refuses g.S.Service.done c.args.most) c.args.run.now
     c.args.packed.now.unpacker c.feed.new.self c.args.packed.now.framer c.args.packed.now.left c.args.bytes.now
     c.clear.new.self.items c.feed.new.out.items c.clear.ensures.items c.in-Ok.ensures.fed c.serve_part.new.run
-    c.serve_part.new.packed.framer c.serve_part.new.packed.left _ _ _ c.serve_part.result
+    c.serve_part.new.packed.framer c.serve_part.new.packed.left
+    (outgoing (g.W.Write.contents (inner_of c.args.writer.now)) c.args.text.now.items)
+    (outgoing (g.W.Write.contents (inner_of c.serve_part.new.writer)) c.serve_part.new.text.items)
+    (has_failed c.serve_part.new.writer) c.serve_part.result
     c.serve_part.new.packed.unpacker c.serve_part.ensures.unpacker c.serve_part.ensures.served
 
 pub returns-in-Err : goal.returns-in-Err
 returns-in-Err g c =
-    packed_memory (fold_of g.S.Service.serves g.S.Service.refuses c.args.most) c.args.run.now
+    packed_memory (fold_until g.S.Service.serves g.S.Service.refuses g.S.Service.done c.args.most) c.args.run.now
     (pending c.args.packed.now.unpacker c.args.packed.now.framer c.args.packed.now.left) c.args.bytes.now _ _
     c.requires.fine

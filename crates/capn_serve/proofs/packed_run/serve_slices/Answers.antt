@@ -1,11 +1,13 @@
-use Rattle.std.proofs.Common.{ℕ, List, subst, arith}
+use Rattle.std.proofs.Common.{◌∙◌, ℕ, List, sym, subst, true, arith}
 use Rattle.std.proofs.Math.Seq.{take_all}
 use Rattle.std.proofs.lemmas.Result.{err_from_is_err_and}
 use Rattle.capn_words.specs.Watched.{inner_of}
-use Rattle.capn_serve.specs.Fold.{fold_of}
+use Rattle.capn_serve.specs.Fold.{fold_until}
 use Rattle.capn_serve.specs.Outgoing.{outgoing}
 use Rattle.capn_serve.specs.PackedChunkRun.{TellsPacked, pending}
-use Rattle.capn_serve.proofs.PackedMore.{packed_none, packed_room, slice_more, slice_stop}
+use Rattle.capn_serve.proofs.PackedMore.{packed_none, packed_room, reach_all, slice_more, slice_reach}
+use Rattle.capn_serve.proofs.PackedMore.{slice_stop}
+use Rattle.capn_serve.proofs.shared.Until.{not_both}
 use Rattle.capn_serve.proofs.packed_run.serve_slices.Goals as goal
 
 pub loop-at-init : goal.loop-at-init
@@ -14,8 +16,9 @@ loop-at-init g c = record {
   held = c.requires.unpacking.good;
   listening = c.requires.listening;
   room = c.requires.room;
+  going = c.requires.going;
   within = omega arith;
-  told = packed_none (fold_of g.S.Service.serves g.S.Service.refuses c.args.most) c.args.run.now
+  told = packed_none (fold_until g.S.Service.serves g.S.Service.refuses g.S.Service.done c.args.most) c.args.run.now
       (pending c.args.packed.now.unpacker c.args.packed.now.framer c.args.packed.now.left) _ c.requires.unpacking;
 }
 
@@ -24,7 +27,8 @@ returns-in_err-serve_slice g c =
     let i = c.loop-at.invariant in
     let p = err_from_is_err_and c.from_residual.result c.from_residual.ensures.1 in
     rw (p.1, p.2)
-    (slice_stop (fold_of g.S.Service.serves g.S.Service.refuses c.args.most) c.args.run.now c.loop-at.run
+    (slice_stop (fold_until g.S.Service.serves g.S.Service.refuses g.S.Service.done c.args.most) c.args.run.now
+    c.loop-at.run
     (pending c.args.packed.now.unpacker c.args.packed.now.framer c.args.packed.now.left)
     (pending c.loop-at.packed.unpacker c.loop-at.packed.framer c.loop-at.packed.left) c.args.bytes.now c.loop-at.at
     c.min-end.result (omega (arith, c.min-end.ensures, i.within)) _ _ i.told _ _ c.in_err-serve_slice.field-0.0
@@ -34,20 +38,24 @@ pub loop-at-preserved : goal.loop-at-preserved
 loop-at-preserved g c =
     let i = c.loop-at.invariant in
     let next = c.in_ok-serve_slice.ensures in
+    let on = sym c.is_done.ensures ∙ c.if-is_done.false in
+    let kept = next.1 on in
     let packed = c.serve_slice.new.packed in
     record {
       fine = next.2;
-      held = next.0.good;
-      listening = next.1;
-      room = packed_room g.S.Service.serves g.S.Service.refuses c.args.most c.loop-at.run c.serve_slice.new.run
+      held = kept.0.good;
+      listening = kept.1;
+      going = on;
+      room = packed_room g.S.Service.serves g.S.Service.refuses g.S.Service.done c.args.most c.loop-at.run
+          c.serve_slice.new.run
           (pending c.loop-at.packed.unpacker c.loop-at.packed.framer c.loop-at.packed.left)
-          (pending packed.unpacker packed.framer packed.left) _ _ _ next.0 i.room;
+          (pending packed.unpacker packed.framer packed.left) _ _ _ kept.0 i.room;
       within = omega (arith, c.min-end.ensures);
-      told = slice_more (fold_of g.S.Service.serves g.S.Service.refuses c.args.most) c.args.run.now
+      told = slice_more (fold_until g.S.Service.serves g.S.Service.refuses g.S.Service.done c.args.most) c.args.run.now
           c.loop-at.run (pending c.args.packed.now.unpacker c.args.packed.now.framer c.args.packed.now.left)
           (pending c.loop-at.packed.unpacker c.loop-at.packed.framer c.loop-at.packed.left) c.args.bytes.now
           c.loop-at.at c.min-end.result (omega (arith, c.min-end.ensures, i.within)) _ _ i.told c.serve_slice.new.run
-          (pending packed.unpacker packed.framer packed.left) _ next.0;
+          (pending packed.unpacker packed.framer packed.left) _ kept.0;
     }
 
 pub serve_slice-requires-clause-fine : goal.serve_slice-requires-clause-fine
@@ -62,15 +70,32 @@ serve_slice-requires-clause-listening g c = c.loop-at.invariant.listening
 pub serve_slice-requires-clause-held : goal.serve_slice-requires-clause-held
 serve_slice-requires-clause-held g c = c.loop-at.invariant.held
 
-pub returns : goal.returns
-returns g c =
+pub returns-after-loop-at : goal.returns-after-loop-at
+returns-after-loop-at g c =
     let i = c.loop-at.invariant in
-    let all = take_all c.loop-at.at c.args.bytes.now c.loop-at-test.false in (
-      subst (λ (l : List ℕ). TellsPacked (fold_of g.S.Service.serves g.S.Service.refuses c.args.most)
-          c.args.run.now (pending c.args.packed.now.unpacker c.args.packed.now.framer c.args.packed.now.left) l
-          (pending c.loop-at.packed.unpacker c.loop-at.packed.framer c.loop-at.packed.left)
-          (outgoing (g.W.Write.contents (inner_of c.args.writer.now)) c.args.text.now.items)
-          (outgoing (g.W.Write.contents (inner_of c.loop-at.writer)) c.loop-at.text.items) c.loop-at.run) all i.told,
-      i.listening,
+    let all = take_all c.loop-at.at c.args.bytes.now c.loop-at-test.false in
+    let told = subst (λ (l : List ℕ). TellsPacked (fold_until g.S.Service.serves g.S.Service.refuses g.S.Service.done
+    c.args.most) c.args.run.now (pending c.args.packed.now.unpacker c.args.packed.now.framer c.args.packed.now.left) l
+    (pending c.loop-at.packed.unpacker c.loop-at.packed.framer c.loop-at.packed.left)
+    (outgoing (g.W.Write.contents (inner_of c.args.writer.now)) c.args.text.now.items)
+    (outgoing (g.W.Write.contents (inner_of c.loop-at.writer)) c.loop-at.text.items) c.loop-at.run) all i.told in (
+      reach_all (fold_until g.S.Service.serves g.S.Service.refuses g.S.Service.done c.args.most) c.args.run.now
+          (pending c.args.packed.now.unpacker c.args.packed.now.framer c.args.packed.now.left) c.loop-at.run
+          c.args.bytes.now (pending c.loop-at.packed.unpacker c.loop-at.packed.framer c.loop-at.packed.left) _ _ told,
+      λ going. (told, i.listening),
       i.fine,
+    )
+
+-- no more is served
+pub returns-then-is_done : goal.returns-then-is_done
+returns-then-is_done g c =
+    let i = c.loop-at.invariant in
+    let next = c.in_ok-serve_slice.ensures in (
+      slice_reach (fold_until g.S.Service.serves g.S.Service.refuses g.S.Service.done c.args.most) c.args.run.now
+          c.loop-at.run (pending c.args.packed.now.unpacker c.args.packed.now.framer c.args.packed.now.left)
+          (pending c.loop-at.packed.unpacker c.loop-at.packed.framer c.loop-at.packed.left) c.args.bytes.now
+          c.loop-at.at c.min-end.result (omega (arith, c.min-end.ensures, i.within)) _ _ i.told c.serve_slice.new.run
+          _ next.0,
+      λ going. absurd (not_both _ (sym c.is_done.ensures ∙ c.if-is_done.true) going),
+      next.2,
     )

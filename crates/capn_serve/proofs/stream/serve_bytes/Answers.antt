@@ -1,14 +1,16 @@
 use Rattle.std.proofs.Common.{◌≡◌, ◌<◌, ◌≤◌, ◌-◌, ◌++◌, ℕ, List, [], Bool, false, Ok, length, take, drop, arith}
-use Rattle.std.proofs.Common.{sym}
+use Rattle.std.proofs.Common.{◌∙◌, ◌+◌, ap, append_assoc, refl, sym, true}
+use Rattle.std.proofs.lemmas.List.{take-append-drop}
 use Rattle.std.proofs.Common.{subst, append-nil, length-drop, length-take, length-append}
 use Rattle.std.proofs.Math.Seq.{take_all}
 use Rattle.std.proofs.lemmas.Result.{err_from_is_err_and}
 use Rattle.capn_stream.specs.StreamPieces.{Framing}
-use Rattle.capn_serve.specs.Fold.{Fold, fold_of}
+use Rattle.capn_serve.specs.Fold.{AreParts, Fold, fold_until}
 use Rattle.capn_serve.specs.Outgoing.{Outgoing}
 use Rattle.capn_serve.specs.ChunkRun.{IsListening, Serves, Tells}
-use Rattle.capn_serve.proofs.More.{tells_none}
+use Rattle.capn_serve.proofs.More.{parts_longer, tells_none}
 use Rattle.capn_serve.proofs.Next.{room_told, served_more, served_stop}
+use Rattle.capn_serve.proofs.shared.Until.{not_both}
 use Rattle.capn_serve.proofs.stream.serve_bytes.Goals as goal
 
 module _ {X : Type 0} (f : Fold X) (x : X) where
@@ -20,17 +22,38 @@ module _ {X : Type 0} (f : Fold X) (x : X) where
       → length bytes ≤ at → Tells f x (before.rest ++ take at bytes) after.rest a b y
       → IsListening f after → failed ≡ false → Serves f x before bytes a b failed (Ok tt) after y
   served_all y before after bytes at a b failed end told listening fine = (
+    after.rest,
     subst (λ (p : List ℕ). Tells f x (before.rest ++ p) after.rest a b y) (take_all at bytes end) told,
-    listening,
+    λ going. (refl, listening),
     fine,
   )
+
+  -- it has come to a state in which no more is served
+  served_done : (y : X) (before after : Framing) (bytes : List ℕ) (at : ℕ) (a b : Outgoing) (failed : Bool)
+      → f.done y ≡ true → Tells f x (before.rest ++ take at bytes) after.rest a b y → failed ≡ false
+      → Serves f x before bytes a b failed (Ok tt) after y
+  served_done y before after bytes at a b failed done (parts, are, adds) fine =
+      let whole : (before.rest ++ take at bytes) ++ drop at bytes ≡ before.rest ++ bytes =
+      append_assoc before.rest (take at bytes) (drop at bytes)
+      ∙ ap (λ (p : List ℕ). before.rest ++ p) (take-append-drop at bytes) in
+      let longer = parts_longer f x y (before.rest ++ take at bytes) after.rest (drop at bytes) parts are in (
+        after.rest ++ drop at bytes,
+        (
+          parts,
+          subst (λ (p : List ℕ). AreParts f x p parts (after.rest ++ drop at bytes) y) whole longer,
+          adds,
+        ),
+        λ going. absurd (not_both (f.done y) done going),
+        fine,
+      )
 
 pub loop-at-init : goal.loop-at-init
 loop-at-init g c = record {
   fine = c.requires.fine;
   listening = c.requires.listening;
+  going = c.requires.going;
   within = omega arith;
-  told = served_none (fold_of g.S.Service.serves g.S.Service.refuses c.args.most) c.args.run.now
+  told = served_none (fold_until g.S.Service.serves g.S.Service.refuses g.S.Service.done c.args.most) c.args.run.now
       c.args.framer.now.rest _;
 }
 
@@ -41,7 +64,8 @@ serve_some-requires-clause-room g c =
     let size = length-drop c.loop-at.at c.args.bytes.now in
     let front = length-take c.loop-at.at c.args.bytes.now in
     let all = length-append c.args.framer.now.rest (take c.loop-at.at c.args.bytes.now) in
-    let room = room_told g.S.Service.serves g.S.Service.refuses c.args.most c.args.run.now c.loop-at.run
+    let room = room_told g.S.Service.serves g.S.Service.refuses g.S.Service.done c.args.most c.args.run.now
+    c.loop-at.run
     (c.args.framer.now.rest ++ take c.loop-at.at c.args.bytes.now) c.loop-at.framer.rest _ _
     (length c.args.bytes.now - c.loop-at.at) i.told
     (record {
@@ -54,7 +78,8 @@ pub returns-in_err-at : goal.returns-in_err-at
 returns-in_err-at g c =
     let p = err_from_is_err_and c.from_residual.result c.from_residual.ensures.1 in
     rw (p.1, p.2)
-    (served_stop (fold_of g.S.Service.serves g.S.Service.refuses c.args.most) c.args.run.now c.loop-at.run
+    (served_stop (fold_until g.S.Service.serves g.S.Service.refuses g.S.Service.done c.args.most) c.args.run.now
+    c.loop-at.run
     c.args.framer.now c.loop-at.framer c.args.bytes.now c.loop-at.at _ _ _ c.loop-at.invariant.told _
     c.in_err-at.field-0.0 c.in_err-at.ensures)
 
@@ -66,8 +91,10 @@ loop-at-preserved g c =
     record {
       fine = next.2.2;
       listening = next.2.1;
+      going = sym c.is_done.ensures ∙ c.if-is_done.false;
       within = omega (arith, next.0, rest, i.within, length-drop c.loop-at.at c.args.bytes.now);
-      told = served_more (fold_of g.S.Service.serves g.S.Service.refuses c.args.most) c.args.run.now c.loop-at.run
+      told = served_more (fold_until g.S.Service.serves g.S.Service.refuses g.S.Service.done c.args.most) c.args.run.now
+          c.loop-at.run
           c.args.framer.now c.loop-at.framer c.args.bytes.now c.loop-at.at _ _ _ i.told c.serve_some.new.run
           c.in_ok-at.field-0 c.serve_some.new.framer.rest next.2.0;
     }
@@ -80,9 +107,21 @@ loop-at-smaller g c =
     let moved : 0 < c.in_ok-at.field-0 = next.1 (omega (arith, rest, size, c.loop-at-test.true)) in
     omega (arith, next.0, rest, size, moved, c.loop-at-test.true)
 
-pub returns : goal.returns
-returns g c =
+pub returns-after-loop-at : goal.returns-after-loop-at
+returns-after-loop-at g c =
     let i = c.loop-at.invariant in
-    served_all (fold_of g.S.Service.serves g.S.Service.refuses c.args.most) c.args.run.now c.loop-at.run
+    served_all (fold_until g.S.Service.serves g.S.Service.refuses g.S.Service.done c.args.most) c.args.run.now
+    c.loop-at.run
     c.args.framer.now c.loop-at.framer c.args.bytes.now c.loop-at.at _ _ _ c.loop-at-test.false i.told i.listening
     i.fine
+
+pub returns-then-is_done : goal.returns-then-is_done
+returns-then-is_done g c =
+    let next = c.in_ok-at.ensures in
+    let i = c.loop-at.invariant in
+    served_done (fold_until g.S.Service.serves g.S.Service.refuses g.S.Service.done c.args.most) c.args.run.now
+    c.serve_some.new.run c.args.framer.now c.serve_some.new.framer c.args.bytes.now (c.loop-at.at + c.in_ok-at.field-0)
+    _ _ _ (sym c.is_done.ensures ∙ c.if-is_done.true)
+    (served_more (fold_until g.S.Service.serves g.S.Service.refuses g.S.Service.done c.args.most) c.args.run.now
+    c.loop-at.run c.args.framer.now c.loop-at.framer c.args.bytes.now c.loop-at.at _ _ _ i.told c.serve_some.new.run
+    c.in_ok-at.field-0 c.serve_some.new.framer.rest next.2.0) next.2.2

@@ -1,6 +1,6 @@
 use Rattle.std.proofs.Common.{◌≡◌, ◌≤◌, ◌-◌, ◌++◌, length, take, false}
 use Rattle.capn_words.specs.Watched.{inner_of, has_failed}
-use Rattle.capn_serve.specs.Fold.{fold_of}
+use Rattle.capn_serve.specs.Fold.{fold_until}
 use Rattle.capn_serve.specs.Outgoing.{outgoing}
 use Rattle.capn_serve.specs.ChunkRun.{IsListening, Tells}
 use Rattle.capn_serve.proofs.stream.serve_bytes.Given as goal
@@ -9,9 +9,11 @@ use Rattle.capn_serve.proofs.stream.serve_bytes.Given as goal
 abbrev pub invariant-loop-at : goal.invariant-loop-at
 invariant-loop-at g l = record {
   fine : has_failed l.writer ≡ false;
-  listening : IsListening (fold_of g.S.Service.serves g.S.Service.refuses l.most) l.framer;
+  listening : IsListening (fold_until g.S.Service.serves g.S.Service.refuses g.S.Service.done l.most) l.framer;
+  going : g.S.Service.done l.run.service l.run.at ≡ false;
   within : l.at ≤ length l.bytes;
-  told : Tells (fold_of g.S.Service.serves g.S.Service.refuses l.most) l.fn.run (l.fn.framer.rest ++ take l.at l.bytes)
+  told : Tells (fold_until g.S.Service.serves g.S.Service.refuses g.S.Service.done l.most) l.fn.run (l.fn.framer.rest ++
+      take l.at l.bytes)
       l.framer.rest
       (outgoing (g.W.Write.contents (inner_of l.fn.writer)) l.fn.text.items)
       (outgoing (g.W.Write.contents (inner_of l.writer)) l.text.items) l.run;

@@ -3,7 +3,7 @@ use Rattle.std.proofs.lemmas.Result.{err_from_is_err_and}
 use Rattle.capn_stream.specs.Frames.{StandsFirst}
 use Rattle.capn_stream.specs.StreamPieces.{IsFrame, IsUnfinished}
 use Rattle.capn_stream.specs.declared.fault.FrameFault.TheVariants as frame_faults
-use Rattle.capn_serve.specs.Fold.{fold_of}
+use Rattle.capn_serve.specs.Fold.{fold_until}
 use Rattle.capn_serve.proofs.Next.{held_frame, held_passed, held_some, held_stop, held_whole}
 use Rattle.capn_serve.proofs.stream.serve_held.Goals as goal
 
@@ -23,13 +23,15 @@ returns-in_err-add_framed-in-Ok g c =
     let all = whole _ c.args.framer.now.rest c.args.most _ c.in-Ok.taken c.held-held.ensures found c.requires.held
     c.in-Ok.ensures.only in
     rw (p.1, p.2)
-    (held_stop (fold_of g.S.Service.serves g.S.Service.refuses c.args.most) c.args.run.now c.args.framer.now
+    (held_stop (fold_until g.S.Service.serves g.S.Service.refuses g.S.Service.done c.args.most) c.args.run.now
+    c.args.framer.now
     c.requires.good c.requires.same c.add_framed.new.run _ _ _ _ _ c.in_err-add_framed-in-Ok.field-0.0 all found.frame
-    found.room (c.in_err-add_framed-in-Ok.ensures c.args.most))
+    found.room c.requires.going (c.in_err-add_framed-in-Ok.ensures c.args.most))
 
 pub returns-in-Err : goal.returns-in-Err
 returns-in-Err g c =
-    held_passed (fold_of g.S.Service.serves g.S.Service.refuses c.args.most) c.args.run.now c.args.framer.now
+    held_passed (fold_until g.S.Service.serves g.S.Service.refuses g.S.Service.done c.args.most) c.args.run.now
+    c.args.framer.now
     c.requires.good c.requires.same c.args.most _ _ c.in-Err.fault c.pass.result refl c.requires.fine c.requires.held
     (subst (λ (p : List ℕ). (m : List (List ℕ)) (t : ℕ) → StandsFirst p c.args.most m t
     → c.in-Err.fault ≡ frame_faults.Memory) c.held-held.ensures c.in-Err.ensures.only) c.pass.ensures
@@ -49,7 +51,9 @@ returns g c =
     let found = c.in-Ok.ensures.found in
     let all = whole _ c.args.framer.now.rest c.args.most _ c.in-Ok.taken c.held-held.ensures found c.requires.held
     c.in-Ok.ensures.only in
-    held_some (fold_of g.S.Service.serves g.S.Service.refuses c.args.most) c.args.run.now c.args.framer.now
+    held_some (fold_until g.S.Service.serves g.S.Service.refuses g.S.Service.done c.args.most) c.args.run.now
+    c.args.framer.now
     c.requires.good c.requires.same c.add_framed.new.run c.clear.new.framer _ c.in-Ok.message _ _ _
-    c.in_ok-add_framed-in-Ok.field-0 all found.frame found.room (c.in_ok-add_framed-in-Ok.ensures c.args.most)
+    c.in_ok-add_framed-in-Ok.field-0 all found.frame found.room c.requires.going
+    (c.in_ok-add_framed-in-Ok.ensures c.args.most)
     c.clear.ensures

@@ -1,6 +1,6 @@
-use Rattle.std.proofs.Common.{[], ◌∷◌, ◌-◌, ◌+◌, length, take, drop, refl, arith, length-drop, length-take}
+use Rattle.std.proofs.Common.{[], ◌∷◌, ◌-◌, ◌+◌, length, take, drop, refl, sym, ◌∙◌, arith, length-drop, length-take}
 use Rattle.std.proofs.lemmas.Result.{err_from_is_err_and}
-use Rattle.capn_serve.specs.Fold.{fold_of}
+use Rattle.capn_serve.specs.Fold.{fold_until}
 use Rattle.capn_serve.proofs.Next.{frame_some, room_step, whole_memory, whole_more, whole_stop}
 use Rattle.capn_serve.proofs.stream.serve_whole.Goals as goal
 
@@ -10,9 +10,10 @@ pub returns-in_err-add_message : goal.returns-in_err-add_message
 returns-in_err-add_message g c =
     let p = err_from_is_err_and c.from_residual.result c.from_residual.ensures.1 in
     rw (p.1, p.2)
-    (whole_stop (fold_of g.S.Service.serves g.S.Service.refuses c.args.most) c.args.run.now c.loop-at.run
+    (whole_stop (fold_until g.S.Service.serves g.S.Service.refuses g.S.Service.done c.args.most) c.args.run.now
+    c.loop-at.run
     c.args.bytes.now c.loop-at.at _ _ c.loop-at.invariant.told _ c.in-Some.size c.args.most refl
-    c.in-Some.ensures.found
+    (sym c.is_done.ensures ∙ c.if-is_done.false) c.in-Some.ensures.found
     c.add_message.new.run _ _ c.in_err-add_message.field-0.0 (c.in_err-add_message.ensures c.args.most))
 
 pub loop-at-smaller-in-Some : goal.loop-at-smaller-in-Some
@@ -36,16 +37,18 @@ loop-at-preserved-in-Some g c =
     record {
       fine = next.3;
       within = omega (arith, found.inside, rest, i.within, behind);
-      room = room_step g.S.Service.serves g.S.Service.refuses c.args.most c.loop-at.run c.add_message.new.run
+      room = room_step g.S.Service.serves g.S.Service.refuses g.S.Service.done c.args.most c.loop-at.run
+          c.add_message.new.run
           (take c.in-Some.size left) (c.in-Some.message ∷ []) next.0
           (length c.args.bytes.now - (c.loop-at.at + c.in-Some.size)) some next.1
           (record {
             offset = omega (arith, i.room.offset, size, found.inside, rest, behind);
             index = i.room.index;
           });
-      told = whole_more (fold_of g.S.Service.serves g.S.Service.refuses c.args.most) c.args.run.now c.loop-at.run
-          c.args.bytes.now c.loop-at.at _ _ i.told _ c.in-Some.size c.args.most refl found c.add_message.new.run _
-          next.0
+      told = whole_more (fold_until g.S.Service.serves g.S.Service.refuses g.S.Service.done c.args.most) c.args.run.now
+          c.loop-at.run
+          c.args.bytes.now c.loop-at.at _ _ i.told _ c.in-Some.size c.args.most refl
+          (sym c.is_done.ensures ∙ c.if-is_done.false) found c.add_message.new.run _ next.0
           next.1 next.2;
     }
 
@@ -56,8 +59,10 @@ returns-in_err-add_framed-in-Ok g c =
     let p = err_from_is_err_and c.from_residual-in_err-add_framed-in-Ok.result
     c.from_residual-in_err-add_framed-in-Ok.ensures.1 in
     rw (p.1, p.2)
-    (whole_stop (fold_of g.S.Service.serves g.S.Service.refuses c.args.most) c.args.run.now c.loop-at.run
-    c.args.bytes.now c.loop-at.at _ _ c.loop-at.invariant.told _ c.in-Ok.taken c.args.most refl c.in-Ok.ensures.found
+    (whole_stop (fold_until g.S.Service.serves g.S.Service.refuses g.S.Service.done c.args.most) c.args.run.now
+    c.loop-at.run
+    c.args.bytes.now c.loop-at.at _ _ c.loop-at.invariant.told _ c.in-Ok.taken c.args.most refl
+    (sym c.is_done.ensures ∙ c.if-is_done.false) c.in-Ok.ensures.found
     c.add_framed.new.run _ _ c.in_err-add_framed-in-Ok.field-0.0 (c.in_err-add_framed-in-Ok.ensures c.args.most))
 
 pub loop-at-smaller : goal.loop-at-smaller
@@ -81,15 +86,18 @@ loop-at-preserved g c =
     record {
       fine = next.3;
       within = omega (arith, found.inside, rest, i.within, behind);
-      room = room_step g.S.Service.serves g.S.Service.refuses c.args.most c.loop-at.run c.add_framed.new.run
+      room = room_step g.S.Service.serves g.S.Service.refuses g.S.Service.done c.args.most c.loop-at.run
+          c.add_framed.new.run
           (take c.in-Ok.taken left) c.in-Ok.message next.0
           (length c.args.bytes.now - (c.loop-at.at + c.in-Ok.taken)) some next.1
           (record {
             offset = omega (arith, i.room.offset, size, found.inside, rest, behind);
             index = i.room.index;
           });
-      told = whole_more (fold_of g.S.Service.serves g.S.Service.refuses c.args.most) c.args.run.now c.loop-at.run
-          c.args.bytes.now c.loop-at.at _ _ i.told _ c.in-Ok.taken c.args.most refl found c.add_framed.new.run _ next.0
+      told = whole_more (fold_until g.S.Service.serves g.S.Service.refuses g.S.Service.done c.args.most) c.args.run.now
+          c.loop-at.run
+          c.args.bytes.now c.loop-at.at _ _ i.told _ c.in-Ok.taken c.args.most refl
+          (sym c.is_done.ensures ∙ c.if-is_done.false) found c.add_framed.new.run _ next.0
           next.1 next.2;
     }
 
@@ -100,5 +108,6 @@ returns-in_err-pass-in-Err g c =
     let left = c.from_residual-in_err-pass-in-Err.ensures.1 in
     let p = err_from_is_err_and c.from_residual-in_err-pass-in-Err.result left in
     rw (p.1, p.2, c.in_err-pass-in-Err.ensures.1)
-    (whole_memory (fold_of g.S.Service.serves g.S.Service.refuses c.args.most) c.args.run.now c.loop-at.run
+    (whole_memory (fold_until g.S.Service.serves g.S.Service.refuses g.S.Service.done c.args.most) c.args.run.now
+    c.loop-at.run
     c.args.bytes.now c.loop-at.at _ _ _ c.loop-at.invariant.told c.loop-at.invariant.fine)

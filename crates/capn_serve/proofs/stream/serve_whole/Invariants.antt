@@ -1,6 +1,6 @@
 use Rattle.std.proofs.Common.{◌≡◌, ◌≤◌, ◌-◌, [], length, take, false}
 use Rattle.capn_words.specs.Watched.{inner_of, has_failed}
-use Rattle.capn_serve.specs.Fold.{fold_of}
+use Rattle.capn_serve.specs.Fold.{fold_until}
 use Rattle.capn_serve.specs.Outgoing.{outgoing}
 use Rattle.capn_serve.specs.ChunkRun.{HasRoom, Tells}
 use Rattle.capn_serve.proofs.stream.serve_whole.Given as goal
@@ -11,7 +11,8 @@ invariant-loop-at g l = record {
   fine : has_failed l.writer ≡ false;
   within : l.at ≤ length l.bytes;
   room : HasRoom l.run.at (length l.bytes - l.at);
-  told : Tells (fold_of g.S.Service.serves g.S.Service.refuses l.most) l.fn.run (take l.at l.bytes) []
+  told : Tells (fold_until g.S.Service.serves g.S.Service.refuses g.S.Service.done l.most) l.fn.run (take l.at l.bytes)
+      []
       (outgoing (g.W.Write.contents (inner_of l.fn.writer)) l.fn.text.items)
       (outgoing (g.W.Write.contents (inner_of l.writer)) l.text.items) l.run;
 }

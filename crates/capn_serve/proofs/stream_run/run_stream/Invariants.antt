@@ -1,6 +1,6 @@
 use Rattle.std.proofs.Common.{◌≡◌, ◌≤◌, ◌+◌, ◌-◌, false}
 use Rattle.capn_words.specs.Watched.{inner_of, has_failed}
-use Rattle.capn_serve.specs.Fold.{fold_of}
+use Rattle.capn_serve.specs.Fold.{fold_until}
 use Rattle.capn_serve.specs.ChunkRun.{IsListening}
 use Rattle.capn_serve.specs.StreamRun.{Hears}
 use Rattle.capn_serve.proofs.stream_run.run_stream.Given as goal
@@ -10,9 +10,10 @@ abbrev pub invariant-chunks : goal.invariant-chunks
 invariant-chunks g l = record {
   reader : has_failed l.reader ≡ false;
   writer : has_failed l.writer ≡ false;
-  listening : IsListening (fold_of g.S.Service.serves g.S.Service.refuses l.most) l.framer;
+  listening : IsListening (fold_until g.S.Service.serves g.S.Service.refuses g.S.Service.done l.most) l.framer;
+  going : g.S.Service.done l.run.service l.run.at ≡ false;
   within : l.taken ≤ l.limit;
-  heard : Hears (fold_of g.S.Service.serves g.S.Service.refuses l.most) l.fn.run
+  heard : Hears (fold_until g.S.Service.serves g.S.Service.refuses g.S.Service.done l.most) l.fn.run
       (g.R.Read.remaining (inner_of l.fn.reader)) (g.R.Read.remaining (inner_of l.reader))
       l.taken l.framer.rest
       (g.W.Write.contents (inner_of l.fn.writer)) (g.W.Write.contents (inner_of l.writer)) l.run;

@@ -1,0 +1,77 @@
+-- A fold that ends where its service is done.
+use Rattle.std.proofs.Common.{◌≡◌, ◌⊎◌, inl, inr, ℕ, List, [], ◌∷◌, Bool, true, false, Option, Result, Ok, Err, refl}
+use Rattle.std.proofs.Common.{sym, subst}
+use Rattle.capn_canon.specs.declared.refusal.Refusal.{Refusal}
+use Rattle.capn_serve.specs.declared.position.Position.{Position}
+use Rattle.capn_serve.specs.declared.service.Run.{Run}
+use Rattle.capn_serve.specs.declared.fault.RunFault.{RunFault}
+use Rattle.capn_serve.specs.Fold.{AreParts, AreServed, EndsBy, EndsRefused, EndsUnframed, Fold, IfGoing, IsFolded}
+use Rattle.capn_serve.specs.Fold.{IsPart}
+use Rattle.capn_serve.specs.Fold.{Part, fold_of, fold_until}
+
+abbrev Ending : Type 0
+Ending = Result (Unit {0}) RunFault
+
+pub known : (b : Bool) → (b ≡ true) ⊎ (b ≡ false)
+known true = inl refl
+known false = inr refl
+
+-- it is not both
+pub not_both : (b : Bool) → b ≡ true → b ≡ false → ⊥
+not_both true h k = cc
+not_both false h k = cc
+
+pub if_going : (b : Bool) (P : Type 0) → b ≡ false → P → IfGoing b P
+if_going b P going holds = subst (λ (m : Bool). IfGoing m P) (sym going) holds
+
+pub going_of : (b : Bool) (P : Type 0) → IfGoing b P → (b ≡ false) × P
+going_of true P none = absurd none
+going_of false P holds = (refl, holds)
+
+module _ {X : Type 0} (f : Fold X) (y : X) (rest : List ℕ) (behind : Option RunFault) (ending : Ending) where
+  -- in a state in which more is served a run ends by what is left
+  pub ends_going : f.done y ≡ false → EndsUnframed f y rest behind ending ⊎ EndsRefused f y rest ending
+      → EndsBy f (f.done y) y rest behind ending
+  ends_going going h = subst (λ (b : Bool). EndsBy f b y rest behind ending) (sym going) h
+
+  pub ends_open : f.done y ≡ false → EndsBy f (f.done y) y rest behind ending
+      → EndsUnframed f y rest behind ending ⊎ EndsRefused f y rest ending
+  ends_open going h = subst (λ (b : Bool). EndsBy f b y rest behind ending) going h
+
+  -- in another one it ends as done
+  pub ends_done : f.done y ≡ true → ending ≡ Ok tt → EndsBy f (f.done y) y rest behind ending
+  ends_done done is = subst (λ (b : Bool). EndsBy f b y rest behind ending) (sym done) is
+
+  pub is_done : f.done y ≡ true → EndsBy f (f.done y) y rest behind ending → ending ≡ Ok tt
+  is_done done h = subst (λ (b : Bool). EndsBy f b y rest behind ending) done h
+
+-- ---- without its end
+
+module _ {S : Type 0} (serves : S → Position → List ℕ → List (List ℕ) → List ℕ → S → Type 0)
+    (refuses : S → Position → List ℕ → List (List ℕ) → Refusal → Type 0) (done : S → Position → Bool) (most : ℕ) where
+  abbrev f : Fold (Run S)
+  f = fold_until serves refuses done most
+
+  abbrev all : Fold (Run S)
+  all = fold_of serves refuses most
+
+  -- messages that are served until a service is done are served where it never is
+  served_of : (x y : Run S) (ps : List Part) → AreServed f x ps y → AreServed all x ps y
+  served_of x y [] is = is
+  served_of x y (p ∷ ps) (mid, part, step, more) =
+      (mid, record { frame = part.frame; room = part.room; going = refl }, step, served_of mid y ps more)
+
+  pub parts_of : (x y : Run S) (bytes rest : List ℕ) (ps : List Part) → AreParts f x bytes ps rest y
+      → AreParts all x bytes ps rest y
+  parts_of x y bytes rest ps are = record { each = served_of x y ps are.each; is = are.is }
+
+  -- a run that ends before the service is done ends so where it never is
+  pub folded_of : (x y : Run S) (bytes text : List ℕ) (behind : Option RunFault) (ending : Ending)
+      → IsFolded f x bytes behind text ending y → f.done y ≡ false → IsFolded all x bytes behind text ending y
+  folded_of x y bytes text behind ending due going = record {
+    parts = due.parts;
+    rest = due.rest;
+    are = parts_of x y bytes due.rest due.parts due.are;
+    joined = due.joined;
+    ends = ends_open f y due.rest behind ending going due.ends;
+  }
