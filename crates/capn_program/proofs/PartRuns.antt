@@ -12,8 +12,8 @@ use Rattle.capn_program.specs.declared.part_texts.PartTexts.{PartTexts}
 
 pub parts_served : (show : Show) (way : List ℕ) (s : PartTexts) (x : Run PartTexts) (most : ℕ)
     (a b c d : Option (List ℕ)) (reader_failed writer_failed : Bool) (ending : Result (Unit {0}) RunFault)
-    (y : Run PartTexts) (r : Result (Unit {0}) ToolFault) → s.way.now ≡ way → s.style ≡ show.style → s.limits ≡ show.limits
-    → most ≡ show.limits.message_words → x ≡ first_run s
+    (y : Run PartTexts) (r : Result (Unit {0}) ToolFault) → s.way.now ≡ way → s.style ≡ show.style
+    → s.limits ≡ show.limits → most ≡ show.limits.message_words → x ≡ first_run s
     → ServesMessages (fold_of serves refuses most) x show.form a b c d reader_failed writer_failed ending y
     → r ≡ unplaced_end ending → Served show way a b c d reader_failed writer_failed r
 parts_served show way s x most a b c d reader_failed writer_failed ending y r numbers style limits words new run
