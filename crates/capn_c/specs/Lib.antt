@@ -8,3 +8,4 @@ pub mod Offsets
 pub mod UnpackedPieces
 pub mod Held
 pub mod AsFramed
+pub mod MemoryAsked

@@ -7,10 +7,12 @@
 #![tactic(auto)]
 
 mod canonical_call;
+mod canonical_fill;
 mod canonical_segments_call;
 mod check_call;
 mod check_segments_call;
 mod entries;
+mod few_frame;
 mod figures;
 mod first_call;
 mod frame_need;
@@ -26,9 +28,11 @@ mod output;
 mod pack_calls;
 mod report;
 mod status_codes;
+mod survey_bytes;
 mod survey_call;
 mod survey_segments_call;
 mod unpack_some_call;
+mod written_message;
 
 pub use entries::CapnEntry;
 pub use figures::CapnFigures;
