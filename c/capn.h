@@ -16,9 +16,13 @@
  * Any numbers may be passed.
  *
  * A call reads bytes, writes into a buffer of the caller's, and keeps nothing: no state, no handle, nothing to free.
- * Calls may run in any threads at once, also on the same input. A call takes memory by malloc, and gives it back before
- * it returns. It takes at most 16 KiB of stack, and 352 bytes more for each level of depth that the limits allow,
- * capn_show 432: 104 KiB at depth 256, capn_show 124 KiB.
+ * Calls may run in any threads at once, also on the same input. A call that takes memory asks malloc for it, and gives
+ * it back before it returns. Of bare words and of a stream of at most 64 segments, capn_canonical, capn_check and
+ * capn_is_canonical ask for none, nor does capn_index if it has no room, nor a call whose name ends in `_segments` but
+ * capn_hash_segments. Memory is asked for by a packed text, by a stream of more segments, for the bytes that are
+ * hashed, packed or unpacked, for the entries of an index, and for the text of capn_show. A call takes at most 16 KiB
+ * of stack, and 352 bytes more for each level of depth that the limits allow, capn_show 432: 104 KiB at depth 256,
+ * capn_show 124 KiB.
  *
  * Each call answers a status and fills its report in; a field that the status does not speak of is 0. */
 #ifndef CAPN_H
@@ -174,8 +178,9 @@ enum capn_status_code {
 };
 
 /* The canonical bytes of one message. With a room of 0 it writes no answer. It returns CAPN_NO_ROOM with a `length`
- * that is enough, 8 * (paid + 1), or else the refusal; it costs what capn_check costs, and takes memory where that
- * does. With any other room that is too small it returns CAPN_NO_ROOM with the exact length.
+ * that is enough, 8 * (paid + 1), or else the refusal; it costs what capn_check costs.
+ * With any other room that is too small it returns CAPN_NO_ROOM with the exact length. It takes memory only for a
+ * packed text, and for a stream of more than 64 segments.
  * CAPN_TRAILING says where the first of several messages ends. Of CAPN_STREAM, call again with that size. Not so of
  * CAPN_PACKED: there the offset is one in the unpacked bytes, and mostly greater than the size of the packed ones.
  * Unpack them first, by capn_unpack, and go on with CAPN_STREAM. The same holds for capn_hash and capn_check. */
@@ -191,7 +196,7 @@ capn_status capn_hash(uint32_t form, const uint8_t *bytes, size_t size, const ca
                       capn_report *report);
 
 /* Whether one message is accepted within limits, with what reading it pays and how many visits that makes. It takes
- * memory only for the table of two segments or more, and for what is unpacked. */
+ * memory only for the table of more than 64 segments, and for what is unpacked. */
 capn_status capn_check(uint32_t form, const uint8_t *bytes, size_t size, const capn_limits *limits,
                        capn_report *report);
 
@@ -265,8 +270,8 @@ capn_status capn_show(uint32_t form, const uint8_t *bytes, size_t size, const ca
  * they may overlap. Each call answers and refuses what its sister does of the frame of these segments, under the same
  * limits: with no segments CAPN_FRAME_EMPTY; with more than 4,096 CAPN_TOO_MANY_SEGMENTS; with more words than
  * `message_words` CAPN_TOO_MANY_WORDS, of which `at` is their number, or 2^64 - 1 if they are more. The refusals of
- * bytes, 16 to 33, 51 and 52, never come, nor does CAPN_BAD_FORM. Memory is taken for canonical bytes alone:
- * capn_check_segments and capn_survey_segments take none. */
+ * bytes, 16 to 33, 51 and 52, never come, nor does CAPN_BAD_FORM. Memory is taken by capn_hash_segments alone, for the
+ * bytes that it hashes. */
 capn_status capn_canonical_segments(const capn_segment *segments, size_t count, const capn_limits *limits, uint8_t *out,
                                     size_t room, capn_report *report);
 capn_status capn_hash_segments(const capn_segment *segments, size_t count, const capn_limits *limits,

@@ -6,7 +6,7 @@
 #include <string.h>
 
 enum { ROOM = 1 << 16, DEPTH = 200, MOST = 8 * (2 * DEPTH) };
-static uint8_t deep[MOST], framed[MOST + 16], text[ROOM];
+static uint8_t deep[MOST], framed[MOST + 16], many[MOST + 8 * 33], text[ROOM];
 static _Alignas(8) uint8_t out[ROOM];
 static int failed;
 
@@ -28,9 +28,9 @@ static size_t chain(uint8_t *at, size_t depth) {
     return 16 * depth;
 }
 
-/* The frame of one segment or of two, the second without words: how many bytes it takes. */
+/* The frame of one segment or of more, all but the first without words: how many bytes it takes. */
 static size_t frame(uint8_t *to, uint8_t segments, const uint8_t *words, size_t size) {
-    size_t table = segments == 1 ? 8 : 16;
+    size_t table = 8 * (segments / 2 + 1);
     memset(to, 0, table);
     to[0] = segments - 1;
     to[4] = (uint8_t)(size / 8);
@@ -136,37 +136,38 @@ static void in_turn(void) {
     const capn_limits limits = {1u << 20, 1u << 20, 256, CAPN_STRICT};
     const input bare = {CAPN_BARE, deep, chain(deep, DEPTH), limits};
     const input stream = {CAPN_STREAM, framed, frame(framed, 2, deep, bare.size), limits};
+    const input more = {CAPN_STREAM, many, frame(many, 65, deep, bare.size), limits};
     capn_report report;
     if (capn_pack(framed, stream.size, text, ROOM, &report) != CAPN_OK) fail("pack", "refuses");
     const input pack = {CAPN_PACKED, text, report.length, limits};
-    each("canonical, bare", canonical, &bare, 1);
-    each("canonical, stream", canonical, &stream, 2);
+    each("canonical, 65 segments", canonical, &more, 2);
     each("canonical, packed", canonical, &pack, 4);
     each("canonical, packed, no room", measured, &pack, 3);
-    each("canonical, stream, no room", measured, &stream, 1);
+    each("canonical, 65 segments, no room", measured, &more, 1);
     each("hash, bare", hashed, &bare, 1);
     each("hash, stream", hashed, &stream, 2);
     each("hash, packed", hashed, &pack, 4);
-    each("check, stream", checked, &stream, 1);
+    each("check, 65 segments", checked, &more, 1);
     each("check, packed", checked, &pack, 3);
     each("pack", packed, &stream, 1);
     each("unpack", unpacked, &pack, 1);
     each("first", first, &stream, 1);
     each("survey, stream", surveyed, &stream, 2);
     each("index, bare", indexed, &bare, 2);
-    each("index, stream", indexed, &stream, 4);
-    each("index, stream, no room", counted, &stream, 1);
+    each("index, stream", indexed, &stream, 3);
+    each("index, 65 segments, no room", counted, &more, 1);
     each("unpack_some", some, &pack, 1);
 }
 
-/* At any depth a bare message and a stream of one segment need no memory, whether they are as deep or deeper; a stream
- * of two segments needs it once, where the second one ends. */
+/* At any depth bare words and a stream of at most 64 segments need no memory, whether they are as deep or deeper; a
+ * stream of 65 needs it once, for where they end. */
 static void at_depth(uint32_t most, size_t depth, uint32_t wanted) {
     const capn_limits limits = {1u << 20, 1u << 20, most, CAPN_STRICT};
     const uint32_t room = wanted == CAPN_OK ? CAPN_NO_ROOM : wanted;
     const input bare = {CAPN_BARE, deep, chain(deep, depth), limits};
     input stream = {CAPN_STREAM, framed, frame(framed, 1, deep, bare.size), limits};
     wants("check, bare", checked, &bare, 0, wanted);
+    wants("canonical, bare", canonical, &bare, 0, wanted);
     wants("no room, bare", measured, &bare, 0, room);
     wants("is_canonical", judged, &bare, 0, wanted == CAPN_OK ? CAPN_NOT_CANONICAL : wanted);
     wants("check, one segment", checked, &stream, 0, wanted);
@@ -175,18 +176,26 @@ static void at_depth(uint32_t most, size_t depth, uint32_t wanted) {
     wants("index, no room", counted, &stream, 0, room);
     wants("no room, one segment", measured, &stream, 0, room);
     stream.size = frame(framed, 2, deep, bare.size);
-    wants("check, two segments", checked, &stream, 1, wanted);
-    wants("no room, two segments", measured, &stream, 1, room);
+    wants("check, two segments", checked, &stream, 0, wanted);
+    wants("canonical, two segments", canonical, &stream, 0, wanted);
+    wants("index, two segments, no room", counted, &stream, 0, room);
+    const input few = {CAPN_STREAM, many, frame(many, 64, deep, bare.size), limits};
+    wants("check, 64 segments", checked, &few, 0, wanted);
+    wants("canonical, 64 segments", canonical, &few, 0, wanted);
+    wants("no room, 64 segments", measured, &few, 0, room);
+    const input more = {CAPN_STREAM, many, frame(many, 65, deep, bare.size), limits};
+    wants("check, 65 segments", checked, &more, 1, wanted);
+    wants("no room, 65 segments", measured, &more, 1, room);
 }
 
 /* What is refused as it is read needs no memory: nothing to pack or unpack, no whole words, a first group that is cut
  * or too long, a table that is cut or announces too much, and no table of a whole frame. */
 static void unread(void) {
     const capn_limits limits = CAPN_USUAL_LIMITS;
-    const uint8_t cut[9] = {255}, head[8] = {1, 0, 0, 0, 1}, many[8] = {255, 255}, whole[16] = {1};
+    const uint8_t cut[9] = {255}, head[8] = {1, 0, 0, 0, 1}, count[8] = {255, 255}, whole[16] = {1};
     const input nothing = {CAPN_STREAM, NULL, 0, limits}, odd = {CAPN_BARE, cut, 9, limits};
     const input group = {CAPN_PACKED, cut, 9, limits}, table = {CAPN_STREAM, head, 8, limits};
-    const input segments = {CAPN_STREAM, many, 8, limits}, trailing = {CAPN_STREAM, whole, 16, limits};
+    const input segments = {CAPN_STREAM, count, 8, limits}, trailing = {CAPN_STREAM, whole, 16, limits};
     wants("pack of nothing", packed, &nothing, 0, CAPN_OK);
     wants("unpack of nothing", unpacked, &nothing, 0, CAPN_OK);
     wants("check of nothing", checked, &nothing, 0, CAPN_FRAME_EMPTY);
@@ -202,7 +211,7 @@ static void unread(void) {
     wants("first of two segments without words", first, &trailing, 1, CAPN_OK);
     wants("check of a cut table", checked, &table, 0, CAPN_FRAME_CUT);
     wants("check of too many segments", checked, &segments, 0, CAPN_TOO_MANY_SEGMENTS);
-    wants("check of two segments without words", checked, &trailing, 1, CAPN_NO_ROOT);
+    wants("check of two segments without words", checked, &trailing, 0, CAPN_NO_ROOT);
 }
 
 int main(void) {

@@ -6,6 +6,7 @@ pub mod Framed
 pub mod Least
 pub mod Listed
 pub mod Named
+pub mod OfMessage
 pub mod OneBare
 pub mod OutOfMemory
 pub mod PackedText

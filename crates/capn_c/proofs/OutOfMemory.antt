@@ -8,7 +8,9 @@ use Rattle.capn_stream.specs.declared.fault.FrameFault.{FrameFault}
 use Rattle.capn_stream.specs.declared.fault.FrameFault.TheVariants as frame
 use Rattle.capn_target.specs.declared.target.Fault.{Fault}
 use Rattle.capn_target.specs.declared.target.Fault.TheVariants as walk
+use Rattle.capn_walk.specs.Accepted.{IsWalkRefused}
 use Rattle.capn_walk.specs.Limits.{Bounds}
+use Rattle.capn_walk.specs.declared.walk_answer.Stopped.{Stopped}
 use Rattle.capn_walk.proofs.shared.Plain.{plain-refusal}
 use Rattle.capn_canon.specs.declared.form.Form.{Form}
 use Rattle.capn_canon.specs.declared.form.Form.TheVariants as forms
@@ -108,3 +110,8 @@ unaccepted_held_memory m l (refusals.Frame e) h c = held_memory m l (refusals.Fr
 unaccepted_held_memory m l (refusals.Trailing at) h c = absurd h
 unaccepted_held_memory m l (refusals.Bare e) h c = absurd h
 unaccepted_held_memory m l (refusals.Packed e) h c = absurd h
+
+-- a walk of a message stops for another reason
+pub stopped_memory : (m : List (List ℕ)) (l : Bounds) (s : Stopped)
+    → IsWalkRefused m l s.fault s.place s.paid s.visits → code (refusals.Walk s) ≡ 8 → ⊥
+stopped_memory m l s h c = plain-refusal m l s.fault s.place s.paid s.visits h (walk_memory s.fault c)

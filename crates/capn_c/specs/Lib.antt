@@ -8,4 +8,5 @@ pub mod Offsets
 pub mod UnpackedPieces
 pub mod Held
 pub mod AsFramed
+pub mod MemoryAsked
 pub mod Shown

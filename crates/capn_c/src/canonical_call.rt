@@ -1,6 +1,6 @@
 //! Canonical bytes.
 
-ghost use Rattle.std.specs.Prelude.{IsTrue, ◌≡◌, ◌≢◌, ◌⊎◌, ◌↔◌, ◌≤◌, ◌<◌, ◌+◌, ◌*◌, ℕ, List, None, length, take};
+ghost use Rattle.std.specs.Prelude.{IsTrue, ◌≡◌, ◌≢◌, ◌⊎◌, ◌↔◌, ◌≤◌, ◌+◌, ◌*◌, ℕ, List, None, length, take};
 ghost use Rattle.capn_value.specs.Tree.{Tree as Value};
 ghost use Rattle.capn_value.specs.FirstCap.{first_cap};
 ghost use Rattle.capn_walk.specs.Accepted.{IsBounded};
@@ -11,14 +11,16 @@ ghost use Rattle.capn_canon.specs.Canonicity.{IsCanonicalForm};
 ghost use Rattle.capn_canon.specs.Refusal.{IsRefused};
 ghost use Rattle.capn_canon.specs.MemoryNeed.{MayNeedMemory, MayNeedBytesIn};
 ghost use Rattle.capn_canon.specs.declared.refusal.Refusal.{Refusal as Refusals};
-ghost use Rattle.capn_c.specs.Calls.{IsForm, form_named, GiveLimits, IsTariff, bounds_of, Delivers, Serves};
+ghost use Rattle.capn_c.specs.Calls.{IsForm, form_named, GiveLimits, IsTariff, bounds_of, Serves};
+ghost use Rattle.capn_c.specs.MemoryAsked.{MayAsk};
 ghost use Rattle.capn_c.specs.StatusCodes.{Reports, answered, at_number, is_status};
 
+use crate::canonical_fill::fill;
 use crate::limits::{CapnLimits, form_of, limits_of};
-use crate::output::deliver;
 use crate::report::{CapnReport, answer_of, report_at};
 use crate::status_codes::{BAD_FORM, NO_ROOM, refuse};
-use capn_canon::{Form, Refusal, canonicalise, survey_bytes};
+use crate::survey_bytes::survey_bytes;
+use capn_canon::{Form, Refusal};
 use capn_walk::Limits;
 use std::alloc::Global;
 
@@ -39,6 +41,7 @@ fn survey_length(
     ensures listed { IsTrue (is_status result) }
     ensures refused { 8 ≤ result → (e : Refusals) × Reports result report.new e × IsRefused form bytes.now limits e }
     ensures memory { result ≡ 8 → MayNeedMemory form bytes.now limits }
+    ensures asked { result ≡ 8 → MayAsk form bytes.now limits }
     ensures bounded { IsBounded limits.budget report.new.paid report.new.visits }
 {
     match survey_bytes(alloc, form, bytes, limits) {
@@ -55,44 +58,13 @@ fn survey_length(
 }
 
 /// The canonical bytes of a message, into a buffer.
-fn fill(
-    alloc: Global,
-    form: Form,
-    bytes: &[u8],
-    limits: Limits,
-    out: &mut [u8],
-    report: &mut CapnReport,
-) -> u32
-    ensures possible { (result ≤ 1) ⊎ (8 ≤ result) }
-    ensures found { result ≤ 1 → (text : List ℕ) × Answers form bytes.now limits text report.new.paid
-        × Delivers text result report.new.length out.old out.new }
-    ensures only { (v : Value) → Denotes form bytes.now limits v → first_cap v ≡ None
-        → (result ≡ 8) ⊎ Delivers (canon v) result report.new.length out.old out.new }
-    ensures rest { result ≤ 1 → report.new ≡ answered report.new.length report.new.paid 0 }
-    ensures listed { IsTrue (is_status result) }
-    ensures refused { 8 ≤ result → (e : Refusals) × Reports result report.new e × IsRefused form bytes.now limits e }
-    ensures memory { result ≡ 8 → MayNeedBytesIn form bytes.now limits }
-    ensures bounded { IsBounded limits.budget report.new.paid report.new.visits }
-    ensures short { result ≤ 1 → report.new.length ≤ 8 * (report.new.paid + 1) }
-    ensures kept { result ≢ 0 → out.new ≡ out.old }
-    ensures canonical { result ≡ 0 → (v : Value) → Denotes form bytes.now limits v
-        → IsCanonicalForm (take report.new.length out.new) limits v }
-{
-    match canonicalise(alloc, form, bytes, limits) {
-        Ok(canonical) => {
-            *report = answer_of(canonical.bytes.len() as u64, canonical.paid, 0);
-            deliver(canonical.bytes.as_slice(), out)
-        }
-        Err(refusal) => refuse(refusal, report),
-    }
-}
-
-/// The canonical bytes of a message, into a buffer.
 ///
 /// 0: the answer is at the start of the buffer. 1: the buffer has no room for it, and is as it was; `length` is
 /// what it needs, exactly; if the buffer has no bytes at all, the message is surveyed and nothing is written, and
 /// `length` is 8 for each word paid and 8 more, which is enough. 2, 3 and 4: the form, a limit or the tariff is out of
 /// its range. 8: memory was refused. Others: the refusal.
+///
+/// Bare words, and a stream of at most 64 segments, take no memory: their canonical bytes are written into the buffer.
 #[unsafe(no_mangle)]
 pub extern "C" fn capn_canonical(
     alloc: Global,
@@ -125,6 +97,8 @@ pub extern "C" fn capn_canonical(
     ensures memory { result ≡ 8 → MayNeedBytesIn (form_named form) bytes.now (bounds_of limits.now) }
     ensures measuring { result ≡ 8 → length out.old ≡ 0
         → MayNeedMemory (form_named form) bytes.now (bounds_of limits.now) }
+    // Of those, it is asked for only by a frame of more than 64 segments, and by a packed text.
+    ensures asked { result ≡ 8 → MayAsk (form_named form) bytes.now (bounds_of limits.now) }
     // No walk pays beyond its budget.
     ensures bounded { IsBounded limits.now.budget report.new.paid report.new.visits }
     ensures short { result ≤ 1 → report.new.length ≤ 8 * (report.new.paid + 1) }

@@ -13,11 +13,11 @@ ghost use Rattle.capn_c.specs.Calls.{GiveLimits, IsTariff, bounds_of, Delivers, 
 ghost use Rattle.capn_c.specs.Held.{AnswersHeld, DenotesHeld, IsRefusedHeld};
 ghost use Rattle.capn_c.specs.StatusCodes.{Reports, answered, at_number, is_status};
 
-use crate::held_message::{canonical_held, survey_held};
+use crate::held_message::{held, survey_held};
 use crate::limits::{CapnLimits, limits_of};
-use crate::output::deliver;
 use crate::report::{CapnReport, answer_of, report_at};
 use crate::status_codes::{NO_ROOM, refuse};
+use crate::written_message::write_message;
 use capn_canon::Refusal;
 use capn_walk::Limits;
 use std::alloc::Global;
@@ -79,11 +79,8 @@ fn fill_held(
     ensures canonical { result ≡ 0 → (v : Value) → DenotesHeld (message_of segments.now) limits v
         → IsCanonicalForm (take report.new.length out.new) limits v }
 {
-    match canonical_held(alloc, segments, limits) {
-        Ok(canonical) => {
-            *report = answer_of(canonical.bytes.len() as u64, canonical.paid, 0);
-            deliver(canonical.bytes.as_slice(), out)
-        }
+    match held(segments, limits) {
+        Ok(message) => write_message(alloc, &message, limits, out, report),
         Err(refusal) => refuse(refusal, report),
     }
 }

@@ -10,12 +10,14 @@ ghost use Rattle.capn_canon.specs.SurveyedBytes.{Surveys};
 ghost use Rattle.capn_canon.specs.MemoryNeed.{MayNeedMemory};
 ghost use Rattle.capn_canon.specs.declared.refusal.Refusal.{Refusal as Refusals};
 ghost use Rattle.capn_c.specs.Calls.{IsForm, form_named, GiveLimits, IsTariff, bounds_of};
+ghost use Rattle.capn_c.specs.MemoryAsked.{MayAsk};
 ghost use Rattle.capn_c.specs.StatusCodes.{Reports, answered, at_number, is_status};
 
 use crate::limits::{CapnLimits, form_of, limits_of};
 use crate::report::{CapnReport, answer_of, report_at};
 use crate::status_codes::{BAD_FORM, DONE, refuse};
-use capn_canon::{Form, survey_bytes};
+use crate::survey_bytes::survey_bytes;
+use capn_canon::Form;
 use capn_walk::Limits;
 use std::alloc::Global;
 
@@ -29,6 +31,7 @@ fn check(alloc: Global, form: Form, bytes: &[u8], limits: Limits, report: &mut C
     ensures refused { 8 ≤ result → (e : Refusals) × Reports result report.new e
         × IsUnacceptedIn form bytes.now limits e }
     ensures memory { result ≡ 8 → MayNeedMemory form bytes.now limits }
+    ensures asked { result ≡ 8 → MayAsk form bytes.now limits }
     ensures bounded { IsBounded limits.budget report.new.paid report.new.visits }
 {
     match survey_bytes(alloc, form, bytes, limits) {
@@ -43,7 +46,7 @@ fn check(alloc: Global, form: Form, bytes: &[u8], limits: Limits, report: &mut C
 /// Whether a message is accepted within limits, and what reading it pays.
 ///
 /// 0: it is; `paid` and `visits` are those of its walk. 2, 3 and 4: the form, a limit or the tariff is out of its
-/// range. 8: memory was refused: for where two segments or more end, or for what is unpacked.
+/// range. 8: memory was refused: for where more than 64 segments end, or for what is unpacked.
 /// Others: the refusal, which is never that of a capability.
 #[unsafe(no_mangle)]
 pub extern "C" fn capn_check(
@@ -70,6 +73,8 @@ pub extern "C" fn capn_check(
         × IsUnacceptedIn (form_named form) bytes.now (bounds_of limits.now) e }
     // Memory is needed only for where two segments or more end, and for what a text packs.
     ensures memory { result ≡ 8 → MayNeedMemory (form_named form) bytes.now (bounds_of limits.now) }
+    // Of those, it is asked for only by a frame of more than 64 segments, and by a packed text.
+    ensures asked { result ≡ 8 → MayAsk (form_named form) bytes.now (bounds_of limits.now) }
     // No walk pays beyond its budget.
     ensures bounded { IsBounded limits.now.budget report.new.paid report.new.visits }
 {

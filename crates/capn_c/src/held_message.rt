@@ -61,7 +61,7 @@ pub fn canonical_held(
 }
 
 /// A survey of a message, with a bound of the length of its canonical bytes.
-fn survey_short<S: Space>(alloc: Global, space: &S, limits: Limits) -> Result<Surveyed, Refusal>
+pub fn survey_short<S: Space>(alloc: Global, space: &S, limits: Limits) -> Result<Surveyed, Refusal>
     ensures found { IfOk result (λ s. IsSurvey (S.message space.now) limits s) }
     ensures only { (v : Value) → IsValueOf (S.message space.now) limits v
         → MatchResult result (λ s. s.capability ≡ first_cap v) (λ e. e ≡ refusals.Memory) }

@@ -15,13 +15,15 @@ ghost use Rattle.capn_c.specs.Calls.{form_named, GiveLimits, IsTariff, bounds_of
 ghost use Rattle.capn_c.specs.StatusCodes.{Reports, answered, at_number, is_status};
 ghost use Rattle.capn_c.specs.Entries.{HasEntries, IndexedIn, c_index};
 ghost use Rattle.capn_c.specs.Figures.{IsFlat};
+ghost use Rattle.capn_c.specs.MemoryAsked.{MayAsk};
 
 use crate::entries::{CapnEntry, put_entries, starts_of};
 use crate::frame_need::head_of;
 use crate::limits::{CapnLimits, flat_form_of, limits_of};
 use crate::report::{CapnReport, answer_of, report_at};
 use crate::status_codes::{BAD_FORM, DONE, NO_ROOM, refuse};
-use capn_canon::{Form, Refusal, survey_bytes};
+use crate::survey_bytes::survey_bytes;
+use capn_canon::{Form, Refusal};
 use capn_stream::first;
 use capn_walk::laws::indexes;
 use capn_walk::{Entry, Limits, Surveyed, index_into};
@@ -153,6 +155,8 @@ fn index_in(
     ensures entries { result ≤ 1 → HasEntries form bytes.now limits report.new.visits }
     ensures memory { result ≡ 8 → MayNeedMemory form bytes.now limits
         ⊎ ((n : ℕ) × HasEntries form bytes.now limits n × (n ≤ length out.old)) }
+    ensures asked { result ≡ 8 → MayAsk form bytes.now limits
+        ⊎ ((n : ℕ) × HasEntries form bytes.now limits n × (n ≤ length out.old)) }
     ensures bounded { IsBounded limits.budget report.new.paid report.new.visits }
     ensures kept { result ≢ 0 → out.new ≡ out.old }
 {
@@ -213,6 +217,9 @@ pub extern "C" fn capn_index(
         × IsUnacceptedIn (form_named form) bytes.now (bounds_of limits.now) e }
     // Memory is needed only where `capn_check` may need it, and for an index that has room.
     ensures memory { result ≡ 8 → MayNeedMemory (form_named form) bytes.now (bounds_of limits.now)
+        ⊎ ((n : ℕ) × HasEntries (form_named form) bytes.now (bounds_of limits.now) n × (n ≤ length out.old)) }
+    // Of those, it is asked for only by a frame of more than 64 segments, and for an index that has room.
+    ensures asked { result ≡ 8 → MayAsk (form_named form) bytes.now (bounds_of limits.now)
         ⊎ ((n : ℕ) × HasEntries (form_named form) bytes.now (bounds_of limits.now) n × (n ≤ length out.old)) }
     // No walk pays beyond its budget.
     ensures bounded { IsBounded limits.now.budget report.new.paid report.new.visits }

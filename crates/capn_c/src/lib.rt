@@ -8,10 +8,12 @@
 #![tactic(auto)]
 
 mod canonical_call;
+mod canonical_fill;
 mod canonical_segments_call;
 mod check_call;
 mod check_segments_call;
 mod entries;
+mod few_frame;
 mod figures;
 mod first_call;
 mod frame_need;
@@ -30,9 +32,11 @@ mod report;
 mod show_call;
 mod status_codes;
 mod styles;
+mod survey_bytes;
 mod survey_call;
 mod survey_segments_call;
 mod unpack_some_call;
+mod written_message;
 
 pub use entries::CapnEntry;
 pub use figures::CapnFigures;

@@ -33,3 +33,19 @@ returns-in-Err-clause-memory c e =
     (ap Err
     (unaccepted_memory c.args.form c.args.bytes.now c.args.limits c.in-Err.refusal c.in-Err.ensures.refused
     (sym c.refuse-in-Err.ensures.status_is ∙ e))))
+
+pub returns-else-index_form-clause-asked : goal.returns-else-index_form-clause-asked
+returns-else-index_form-clause-asked c e =
+    let s = c.in-Ok.surveyed in
+    let room : s.visits ≤ length c.args.out.now = omega (arith, c.if-surveyed-out.false) in
+    let has = entries_of_survey c.indexes.ensures.visits c.args.form c.args.bytes.now c.args.limits s
+    c.in-Ok.ensures.found in
+    inr (s.visits, has, room)
+
+pub returns-in-Err-clause-asked : goal.returns-in-Err-clause-asked
+returns-in-Err-clause-asked c e =
+    inl
+    (c.in-Err.ensures.asked
+    (ap Err
+    (unaccepted_memory c.args.form c.args.bytes.now c.args.limits c.in-Err.refusal c.in-Err.ensures.refused
+    (sym c.refuse-in-Err.ensures.status_is ∙ e))))

@@ -4,7 +4,7 @@ use Rattle.capn_canon.specs.Canonicity.{IsCanonicalForm}
 use Rattle.capn_c.specs.Calls.{Delivers}
 use Rattle.capn_c.proofs.Delivered.{in_buffer}
 use Rattle.capn_c.proofs.OutOfMemory.{refused_memory}
-use Rattle.capn_c.proofs.canonical_call.fill.Goals as goal
+use Rattle.capn_c.proofs.canonical_fill.fill_copied.Goals as goal
 
 pub returns-in-Ok-clause-only : goal.returns-in-Ok-clause-only
 returns-in-Ok-clause-only c v d n =

@@ -1,0 +1,158 @@
+//! Canonical bytes of a message in a form, into the caller's buffer.
+
+ghost use Rattle.std.specs.Prelude.{IsTrue, ◌≡◌, ◌≢◌, ◌⊎◌, ◌≤◌, ◌+◌, ◌*◌, ℕ, List, None, length, take};
+ghost use Rattle.capn_value.specs.Tree.{Tree as Value};
+ghost use Rattle.capn_value.specs.FirstCap.{first_cap};
+ghost use Rattle.capn_walk.specs.Accepted.{IsBounded};
+ghost use Rattle.capn_canon.specs.Layout.{canon};
+ghost use Rattle.capn_canon.specs.Denotes.{Denotes, Answers};
+ghost use Rattle.capn_canon.specs.Canonicity.{IsCanonicalForm};
+ghost use Rattle.capn_canon.specs.Refusal.{IsRefused};
+ghost use Rattle.capn_canon.specs.MemoryNeed.{MayNeedBytesIn};
+ghost use Rattle.capn_canon.specs.declared.form.Form.TheVariants as forms;
+ghost use Rattle.capn_canon.specs.declared.refusal.Refusal.{Refusal as Refusals};
+ghost use Rattle.capn_c.specs.Calls.{Delivers};
+ghost use Rattle.capn_c.specs.MemoryAsked.{MayAsk};
+ghost use Rattle.capn_c.specs.StatusCodes.{Reports, answered, is_status};
+
+use crate::few_frame::read_frame;
+use crate::output::deliver;
+use crate::report::{CapnReport, answer_of};
+use crate::status_codes::refuse;
+use crate::written_message::write_message;
+use capn_canon::{Form, Refusal, canonicalise};
+use capn_walk::Limits;
+use capn_words::Bare;
+use std::alloc::Global;
+
+/// The canonical bytes of a message in any form, which are laid out in memory and copied.
+#[inline(never)]
+fn fill_copied(
+    alloc: Global,
+    form: Form,
+    bytes: &[u8],
+    limits: Limits,
+    out: &mut [u8],
+    report: &mut CapnReport,
+) -> u32
+    ensures possible { (result ≤ 1) ⊎ (8 ≤ result) }
+    ensures found { result ≤ 1 → (text : List ℕ) × Answers form bytes.now limits text report.new.paid
+        × Delivers text result report.new.length out.old out.new }
+    ensures only { (v : Value) → Denotes form bytes.now limits v → first_cap v ≡ None
+        → (result ≡ 8) ⊎ Delivers (canon v) result report.new.length out.old out.new }
+    ensures rest { result ≤ 1 → report.new ≡ answered report.new.length report.new.paid 0 }
+    ensures listed { IsTrue (is_status result) }
+    ensures refused { 8 ≤ result → (e : Refusals) × Reports result report.new e × IsRefused form bytes.now limits e }
+    ensures memory { result ≡ 8 → MayNeedBytesIn form bytes.now limits }
+    ensures bounded { IsBounded limits.budget report.new.paid report.new.visits }
+    ensures short { result ≤ 1 → report.new.length ≤ 8 * (report.new.paid + 1) }
+    ensures kept { result ≢ 0 → out.new ≡ out.old }
+    ensures canonical { result ≡ 0 → (v : Value) → Denotes form bytes.now limits v
+        → IsCanonicalForm (take report.new.length out.new) limits v }
+{
+    match canonicalise(alloc, form, bytes, limits) {
+        Ok(canonical) => {
+            *report = answer_of(canonical.bytes.len() as u64, canonical.paid, 0);
+            deliver(canonical.bytes.as_slice(), out)
+        }
+        Err(refusal) => refuse(refusal, report),
+    }
+}
+
+/// The same of bare words, which are written where they are to be.
+fn fill_bare(
+    alloc: Global,
+    bytes: &[u8],
+    limits: Limits,
+    out: &mut [u8],
+    report: &mut CapnReport,
+) -> u32
+    ensures possible { (result ≤ 1) ⊎ (8 ≤ result) }
+    ensures found { result ≤ 1 → (text : List ℕ) × Answers forms.Bare bytes.now limits text report.new.paid
+        × Delivers text result report.new.length out.old out.new }
+    ensures only { (v : Value) → Denotes forms.Bare bytes.now limits v → first_cap v ≡ None
+        → Delivers (canon v) result report.new.length out.old out.new }
+    ensures rest { result ≤ 1 → report.new ≡ answered report.new.length report.new.paid 0 }
+    ensures listed { IsTrue (is_status result) }
+    ensures refused { 8 ≤ result → (e : Refusals) × Reports result report.new e
+        × IsRefused forms.Bare bytes.now limits e }
+    ensures no_memory { result ≢ 8 }
+    ensures bounded { IsBounded limits.budget report.new.paid report.new.visits }
+    ensures short { result ≤ 1 → report.new.length ≤ 8 * (report.new.paid + 1) }
+    ensures kept { result ≢ 0 → out.new ≡ out.old }
+    ensures canonical { result ≡ 0 → (v : Value) → Denotes forms.Bare bytes.now limits v
+        → IsCanonicalForm (take report.new.length out.new) limits v }
+{
+    match Bare::new(bytes) {
+        Ok(message) => write_message(alloc, &message, limits, out, report),
+        Err(fault) => refuse(Refusal::Bare(fault), report),
+    }
+}
+
+/// The same of a frame: of at most 64 segments they are written where they are to be. Where these end lies on its
+/// stack, and not on that of the other forms.
+#[inline(never)]
+fn fill_frame(
+    alloc: Global,
+    bytes: &[u8],
+    limits: Limits,
+    out: &mut [u8],
+    report: &mut CapnReport,
+) -> u32
+    ensures possible { (result ≤ 1) ⊎ (8 ≤ result) }
+    ensures found { result ≤ 1 → (text : List ℕ) × Answers forms.Stream bytes.now limits text report.new.paid
+        × Delivers text result report.new.length out.old out.new }
+    ensures only { (v : Value) → Denotes forms.Stream bytes.now limits v → first_cap v ≡ None
+        → (result ≡ 8) ⊎ Delivers (canon v) result report.new.length out.old out.new }
+    ensures rest { result ≤ 1 → report.new ≡ answered report.new.length report.new.paid 0 }
+    ensures listed { IsTrue (is_status result) }
+    ensures refused { 8 ≤ result → (e : Refusals) × Reports result report.new e
+        × IsRefused forms.Stream bytes.now limits e }
+    ensures memory { result ≡ 8 → MayNeedBytesIn forms.Stream bytes.now limits }
+    ensures asked { result ≡ 8 → MayAsk forms.Stream bytes.now limits }
+    ensures bounded { IsBounded limits.budget report.new.paid report.new.visits }
+    ensures short { result ≤ 1 → report.new.length ≤ 8 * (report.new.paid + 1) }
+    ensures kept { result ≢ 0 → out.new ≡ out.old }
+    ensures canonical { result ≡ 0 → (v : Value) → Denotes forms.Stream bytes.now limits v
+        → IsCanonicalForm (take report.new.length out.new) limits v }
+{
+    let Some(read) = read_frame(bytes, limits) else {
+        return fill_copied(alloc, Form::Stream, bytes, limits, out, report);
+    };
+    match read {
+        Ok(message) => write_message(alloc, &message, limits, out, report),
+        Err(refusal) => refuse(refusal, report),
+    }
+}
+
+/// The canonical bytes of a message, into a buffer.
+pub fn fill(
+    alloc: Global,
+    form: Form,
+    bytes: &[u8],
+    limits: Limits,
+    out: &mut [u8],
+    report: &mut CapnReport,
+) -> u32
+    ensures possible { (result ≤ 1) ⊎ (8 ≤ result) }
+    ensures found { result ≤ 1 → (text : List ℕ) × Answers form bytes.now limits text report.new.paid
+        × Delivers text result report.new.length out.old out.new }
+    ensures only { (v : Value) → Denotes form bytes.now limits v → first_cap v ≡ None
+        → (result ≡ 8) ⊎ Delivers (canon v) result report.new.length out.old out.new }
+    ensures rest { result ≤ 1 → report.new ≡ answered report.new.length report.new.paid 0 }
+    ensures listed { IsTrue (is_status result) }
+    ensures refused { 8 ≤ result → (e : Refusals) × Reports result report.new e × IsRefused form bytes.now limits e }
+    ensures memory { result ≡ 8 → MayNeedBytesIn form bytes.now limits }
+    ensures asked { result ≡ 8 → MayAsk form bytes.now limits }
+    ensures bounded { IsBounded limits.budget report.new.paid report.new.visits }
+    ensures short { result ≤ 1 → report.new.length ≤ 8 * (report.new.paid + 1) }
+    ensures kept { result ≢ 0 → out.new ≡ out.old }
+    ensures canonical { result ≡ 0 → (v : Value) → Denotes form bytes.now limits v
+        → IsCanonicalForm (take report.new.length out.new) limits v }
+{
+    match form {
+        Form::Stream => fill_frame(alloc, bytes, limits, out, report),
+        Form::Packed => fill_copied(alloc, form, bytes, limits, out, report),
+        Form::Bare => fill_bare(alloc, bytes, limits, out, report),
+    }
+}

@@ -1,0 +1,29 @@
+//! Frames of few segments, which are read without memory.
+
+ghost use Rattle.std.specs.Prelude.{◌≡◌, None, IfOk, IfErr, IfSome};
+ghost use Rattle.capn_canon.specs.Reads.{Reads};
+ghost use Rattle.capn_canon.specs.Refusal.{IsMisframed};
+ghost use Rattle.capn_canon.specs.declared.form.Form.TheVariants as forms;
+ghost use Rattle.capn_c.specs.MemoryAsked.{MayAsk};
+
+use capn_canon::Refusal;
+use capn_few::{FewSegments, first_few};
+use capn_walk::Limits;
+
+/// The message of which bytes are the frame, or why they are none; `None` if that needs memory, as a whole frame of
+/// more than 64 segments does.
+pub fn read_frame<'a>(bytes: &'a [u8], limits: Limits) -> Option<Result<FewSegments<'a>, Refusal>>
+    ensures read { IfSome result (λ r. IfOk r (λ m. Reads forms.Stream bytes.now limits.message_words m)) }
+    ensures refused { IfSome result (λ r. IfErr r (λ e. IsMisframed bytes.now limits.message_words e)) }
+    ensures more { result ≡ None → MayAsk forms.Stream bytes.now limits }
+{
+    match first_few(bytes, limits.message_words())? {
+        Ok((message, taken)) => {
+            if taken < bytes.len() {
+                return Some(Err(Refusal::Trailing(taken as u64)));
+            }
+            Some(Ok(message))
+        }
+        Err(fault) => Some(Err(Refusal::Frame(fault))),
+    }
+}

@@ -1,0 +1,63 @@
+//! The first message in a stream, if it has few segments.
+
+ghost use Rattle.std.specs.Prelude.{◌≡◌, ◌≢◌, ℕ, ◌≤◌, List, Some, None, Ok, length, IfOk, IfErr, IfSome};
+ghost use Rattle.capn_words.specs.Message.{most_message_words};
+ghost use Rattle.capn_stream.specs.Frames.{StandsFirst};
+ghost use Rattle.capn_stream.specs.FrameRefusal.{IsFrameRefused, IsWhole, announced_segments, announced_words};
+ghost use Rattle.capn_few.specs.Few.{HasMore, most_few};
+
+use crate::few_segments::{FewSegments, MOST_ENDS};
+use crate::table::{Head, ends_of, head_of, read_head};
+use capn_stream::FrameFault;
+use capn_words::Bare;
+
+/// The message of a whole frame whose table announces at most 64 segments, and the number of bytes that it takes.
+fn message_of<'a>(bytes: &'a [u8], max_words: u32, head: Head) -> (FewSegments<'a>, usize)
+    requires small { max_words ≤ most_message_words }
+    requires whole { IsWhole bytes.now max_words }
+    requires segments { head.segments ≡ announced_segments bytes.now }
+    requires words { head.words ≡ announced_words bytes.now }
+    requires few { head.segments ≤ most_few }
+    ensures { StandsFirst bytes.now max_words result.0 result.1 }
+{
+    let start = head_of(head.segments);
+    let end = start + 8 * head.words;
+    let count = head.segments - 1;
+    let ends = ends_of(&bytes[4..], count);
+    match Bare::new(&bytes[start..end]) {
+        Ok(words) => (FewSegments::new(words, ends, count), end),
+        Err(_) => unreachable!(),
+    }
+}
+
+/// The message whose frame comes first in the bytes, and the number of bytes that it takes, or why there is none;
+/// `None` of a whole frame of more than 64 segments.
+///
+/// It answers what `capn_stream::first` answers where that message has at most 64 segments, and refuses what that
+/// refuses, the tests being made in the same order. It takes no memory. (Page: serialization over a stream; the order
+/// of the tests and the number are our own.)
+pub fn first_few<'a>(
+    bytes: &'a [u8],
+    max_words: u32,
+) -> Option<Result<(FewSegments<'a>, usize), FrameFault>>
+    requires { max_words ≤ most_message_words }
+    // What each answer means, and that each such message is answered.
+    ensures found { IfSome result (λ r. IfOk r (λ answer. StandsFirst bytes.now max_words answer.0 answer.1)) }
+    ensures only { (message : List (List ℕ)) (taken : ℕ) → StandsFirst bytes.now max_words message taken
+        → length message ≤ most_few → result ≡ Some (Ok (message, taken)) }
+    // What each refusal means: memory is never refused.
+    ensures refused { IfSome result (λ r. IfErr r (λ e. IsFrameRefused bytes.now max_words e)) }
+    ensures no_memory { IfSome result (λ r. IfErr r (λ e. e ≢ FrameFault.Memory)) }
+    // No answer means that a whole frame of more segments comes first.
+    ensures more { result ≡ None → HasMore bytes.now max_words }
+{
+    match read_head(bytes, max_words) {
+        Ok(head) => {
+            if head.segments > MOST_ENDS + 1 {
+                return None;
+            }
+            Some(Ok(message_of(bytes, max_words, head)))
+        }
+        Err(fault) => Some(Err(fault)),
+    }
+}
