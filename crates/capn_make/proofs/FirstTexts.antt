@@ -1,5 +1,6 @@
 -- Texts that begin an input, and one more.
-use Rattle.std.proofs.Common.{◌≡◌, ℕ, ◌+◌, ◌==◌, List, [], ◌∷◌, ◌++◌, cond, refl, sym, ap, ◌∙◌, append_assoc, arith}
+use Rattle.std.proofs.Common.{◌≡◌, Bool, true, false, ℕ, ◌+◌, ◌≤◌, ◌==◌, List, [], ◌∷◌, ◌++◌, length, cond}
+use Rattle.std.proofs.Common.{refl, sym, ap, ◌∙◌, append_assoc, arith}
 use Rattle.std.proofs.lemmas.List.{append-nil}
 use Rattle.std.specs.List.{AllByRecursion}
 use Rattle.capn_value.specs.Tree.{Tree}
@@ -9,6 +10,10 @@ use Rattle.capn_canon.specs.declared.form.Form.{Form}
 use Rattle.capn_make.specs.WrittenValue.{IsMakeable, IsWrittenValue, AreMade}
 use Rattle.capn_make.specs.MadeInput.{AreFirst}
 
+one_at_most : (b : Bool) → cond b 1 0 ≤ 1
+one_at_most true = omega arith
+one_at_most false = omega arith
+
 pub lines_append : (x y : List ℕ) → ended_lines (x ++ y) ≡ ended_lines x + ended_lines y
 lines_append [] y = omega arith
 lines_append (c ∷ cs) y =
@@ -16,6 +21,13 @@ lines_append (c ∷ cs) y =
     let k : cond (c == 10) 1 0 + ended_lines (cs ++ y) ≡ cond (c == 10) 1 0 + ended_lines cs + ended_lines y =
     omega arith in
     k
+
+pub lines_within : (x : List ℕ) → ended_lines x ≤ length x
+lines_within [] = omega arith
+lines_within (c ∷ cs) =
+    let h = lines_within cs in
+    let k : cond (c == 10) 1 0 ≤ 1 = one_at_most (c == 10) in
+    omega arith
 
 all_more : (vs : List Tree) (v : Tree) → AllByRecursion IsMakeable vs → IsMakeable v
     → AllByRecursion IsMakeable (vs ++ v ∷ [])

@@ -11,11 +11,11 @@ use Rattle.capn_value.specs.InRange.{InRange}
 use Rattle.capn_value.specs.Text.{show_text}
 use Rattle.capn_value.specs.declared.misfit.Misfit.{Misfit}
 use Rattle.capn_text.specs.Showable.{IsShowable}
-use Rattle.capn_text.specs.Streams.{Place, end_line, ended_text, stream_text, MayGoOn, few}
+use Rattle.capn_text.specs.Streams.{Place, end_line, stream_text, MayGoOn, few}
 use Rattle.capn_canon.specs.declared.form.Form.{Form}
 use Rattle.capn_canon.specs.declared.form.Form.TheVariants as forms
 use Rattle.capn_make.specs.WrittenValue.{IsMakeable}
-use Rattle.capn_make.specs.MadeInput.{AreFirst, IsTextRefused, IsWrong, Follows, line_after}
+use Rattle.capn_make.specs.MadeInput.{AreFirst, IsTextRefused, IsUnended, IsWrong, Follows, line_after}
 use Rattle.capn_make.specs.Endings.{Ends, IsWhole, IsLostForGood}
 use Rattle.capn_make.specs.Laws.{OneEnding, FaultStays}
 use Rattle.capn_make.specs.inner.RunParts.{HasMade, IsMadeSo, GoesOn, TellsRefusal, IsLostAt, IsOpenAt, TellsCut}
@@ -23,6 +23,8 @@ use Rattle.capn_make.specs.inner.RunParts.{IsWholeFrom, is_lost}
 use Rattle.capn_make.specs.declared.fault.MakeFault.{MakeFault}
 use Rattle.capn_make.specs.declared.fault.MakeFault.TheVariants as faults
 use Rattle.capn_make.proofs.FirstTexts.{first_more}
+use Rattle.capn_make.proofs.NextTexts.{none_left}
+use Rattle.capn_make.proofs.Unended.{nothing_unended}
 use Rattle.capn_make.proofs.OneText.{none_at, none_yet, one_at, whole_input}
 use Rattle.capn_make.proofs.WhateverFollows.{first_on, whole_from, whole_to}
 
@@ -196,6 +198,16 @@ nothing_read forms.Stream input ends n far = ends.3
 nothing_read forms.Packed input ends n far = ends.3
 nothing_read forms.Bare input ends n far = let none = ap length (nothing_by input ends) in omega arith
 
+-- and nothing of it is left
+nothing_left : (form : Form) (input made : List ℕ) (place : Place) → HasMade form input place made
+    → Ends form input (Err faults.NoText) → place.rest ≡ []
+nothing_left forms.Stream input made place m ends = absurd ends.3
+nothing_left forms.Packed input made place m ends = absurd ends.3
+nothing_left forms.Bare input made place m ends =
+    let none = ap length (nothing_by input ends) in
+    let parts = ap length m.first.are ∙ length-append (stream_text m.values) place.rest in
+    none_left place.rest (omega arith)
+
 -- before the first line's text none is made
 none_of : (form : Form) (input made : List ℕ) (place : Place) → (m : HasMade form input place made)
     → (form ≡ forms.Bare → place.line ≡ 1) → form ≡ forms.Bare → m.values ≡ []
@@ -233,6 +245,7 @@ module _ (one : OneEnding) (form : Form) where
         let ends = so_ends form input made (Ok u) h.1 in (
           h.0,
           (λ good. let same = one form input (Ok u) (Err good.0) ends good.1 in absurd cc, well_ended input ends),
+          subst IsUnended (sym h.2) nothing_unended,
         )
 
     may_go_on : (n : ℕ) → HasMade form input place made → (form ≡ forms.Bare → place.line ≡ 1)
@@ -270,6 +283,7 @@ module _ (one : OneEnding) (form : Form) where
         → is_lost fault cut ≡ true → (more : List ℕ) → IsMadeSo form (input ++ more) made (Err fault)
     found_by faults.Memory cut m tells final more = absurd cc
     found_by faults.Io cut m tells final more = absurd cc
+    found_by faults.InputTooLong cut m tells final more = absurd cc
     found_by (faults.NotText n) true m tells final more = absurd cc
     found_by (faults.NotText n) false m tells final more =
         lost_made form input made place n more m ((tells n refl).1 refl)
@@ -283,12 +297,28 @@ module _ (one : OneEnding) (form : Form) where
         → IsNotLost input
     unfinished_by faults.Memory cut m tells final half ends = absurd (half tt)
     unfinished_by faults.Io cut m tells final half ends = absurd (half tt)
-    unfinished_by (faults.NotText n) true m tells final half ends = open_end n m ((tells n refl).0 refl) ends
+    unfinished_by faults.InputTooLong cut m tells final half ends = absurd (half tt)
+    unfinished_by (faults.NotText n) true m tells final half ends = open_end n m ((tells n refl).0 refl).0 ends
     unfinished_by (faults.NotText n) false m tells final half ends = absurd cc
     unfinished_by (faults.Misfit n k) cut m tells final half ends = absurd (half tt)
     unfinished_by (faults.Capability n index) cut m tells final half ends = absurd (half tt)
     unfinished_by (faults.Another n) cut m tells final half ends = absurd (half tt)
     unfinished_by faults.NoText cut m tells final half ends = λ n far good. nothing_read form input ends n far
+
+    -- then no text stands with its end
+    unended_by : (fault : MakeFault) (cut : Bool) → HasMade form input place made → TellsCut form place cut fault
+        → is_lost fault cut ≡ false → (IsWholeFrom place.line place.rest fault → ⊥) → Ends form input (Err fault)
+        → IsUnended place.rest
+    unended_by faults.Memory cut m tells final half ends = absurd (half tt)
+    unended_by faults.Io cut m tells final half ends = absurd (half tt)
+    unended_by faults.InputTooLong cut m tells final half ends = absurd (half tt)
+    unended_by (faults.NotText n) true m tells final half ends = ((tells n refl).0 refl).1
+    unended_by (faults.NotText n) false m tells final half ends = absurd cc
+    unended_by (faults.Misfit n k) cut m tells final half ends = absurd (half tt)
+    unended_by (faults.Capability n index) cut m tells final half ends = absurd (half tt)
+    unended_by (faults.Another n) cut m tells final half ends = absurd (half tt)
+    unended_by faults.NoText cut m tells final half ends =
+        subst IsUnended (sym (nothing_left form input made place m ends)) nothing_unended
 
     module _ (fault : MakeFault) (cut : Bool) (other : fault ≡ faults.Memory → ⊥)
         (h : GoesOn form input place made (Err fault)) (tells : TellsCut form place cut fault) where
@@ -330,5 +360,6 @@ module _ (one : OneEnding) (form : Form) where
                 half (subst (λ n. IsWholeFrom n place.rest fault) (sym m.line) from),
             unfinished_by fault cut m tells final half (so_ends form input made (Err fault) so),
           ),
+          unended_by fault cut m tells final half (so_ends form input made (Err fault) so),
         )
       ]

@@ -2,6 +2,7 @@ pub mod CanonBytes
 pub mod Failures
 pub mod FramesOfCanon
 pub mod FirstTexts
+pub mod Unended
 pub mod NextTexts
 pub mod OneText
 pub mod RunEnds
@@ -9,7 +10,9 @@ pub mod OneReading
 pub mod OneRefusal
 pub mod OneBare
 pub mod ShownTexts
+pub mod Decided
 pub mod WhateverFollows
 pub mod Endings
 pub mod TestedInput
+pub mod UnderWay
 pub mod FoundRefusal

@@ -122,7 +122,7 @@ module _ (form : Form) (input : List ℕ) where
   pub all_made : (place : Place) (made : List ℕ) (u : Unit {0}) → (form ≡ forms.Bare → ⊥)
       → HasMade form input place made → place.rest ≡ [] → GoesOn form input place made (Ok u)
   all_made place made u framed h over =
-      (h, made_so form input made (Ok u) framed (h.values, place.rest, h.first, h.are, over))
+      (h, made_so form input made (Ok u) framed (h.values, place.rest, h.first, h.are, over), over)
 
   pub next_refused : (A : Type 0) (old new : Place) (made : List ℕ) (fault : MakeFault) → (form ≡ forms.Bare → ⊥)
       → HasMade form input old made → MakesNext {A = A} form old new (Err fault)
@@ -191,7 +191,10 @@ pub end_tells : (place : Place) (cut : Bool) (r : Result (Unit {0}) MakeFault) �
     → IfErr r (λ e. TellsEnd place cut e) → IfErr r (λ e. TellsCut forms.Bare place cut e)
 end_tells place cut (Ok u) later h = tt
 end_tells place cut (Err e) later h =
-    λ n is. (λ b. inr (refl, later, (h n is).0 b), λ b. inr (refl, later, (h n is).1 b))
+    λ n is. (
+      λ b. let t = (h n is).0 b in (inr (refl, later, t.0), t.1),
+      λ b. inr (refl, later, (h n is).1 b),
+    )
 
 pub not_text_is : (m n : ℕ) → faults.NotText m ≡ faults.NotText n → m ≡ n
 not_text_is m n e = cc

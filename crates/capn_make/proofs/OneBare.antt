@@ -3,22 +3,24 @@ use Rattle.std.proofs.Common.{◌≡◌, inl, inr, ℕ, List, [], ◌∷◌, Ok,
 use Rattle.capn_value.specs.Tree.{Tree}
 use Rattle.capn_text.specs.Laws.{TextsAreApart, FittingIsShowable, OneWrongLine, WrongIsNotDeep, DeepIsHigh}
 use Rattle.capn_canon.specs.Layout.{canon}
-use Rattle.capn_make.specs.MadeInput.{AreFirst, IsTextRefused, IsNotOne, Follows, line_after}
+use Rattle.capn_make.specs.MadeInput.{AreFirst, IsStuck, IsTextRefused, IsNotOne, Follows, line_after}
 use Rattle.capn_make.specs.Laws.{OneBareMaking}
 use Rattle.capn_make.specs.declared.fault.MakeFault.{MakeFault}
 use Rattle.capn_make.specs.declared.fault.MakeFault.TheVariants as faults
-use Rattle.capn_make.proofs.OneReading.{IsStuck, nothing_stuck, next_same, shown, next_of, refused_stuck}
+use Rattle.capn_make.proofs.OneReading.{nothing_stuck, next_same, shown, next_of, refused_stuck}
 use Rattle.capn_make.proofs.OneRefusal.{nothing_refused, nothing_follows, one_fault}
 
 -- one thing follows
 one_follows : (line : ℕ) (rest : List ℕ) (f g : MakeFault) → Follows line rest f → Follows line rest g → f ≡ g
 one_follows line rest faults.Memory g h k = absurd h
 one_follows line rest faults.Io g h k = absurd h
+one_follows line rest faults.InputTooLong g h k = absurd h
 one_follows line rest (faults.Misfit n m) g h k = absurd h
 one_follows line rest (faults.Capability n i) g h k = absurd h
 one_follows line rest faults.NoText g h k = absurd h
 one_follows line rest (faults.NotText n) faults.Memory h k = absurd k
 one_follows line rest (faults.NotText n) faults.Io h k = absurd k
+one_follows line rest (faults.NotText n) faults.InputTooLong h k = absurd k
 one_follows line rest (faults.NotText n) (faults.Misfit i m) h k = absurd k
 one_follows line rest (faults.NotText n) (faults.Capability i j) h k = absurd k
 one_follows line rest (faults.NotText n) faults.NoText h k = absurd k
@@ -26,6 +28,7 @@ one_follows line rest (faults.NotText n) (faults.NotText i) h k = ap (λ a. faul
 one_follows line rest (faults.NotText n) (faults.Another i) h k = absurd (h.2 k.1 k.2)
 one_follows line rest (faults.Another n) faults.Memory h k = absurd k
 one_follows line rest (faults.Another n) faults.Io h k = absurd k
+one_follows line rest (faults.Another n) faults.InputTooLong h k = absurd k
 one_follows line rest (faults.Another n) (faults.Misfit i m) h k = absurd k
 one_follows line rest (faults.Another n) (faults.Capability i j) h k = absurd k
 one_follows line rest (faults.Another n) faults.NoText h k = absurd k

@@ -14,16 +14,12 @@ use Rattle.capn_text.specs.Laws.{TextsAreApart, FittingIsShowable, DeepIsHigh}
 use Rattle.capn_text.specs.Showable.{IsShowable}
 use Rattle.capn_text.specs.Streams.{end_line, stream_text}
 use Rattle.capn_make.specs.WrittenValue.{IsMakeable}
-use Rattle.capn_make.specs.MadeInput.{IsTextRefused, EndsAfter, line_after}
+use Rattle.capn_make.specs.MadeInput.{IsStuck, IsTextRefused, EndsAfter, line_after}
 use Rattle.capn_make.specs.declared.fault.MakeFault.{MakeFault}
 use Rattle.capn_make.specs.declared.fault.MakeFault.TheVariants as faults
 
 past_end : (x y : List ℕ) → end_line ++ x ≡ end_line ++ y → x ≡ y
 past_end x y e = cc
-
--- no text of a value that can be made is next with its end
-abbrev pub IsStuck : List ℕ → Type 0
-IsStuck rest = (v : Tree) (more : List ℕ) → IsMakeable v → rest ≡ show_text v ++ (end_line ++ more) → ⊥
 
 pub nothing_stuck : IsStuck []
 nothing_stuck v more one e =
@@ -53,6 +49,7 @@ module _ (apart : TextsAreApart) (shows : FittingIsShowable) where
     pub refused_stuck : (line : ℕ) (rest : List ℕ) (fault : MakeFault) → IsTextRefused line rest fault → IsStuck rest
     refused_stuck line rest faults.Memory h v more one e = absurd h
     refused_stuck line rest faults.Io h v more one e = absurd h
+    refused_stuck line rest faults.InputTooLong h v more one e = absurd h
     refused_stuck line rest (faults.NotText n) h v more one e =
         h.none v more (shown v one) (fit_parts v one.fits).low e
     refused_stuck line rest (faults.Misfit n m) h v more one e = elim h.1 [

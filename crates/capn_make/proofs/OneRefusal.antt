@@ -44,6 +44,7 @@ deep_some h =
 pub nothing_refused : (line : ℕ) (fault : MakeFault) → IsTextRefused line [] fault → ⊥
 nothing_refused line faults.Memory h = h
 nothing_refused line faults.Io h = h
+nothing_refused line faults.InputTooLong h = h
 nothing_refused line (faults.NotText n) h = h.some refl
 nothing_refused line (faults.Misfit n m) h = elim h.1 [
   | inl deep ↦ deep_some deep.1
@@ -56,6 +57,7 @@ nothing_refused line faults.NoText h = h
 pub nothing_follows : (line : ℕ) (fault : MakeFault) → Follows line [] fault → ⊥
 nothing_follows line faults.Memory h = h
 nothing_follows line faults.Io h = h
+nothing_follows line faults.InputTooLong h = h
 nothing_follows line (faults.NotText n) h = h.1 refl
 nothing_follows line (faults.Misfit n m) h = h
 nothing_follows line (faults.Capability n index) h = h
@@ -138,10 +140,12 @@ module _ (apart : TextsAreApart) (shows : FittingIsShowable) (one_line : OneWron
       → f ≡ g
   one_fault line rest faults.Memory g h k = absurd h
   one_fault line rest faults.Io g h k = absurd h
+  one_fault line rest faults.InputTooLong g h k = absurd h
   one_fault line rest (faults.Another n) g h k = absurd h
   one_fault line rest faults.NoText g h k = absurd h
   one_fault line rest (faults.NotText n) faults.Memory h k = absurd k
   one_fault line rest (faults.NotText n) faults.Io h k = absurd k
+  one_fault line rest (faults.NotText n) faults.InputTooLong h k = absurd k
   one_fault line rest (faults.NotText n) (faults.Another i) h k = absurd k
   one_fault line rest (faults.NotText n) faults.NoText h k = absurd k
   one_fault line rest (faults.NotText n) (faults.NotText i) h k = wrongs line rest n i h k
@@ -149,6 +153,7 @@ module _ (apart : TextsAreApart) (shows : FittingIsShowable) (one_line : OneWron
   one_fault line rest (faults.NotText n) (faults.Capability i j) h k = absurd (wrong_cap line rest n i j h k)
   one_fault line rest (faults.Misfit n m) faults.Memory h k = absurd k
   one_fault line rest (faults.Misfit n m) faults.Io h k = absurd k
+  one_fault line rest (faults.Misfit n m) faults.InputTooLong h k = absurd k
   one_fault line rest (faults.Misfit n m) (faults.Another i) h k = absurd k
   one_fault line rest (faults.Misfit n m) faults.NoText h k = absurd k
   one_fault line rest (faults.Misfit n m) (faults.NotText i) h k = absurd (wrong_misfit line rest i n m k h)
@@ -156,6 +161,7 @@ module _ (apart : TextsAreApart) (shows : FittingIsShowable) (one_line : OneWron
   one_fault line rest (faults.Misfit n m) (faults.Capability i j) h k = absurd (misfit_cap line rest n i j m h k)
   one_fault line rest (faults.Capability n l) faults.Memory h k = absurd k
   one_fault line rest (faults.Capability n l) faults.Io h k = absurd k
+  one_fault line rest (faults.Capability n l) faults.InputTooLong h k = absurd k
   one_fault line rest (faults.Capability n l) (faults.Another i) h k = absurd k
   one_fault line rest (faults.Capability n l) faults.NoText h k = absurd k
   one_fault line rest (faults.Capability n l) (faults.NotText i) h k = absurd (wrong_cap line rest i n l k h)

@@ -39,6 +39,7 @@ pub ends_for_a_reason : (place : Place) (r : Result (Unit {0}) MakeFault) → En
 ends_for_a_reason place (Ok u) h e = absurd cc
 ends_for_a_reason place (Err faults.Memory) h e = h
 ends_for_a_reason place (Err faults.Io) h e = h
+ends_for_a_reason place (Err faults.InputTooLong) h e = h
 ends_for_a_reason place (Err (faults.NotText n)) h e = absurd cc
 ends_for_a_reason place (Err (faults.Misfit n m)) h e = h
 ends_for_a_reason place (Err (faults.Capability n index)) h e = h
@@ -81,7 +82,7 @@ module _ (input : List ℕ) (place : Place) (made : List ℕ) (h : HasMade forms
       let first = subst (λ vs. AreFirst vs input place.rest) one.1 h.first in
       let are = subst (λ vs. AreMade forms.Bare vs made) one.1 h.are in
       let text = are.4 ∙ ap (λ t. are.0 ++ t) are.3 ∙ append-nil are.0 ∙ are.2 in
-      (h, (one.0, subst (AreFirst (one.0 ∷ []) input) over first, text))
+      (h, (one.0, subst (AreFirst (one.0 ∷ []) input) over first, text), over)
   ends_so (Err fault) later follows =
       let one = one_at h.values place.line h.line later (h.few refl) in
       let first = subst (λ vs. AreFirst vs input place.rest) one.1 h.first in

@@ -1,10 +1,8 @@
 -- An input that is made, and tested, as it grows.
-use Rattle.std.proofs.Common.{◌≡◌, ◌≢◌, inl, inr, ℕ, ◌+◌, ◌*◌, ◌≤◌, List, [], ◌++◌, length, take, drop, Bool, false}
-use Rattle.std.proofs.Common.{Option, Ok, Err, refl, sym, ap, subst, ◌∙◌, append_assoc, arith}
+use Rattle.std.proofs.Common.{◌≡◌, ◌≢◌, inl, inr, ℕ, ◌+◌, ◌*◌, ◌≤◌, List, [], ◌++◌, length, take, drop}
+use Rattle.std.proofs.Common.{Ok, Err, refl, sym, ap, subst, ◌∙◌, append_assoc, arith}
 use Rattle.std.proofs.lemmas.Bool.{cases_lt}
 use Rattle.std.proofs.lemmas.List.{append-nil, length-append, take-append-drop, take-append-le}
-use Rattle.std.specs.Io.KnownBytes.{Consumes, IsAtEnd}
-use Rattle.std.proofs.KnownBytes.{Consumes-trans}
 use Rattle.capn_text.specs.Streams.{Place, stream_text}
 use Rattle.capn_canon.specs.declared.form.Form.{Form}
 use Rattle.capn_canon.specs.declared.form.Form.TheVariants as forms
@@ -12,8 +10,7 @@ use Rattle.capn_text.specs.Streams.{few}
 use Rattle.capn_make.specs.Endings.{IsWhole, IsRefusedForGood, IsLostForGood}
 use Rattle.capn_make.specs.Laws.{RefusalStays, OneEnding}
 use Rattle.capn_make.specs.MakeRun.{AreInTime}
-use Rattle.capn_make.specs.inner.RunParts.{HasMade, HasTested, HasNotRead, IsNotYet, ReadsChunk}
-use Rattle.capn_make.specs.declared.fault.MakeFault.{MakeFault}
+use Rattle.capn_make.specs.inner.RunParts.{HasMade, HasTested, IsNotYet}
 use Rattle.capn_make.specs.declared.fault.MakeFault.TheVariants as faults
 use Rattle.capn_make.proofs.NextTexts.{none_left}
 use Rattle.capn_make.proofs.WhateverFollows.{first_on}
@@ -80,13 +77,13 @@ made_on form input made rest more line h = record {
 }
 
 -- what is left is no more than the input
-left_within : (form : Form) (input made : List ℕ) (place : Place) → HasMade form input place made
+pub left_within : (form : Form) (input made : List ℕ) (place : Place) → HasMade form input place made
     → length place.rest ≤ length input
 left_within form input made place h =
     let parts = ap length h.first.are ∙ length-append (stream_text h.values) place.rest in omega arith
 
 -- what is left was read
-some_left : (form : Form) (input made : List ℕ) (place : Place) → HasMade form input place made → place.rest ≢ []
+pub some_left : (form : Form) (input made : List ℕ) (place : Place) → HasMade form input place made → place.rest ≢ []
     → input ≢ []
 some_left form input made place h some none =
     let within = left_within form input made place h in
@@ -94,31 +91,18 @@ some_left form input made place h some none =
     some (none_left place.rest (omega arith))
 
 -- bytes with some after them are some
-some_after : (xs ys : List ℕ) → ys ≢ [] → xs ++ ys ≢ []
+pub some_after : (xs ys : List ℕ) → ys ≢ [] → xs ++ ys ≢ []
 some_after xs ys some none =
     let all = length-append xs ys in
     let empty = ap length none in
     some (none_left ys (omega arith))
 
--- what was read and made so far, and more of it that has come
-pub record HasRead (form : Form) (a c : Option (List ℕ)) (failed : Bool) (made rest : List ℕ) (line tested count : ℕ)
-    : Type 0 where
-  pub bytes : List ℕ
-  pub read : Consumes a c bytes
-  pub time : AreInTime form bytes
-  pub made_so_far : HasMade form bytes (record { rest = rest; line = line }) made
-  pub tested_so_far : HasTested form tested bytes rest
-  pub at_end : count ≡ 0 → IsAtEnd c
-  pub some : (count ≡ 0 → ⊥) → bytes ≢ []
-  pub fine : failed ≡ false
-
-module _ (stays : RefusalStays) (form : Form) (tested : ℕ) (a b c : Option (List ℕ)) (failed : Bool)
-    (input made rest new : List ℕ) (line : ℕ) (read : Consumes a b input)
+module _ (stays : RefusalStays) (form : Form) (tested : ℕ) (input made rest : List ℕ) (line : ℕ)
     (m : HasMade form input (record { rest = rest; line = line }) made) (h : HasTested form tested input rest)
     (short : length rest ≤ 4 * tested) where
   -- What is left is not much more than was tested of it. So all that was read is no more than in time, with the bytes
   -- of one more call.
-  in_time : (more : List ℕ) → length more ≤ 65536 → AreInTime form (input ++ more)
+  pub in_time : (more : List ℕ) → length more ≤ 65536 → AreInTime form (input ++ more)
   in_time more small n =
       let cut = ap (λ t. t ++ more) h.are ∙ append_assoc h.front h.more more in
       let size = h.size in
@@ -138,49 +122,3 @@ module _ (stays : RefusalStays) (form : Form) (tested : ℕ) (a b c : Option (Li
               absurd (h.not_yet.1 n (omega arith) (subst (IsLostForGood form) same lost)))
         ],
       )
-
-  -- the reader failed, or memory was refused
-  pub failed_at : (fault : MakeFault) → ReadsChunk b c failed rest new (Err fault)
-      → (bytes : List ℕ) × Consumes a c bytes × AreInTime form bytes
-      × (HasNotRead failed fault × (fault ≡ faults.Memory → bytes ≢ []))
-  failed_at fault step = (
-    input ++ step.0,
-    Consumes-trans a b c input step.0 read step.1,
-    in_time step.0 step.2,
-    (step.3.0, λ e. some_after input step.0 (step.3.1 e)),
-  )
-
-  -- it gave bytes, or none at its end
-  pub read_at : (count : ℕ) → ReadsChunk b c failed rest new (Ok count)
-      → HasRead form a c failed made new line tested count
-  read_at count step =
-      let is = step.3.0 in
-      record {
-        bytes = input ++ step.0;
-        read = Consumes-trans a b c input step.0 read step.1;
-        time = in_time step.0 step.2;
-        made_so_far = subst (λ t. HasMade form (input ++ step.0) (record { rest = t; line = line }) made) (sym is)
-            (made_on form input made rest step.0 line m);
-        tested_so_far = subst (HasTested form tested (input ++ step.0)) (sym is)
-            (more_tested form tested input rest step.0 h);
-        at_end = step.3.2;
-        some = λ more. some_after input step.0 (λ none. more (step.3.1 ∙ ap length none));
-        fine = step.3.3;
-      }
-
--- memory was refused after that
-pub refused_at : (form : Form) (a c : Option (List ℕ)) (failed : Bool) (made rest : List ℕ) (line tested count : ℕ)
-    → (r : HasRead form a c failed made rest line tested count) → r.bytes ≢ []
-    → (bytes : List ℕ) × Consumes a c bytes × AreInTime form bytes
-    × (HasNotRead failed faults.Memory × (faults.Memory ≡ faults.Memory → bytes ≢ []))
-refused_at form a c failed made rest line tested count r some =
-    (r.bytes, r.read, r.time, (inl (refl, r.fine), λ e. some))
-
--- it was refused for what is left
-pub refused_for : (form : Form) (a c : Option (List ℕ)) (failed : Bool) (made rest : List ℕ) (line tested count : ℕ)
-    → HasRead form a c failed made rest line tested count → rest ≢ []
-    → (bytes : List ℕ) × Consumes a c bytes × AreInTime form bytes
-    × (HasNotRead failed faults.Memory × (faults.Memory ≡ faults.Memory → bytes ≢ []))
-refused_for form a c failed made rest line tested count r some =
-    refused_at form a c failed made rest line tested count r
-    (some_left form r.bytes made (record { rest = rest; line = line }) r.made_so_far some)

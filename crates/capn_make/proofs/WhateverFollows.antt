@@ -20,6 +20,7 @@ pub whole_from : (vs : List Tree) (input rest : List ℕ) (fault : MakeFault) �
     → IsWhole input fault → IsWholeFrom (line_after vs) rest fault
 whole_from vs input rest faults.Memory first whole = tt
 whole_from vs input rest faults.Io first whole = tt
+whole_from vs input rest faults.InputTooLong first whole = tt
 whole_from vs input rest (faults.NotText n) first whole =
     let e = ap ended_lines first.are ∙ lines_append (stream_text vs) rest in omega arith
 whole_from vs input rest (faults.Misfit n m) first whole = tt
@@ -31,6 +32,7 @@ pub whole_to : (vs : List Tree) (input rest : List ℕ) (fault : MakeFault) → 
     → IsWholeFrom (line_after vs) rest fault → IsWhole input fault
 whole_to vs input rest faults.Memory first whole = tt
 whole_to vs input rest faults.Io first whole = tt
+whole_to vs input rest faults.InputTooLong first whole = tt
 whole_to vs input rest (faults.NotText n) first whole =
     let e = ap ended_lines first.are ∙ lines_append (stream_text vs) rest in omega arith
 whole_to vs input rest (faults.Misfit n m) first whole = tt
@@ -41,6 +43,7 @@ whole_to vs input rest faults.NoText first whole = whole
 whole_on : (input more : List ℕ) (fault : MakeFault) → IsWhole input fault → IsWhole (input ++ more) fault
 whole_on input more faults.Memory h = tt
 whole_on input more faults.Io h = tt
+whole_on input more faults.InputTooLong h = tt
 whole_on input more (faults.NotText n) h = let e = lines_append input more in omega arith
 whole_on input more (faults.Misfit n m) h = tt
 whole_on input more (faults.Capability n index) h = tt
@@ -61,10 +64,11 @@ first_on vs input rest more first = record {
 }
 
 module _ (wrong : WrongLineStays) (none : NoTextGoesOn) (deep : DeepStays) (first : NoBeginningComes) where
-  text_stays : (line : ℕ) (rest more : List ℕ) (fault : MakeFault) → IsWholeFrom line rest fault
+  pub text_stays : (line : ℕ) (rest more : List ℕ) (fault : MakeFault) → IsWholeFrom line rest fault
       → IsTextRefused line rest fault → IsTextRefused line (rest ++ more) fault
   text_stays line rest more faults.Memory whole h = h
   text_stays line rest more faults.Io whole h = h
+  text_stays line rest more faults.InputTooLong whole h = h
   text_stays line rest more (faults.NotText n) whole h =
       let k = h.first.0 in
       let at = h.first.1 in
@@ -92,6 +96,7 @@ module _ (wrong : WrongLineStays) (none : NoTextGoesOn) (deep : DeepStays) (firs
       → Follows line rest fault → Follows line (rest ++ more) fault
   follows_stays line rest more faults.Memory whole h = h
   follows_stays line rest more faults.Io whole h = h
+  follows_stays line rest more faults.InputTooLong whole h = h
   follows_stays line rest more (faults.NotText n) whole h =
       let at = h.0 in
       (h.0, λ e. h.1 (nil_front rest more (sym e)), λ v b. h.2 v (first rest more v (omega arith) b))

@@ -27,6 +27,7 @@ Ends forms.Bare input ending = EndsOnly input ending
 abbrev pub IsWhole : List ℕ → MakeFault → Type 0
 IsWhole input faults.Memory = ⊤
 IsWhole input faults.Io = ⊤
+IsWhole input faults.InputTooLong = ⊤
 IsWhole input (faults.NotText n) = n ≤ ended_lines input
 IsWhole input (faults.Misfit n m) = ⊤
 IsWhole input (faults.Capability n index) = ⊤

@@ -9,16 +9,18 @@ use Rattle.capn_make.specs.declared.fault.MakeFault.TheVariants as faults
 abbrev pub fault_text : MakeFault → List ℕ
 fault_text faults.Memory = codes "out of memory"
 fault_text faults.Io = codes "input or output failed"
+fault_text faults.InputTooLong = codes "input too long"
 fault_text (faults.NotText n) = codes "line " ++ (decimal n ++ codes ": not the text of a value")
 fault_text (faults.Misfit n misfit) = codes "line " ++ (decimal n ++ (codes ": " ++ misfit_name misfit))
 fault_text (faults.Capability n index) = codes "line " ++ (decimal n ++ (codes ": capability " ++ decimal index))
 fault_text (faults.Another n) = codes "line " ++ (decimal n ++ codes ": another text")
 fault_text faults.NoText = codes "line 1: no text"
 
--- 1 where the input is refused, 3 where memory, the reader or the writer failed
+-- 1 where the input is refused, 3 where memory, the reader or the writer failed or the input is too long
 abbrev pub status_of : MakeFault → ℕ
 status_of faults.Memory = 3
 status_of faults.Io = 3
+status_of faults.InputTooLong = 3
 status_of (faults.NotText n) = 1
 status_of (faults.Misfit n misfit) = 1
 status_of (faults.Capability n index) = 1

@@ -11,7 +11,7 @@ use Rattle.capn_canon.specs.Layout.{canon}
 use Rattle.capn_canon.specs.declared.form.Form.{Form}
 use Rattle.capn_canon.specs.declared.form.Form.TheVariants as forms
 use Rattle.capn_make.specs.WrittenValue.{IsMakeable, AreMade, framed}
-use Rattle.capn_make.specs.MadeInput.{AreFirst, Makes, MakesEach, MakesOne}
+use Rattle.capn_make.specs.MadeInput.{AreFirst, IsStuck, IsUnended, Makes, MakesEach, MakesOne}
 use Rattle.capn_make.specs.Endings.{Ends, IsWhole, IsRefusedForGood}
 use Rattle.capn_make.specs.declared.fault.MakeFault.{MakeFault}
 
@@ -57,6 +57,25 @@ FaultStays = (form : Form) (input more text : List ℕ) (fault : MakeFault) → 
 abbrev pub RefusalStays : Type 0
 RefusalStays = (form : Form) (input more : List ℕ) → IsRefusedForGood form input
     → IsRefusedForGood form (input ++ more)
+
+-- the texts that are whole in some bytes are those of one list of values
+abbrev pub OneDeciding : Type 0
+OneDeciding = (vs ws : List Tree) (bytes rest left : List ℕ) → AreFirst vs bytes rest → IsStuck rest
+    → AreFirst ws bytes left → IsStuck left → (vs ≡ ws) × (rest ≡ left)
+
+-- and they are the first whatever follows
+abbrev pub DecidedStay : Type 0
+DecidedStay = (vs ws : List Tree) (bytes more rest left : List ℕ) → AreFirst vs bytes rest → IsStuck rest
+    → AreFirst ws (bytes ++ more) left → IsStuck left → (us : List Tree) × (ws ≡ vs ++ us)
+
+-- where no text of any value is next with its end, none of a value that can be made is
+abbrev pub UnendedIsStuck : Type 0
+UnendedIsStuck = (rest : List ℕ) → IsUnended rest → IsStuck rest
+
+-- where texts are refused for good, no other one of a value that can be made comes, whatever follows
+abbrev pub RefusedIsStuck : Type 0
+RefusedIsStuck = (form : Form) (vs : List Tree) (input rest more : List ℕ) → (form ≡ forms.Bare → ⊥)
+    → IsRefusedForGood form input → AreFirst vs input rest → IsStuck rest → IsStuck (rest ++ more)
 
 -- an input ends in one way
 abbrev pub OneEnding : Type 0

@@ -26,6 +26,15 @@ pub record AreFirst (vs : List Tree) (input rest : List ℕ) : Type 0 where
 abbrev pub line_after : List Tree → ℕ
 line_after vs = 1 + ended_lines (stream_text vs)
 
+-- no text of a value that can be made is next with its end
+abbrev pub IsStuck : List ℕ → Type 0
+IsStuck rest = (v : Tree) (more : List ℕ) → IsMakeable v → rest ≡ show_text v ++ (end_line ++ more) → ⊥
+
+-- no text of a value of at most 256 levels, fit or not, is next with its end
+abbrev pub IsUnended : List ℕ → Type 0
+IsUnended rest = (v : Tree) (more : List ℕ) → IsShowable v → height v ≤ most_height
+    → rest ≢ show_text v ++ (end_line ++ more)
+
 -- Something is left, from a line on, and no text of a value of at most 256 levels, fit or not, is next with its end.
 -- Line n is the first that doesn't go on with one.
 pub record IsWrong (line : ℕ) (rest : List ℕ) (n : ℕ) : Type 0 where
@@ -39,6 +48,7 @@ pub record IsWrong (line : ℕ) (rest : List ℕ) (n : ℕ) : Type 0 where
 abbrev pub IsTextRefused : ℕ → List ℕ → MakeFault → Type 0
 IsTextRefused line rest faults.Memory = ⊥
 IsTextRefused line rest faults.Io = ⊥
+IsTextRefused line rest faults.InputTooLong = ⊥
 IsTextRefused line rest (faults.NotText n) = IsWrong line rest n
 IsTextRefused line rest (faults.Misfit n m) = (n ≡ line)
     × (((m ≡ Tall) × GoesTooDeep rest) ⊎ ((v : Tree) × (more : List ℕ) × InRange v × IsShowable v
@@ -63,6 +73,7 @@ MakesEach form input text ending = (vs : List Tree) × (rest : List ℕ) × AreF
 abbrev pub Follows : ℕ → List ℕ → MakeFault → Type 0
 Follows line rest faults.Memory = ⊥
 Follows line rest faults.Io = ⊥
+Follows line rest faults.InputTooLong = ⊥
 Follows line rest (faults.NotText n) = (n ≡ line) × (rest ≢ []) × ((v : Tree) → BeginsAs rest v → ⊥)
 Follows line rest (faults.Misfit n m) = ⊥
 Follows line rest (faults.Capability n index) = ⊥

@@ -16,6 +16,8 @@ pub enum MakeFault {
     Memory,
     /// The reader or the writer failed.
     Io,
+    /// The input has 2^64 bytes or more.
+    InputTooLong,
     /// The first line that doesn't go on with a text and its end. A line that is missing is the one after the last.
     NotText(u64),
     /// The value of the text that begins at this line fits into no message.
@@ -29,12 +31,13 @@ pub enum MakeFault {
 }
 
 impl MakeFault {
-    /// The exit status of a run that ends so: 1 if the input is refused, 3 if memory, the reader or the writer failed.
+    /// The exit status of a run that ends so: 1 if the input is refused, 3 if memory, the reader or the writer failed
+    /// or the input is too long.
     pub fn status(self) -> u8
         ensures { result ≡ status_of self }
     {
         match self {
-            MakeFault::Memory | MakeFault::Io => 3,
+            MakeFault::Memory | MakeFault::Io | MakeFault::InputTooLong => 3,
             MakeFault::NotText(_)
             | MakeFault::Misfit(_, _)
             | MakeFault::Capability(_, _)
@@ -55,6 +58,7 @@ impl fmt::Display for MakeFault {
         match self {
             MakeFault::Memory => write!(f, "out of memory"),
             MakeFault::Io => write!(f, "input or output failed"),
+            MakeFault::InputTooLong => write!(f, "input too long"),
             MakeFault::NotText(line) => write!(f, "line {line}: not the text of a value"),
             MakeFault::Misfit(line, misfit) => write!(f, "line {line}: {misfit}"),
             MakeFault::Capability(line, index) => write!(f, "line {line}: capability {index}"),

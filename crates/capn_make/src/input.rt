@@ -1,19 +1,17 @@
-//! An input, made as it comes, to its end or as far as it takes to know that it is refused.
+//! An input, made and written as it comes, to its end or as far as it takes to know that it is refused.
 
-ghost use Rattle.std.specs.Prelude.{◌≡◌, ◌≢◌, ◌<◌, ◌≤◌, ℕ, List, [], false, length, MatchResult};
-ghost use Rattle.std.specs.Io.KnownBytes.{Consumes};
+ghost use Rattle.std.specs.Prelude.{◌≡◌, ◌<◌, ◌≤◌, ◌+◌, ◌^◌, ℕ, List, false, length, MatchOption, MatchResult};
 ghost use Rattle.capn_words.specs.Watched.{inner_of, has_failed};
-ghost use Rattle.capn_make.specs.MakeRun.{AreInTime};
-ghost use Rattle.capn_make.specs.inner.RunParts.{EndsMaking, HasNotRead, ReadsChunk};
-ghost use Rattle.capn_make.specs.declared.fault.MakeFault.TheVariants as faults;
+ghost use Rattle.capn_make.specs.inner.RunParts.{EndsMaking, HasStopped, IsRun, ReadsChunk};
 
+use crate::end_line::is_due;
 use crate::fault::MakeFault;
 use crate::laws::refusing;
 use crate::progress::{Outcome, Progress};
 use capn_canon::Form;
 use capn_words::Watched;
 use std::alloc::Allocator;
-use std::io::Read;
+use std::io::{Read, Write};
 
 /// The most bytes that one call of a reader is asked for.
 const CHUNK: usize = 65_536;
@@ -39,22 +37,34 @@ fn read_chunk<R: Read, A: Allocator>(
     }
 }
 
-/// Reads an input to its end, or until it is known to be refused whatever follows, and makes each text once it is
-/// whole.
+/// How many bytes came with these, unless there are 2^64 or more, which takes centuries.
+fn counted(taken: u64, count: usize) -> Option<u64>
+    ensures { MatchOption result (2 ^ 64 ≤ taken + count) (λ sum. (sum ≡ taken + count) × (sum < 2 ^ 64)) }
+{
+    taken.checked_add(count as u64)
+}
+
+/// Reads an input to its end, or until it is known to be refused whatever follows, makes each text once it is whole,
+/// and writes what was made before it reads again. In form bare nothing is written. Answers what is still to be
+/// written.
 ///
-/// What is left is looked at when the first bytes have come, and then each time there are four times as many as were
-/// left the last time: so a text is read once, and again only while it is unfinished, which costs no more than one
-/// reading of four thirds of it. All bytes grow on `alloc`, a logarithmic number of times.
-pub(crate) fn make_input<R: Read, A: Allocator + Copy>(
+/// What is left is looked at when the first bytes have come, and then each time a line that ends a text has, or there
+/// are four times as many as were left the last time: so a text is read once, and again only while it is unfinished,
+/// which costs no more than one reading of four thirds of it. All bytes grow on `alloc`, a logarithmic number of times.
+pub(crate) fn make_input<R: Read, W: Write, A: Allocator + Copy>(
     alloc: A,
     form: Form,
     reader: &mut Watched<R>,
+    writer: &mut Watched<W>,
 ) -> Result<Outcome<A>, MakeFault>
-    requires { has_failed reader.old ≡ false }
-    ensures { (bytes : List ℕ) × Consumes (R.remaining (inner_of reader.old)) (R.remaining (inner_of reader.new)) bytes
-        × AreInTime form bytes × MatchResult result
-        (λ o. EndsMaking form (R.remaining (inner_of reader.new)) (has_failed reader.new) bytes o.text.items o.ending)
-        (λ fault. HasNotRead (has_failed reader.new) fault × (fault ≡ faults.Memory → bytes ≢ [])) }
+    requires reader_fine { has_failed reader.old ≡ false }
+    requires writer_fine { has_failed writer.old ≡ false }
+    ensures { (bytes : List ℕ) × IsRun form (R.remaining (inner_of reader.old)) (R.remaining (inner_of reader.new))
+        (W.contents (inner_of writer.old)) (W.contents (inner_of writer.new)) bytes × MatchResult result
+        (λ o. EndsMaking form (R.remaining (inner_of reader.new)) (W.contents (inner_of writer.old))
+        (W.contents (inner_of writer.new)) (has_failed reader.new) (has_failed writer.new) bytes o.text.items o.ending)
+        (λ fault. HasStopped form (W.contents (inner_of writer.old)) (W.contents (inner_of writer.new))
+        (has_failed reader.new) (has_failed writer.new) bytes fault) }
 {
     refusing();
     let mut progress = Progress {
@@ -66,19 +76,20 @@ pub(crate) fn make_input<R: Read, A: Allocator + Copy>(
     let mut tested = 0;
     let mut taken: u64 = 0;
     'chunks: loop {
+        let before = progress.rest.len();
         let count = read_chunk(reader, &mut chunk, &mut progress.rest)?;
         if count == 0 {
             return Ok(progress.finish(alloc, form)?);
         }
-        // An input of 2^64 bytes takes centuries.
-        let Some(sum) = taken.checked_add(count as u64) else {
-            return Err(MakeFault::Memory);
+        let Some(sum) = counted(taken, count) else {
+            return Err(MakeFault::InputTooLong);
         };
         taken = sum;
-        if tested <= progress.rest.len() / 4 {
+        if is_due(&progress.rest, before, tested) {
             if let Some(fault) = progress.find_refusal(alloc, form)? {
                 return Ok(progress.end(form, Err(fault)));
             }
+            progress.write_made(form, writer)?;
             tested = progress.rest.len();
         }
     }

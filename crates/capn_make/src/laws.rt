@@ -3,6 +3,7 @@
 ghost use Rattle.capn_make.specs.Laws.{ShownAreMade, ShownAreMadeOnly, OneShownIsMade, OneShownIsMadeOnly};
 ghost use Rattle.capn_make.specs.Laws.{FramedAreFrames, OneMaking, OneBareMaking, OneTextInFrames};
 ghost use Rattle.capn_make.specs.Laws.{FaultStays, RefusalStays, OneEnding, MakingEnds};
+ghost use Rattle.capn_make.specs.Laws.{OneDeciding, DecidedStay, UnendedIsStuck, RefusedIsStuck};
 
 use capn_canon::laws::canonicity;
 use capn_text::laws::{refusals, texts, whole_lines};
@@ -36,6 +37,24 @@ pub fn refusing()
     ensures goes_on { RefusalStays }
     ensures one { OneEnding }
     ensures ends { MakingEnds }
+{
+    texts();
+    refusals();
+    whole_lines();
+}
+
+/// The texts that are whole in some bytes have one list of values, which is the beginning of that of more bytes.
+pub fn deciding()
+    ensures one { OneDeciding }
+    ensures stay { DecidedStay }
+    ensures unended { UnendedIsStuck }
+{
+    texts();
+}
+
+/// Where the texts of some bytes are refused for good, no other one is whole, whatever follows.
+pub fn stuck()
+    ensures { RefusedIsStuck }
 {
     texts();
     refusals();

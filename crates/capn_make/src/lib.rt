@@ -5,6 +5,7 @@
 //! [`MakeFault`], which names the line.
 #![tactic(auto)]
 
+mod end_line;
 mod fault;
 mod input;
 pub mod laws;

@@ -20,17 +20,21 @@ use std::io::{Read, Write};
 /// order; those before it have been written. In form `Bare` nothing is written then, and more than one text is
 /// `Another`, or `NotText` if the line after the first text begins none; no text is `NoText`. In the other forms an
 /// input without texts is done. `Io` if and only if the reader or the writer failed; `Memory` if a growth was refused,
-/// which takes some bytes, or the input has 2^64 bytes, which takes centuries.
+/// which takes some bytes; `InputTooLong` for an input of 2^64 bytes and more that isn't refused before, which takes
+/// centuries.
 ///
-/// The reader is asked for at most 65,536 bytes at once. What is made of the texts so far is held until the end of the
-/// input, beside the text that is unfinished, one value and what is written of it. What a text announces is never
+/// The reader is asked for at most 65,536 bytes at once, and what is made of the texts that are whole by then is
+/// written before it is asked again: if it fails, what was written is what is made of all texts that it gave with their
+/// ends. Form `Bare` alone writes at the end of the input. What is held is the text that is unfinished and, once it is
+/// whole, its value and what is written of it, with what is made of one piece. What a text announces is never
 /// allocated.
 ///
-/// An input that is refused whatever follows isn't read to its end: if n bytes are enough to refuse it, by a text that
-/// is there with its line `end`, by one that goes too deep, or by a wrong line with its line end, at most
-/// 4 n + 65,536 bytes are taken. A line is refused before its end, too, once it can't become one that may stand there:
-/// then n is counted with 2,048 bytes more, since only a line of the digits of a list is longer. To test for that, an
-/// unfinished text is read again each time there are four times as many bytes of it.
+/// An input that is refused whatever follows isn't read to its end. A text that is refused once it is whole, as by a
+/// misfit, is refused in the piece that its end came with. If n bytes are enough to refuse an input otherwise, by a
+/// text that goes too deep or by a wrong line with its line end, at most 4 n + 65,536 bytes are taken. A line is
+/// refused before its end, too, once it can't become one that may stand there: then n is counted with 2,048 bytes more,
+/// since only a line of the digits of a list is longer. To test for that, an unfinished text is read again each time
+/// there are four times as many bytes of it.
 pub fn make<R: Read, W: Write, A: Allocator + Copy>(
     alloc: A,
     form: Form,
@@ -48,7 +52,7 @@ pub fn make<R: Read, W: Write, A: Allocator + Copy>(
     ensures memory { IsErrOf result MakeFault.Memory
         → TakesBytes (R.remaining (inner_of reader.old)) (R.remaining (inner_of reader.new)) }
 {
-    let outcome = make_input(alloc, form, reader)?;
+    let outcome = make_input(alloc, form, reader, writer)?;
     write_all(writer, &outcome.text)?;
     outcome.ending
 }

@@ -1,21 +1,28 @@
 //! How far an input is made that comes piece by piece.
 
-ghost use Rattle.std.specs.Prelude.{◌≡◌, ◌≢◌, ◌≤◌, ℕ, List, [], length, drop, true, false, IfOk, IfErr, IsErrOf, OnErr};
+ghost use Rattle.std.specs.Prelude.{◌≡◌, ◌≢◌, ◌≤◌, ℕ, List, [], ◌++◌, length, drop, true, false};
+ghost use Rattle.std.specs.Prelude.{IfOk, IfErr, IsErrOf, OnErr};
+ghost use Rattle.capn_words.specs.Watched.{inner_of, has_failed};
+ghost use Rattle.capn_canon.specs.declared.form.Form.TheVariants as forms;
 ghost use Rattle.capn_make.specs.inner.RunParts as spec;
-ghost use Rattle.capn_make.specs.inner.RunParts.{GoesOn, HasMade, IsMadeSo, IsWholeFrom, TellsCut, TellsRefusal};
+ghost use Rattle.capn_make.specs.inner.RunParts.{GoesOn, HasMade, HasRoom, IsMadeSo, IsWholeFrom, TellsCut};
+ghost use Rattle.capn_make.specs.inner.RunParts.{TellsRefusal, WritesMade};
 ghost use Rattle.capn_make.specs.MadeInput.{Makes};
 
 use crate::fault::MakeFault;
 use crate::laws::refusing;
+use crate::output::write_all;
 use crate::whole_texts::make_texts;
 use capn_canon::Form;
 use capn_text::{Texts, lines_in};
+use capn_words::Watched;
 use std::alloc::{AllocError, Allocator};
+use std::io::Write;
 
 /// What was made of an input so far, and what is left of it.
 #[derive(Drop)]
 pub(crate) struct Progress<A: Allocator> {
-    /// What was made of its first texts.
+    /// What was made of its first texts and isn't written yet.
     pub(crate) made: Vec<u8, A>,
     /// What comes after them.
     pub(crate) rest: Vec<u8, A>,
@@ -23,7 +30,7 @@ pub(crate) struct Progress<A: Allocator> {
     pub(crate) line: u64,
 }
 
-/// What is to be written of an input, and how it ends.
+/// What is still to be written of an input, and how it ends.
 #[derive(Drop)]
 pub(crate) struct Outcome<A: Allocator> {
     pub(crate) text: Vec<u8, A>,
@@ -60,6 +67,7 @@ fn is_lost(fault: MakeFault, cut: bool) -> bool
         MakeFault::NotText(_) => !cut,
         MakeFault::Memory
         | MakeFault::Io
+        | MakeFault::InputTooLong
         | MakeFault::NoText
         | MakeFault::Misfit(_, _)
         | MakeFault::Capability(_, _)
@@ -71,16 +79,18 @@ impl<A: Allocator + Copy> Progress<A> {
     /// Makes the texts that are complete by now, and keeps what is left. Answers how the input ends if nothing follows,
     /// and after a wrong line, by `cut`, whether more bytes may make it another.
     fn go_on(&mut self, alloc: A, form: Form, cut: &mut bool) -> Result<(), MakeFault>
-        ensures made { (input : List ℕ)
-            → HasMade form input (record { rest = self.old.rest.items; line = self.old.line }) self.old.made.items
-            → GoesOn form input (record { rest = self.new.rest.items; line = self.new.line }) self.new.made.items
-            result }
+        requires { HasRoom self.old.line self.old.rest.items }
+        ensures made { (input : List ℕ) (written : List ℕ)
+            → HasMade form input (record { rest = self.old.rest.items; line = self.old.line })
+            (written ++ self.old.made.items)
+            → GoesOn form input (record { rest = self.new.rest.items; line = self.new.line })
+            (written ++ self.new.made.items) result }
         ensures cut { IfErr result (λ e. TellsCut form
             (record { rest = self.new.rest.items; line = self.new.line }) cut.new e) }
         ensures memory { IsErrOf result MakeFault.Memory → self.old.rest.items ≢ [] }
     {
         let Some(mut texts) = Texts::from_line(&self.rest, self.line) else {
-            return Err(MakeFault::Memory);
+            unreachable!()
         };
         let ending = make_texts(alloc, form, &mut texts, &mut self.made, cut);
         let line = texts.line();
@@ -97,10 +107,12 @@ impl<A: Allocator + Copy> Progress<A> {
         alloc: A,
         form: Form,
     ) -> Result<Option<MakeFault>, AllocError>
-        ensures found { IfOk result (λ told. (input : List ℕ)
-            → HasMade form input (record { rest = self.old.rest.items; line = self.old.line }) self.old.made.items
+        requires { HasRoom self.old.line self.old.rest.items }
+        ensures found { IfOk result (λ told. (input : List ℕ) (written : List ℕ)
+            → HasMade form input (record { rest = self.old.rest.items; line = self.old.line })
+            (written ++ self.old.made.items)
             → TellsRefusal form input (record { rest = self.new.rest.items; line = self.new.line })
-            self.new.made.items told) }
+            (written ++ self.new.made.items) told) }
         ensures memory { OnErr result (self.old.rest.items ≢ []) }
     {
         refusing();
@@ -122,10 +134,29 @@ impl<A: Allocator + Copy> Progress<A> {
         }
     }
 
-    /// What is to be written of an input that ends so. In form bare that is nothing, unless it ends well.
+    /// Writes what was made. In form bare it is kept: nothing is written before the end.
+    pub(crate) fn write_made<W: Write>(
+        &mut self,
+        form: Form,
+        writer: &mut Watched<W>,
+    ) -> Result<(), MakeFault>
+        requires { has_failed writer.old ≡ false }
+        ensures wrote { WritesMade form (W.contents (inner_of writer.old)) (W.contents (inner_of writer.new))
+            (has_failed writer.new) self.old.made.items self.new.made.items result }
+        ensures kept { (self.new.rest ≡ self.old.rest) × (self.new.line ≡ self.old.line) }
+    {
+        if let Form::Stream | Form::Packed = form {
+            write_all(writer, &self.made)?;
+            self.made.clear();
+        }
+        Ok(())
+    }
+
+    /// What is still to be written of an input that ends so. In form bare that is nothing, unless it ends well.
     pub(crate) fn end(self, form: Form, ending: Result<(), MakeFault>) -> Outcome<A>
-        ensures { (input : List ℕ) → IsMadeSo form input self.made.items ending
-            → Makes form input result.text.items result.ending }
+        ensures { (input : List ℕ) (written : List ℕ) → (form ≡ forms.Bare → written ≡ [])
+            → IsMadeSo form input (written ++ self.made.items) ending
+            → Makes form input (written ++ result.text.items) result.ending }
     {
         let mut text = self.made;
         if let (Form::Bare, Err(_)) = (form, ending) {
@@ -134,11 +165,12 @@ impl<A: Allocator + Copy> Progress<A> {
         Outcome { text, ending }
     }
 
-    /// What is to be written of an input to which nothing follows.
+    /// What is still to be written of an input to which nothing follows.
     pub(crate) fn finish(mut self, alloc: A, form: Form) -> Result<Outcome<A>, AllocError>
-        ensures made { IfOk result (λ outcome. (input : List ℕ)
-            → HasMade form input (record { rest = self.rest.items; line = self.line }) self.made.items
-            → Makes form input outcome.text.items outcome.ending) }
+        requires { HasRoom self.line self.rest.items }
+        ensures made { IfOk result (λ outcome. (input : List ℕ) (written : List ℕ) → (form ≡ forms.Bare → written ≡ [])
+            → HasMade form input (record { rest = self.rest.items; line = self.line }) (written ++ self.made.items)
+            → Makes form input (written ++ outcome.text.items) outcome.ending) }
         ensures memory { OnErr result (self.rest.items ≢ []) }
     {
         let mut cut = false;

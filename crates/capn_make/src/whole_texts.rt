@@ -1,6 +1,6 @@
 //! The texts that are complete in what is left of an input.
 
-ghost use Rattle.std.specs.Prelude.{◌≡◌, ◌≢◌, ℕ, List, [], IfErr, IsErrOf};
+ghost use Rattle.std.specs.Prelude.{◌≡◌, ◌≢◌, ℕ, List, [], ◌++◌, IfErr, IsErrOf};
 ghost use Rattle.capn_canon.specs.declared.form.Form.TheVariants as forms;
 ghost use Rattle.capn_make.specs.inner.RunParts.{EndsOne, GoesOn, HasMade, IsAfter, TellsCut, TellsEnd};
 
@@ -20,8 +20,8 @@ fn make_each<A: Allocator + Copy>(
 ) -> Result<(), MakeFault>
     requires framed { form ≡ forms.Bare → ⊥ }
     ensures after { IsAfter texts.old texts.new }
-    ensures made { (input : List ℕ) → HasMade form input texts.old made.old.items
-        → GoesOn form input texts.new made.new.items result }
+    ensures made { (input : List ℕ) (written : List ℕ) → HasMade form input texts.old (written ++ made.old.items)
+        → GoesOn form input texts.new (written ++ made.new.items) result }
     ensures cut { IfErr result (λ e. TellsCut form texts.new cut.new e) }
     ensures memory { IsErrOf result MakeFault.Memory → texts.old.rest ≢ [] }
 {
@@ -56,8 +56,8 @@ fn make_first<A: Allocator + Copy>(
 ) -> Result<(), MakeFault>
     requires first { texts.old.line ≡ 1 }
     ensures after { IsAfter texts.old texts.new }
-    ensures made { (input : List ℕ) → HasMade forms.Bare input texts.old made.old.items
-        → GoesOn forms.Bare input texts.new made.new.items result }
+    ensures made { (input : List ℕ) (written : List ℕ) → HasMade forms.Bare input texts.old (written ++ made.old.items)
+        → GoesOn forms.Bare input texts.new (written ++ made.new.items) result }
     ensures cut { IfErr result (λ e. TellsCut forms.Bare texts.new cut.new e) }
     ensures memory { IsErrOf result MakeFault.Memory → texts.old.rest ≢ [] }
 {
@@ -76,8 +76,8 @@ fn make_one<A: Allocator + Copy>(
     cut: &mut bool,
 ) -> Result<(), MakeFault>
     ensures after { IsAfter texts.old texts.new }
-    ensures made { (input : List ℕ) → HasMade forms.Bare input texts.old made.old.items
-        → GoesOn forms.Bare input texts.new made.new.items result }
+    ensures made { (input : List ℕ) (written : List ℕ) → HasMade forms.Bare input texts.old (written ++ made.old.items)
+        → GoesOn forms.Bare input texts.new (written ++ made.new.items) result }
     ensures cut { IfErr result (λ e. TellsCut forms.Bare texts.new cut.new e) }
     ensures memory { IsErrOf result MakeFault.Memory → texts.old.rest ≢ [] }
 {
@@ -97,8 +97,8 @@ pub(crate) fn make_texts<A: Allocator + Copy>(
     cut: &mut bool,
 ) -> Result<(), MakeFault>
     ensures after { IsAfter texts.old texts.new }
-    ensures made { (input : List ℕ) → HasMade form input texts.old made.old.items
-        → GoesOn form input texts.new made.new.items result }
+    ensures made { (input : List ℕ) (written : List ℕ) → HasMade form input texts.old (written ++ made.old.items)
+        → GoesOn form input texts.new (written ++ made.new.items) result }
     ensures cut { IfErr result (λ e. TellsCut form texts.new cut.new e) }
     ensures memory { IsErrOf result MakeFault.Memory → texts.old.rest ≢ [] }
 {

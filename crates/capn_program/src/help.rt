@@ -247,15 +247,17 @@ pub const MAKE: Page = Page {
     more: "Each text is the value of one message, in the very form in which `show` writes
 it, with its line `end`. What is written are the canonical bytes of the value:
 as a message of one segment after its segment table, as that message packed, or
-as they are. A line that is wrong is named by its number, counted from 1.
-The input is held in memory until its end. A count takes no memory by itself.
+as they are. A message is written once its text is whole, and with
+`--form bare` at the end of the input. A line that is wrong is named by its
+number, counted from 1. A count takes no memory by itself.
 
 Exit status:
   0  Done
   1  A text was refused, or its value; those before it have been written, but
      with `--form bare` nothing
   2  The command line is wrong
-  3  Reading or writing failed, or memory ran out
+  3  Reading or writing failed, the input is longer than 2^64 - 1 bytes, or
+     memory ran out
 With 1 and 3 one line on standard error says why; the manual page explains it
 under DIAGNOSTICS.
 

@@ -11,3 +11,5 @@ mod making;
 mod pieces;
 #[cfg(test)]
 mod reading;
+#[cfg(test)]
+mod streaming;

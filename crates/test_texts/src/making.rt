@@ -213,9 +213,10 @@ fn shown_again(rt: HostRuntime) {
 }
 
 /// Faults, with their texts and statuses.
-const REPORTED: [(MakeFault, &str, u8); 8] = [
+const REPORTED: [(MakeFault, &str, u8); 9] = [
     (MakeFault::Memory, "out of memory", 3),
     (MakeFault::Io, "input or output failed", 3),
+    (MakeFault::InputTooLong, "input too long", 3),
     (
         MakeFault::NotText(12),
         "line 12: not the text of a value",

@@ -1,7 +1,9 @@
 -- What the parts of a run do.
-use Rattle.std.specs.Prelude.{◌≡◌, ◌≢◌, ◌⊎◌, ◌≤◌, ◌<◌, ⊤, ℕ, ◌+◌, List, [], ◌++◌, length, take, Bool, true, false, not}
+use Rattle.std.specs.Prelude.{◌≡◌, ◌≢◌, ◌⊎◌, ◌≤◌, ◌<◌, ⊤, ℕ, ◌+◌, ◌^◌, ◌==◌, List, [], ◌∷◌, ◌++◌, length, take}
+use Rattle.std.specs.Prelude.{Bool, true, false, not, cond}
 use Rattle.std.specs.Prelude.{Option, Some, None, Result, Ok, Err, Vec}
-use Rattle.std.specs.Io.KnownBytes.{Consumes, IsAtEnd}
+use Rattle.std.specs.Io.KnownBytes.{Appends, Consumes, IsAtEnd}
+use Rattle.capn_words.specs.Watched.{HasBegun}
 use Rattle.capn_value.specs.Tree.{Tree}
 use Rattle.capn_value.specs.FirstCap.{first_cap}
 use Rattle.capn_value.specs.Text.{show_text}
@@ -11,22 +13,20 @@ use Rattle.capn_text.specs.declared.fault.TextFault.TheVariants as texts
 use Rattle.capn_canon.specs.declared.form.Form.{Form}
 use Rattle.capn_canon.specs.declared.form.Form.TheVariants as forms
 use Rattle.capn_make.specs.WrittenValue.{IsMakeable, IsWrittenValue, AreMade}
-use Rattle.capn_make.specs.MadeInput.{AreFirst, IsTextRefused, IsWrong, IsNotOne, Follows, Makes, MakesEach, MakesOne}
-use Rattle.capn_make.specs.MadeInput.{line_after}
+use Rattle.capn_make.specs.MadeInput.{AreFirst, IsTextRefused, IsUnended, IsWrong, IsNotOne, Follows, Makes}
+use Rattle.capn_make.specs.MadeInput.{line_after, MakesEach, MakesOne}
+use Rattle.capn_make.specs.MakeRun.{AreInTime, HasBegunText, HasServed, IsAhead}
 use Rattle.capn_make.specs.Endings.{IsRefusedForGood, IsLostForGood}
 use Rattle.capn_make.specs.declared.fault.MakeFault.{MakeFault}
 use Rattle.capn_make.specs.declared.fault.MakeFault.TheVariants as faults
 
--- the reader has failed, or memory was refused
-abbrev pub HasNotRead : Bool → MakeFault → Type 0
-HasNotRead failed fault = ((fault ≡ faults.Memory) × (failed ≡ false)) ⊎ ((fault ≡ faults.Io) × (failed ≡ true))
-
--- A reader gave this many more bytes of an input, none only at its end; or it failed, or memory was refused for them,
--- after some.
+-- A reader gave this many more bytes of an input, none only at its end; or memory was refused for some; or it failed
+-- and gave none.
 abbrev pub GivesBytes : Option (List ℕ) → Bool → List ℕ → List ℕ → List ℕ → Result ℕ MakeFault → Type 0
 GivesBytes b failed old new bytes (Ok count) = (new ≡ old ++ bytes) × (count ≡ length bytes) × (count ≡ 0 → IsAtEnd b)
     × (failed ≡ false)
-GivesBytes b failed old new bytes (Err fault) = HasNotRead failed fault × (fault ≡ faults.Memory → bytes ≢ [])
+GivesBytes b failed old new bytes (Err fault) = ((fault ≡ faults.Memory) × (failed ≡ false) × (bytes ≢ []))
+    ⊎ ((fault ≡ faults.Io) × (failed ≡ true) × (bytes ≡ []))
 
 -- so by one call, of at most this many bytes
 abbrev pub ReadsChunk : Option (List ℕ) → Option (List ℕ) → Bool → List ℕ → List ℕ → Result ℕ MakeFault → Type 0
@@ -53,10 +53,11 @@ IsMadeSo forms.Bare input made (Err fault) = IsNotOne input fault
 abbrev pub HasCapability : MakeFault → Type 0
 HasCapability fault = (n : ℕ) × (index : ℕ) × (fault ≡ faults.Capability n index)
 
--- So it is made on, up to a place; or memory was refused. A capability is refused whatever follows: after it there is
--- no place.
+-- So it is made on, up to a place, or to the end; or memory was refused. A capability is refused whatever follows:
+-- after it there is no place.
 abbrev pub GoesOn : Form → List ℕ → Place → List ℕ → Result (Unit {0}) MakeFault → Type 0
 GoesOn form input place made (Ok u) = HasMade form input place made × IsMadeSo form input made (Ok u)
+    × (place.rest ≡ [])
 GoesOn form input place made (Err fault) = (fault ≡ faults.Memory)
     ⊎ ((HasCapability fault ⊎ HasMade form input place made) × IsMadeSo form input made (Err fault))
 
@@ -73,27 +74,28 @@ abbrev pub IsOpenAt : Form → Place → Type 0
 IsOpenAt form place = ((form ≡ forms.Bare → place.line ≡ 1) × MayGoOn place.rest)
     ⊎ ((form ≡ forms.Bare) × (place.line ≡ 1 → ⊥) × (length place.rest ≤ few))
 
--- whether a wrong line at a place may become another by what follows
+-- whether a wrong line at a place may become another by what follows: then no text stands there with its end
 abbrev pub TellsCut : Form → Place → Bool → MakeFault → Type 0
 TellsCut form place cut fault = (n : ℕ) → fault ≡ faults.NotText n
-    → (cut ≡ true → IsOpenAt form place) × (cut ≡ false → IsLostAt form place n)
+    → (cut ≡ true → IsOpenAt form place × IsUnended place.rest) × (cut ≡ false → IsLostAt form place n)
 
 -- whether one of the next text may
 abbrev pub TellsNext : Place → Bool → MakeFault → Type 0
 TellsNext place cut fault = (n : ℕ) → fault ≡ faults.NotText n
-    → (cut ≡ true → MayGoOn place.rest)
+    → (cut ≡ true → MayGoOn place.rest × IsUnended place.rest)
     × (cut ≡ false → (more : List ℕ) → IsWrong place.line (place.rest ++ more) n)
 
 -- what follows the one text may
 abbrev pub TellsEnd : Place → Bool → MakeFault → Type 0
 TellsEnd place cut fault = (n : ℕ) → fault ≡ faults.NotText n
-    → (cut ≡ true → length place.rest ≤ few)
+    → (cut ≡ true → (length place.rest ≤ few) × IsUnended place.rest)
     × (cut ≡ false → (more : List ℕ) → Follows place.line (place.rest ++ more) (faults.NotText n))
 
 -- what a fault is about is complete in what is left, from a line on
 abbrev pub IsWholeFrom : ℕ → List ℕ → MakeFault → Type 0
 IsWholeFrom line rest faults.Memory = ⊤
 IsWholeFrom line rest faults.Io = ⊤
+IsWholeFrom line rest faults.InputTooLong = ⊤
 IsWholeFrom line rest (faults.NotText n) = n < line + ended_lines rest
 IsWholeFrom line rest (faults.Misfit n m) = ⊤
 IsWholeFrom line rest (faults.Capability n index) = ⊤
@@ -104,6 +106,7 @@ IsWholeFrom line rest faults.NoText = ⊥
 abbrev pub is_lost : MakeFault → Bool → Bool
 is_lost faults.Memory cut = false
 is_lost faults.Io cut = false
+is_lost faults.InputTooLong cut = false
 is_lost (faults.NotText n) cut = not cut
 is_lost (faults.Misfit n m) cut = false
 is_lost (faults.Capability n index) cut = false
@@ -116,10 +119,11 @@ abbrev pub IsNotYet : Form → List ℕ → Type 0
 IsNotYet form input = (IsRefusedForGood form input → ⊥)
     × ((n : ℕ) → n + few ≤ length input → IsLostForGood form (take n input) → ⊥)
 
--- Whatever follows an input, this is made of it and so it ends; or it is made up to a place, and not refused for good.
+-- Whatever follows an input, this is made of it and so it ends; or it is made up to a place, where no text stands with
+-- its end, and not refused for good.
 abbrev pub TellsRefusal : Form → List ℕ → Place → List ℕ → Option MakeFault → Type 0
 TellsRefusal form input place made (Some fault) = (more : List ℕ) → IsMadeSo form (input ++ more) made (Err fault)
-TellsRefusal form input place made None = HasMade form input place made × IsNotYet form input
+TellsRefusal form input place made None = HasMade form input place made × IsNotYet form input × IsUnended place.rest
 
 -- This many of the bytes that are left were tested, with all before them: they are not refused for good.
 pub record HasTested (form : Form) (tested : ℕ) (input rest : List ℕ) : Type 0 where
@@ -129,10 +133,61 @@ pub record HasTested (form : Form) (tested : ℕ) (input rest : List ℕ) : Type
   pub size : length front + length rest ≡ length input + tested
   pub not_yet : IsNotYet form front
 
--- this was made of all bytes of a reader, or of some, whatever follows
-abbrev pub EndsMaking : Form → Option (List ℕ) → Bool → List ℕ → List ℕ → Result (Unit {0}) MakeFault → Type 0
-EndsMaking form b failed bytes text ending = Makes form bytes text ending
-    × (IsAtEnd b ⊎ ((more : List ℕ) → Makes form (bytes ++ more) text ending)) × (failed ≡ false)
+-- no line that ends a text stands in these bytes
+abbrev pub HoldsNoEnd : List ℕ → Type 0
+HoldsNoEnd bytes = (front : List ℕ) (rest : List ℕ) → bytes ≢ front ++ (end_line ++ rest)
+
+-- whether bytes begin with others
+abbrev pub begins_with : List ℕ → List ℕ → Bool
+begins_with [] bytes = true
+begins_with (c ∷ cs) [] = false
+begins_with (c ∷ cs) (d ∷ ds) = cond (c == d) (begins_with cs ds) false
+
+-- whether a line that ends a text stands in these bytes
+abbrev pub holds_end : List ℕ → Bool
+holds_end [] = false
+holds_end (c ∷ cs) = cond (begins_with end_line (c ∷ cs)) true (holds_end cs)
+
+-- the line and the bytes of a place are no more than 64 bits can count
+abbrev pub HasRoom : ℕ → List ℕ → Type 0
+HasRoom line rest = line + length rest < 2 ^ 64
+
+-- of what was made this was written, and that is still to be: of frames nothing, and in form bare all
+abbrev pub IsKept : Form → List ℕ → List ℕ → Type 0
+IsKept forms.Stream written made = made ≡ []
+IsKept forms.Packed written made = made ≡ []
+IsKept forms.Bare written made = written ≡ []
+
+-- what was made is written, and in form bare it is kept; or the writer fails at it
+abbrev pub WritesMade : Form → Option (List ℕ) → Option (List ℕ) → Bool → List ℕ → List ℕ
+    → Result (Unit {0}) MakeFault → Type 0
+WritesMade form c d failed old new (Ok u) = (failed ≡ false)
+    × (text : List ℕ) × Appends c d text × (old ≡ text ++ new) × IsKept form text new
+WritesMade form c d failed old new (Err fault) = (failed ≡ true) × (fault ≡ faults.Io) × (form ≡ forms.Bare → ⊥)
+    × HasBegun c d old
+
+-- What a run has read, in time, and written. All but the last piece of it was served before that was read.
+pub record IsRun (form : Form) (a b c d : Option (List ℕ)) (bytes : List ℕ) : Type 0 where
+  pub read : Consumes a b bytes
+  pub time : AreInTime form bytes
+  pub ahead : IsAhead (HasServed form) bytes c d
+  pub begun : HasBegunText form bytes c d
+
+-- Of all bytes of a reader this was made, or of some, whatever follows. All but this text of it is written.
+abbrev pub EndsMaking : Form → Option (List ℕ) → Option (List ℕ) → Option (List ℕ) → Bool → Bool → List ℕ → List ℕ
+    → Result (Unit {0}) MakeFault → Type 0
+EndsMaking form b c d read wrote bytes text ending = (written : List ℕ) × Appends c d written
+    × Makes form bytes (written ++ text) ending
+    × (IsAtEnd b ⊎ ((more : List ℕ) → Makes form (bytes ++ more) (written ++ text) ending))
+    × (read ≡ false) × (wrote ≡ false)
+
+-- the reader failed, and its bytes were served; or the writer failed; or memory was refused; or the input is too long
+abbrev pub HasStopped : Form → Option (List ℕ) → Option (List ℕ) → Bool → Bool → List ℕ → MakeFault → Type 0
+HasStopped form c d read wrote bytes fault =
+    ((fault ≡ faults.Io) × (read ≡ true) × (wrote ≡ false) × HasServed form bytes c d)
+    ⊎ (((fault ≡ faults.Io) × (read ≡ false) × (wrote ≡ true))
+    ⊎ (((fault ≡ faults.Memory) × (read ≡ false) × (wrote ≡ false) × (bytes ≢ []))
+    ⊎ ((fault ≡ faults.InputTooLong) × (read ≡ false) × (wrote ≡ false) × (2 ^ 64 ≤ length bytes))))
 
 -- whether the fault of a text is that of an unfinished one
 abbrev pub is_cut : TextFault → Bool

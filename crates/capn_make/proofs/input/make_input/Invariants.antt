@@ -1,19 +1,17 @@
-use Rattle.std.proofs.Common.{◌≡◌, ◌≤◌, ◌*◌, ◌-◌, ◌^◌, length, false, List, ℕ}
-use Rattle.std.specs.Io.KnownBytes.{Consumes}
+use Rattle.std.proofs.Common.{◌≡◌, ◌<◌, ◌-◌, ◌^◌, false}
 use Rattle.capn_words.specs.Watched.{inner_of, has_failed}
-use Rattle.capn_make.specs.inner.RunParts.{HasMade, HasTested}
+use Rattle.capn_make.proofs.UnderWay.{IsUnderWay}
 use Rattle.capn_make.proofs.input.make_input.Given as goal
 
--- The reader has not failed. Its bytes so far are made up to what is left, and those that were tested are not refused
--- for good.
+-- Neither the reader nor the writer has failed. The bytes so far are counted, made up to what is left, and written.
 abbrev pub invariant-chunks : goal.invariant-chunks
 invariant-chunks g l = record {
   fine : has_failed l.reader ≡ false;
-  bytes : List ℕ;
-  read : Consumes (g.R.Read.remaining (inner_of l.fn.reader)) (g.R.Read.remaining (inner_of l.reader)) bytes;
-  made : HasMade l.form bytes (record { rest = l.progress.rest.items; line = l.progress.line }) l.progress.made.items;
-  tested : HasTested l.form l.tested bytes l.progress.rest.items;
-  short : length l.progress.rest.items ≤ 4 * l.tested;
+  kept : has_failed l.writer ≡ false;
+  few : l.taken < 2 ^ 64;
+  way : IsUnderWay l.form (g.R.Read.remaining (inner_of l.fn.reader)) (g.R.Read.remaining (inner_of l.reader))
+      (g.W.Write.contents (inner_of l.fn.writer)) (g.W.Write.contents (inner_of l.writer)) l.progress.made.items
+      l.progress.rest.items l.progress.line l.tested l.taken;
 }
 
 -- no more bytes than this are counted

@@ -1,6 +1,6 @@
-use Rattle.std.proofs.Common.{◌≢◌, ◌++◌, [], sym, subst, ◌∙◌}
+use Rattle.std.proofs.Common.{◌≢◌, inr, ◌++◌, [], sym, subst, ◌∙◌}
 use Rattle.capn_text.specs.Streams.{MayGoOn}
-use Rattle.capn_make.specs.MadeInput.{IsWrong}
+use Rattle.capn_make.specs.MadeInput.{IsUnended, IsWrong}
 use Rattle.capn_make.specs.inner.RunParts.{unread}
 use Rattle.capn_make.proofs.NextTexts.{after_text, text_left, refused_text, refused_next, named_line, wrong_on}
 use Rattle.capn_make.proofs.next_text.next_piece.Goals as goal
@@ -34,7 +34,9 @@ returns-in-Err-clause-cut g c = λ n is.
     let e = c.in-Err.ensures in
     let some : old.rest ≢ [] = (λ none. let done = e.ended none in cc) in
     let named = named_line c.line-line.result c.in-Err.fault n (sym c.unread.ensures ∙ is) in (
-      λ cut. subst (λ p. MayGoOn p.rest) (sym e.kept) (e.open n (named.0 (sym c.is_cut.ensures ∙ cut))),
+      λ cut.
+          let is_cut = named.0 (sym c.is_cut.ensures ∙ cut) in
+          subst (λ p. MayGoOn p.rest × IsUnended p.rest) (sym e.kept) (e.open n is_cut, e.line n (inr is_cut)),
       λ cut more. subst (λ p. IsWrong p.line (p.rest ++ more) n) (sym e.kept)
           (wrong_on old.line old.rest more n some (e.lost n (named.1 (sym c.is_cut.ensures ∙ cut)) more)),
     )

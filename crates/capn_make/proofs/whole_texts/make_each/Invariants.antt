@@ -1,4 +1,4 @@
-use Rattle.std.proofs.Common.{ℕ, List, length}
+use Rattle.std.proofs.Common.{ℕ, List, ◌++◌, length}
 use Rattle.capn_make.specs.inner.RunParts.{HasMade, IsAfter}
 use Rattle.capn_make.proofs.whole_texts.make_each.Given as goal
 
@@ -6,7 +6,8 @@ use Rattle.capn_make.proofs.whole_texts.make_each.Given as goal
 abbrev pub invariant-texts : goal.invariant-texts
 invariant-texts g l = record {
   after : IsAfter l.fn.texts l.texts;
-  made : (input : List ℕ) → HasMade l.form input l.fn.texts l.fn.made.items → HasMade l.form input l.texts l.made.items;
+  made : (input : List ℕ) (written : List ℕ) → HasMade l.form input l.fn.texts (written ++ l.fn.made.items)
+      → HasMade l.form input l.texts (written ++ l.made.items);
 }
 
 abbrev pub decreases-texts : goal.decreases-texts

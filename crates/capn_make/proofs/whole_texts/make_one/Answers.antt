@@ -1,11 +1,11 @@
-use Rattle.std.proofs.Common.{arith}
+use Rattle.std.proofs.Common.{◌++◌, arith}
 use Rattle.capn_make.proofs.NextTexts.{end_tells}
 use Rattle.capn_make.proofs.OneText.{ends_for_a_reason, ends_so}
 use Rattle.capn_make.proofs.whole_texts.make_one.Goals as goal
 
 pub returns-clause-made : goal.returns-clause-made
-returns-clause-made g c = λ input h.
-    ends_so input c.args.texts.now c.args.made.now.items h c.end_of_one.result (λ e.
+returns-clause-made g c = λ input written h.
+    ends_so input c.args.texts.now (written ++ c.args.made.now.items) h c.end_of_one.result (λ e.
     let line = c.line.ensures in
     let later = c.if-line-eq1.false in
     absurd (omega arith)) c.end_of_one.ensures.end

@@ -1,4 +1,4 @@
-use Rattle.std.proofs.Common.{ap, sym, subst, ◌∙◌, arith}
+use Rattle.std.proofs.Common.{◌++◌, ap, sym, subst, ◌∙◌, arith}
 use Rattle.std.specs.Prelude.{IfErr}
 use Rattle.capn_text.specs.Streams.{Place}
 use Rattle.capn_make.specs.inner.RunParts.{HasMade, GoesOn, IsAfter, TellsCut}
@@ -6,7 +6,7 @@ use Rattle.capn_make.proofs.NextTexts.{place_is, left_after, dropped_after}
 use Rattle.capn_make.proofs.progress.Progress.go_on.Goals as goal
 
 pub returns-clause-made : goal.returns-clause-made
-returns-clause-made g c = λ input h.
+returns-clause-made g c = λ input written h.
     let was : Place = record { rest = c.args.self.now.rest.items; line = c.args.self.now.line } in
     let new = c.make_texts-ending.new.texts in
     let started = place_is c.in-Some.texts c.args.self.now.rest.items c.args.self.now.line
@@ -17,9 +17,9 @@ returns-clause-made g c = λ input h.
     let left = c.left.ensures in
     let less = left_after was new after in
     let dropped = c.drop_front.ensures ∙ dropped_after was new _ after (omega arith) in
-    let made = c.make_texts-ending.ensures.made input
-    (subst (λ p. HasMade c.args.form input p c.args.self.now.made.items) (sym started) h) in
-    subst (λ p. GoesOn c.args.form input p c.make_texts-ending.new.made.items c.make_texts-ending.result)
+    let made = c.make_texts-ending.ensures.made input written
+    (subst (λ p. HasMade c.args.form input p (written ++ c.args.self.now.made.items)) (sym started) h) in
+    subst (λ p. GoesOn c.args.form input p (written ++ c.make_texts-ending.new.made.items) c.make_texts-ending.result)
     (place_is new _ _ (sym dropped) (sym c.line-line.ensures)) made
 
 pub returns-clause-memory : goal.returns-clause-memory

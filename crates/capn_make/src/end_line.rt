@@ -1,0 +1,52 @@
+//! The line that ends a text.
+
+ghost use Rattle.std.specs.Prelude.{◌≡◌, ◌≤◌, ◌*◌, ◌-◌, ◌⊎◌, length, drop, true, false};
+ghost use Rattle.capn_text.specs.Streams.{end_line};
+ghost use Rattle.capn_make.specs.inner.RunParts as spec;
+ghost use Rattle.capn_make.specs.inner.RunParts.{begins_with};
+
+/// Whether that line stands at the front of these bytes.
+fn begins_with_end(bytes: &[u8]) -> bool
+    ensures { result ≡ begins_with end_line bytes.now }
+{
+    let end = *b"end\n";
+    let mut rest = bytes;
+    let mut left = end.as_slice();
+    while let [c, others @ ..] = left {
+        let [d, after @ ..] = rest else {
+            return false;
+        };
+        if *c != *d {
+            return false;
+        }
+        left = others;
+        rest = after;
+    }
+    true
+}
+
+/// Whether it stands in these bytes.
+fn holds_end(bytes: &[u8]) -> bool
+    ensures { result ≡ spec.holds_end bytes.now }
+{
+    let mut rest = bytes;
+    while let [_, after @ ..] = rest {
+        if begins_with_end(rest) {
+            return true;
+        }
+        rest = after;
+    }
+    false
+}
+
+/// Whether what is left of an input is to be looked at, which had this many bytes before some came, and as many the
+/// last time it was: there are four times as many now, or an end of a text has come.
+pub(crate) fn is_due(rest: &[u8], before: usize, tested: usize) -> bool
+    requires { before ≤ length rest.now }
+    ensures due { result ≡ true
+        → (4 * tested ≤ length rest.now) ⊎ (spec.holds_end (drop (before - 3) rest.now) ≡ true) }
+    ensures few { result ≡ false → length rest.now ≤ 4 * tested }
+    ensures none { result ≡ false → spec.holds_end (drop (before - 3) rest.now) ≡ false }
+{
+    tested <= rest.len() / 4 || holds_end(&rest[before.saturating_sub(3)..])
+}
