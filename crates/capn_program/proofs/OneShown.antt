@@ -116,7 +116,7 @@ module _ (show : Show) (q : PartTexts) where
   served_by x y [] like is = ap (λ (r : Run PartTexts). by r) is
   served_by x y (p ∷ ps) like (mid, part, step, more) = (
     by mid,
-    part,
+    record { frame = part.frame; room = part.room; going = part.going },
     step_by x mid p.frame p.text p.message like step,
     served_by mid y ps (next_like x mid p.frame p.text p.message like step) more,
   )
