@@ -72,15 +72,7 @@ func Check(message []byte, form Form, limits *Limits) (Checked, error) {
 
 // Survey has the figures of one message.
 func Survey(message []byte, form Form, limits *Limits) (Figures, error) {
-	l := limitsOf(limits)
-	if form == Packed {
-		words, err := Unpack(message, l.MessageWords+tableWords)
-		if err != nil {
-			return Figures{}, err
-		}
-		message, form = words, Stream
-	}
-	figures, status, r := callSurvey(form, message, l)
+	figures, status, r := callSurvey(form, message, limitsOf(limits))
 	if status != ok {
 		return Figures{}, failure(status, r)
 	}

@@ -132,8 +132,6 @@ def check(data: Buffer, form: Form = "stream", limits: Limits = _USUAL, *, in_pl
 
 def survey(data: Buffer, form: Form = "stream", limits: Limits = _USUAL, *, in_place: bool = False) -> Surveyed:
     """What one message has and costs, within limits."""
-    if form == "packed":
-        data, form = unpack(data, _laid_out(limits).message_words + 2049, in_place=in_place), "stream"
     figures = _new(_figures_type)
     _told(lib.capn_survey, data, form, limits, in_place, figures)
     return _surveyed(figures)
