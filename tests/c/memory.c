@@ -152,7 +152,8 @@ static void in_turn(void) {
     each("pack", packed, &stream, 1);
     each("unpack", unpacked, &pack, 1);
     each("first", first, &stream, 1);
-    each("survey, stream", surveyed, &stream, 2);
+    each("survey, 65 segments", surveyed, &more, 2);
+    each("survey, packed", surveyed, &pack, 4);
     each("index, bare", indexed, &bare, 2);
     each("index, stream", indexed, &stream, 3);
     each("index, 65 segments, no room", counted, &more, 1);
@@ -178,14 +179,17 @@ static void at_depth(uint32_t most, size_t depth, uint32_t wanted) {
     stream.size = frame(framed, 2, deep, bare.size);
     wants("check, two segments", checked, &stream, 0, wanted);
     wants("canonical, two segments", canonical, &stream, 0, wanted);
+    wants("survey, two segments", surveyed, &stream, 0, wanted);
     wants("index, two segments, no room", counted, &stream, 0, room);
     const input few = {CAPN_STREAM, many, frame(many, 64, deep, bare.size), limits};
     wants("check, 64 segments", checked, &few, 0, wanted);
     wants("canonical, 64 segments", canonical, &few, 0, wanted);
+    wants("survey, 64 segments", surveyed, &few, 0, wanted);
     wants("no room, 64 segments", measured, &few, 0, room);
     const input more = {CAPN_STREAM, many, frame(many, 65, deep, bare.size), limits};
     wants("check, 65 segments", checked, &more, 1, wanted);
     wants("no room, 65 segments", measured, &more, 1, room);
+    wants("survey, 65 segments", surveyed, &more, wanted == CAPN_OK ? 2 : 1, wanted);
 }
 
 /* What is refused as it is read needs no memory: nothing to pack or unpack, no whole words, a first group that is cut
@@ -212,6 +216,7 @@ static void unread(void) {
     wants("check of a cut table", checked, &table, 0, CAPN_FRAME_CUT);
     wants("check of too many segments", checked, &segments, 0, CAPN_TOO_MANY_SEGMENTS);
     wants("check of two segments without words", checked, &trailing, 0, CAPN_NO_ROOT);
+    wants("survey of two segments without words", surveyed, &trailing, 0, CAPN_NO_ROOT);
 }
 
 int main(void) {

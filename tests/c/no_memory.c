@@ -7,7 +7,8 @@
 
 enum { LINE = 1 << 22, ROOM = 1 << 20 };
 static char line[LINE];
-static uint8_t bytes[LINE / 2], ample[ROOM], none[ROOM];
+static uint8_t bytes[LINE / 2];
+static _Alignas(8) uint8_t ample[ROOM], none[ROOM];
 static long made, failed;
 
 typedef struct input {
@@ -34,6 +35,11 @@ static capn_status counted(const input *in, uint8_t *out, size_t room, capn_repo
     return capn_index(in->form, bytes, in->size, &in->limits, NULL, 0, report);
 }
 
+static capn_status surveyed(const input *in, uint8_t *out, size_t room, capn_report *report) {
+    (void)room;
+    return capn_survey(in->form, bytes, in->size, &in->limits, (capn_figures *)(void *)out, report);
+}
+
 /* A call with ample memory and with none. */
 static void twice(const char *name, call *make, const input *in, size_t room) {
     capn_report with, without;
@@ -58,6 +64,7 @@ static void each(const input *in) {
     twice("canonical, 1 byte", canonical, in, 1);
     twice("check", checked, in, 0);
     twice("index, no room", counted, in, 0);
+    twice("survey", surveyed, in, sizeof(capn_figures));
     if (in->form == CAPN_BARE) twice("is_canonical", judged, in, 0);
 }
 

@@ -13,7 +13,9 @@ ghost use Rattle.capn_canon.specs.Refusal.{IsPaidWithin, IsUnaccepted};
 ghost use Rattle.capn_canon.specs.declared.form.Form.TheVariants as forms;
 ghost use Rattle.capn_canon.specs.declared.refusal.Refusal.TheVariants as refusals;
 ghost use Rattle.capn_c.specs.Figures.{AreMeasures, IsCanonicalMessage, IsCanonicalSurvey, MeasuresIn};
+ghost use Rattle.capn_c.specs.MemoryAsked.{MayAsk};
 
+use crate::few_frame::read_frame;
 use capn_canon::{Refusal, measure_canonical};
 use capn_pack::unpack;
 use capn_stream::{MOST_TABLE_WORDS, first};
@@ -178,8 +180,8 @@ pub fn survey_and_measure<S: Space>(
     }
 }
 
-/// What the message of a stream comes to beside its price, or `None` if it is refused, or memory was.
-pub fn measure_frame(alloc: Global, bytes: &[u8], limits: Limits) -> Option<Measured>
+/// What the message of a stream comes to beside its price, or `None` if it is refused, or memory for its table was.
+fn measure_with_table(alloc: Global, bytes: &[u8], limits: Limits) -> Option<Measured>
     ensures found { IfSome result (λ m. MeasuresIn forms.Stream bytes.now limits m) }
     ensures memory { (v : Value) → Denotes forms.Stream bytes.now limits v → result ≡ None
         → MayNeedMemory forms.Stream bytes.now limits }
@@ -191,6 +193,23 @@ pub fn measure_frame(alloc: Global, bytes: &[u8], limits: Limits) -> Option<Meas
             }
             measure(alloc, &message, limits)
         }
+        Err(_) => None,
+    }
+}
+
+/// The same. Memory is asked for only by a frame of more than 64 segments.
+pub fn measure_frame(alloc: Global, bytes: &[u8], limits: Limits) -> Option<Measured>
+    ensures found { IfSome result (λ m. MeasuresIn forms.Stream bytes.now limits m) }
+    ensures memory { (v : Value) → Denotes forms.Stream bytes.now limits v → result ≡ None
+        → MayNeedMemory forms.Stream bytes.now limits }
+    ensures asked { (v : Value) → Denotes forms.Stream bytes.now limits v → result ≡ None
+        → MayAsk forms.Stream bytes.now limits }
+{
+    let Some(read) = read_frame(bytes, limits) else {
+        return measure_with_table(alloc, bytes, limits);
+    };
+    match read {
+        Ok(message) => measure(alloc, &message, limits),
         Err(_) => None,
     }
 }

@@ -98,8 +98,8 @@ fn show_styled(
 ///
 /// 0: the text is at the start of the buffer. 1: the buffer has no room for it, and is as it was; `length` is what it
 /// needs, exactly. In both, `paid` and `visits` are those of the walk. 2, 3, 4 and 6: the form, a limit, the tariff or
-/// the style is out of its range. 8: memory was refused: where `capn_check` may need it, or for the text. Others: the
-/// refusal, which is never that of a capability.
+/// the style is out of its range. 8: memory was refused: for where two segments or more end, for what is unpacked, or
+/// for the text. Others: the refusal, which is never that of a capability.
 #[unsafe(no_mangle)]
 pub extern "C" fn capn_show(
     alloc: Global,

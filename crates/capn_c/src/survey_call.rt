@@ -10,13 +10,15 @@ ghost use Rattle.capn_canon.specs.declared.refusal.Refusal.{Refusal as Refusals}
 ghost use Rattle.capn_c.specs.Calls.{IsForm, form_named, GiveLimits, IsTariff, bounds_of};
 ghost use Rattle.capn_c.specs.StatusCodes.{Reports, answered, at_number, is_status};
 ghost use Rattle.capn_c.specs.Figures.{FiguresIn, MeasuresIn};
+ghost use Rattle.capn_c.specs.MemoryAsked.{MayAsk};
 
 use crate::figures::{CapnFigures, figures_of};
 use crate::limits::{CapnLimits, form_of, limits_of};
 use crate::message_measures::{Measured, measure_bare, measure_frame, measure_packed};
 use crate::report::{CapnReport, answer_of, report_at};
 use crate::status_codes::{BAD_FORM, DONE, refuse};
-use capn_canon::{Form, Refusal, survey_bytes};
+use crate::survey_bytes::survey_bytes;
+use capn_canon::{Form, Refusal};
 use capn_walk::Limits;
 use std::alloc::Global;
 
@@ -25,6 +27,8 @@ fn measure_in(alloc: Global, form: Form, bytes: &[u8], limits: Limits) -> Option
     ensures found { IfSome result (λ m. MeasuresIn form bytes.now limits m) }
     ensures memory { (v : Value) → Denotes form bytes.now limits v → result ≡ None
         → MayNeedMemory form bytes.now limits }
+    ensures asked { (v : Value) → Denotes form bytes.now limits v → result ≡ None
+        → MayAsk form bytes.now limits }
 {
     match form {
         Form::Stream => measure_frame(alloc, bytes, limits),
@@ -50,6 +54,7 @@ fn survey_in(
     ensures refused { 8 ≤ result → (e : Refusals) × Reports result report.new e
         × IsUnacceptedIn form bytes.now limits e }
     ensures memory { result ≡ 8 → MayNeedMemory form bytes.now limits }
+    ensures asked { result ≡ 8 → MayAsk form bytes.now limits }
     ensures bounded { IsBounded limits.budget report.new.paid report.new.visits }
     ensures kept { result ≢ 0 → figures.new ≡ figures.old }
 {
@@ -99,6 +104,8 @@ pub extern "C" fn capn_survey(
         × IsUnacceptedIn (form_named form) bytes.now (bounds_of limits.now) e }
     // Memory is needed only for where two segments or more end, and for what a text packs.
     ensures memory { result ≡ 8 → MayNeedMemory (form_named form) bytes.now (bounds_of limits.now) }
+    // Of those, it is asked for only by a frame of more than 64 segments, and by a packed text.
+    ensures asked { result ≡ 8 → MayAsk (form_named form) bytes.now (bounds_of limits.now) }
     // No walk pays beyond its budget.
     ensures bounded { IsBounded limits.now.budget report.new.paid report.new.visits }
     // If the call has no answer, the figures are as they were.
