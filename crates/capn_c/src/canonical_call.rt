@@ -93,13 +93,14 @@ pub extern "C" fn capn_canonical(
     // What each refusal means; no other status stands for it.
     ensures refused { 5 ≤ result → (e : Refusals) × Reports result report.new e
         × IsRefused (form_named form) bytes.now (bounds_of limits.now) e }
-    // Memory is needed only where `capn_check` may need it, and, if there is room, for canonical bytes.
+    // Memory is needed only for where two segments or more end, for what a text packs, and, if there is room, for
+    // canonical bytes.
     ensures memory { result ≡ 8 → MayNeedBytesIn (form_named form) bytes.now (bounds_of limits.now) }
     ensures measuring { result ≡ 8 → length out.old ≡ 0
         → MayNeedMemory (form_named form) bytes.now (bounds_of limits.now) }
     // Of those, it is asked for only by a frame of more than 64 segments, and by a packed text.
     ensures asked { result ≡ 8 → MayAsk (form_named form) bytes.now (bounds_of limits.now) }
-    // No walk pays beyond its budget.
+    // No walk reports more paid than its budget.
     ensures bounded { IsBounded limits.now.budget report.new.paid report.new.visits }
     ensures short { result ≤ 1 → report.new.length ≤ 8 * (report.new.paid + 1) }
     // Where nothing is answered, the buffer is as it was.

@@ -1,12 +1,11 @@
 //! Canonical bytes of messages that are held in segments.
 
-ghost use Rattle.std.specs.Prelude.{IsTrue, ◌≡◌, ◌≢◌, ◌⊎◌, ◌↔◌, ◌≤◌, ◌<◌, ◌+◌, ◌*◌, ℕ, List, None, length, take};
+ghost use Rattle.std.specs.Prelude.{IsTrue, ◌≡◌, ◌≢◌, ◌⊎◌, ◌↔◌, ◌≤◌, ◌+◌, ◌*◌, ℕ, List, None, length, take};
 ghost use Rattle.capn_value.specs.Tree.{Tree as Value};
 ghost use Rattle.capn_value.specs.FirstCap.{first_cap};
 ghost use Rattle.capn_walk.specs.Accepted.{IsBounded};
 ghost use Rattle.capn_canon.specs.Layout.{canon};
 ghost use Rattle.capn_canon.specs.Canonicity.{IsCanonicalForm};
-ghost use Rattle.capn_canon.specs.MemoryNeed.{MayNeedBytes};
 ghost use Rattle.capn_canon.specs.declared.refusal.Refusal.{Refusal as Refusals};
 ghost use Rattle.capn_segments.specs.Segments.{message_of};
 ghost use Rattle.capn_c.specs.Calls.{GiveLimits, IsTariff, bounds_of, Delivers, Serves};
@@ -63,16 +62,16 @@ fn fill_held(
     report: &mut CapnReport,
 ) -> u32
     ensures possible { (result ≤ 1) ⊎ (8 ≤ result) }
+    ensures no_memory { result ≢ 8 }
     ensures found { result ≤ 1 → (text : List ℕ)
         × AnswersHeld (message_of segments.now) limits text report.new.paid
         × Delivers text result report.new.length out.old out.new }
     ensures only { (v : Value) → DenotesHeld (message_of segments.now) limits v → first_cap v ≡ None
-        → (result ≡ 8) ⊎ Delivers (canon v) result report.new.length out.old out.new }
+        → Delivers (canon v) result report.new.length out.old out.new }
     ensures rest { result ≤ 1 → report.new ≡ answered report.new.length report.new.paid 0 }
     ensures listed { IsTrue (is_status result) }
     ensures refused { 8 ≤ result → (e : Refusals) × Reports result report.new e
         × IsRefusedHeld (message_of segments.now) limits e }
-    ensures memory { result ≡ 8 → MayNeedBytes (message_of segments.now) limits }
     ensures bounded { IsBounded limits.budget report.new.paid report.new.visits }
     ensures short { result ≤ 1 → report.new.length ≤ 8 * (report.new.paid + 1) }
     ensures kept { result ≢ 0 → out.new ≡ out.old }
@@ -89,9 +88,8 @@ fn fill_held(
 ///
 /// 0: the answer is at the start of the buffer. 1: the buffer has no room for it, and is as it was; `length` is
 /// what it needs, exactly; if the buffer has no bytes at all, the message is surveyed and nothing is written, and
-/// `length` is 8 for each word paid and 8 more, which is enough. 3 and 4: a limit or the tariff is out of its range. 8:
-/// memory was refused, for canonical bytes. Others: the refusal, as of the frame of the same segments: 48, if there are
-/// none.
+/// `length` is 8 for each word paid and 8 more, which is enough. 3 and 4: a limit or the tariff is out of its range.
+/// Others: the refusal, as of the frame of the same segments: 48, if there are none. It takes no memory.
 #[unsafe(no_mangle)]
 pub extern "C" fn capn_canonical_segments(
     alloc: Global,
@@ -107,10 +105,10 @@ pub extern "C" fn capn_canonical_segments(
     ensures found { result ≤ 1 → (text : List ℕ)
         × AnswersHeld (message_of segments.now) (bounds_of limits.now) text report.new.paid
         × Serves text result report.new out.old out.new }
-    // A value without capabilities is answered, unless memory runs out.
+    // A value without capabilities is answered.
     ensures only { GiveLimits limits.now → IsTariff limits.now.tariff → (v : Value)
         → DenotesHeld (message_of segments.now) (bounds_of limits.now) v → first_cap v ≡ None
-        → (result ≡ 8) ⊎ Serves (canon v) result report.new out.old out.new }
+        → Serves (canon v) result report.new out.old out.new }
     // The report of an answer has its length and its price; what no status speaks of is 0.
     ensures rest { result ≤ 1 → report.new ≡ answered report.new.length report.new.paid 0 }
     ensures blank { 2 ≤ result → result ≤ 4 → report.new ≡ at_number 0 }
@@ -118,10 +116,9 @@ pub extern "C" fn capn_canonical_segments(
     // What each refusal means; no other status stands for it.
     ensures refused { 5 ≤ result → (e : Refusals) × Reports result report.new e
         × IsRefusedHeld (message_of segments.now) (bounds_of limits.now) e }
-    // Memory is needed only if there is room, for canonical bytes.
-    ensures memory { result ≡ 8 → MayNeedBytes (message_of segments.now) (bounds_of limits.now) }
-    ensures measuring { result ≡ 8 → 0 < length out.old }
-    // No walk pays beyond its budget.
+    // No memory is needed.
+    ensures no_memory { result ≢ 8 }
+    // No walk reports more paid than its budget.
     ensures bounded { IsBounded limits.now.budget report.new.paid report.new.visits }
     ensures short { result ≤ 1 → report.new.length ≤ 8 * (report.new.paid + 1) }
     // Where nothing is answered, the buffer is as it was.

@@ -46,8 +46,8 @@ fn check(alloc: Global, form: Form, bytes: &[u8], limits: Limits, report: &mut C
 /// Whether a message is accepted within limits, and what reading it pays.
 ///
 /// 0: it is; `paid` and `visits` are those of its walk. 2, 3 and 4: the form, a limit or the tariff is out of its
-/// range. 8: memory was refused: for where more than 64 segments end, or for what is unpacked.
-/// Others: the refusal, which is never that of a capability.
+/// range. 8: memory was refused: for where more than 64 segments end, or for what is unpacked. Others: the refusal,
+/// which is never that of a capability.
 #[unsafe(no_mangle)]
 pub extern "C" fn capn_check(
     alloc: Global,
@@ -75,7 +75,7 @@ pub extern "C" fn capn_check(
     ensures memory { result ≡ 8 → MayNeedMemory (form_named form) bytes.now (bounds_of limits.now) }
     // Of those, it is asked for only by a frame of more than 64 segments, and by a packed text.
     ensures asked { result ≡ 8 → MayAsk (form_named form) bytes.now (bounds_of limits.now) }
-    // No walk pays beyond its budget.
+    // No walk reports more paid than its budget.
     ensures bounded { IsBounded limits.now.budget report.new.paid report.new.visits }
 {
     *report = report_at(0);

@@ -70,7 +70,7 @@ pub extern "C" fn capn_check_segments(
         × IsUnacceptedHeld (message_of segments.now) (bounds_of limits.now) e }
     // No memory is needed.
     ensures no_memory { result ≢ 8 }
-    // No walk pays beyond its budget.
+    // No walk reports more paid than its budget.
     ensures bounded { IsBounded limits.now.budget report.new.paid report.new.visits }
 {
     *report = report_at(0);

@@ -84,7 +84,7 @@ pub extern "C" fn capn_hash_segments(
         × IsRefusedHeld (message_of segments.now) (bounds_of limits.now) e }
     // Memory is needed only for canonical bytes.
     ensures memory { result ≡ 8 → MayNeedBytes (message_of segments.now) (bounds_of limits.now) }
-    // No walk pays beyond its budget.
+    // No walk reports more paid than its budget.
     ensures bounded { IsBounded limits.now.budget report.new.paid report.new.visits }
     // Where nothing is answered, the buffer is as it was.
     ensures kept { result ≢ 0 → digest.new ≡ digest.old }

@@ -221,7 +221,7 @@ pub extern "C" fn capn_index(
     // Of those, it is asked for only by a frame of more than 64 segments, and for an index that has room.
     ensures asked { result ≡ 8 → MayAsk (form_named form) bytes.now (bounds_of limits.now)
         ⊎ ((n : ℕ) × HasEntries (form_named form) bytes.now (bounds_of limits.now) n × (n ≤ length out.old)) }
-    // No walk pays beyond its budget.
+    // No walk reports more paid than its budget.
     ensures bounded { IsBounded limits.now.budget report.new.paid report.new.visits }
     // Where nothing is written, the room is as it was.
     ensures kept { result ≢ 0 → out.new ≡ out.old }

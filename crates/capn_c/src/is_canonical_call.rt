@@ -71,7 +71,7 @@ pub extern "C" fn capn_is_canonical(
         × IsRefused forms.Bare bytes.now (bounds_of limits.now) e }
     // No memory is needed, whatever the depth.
     ensures no_memory { result ≢ 8 }
-    // No walk pays beyond its budget.
+    // No walk reports more paid than its budget.
     ensures bounded { IsBounded limits.now.budget report.new.paid report.new.visits }
 {
     *report = report_at(0);

@@ -132,9 +132,10 @@ pub extern "C" fn capn_show(
     // What each refusal means; no other status stands for it.
     ensures refused { 5 ≤ result → result ≢ 6 → (e : Refusals) × Reports result report.new e
         × IsUnacceptedIn (form_named form) bytes.now (bounds_of limits.now) e }
-    // Memory is needed only where `capn_check` may need it, and for the text of a message that is accepted.
+    // Memory is needed only for where two segments or more end, for what a text packs, and for the text of a message
+    // that is accepted.
     ensures memory { result ≡ 8 → MayNeedText (form_named form) bytes.now (bounds_of limits.now) }
-    // No walk pays beyond its budget.
+    // No walk reports more paid than its budget.
     ensures bounded { IsBounded limits.now.budget report.new.paid report.new.visits }
     // Where nothing is answered, the buffer is as it was.
     ensures kept { result ≢ 0 → out.new ≡ out.old }
