@@ -123,6 +123,10 @@ module _ {X : Type 0} (f : Fold X) (x y : X) (going : f.done x ≡ false) (a b c
         written = inl (Appends-nil c);
       }
 
+  -- more is served, and nothing was written
+  heard_none : (d : Option (List ℕ)) → Appends c d [] → IfGoing (f.done x) (Appends c d [])
+  heard_none d wrote = if_going (f.done x) (Appends c d []) going wrote
+
   -- it ends with a fault other than Io, and neither has failed
   io_none : (r w : Bool) (fault : RunFault) → r ≡ false → w ≡ false → (fault ≡ faults.Io → ⊥)
       → (stopped fault ≡ Err faults.Io) ↔ ((r ≡ true) ⊎ (w ≡ true))
@@ -148,7 +152,7 @@ module _ {X : Type 0} (f : Fold X) (x y : X) (going : f.done x ≡ false) (a b c
     exact = ends_unread c fault (inl memory);
     io = io_none r w fault h.fine good (λ e. let bad : faults.Memory ≡ faults.Io = sym memory ∙ e in cc);
     begun = begins_none bytes r h;
-    heard = λ e. Appends-nil c;
+    heard = λ e. heard_none c (Appends-nil c);
     memory = λ e. inl (bytes, h.read, some);
   }
   runs_unread r w fault good (inl (bytes, inl (h, inr (is, long)))) = record {
@@ -157,7 +161,7 @@ module _ {X : Type 0} (f : Fold X) (x y : X) (going : f.done x ≡ false) (a b c
         long);
     io = io_none r w fault h.fine good (λ e. let bad : faults.InputTooLong ≡ faults.Io = sym is ∙ e in cc);
     begun = begins_none bytes r h;
-    heard = λ e. Appends-nil c;
+    heard = λ e. heard_none c (Appends-nil c);
     memory = λ e. absurd (let bad : stopped faults.InputTooLong ≡ stopped faults.Memory = sym (ap stopped is)
         ∙ e in cc);
   }
@@ -171,14 +175,14 @@ module _ {X : Type 0} (f : Fold X) (x y : X) (going : f.done x ≡ false) (a b c
       needed = none_needed bytes;
       written = inl (Appends-nil c);
     };
-    heard = λ e. Appends-nil c;
+    heard = λ e. heard_none c (Appends-nil c);
     memory = λ e. absurd (let bad : stopped faults.Io ≡ stopped faults.Memory = sym (ap stopped is) ∙ e in cc);
   }
   runs_unread r w fault good (inr (bytes, all, why)) = record {
     exact = ends_none c r bytes fault all (inl why) (Appends-nil c);
     io = io_none r w fault all.given.fine good (known bytes fault (inl why));
     begun = begins_none bytes r all.given;
-    heard = λ e. Appends-nil c;
+    heard = λ e. heard_none c (Appends-nil c);
     memory = λ e. inr all.ended;
   }
 
@@ -221,7 +225,7 @@ module _ {X : Type 0} (f : Fold X) (x y : X) (going : f.done x ≡ false) (a b c
       exact = ends_none d r bytes fault all_given why (nothing d kept none);
       io = io_none r w fault all_given.given.fine good (known bytes fault why);
       begun = begins_so d (inl (nothing d kept none));
-      heard = λ e. nothing d kept none;
+      heard = λ e. heard_none d (nothing d kept none);
       memory = λ e. inr all_given.ended;
     }
 
@@ -313,6 +317,6 @@ runs_done f x a c r w done fine good = record {
     needed = λ h. refl;
     written = inl (Appends-nil c);
   };
-  heard = λ h. Appends-nil c;
+  heard = λ h. absurd (not_both r h fine);
   memory = λ h. absurd (cc);
 }

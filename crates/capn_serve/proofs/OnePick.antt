@@ -1,18 +1,17 @@
 -- What is picked of a stream, in one way.
 use Rattle.std.proofs.Common.{◌≡◌, ◌⊎◌, inl, inr, ℕ, ◌+◌, ◌<◌, ◌≤◌}
 use Rattle.std.proofs.Common.{List, [], ◌∷◌, ◌++◌, Bool, true, false, nat_lt, Option}
-use Rattle.std.proofs.Common.{Result, refl, ap, sym, subst, ◌∙◌, append_assoc, arith}
+use Rattle.std.proofs.Common.{refl, ap, sym, subst, ◌∙◌, append_assoc, arith}
 use Rattle.std.proofs.lemmas.Bool.Decides.{nat_tests}
-use Rattle.capn_canon.specs.declared.refusal.Refusal.{Refusal}
 use Rattle.capn_serve.specs.declared.fault.RunFault.{RunFault}
 use Rattle.capn_serve.specs.declared.pick.Pick.{Pick}
 use Rattle.capn_serve.specs.declared.position.Position.{Position}
 use Rattle.capn_serve.specs.declared.pick.StreamForm.TheVariants as forms
 use Rattle.capn_serve.specs.declared.service.Run.{Run}
 use Rattle.capn_serve.specs.Fold.{AreServed, Fold, Part, frames_of, texts_of}
-use Rattle.capn_serve.specs.Pick.{IsEnough, first_run, last, last_of, pick_fold, picked}
+use Rattle.capn_serve.specs.Pick.{last, last_of, pick_fold, picked}
 use Rattle.capn_serve.specs.PickRun.{IsPicked, IsPickedOf, most_taken}
-use Rattle.capn_serve.specs.StreamRun.{behind, has_more, taken_of}
+use Rattle.capn_serve.specs.StreamRun.{behind, first_run, has_more, taken_of}
 use Rattle.capn_serve.proofs.shared.OneServing.{Behind, Ending, IsOneWay, no_end, one_folded, one_front}
 
 known : (b : Bool) → (b ≡ true) ⊎ (b ≡ false)

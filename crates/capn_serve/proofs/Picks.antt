@@ -1,17 +1,16 @@
 -- A run that picks messages, from the run of its service.
 use Rattle.std.proofs.Common.{◌≡◌, inl, inr, ℕ, ◌+◌, ◌<◌, ◌≤◌, List, [], ◌∷◌, Bool, true, false, nat_lt, Option, None}
-use Rattle.std.proofs.Common.{Some, IfSome, Result, Ok, Err, refl, ap, sym, subst, ◌∙◌, arith}
+use Rattle.std.proofs.Common.{Some, IfSome, Result, Ok, Err, refl, ap, subst, ◌∙◌, arith}
 use Rattle.std.proofs.lemmas.Bool.Decides.{nat_tests}
-use Rattle.capn_pack.specs.PackedPieces as packing
 use Rattle.capn_serve.specs.declared.fault.RunFault.{RunFault}
 use Rattle.capn_serve.specs.declared.pick.Pick.{Pick}
 use Rattle.capn_serve.specs.declared.pick.StreamForm.TheVariants as forms
 use Rattle.capn_serve.specs.declared.service.Run.{Run}
-use Rattle.capn_serve.specs.Fold.{AreServed, Fold, IfGoing, IsFolded, Part, fold_until}
-use Rattle.capn_serve.specs.Pick.{IsEnough, IsTooFew, done, first_run, last, pick_fold, refuses, serves}
-use Rattle.capn_serve.specs.PickRun.{EndsAs, HasWritten, IsLazy, IsPickedOf, KeepsUp, Picks, most_taken}
+use Rattle.capn_serve.specs.Fold.{AreServed, Fold, IsFolded, Part, fold_until}
+use Rattle.capn_serve.specs.Pick.{IsEnough, IsTooFew, done, last, pick_fold, refuses, serves}
+use Rattle.capn_serve.specs.PickRun.{EndsAs, HasWritten, IsPickedOf, IsShort, KeepsUp, Picks, most_taken}
 use Rattle.capn_serve.specs.StreamRun as streams
-use Rattle.capn_serve.specs.StreamRun.{IsNeeded}
+use Rattle.capn_serve.specs.StreamRun.{IsNeeded, first_run}
 use Rattle.capn_serve.specs.PackedRun as packings
 use Rattle.capn_serve.proofs.PackedMore.{begins_all}
 use Rattle.capn_serve.proofs.shared.Until.{folded_of, going_of, is_done, known, parts_of}
@@ -112,7 +111,7 @@ module _ (most : ℕ) (p : Pick) where
         | inr going ↦ inr (
           y,
           packed_too_few bytes text is_longer ending y due going,
-          inl (before y (keeps all text _ ending y due.due) going),
+          before y (keeps all text _ ending y due.due) going,
         )
       ]
 
@@ -129,12 +128,12 @@ module _ (most : ℕ) (p : Pick) where
   )
 
   lazy_stream : (bytes : List ℕ) → IsNeeded (streams.IsShort until x most_taken) bytes
-      → IsLazy most p forms.Stream bytes
+      → IsNeeded (IsShort most p forms.Stream) bytes
   lazy_stream bytes (inl none) = inl none
   lazy_stream bytes (inr (front, piece, is, small, few)) = inr (front, piece, is, small, short front few)
 
   lazy_packed : (bytes : List ℕ) → IsNeeded (packings.IsShortPacked until x most_taken) bytes
-      → IsLazy most p forms.Packed bytes
+      → IsNeeded (IsShort most p forms.Packed) bytes
   lazy_packed bytes (inl none) = inl none
   lazy_packed bytes (inr (front, piece, is, small, (stream, group, offset, split, few))) =
       inr (front, piece, is, small, (stream, group, offset, split, short stream few))

@@ -39,9 +39,8 @@ module _ {X : Type 0} (f : Fold X) (x : X) where
   EndsBare bytes fault = ((most_input < length bytes) × (fault ≡ faults.InputTooLong))
       ⊎ ((length bytes ≤ most_input) × (IsUnbare (f.place x) bytes fault ⊎ RefusesBare bytes fault))
 
-  -- the text of the bytes and the state after it, by whether the state before it is one in which no more is served:
-  -- none,
-  -- and nothing is read; else the text of their message
+  -- the text of the bytes and the state after it, by whether no more is served in the state before it: none, and that
+  -- state; else the text of their message
   abbrev pub WritesBy : Bool → List ℕ → List ℕ → X → Type 0
   WritesBy true bytes text y = (text ≡ []) × (y ≡ x)
   WritesBy false bytes text y = (length bytes ≤ most_input) × WritesBare bytes text y
@@ -81,5 +80,5 @@ module _ {X : Type 0} (f : Fold X) (x : X) where
     pub exact : IfSome a (EndsAs c d r y)
     pub io : (r ≡ Err faults.Io) ↔ ((reader_failed ≡ true) ⊎ (writer_failed ≡ true))
     pub begun : Begins a b c d
-    pub heard : reader_failed ≡ true → Appends c d []
+    pub heard : reader_failed ≡ true → IfGoing (f.done x) (Appends c d [])
     pub memory : r ≡ Err faults.Memory → TakesBytes a b ⊎ IsAtEnd b

@@ -75,12 +75,12 @@ module _ {X : Type 0} (f : Fold X) (x : X) where
     pub needed : IsNeededSoFar form bytes
     pub written : HasWritten form bytes c d
 
-  -- all texts of the messages in the bytes that a reader gave were written; of a bare input, which is served at its
-  -- end, nothing
+  -- all texts of the messages in the bytes that a reader gave were written, of a bare input, which is served at its
+  -- end, nothing; and more is served
   abbrev pub KeepsUp : Form → Option (List ℕ) → Option (List ℕ) → Option (List ℕ) → Option (List ℕ) → Type 0
   KeepsUp forms.Stream a b c d = streams.KeepsUp f x most_stream a b c d
   KeepsUp forms.Packed a b c d = packings.KeepsUpPacked f x most_stream most_stream a b c d
-  KeepsUp forms.Bare a b c d = Appends c d []
+  KeepsUp forms.Bare a b c d = IfGoing (f.done x) (Appends c d [])
 
   -- the messages of an input in a form were served, over a reader (from a to b) and a writer (from c to d)
   pub record ServesMessages (form : Form) (a b c d : Option (List ℕ)) (reader_failed writer_failed : Bool)

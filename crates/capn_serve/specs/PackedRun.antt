@@ -73,7 +73,7 @@ module _ {X : Type 0} (f : Fold X) (x : X) (most_packed limit : ℕ) where
       HasEndedPacked f x limit (taken_of most_packed input) (has_more most_packed input) old new ending y
 
   -- a reader gave some bytes, at most one more than are taken, no more than a piece beyond what was served and written,
-  -- and no piece after one that leads to the end; and a writer took a beginning of their text
+  -- and at most 65,536 bytes beyond some after which more is served; and a writer took a beginning of their text
   pub record BeginsPacked (a b c d : Option (List ℕ)) : Type 0 where
     pub bytes : List ℕ
     pub read : Consumes a b bytes

@@ -7,7 +7,7 @@ use Rattle.capn_serve.specs.declared.pick.Pick.{Pick}
 use Rattle.capn_serve.specs.declared.position.Position.{Position}
 use Rattle.capn_serve.specs.declared.service.Run.{Run}
 use Rattle.capn_serve.specs.Fold.{Fold, Part, AreParts, fold_of, texts_of}
-use Rattle.capn_serve.specs.StreamRun as runs
+use Rattle.capn_serve.specs.StreamRun.{first_run}
 
 -- what the message of a number, counted from 1, writes if those from one number to another are picked: its frame or
 -- nothing
@@ -70,10 +70,6 @@ done p at = is_past p.from p.to at.index
 -- the fold over the messages of a stream
 abbrev pub pick_fold : ℕ → Fold (Run Pick)
 pick_fold most = fold_of serves refuses most
-
--- no message has been looked at
-abbrev pub first_run : Pick → Run Pick
-first_run p = runs.first_run p
 
 module _ (most : ℕ) (p : Pick) where
   -- the messages up to the last are whole in these bytes, and this is picked of them, whatever comes after

@@ -1,5 +1,5 @@
 -- A run that picks messages: what it writes, how it ends, and how far it reads. (Own.)
-use Rattle.std.specs.Prelude.{◌≡◌, ◌⊎◌, ◌↔◌, ℕ, ◌+◌, ◌-◌, ◌^◌, ◌<◌, ◌≤◌, List, [], ◌++◌, length}
+use Rattle.std.specs.Prelude.{◌≡◌, ◌⊎◌, ◌↔◌, ℕ, ◌+◌, ◌-◌, ◌^◌, ◌<◌, ◌≤◌, List, [], length}
 use Rattle.std.specs.Prelude.{Bool, true, Option, IfSome, Result, Ok, Err}
 use Rattle.std.specs.Io.KnownBytes.{Consumes, Appends}
 use Rattle.capn_pack.specs.PackedPieces as packing
@@ -9,9 +9,9 @@ use Rattle.capn_serve.specs.declared.pick.Pick.{Pick}
 use Rattle.capn_serve.specs.declared.pick.StreamForm.{StreamForm}
 use Rattle.capn_serve.specs.declared.pick.StreamForm.TheVariants as forms
 use Rattle.capn_serve.specs.declared.service.Run.{Run}
-use Rattle.capn_serve.specs.Pick.{IsEnough, IsTooFew, first_run, last, pick_fold}
+use Rattle.capn_serve.specs.Pick.{IsEnough, IsTooFew, last, pick_fold}
 use Rattle.capn_serve.specs.StreamRun as streams
-use Rattle.capn_serve.specs.StreamRun.{TakesBytes, has_more, taken_of}
+use Rattle.capn_serve.specs.StreamRun.{TakesBytes, first_run, has_more, taken_of}
 use Rattle.capn_serve.specs.PackedRun as packings
 
 -- the most bytes that are taken of an input, and of what it unpacks to
@@ -21,8 +21,7 @@ most_taken = 2 ^ 64 - 1
 module _ (most : ℕ) (p : Pick) where
   -- This is picked of the bytes that are taken of an input, and a run over them ends so: as done, if the messages up
   -- to the last are whole; else with the stream.
-  -- Of a packed input the same holds of what its whole groups unpack to. One that unpacks to more bytes than are taken
-  -- may end as too long even if the last message is whole.
+  -- Of a packed input the same holds of what its whole groups unpack to.
   abbrev pub IsPickedOf : StreamForm → List ℕ → Bool → List ℕ → Result (Unit {0}) RunFault → Type 0
   IsPickedOf forms.Stream bytes is_longer text ending =
       (IsEnough most p bytes text × (ending ≡ Ok tt))
@@ -32,7 +31,7 @@ module _ (most : ℕ) (p : Pick) where
       ((stream : List ℕ) × packing.Begins bytes [] stream × IsEnough most p (taken_of most_taken stream) text
       × (ending ≡ Ok tt))
       ⊎ ((y : Run Pick) × packings.IsDuePacked (pick_fold most) (first_run p) most_taken bytes is_longer text ending y
-      × ((y.at.index < last p) ⊎ (ending ≡ Err faults.InputTooLong)))
+      × (y.at.index < last p))
 
   -- this is picked of what is taken of a whole input, and a run over it ends so
   abbrev pub IsPicked : StreamForm → List ℕ → List ℕ → Result (Unit {0}) RunFault → Type 0
@@ -52,13 +51,6 @@ module _ (most : ℕ) (p : Pick) where
   IsShort forms.Packed bytes = (stream : List ℕ) × (group : List ℕ) × (offset : ℕ)
       × packing.Splits bytes group [] stream offset × IsTooFew most p stream
 
-  -- nothing was read after a piece that has enough: of what was read, all but the last piece, which has at most 65,536
-  -- bytes, is short
-  abbrev pub IsLazy : StreamForm → List ℕ → Type 0
-  IsLazy form bytes = (bytes ≡ [])
-      ⊎ ((before : List ℕ) × (piece : List ℕ) × (bytes ≡ before ++ piece) × (length piece ≤ 65536)
-      × IsShort form before)
-
   -- a beginning of what is picked of these bytes was written
   abbrev pub HasWritten : StreamForm → List ℕ → Option (List ℕ) → Option (List ℕ) → Type 0
   HasWritten forms.Stream bytes old new =
@@ -71,7 +63,7 @@ module _ (most : ℕ) (p : Pick) where
     pub bytes : List ℕ
     pub read : Consumes a b bytes
     pub bounded : length bytes ≤ most_taken + 1
-    pub lazy : IsLazy form bytes
+    pub lazy : streams.IsNeeded (IsShort form) bytes
     pub written : HasWritten form bytes c d
 
   -- all that is picked of the bytes that a reader gave was written

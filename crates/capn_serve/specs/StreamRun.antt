@@ -96,7 +96,7 @@ module _ {X : Type 0} (f : Fold X) (x : X) (limit : ℕ) where
       × IsUnfinished rest f.most × (f.done y ≡ false)
 
   -- a reader gave some bytes, at most one more than are taken, no more than a piece beyond what was served and written,
-  -- and no piece after one that leads to the end; and a writer took a beginning of their text
+  -- and at most 65,536 bytes beyond some after which more is served; and a writer took a beginning of their text
   pub record Begins (old_reader new_reader old_writer new_writer : Option (List ℕ)) : Type 0 where
     pub bytes : List ℕ
     pub read : Consumes old_reader new_reader bytes

@@ -1,4 +1,4 @@
-//! A run over a packed stream, from its first byte to its last.
+//! A run over the messages of a packed stream.
 
 ghost use Rattle.std.specs.Prelude.{◌≡◌, ◌+◌, ◌≤◌, length, false};
 ghost use Rattle.capn_words.specs.Message.{most_message_words};
@@ -30,7 +30,7 @@ const SLICE: usize = 512;
 
 /// What is held of a packed stream between two of its slices.
 #[derive(Drop)]
-pub(crate) struct Packed<A: Allocator + Copy> {
+struct Packed<A: Allocator + Copy> {
     /// Holds an unfinished group.
     pub unpacker: Unpacker,
     /// Holds an unfinished message.
@@ -148,7 +148,7 @@ fn serve_slices<S: Service, W: Write, A: Allocator + Copy>(
 }
 
 /// Serves all messages that packed bytes make whole, and writes their texts. The text is room for them.
-pub(crate) fn serve_packed<S: Service, W: Write, A: Allocator + Copy>(
+fn serve_packed<S: Service, W: Write, A: Allocator + Copy>(
     alloc: A,
     most: u32,
     run: &mut Run<S>,
@@ -175,7 +175,7 @@ pub(crate) fn serve_packed<S: Service, W: Write, A: Allocator + Copy>(
 }
 
 /// How a run ends at a position whose packed input has ended.
-pub(crate) fn end_of_packed<A: Allocator + Copy>(
+fn end_of_packed<A: Allocator + Copy>(
     at: Position,
     mut packed: Packed<A>,
 ) -> Result<(), RunFault>

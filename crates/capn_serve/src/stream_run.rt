@@ -1,4 +1,4 @@
-//! A run over a stream, from its first byte to its last.
+//! A run over the messages of a stream.
 
 ghost use Rattle.std.specs.Prelude.{◌≡◌, ◌≤◌, false};
 ghost use Rattle.capn_words.specs.Message.{most_message_words};

@@ -1,20 +1,22 @@
-//! Runs of the program over a reader that fails after some bytes, or to a writer that takes some and then fails.
+//! Runs over readers and writers that fail.
 
 use capn_program::{Watched, program};
 use std::alloc::Global;
 use std::io::{self, ErrorKind, Read, Write};
 
-/// A reader of pieces of at most so many bytes, which ends with its bytes, or fails there.
+/// A reader of pieces of at most so many bytes, which ends with its bytes, or fails there and notes that it did.
 #[derive(Drop)]
 struct Pieces<'a> {
     bytes: &'a [u8],
     most: usize,
     fails: bool,
+    failed: bool,
 }
 
 impl Read for Pieces<'_> {
     fn read(&mut self, buf: &mut [u8]) -> io::Result<usize> {
         if self.bytes.is_empty() && self.fails {
+            self.failed = true;
             return Err(ErrorKind::Other.into());
         }
         let count = self.bytes.len().min(self.most).min(buf.len());
@@ -72,12 +74,13 @@ impl<'a> Input<'a> {
     }
 }
 
-/// What a run wrote, the line that it ended with, and its status.
+/// What a run wrote, the line that it ended with, its status, and whether its reader has told it that it failed.
 #[derive(Drop)]
 pub(crate) struct Ending {
     pub(crate) text: Vec<u8>,
     pub(crate) line: Vec<u8>,
     pub(crate) status: u8,
+    pub(crate) read_failed: bool,
 }
 
 impl Ending {
@@ -86,7 +89,7 @@ impl Ending {
         self.status == 3 && self.line.as_slice() == b"capn: input or output failed\n".as_slice()
     }
 
-    /// Whether it is the same as another.
+    /// Whether it is the same as another, but for what became of the reader.
     pub(crate) fn is_as(&self, other: &Ending) -> bool {
         self.text.as_slice() == other.text.as_slice()
             && self.line.as_slice() == other.line.as_slice()
@@ -100,6 +103,7 @@ pub(crate) fn ended(alloc: Global, words: &[&str], input: Input<'_>) -> Ending {
         bytes: input.bytes,
         most: input.most,
         fails: input.fails,
+        failed: false,
     });
     let mut writer = Watched::new(Short {
         bytes: Vec::new(alloc),
@@ -111,5 +115,6 @@ pub(crate) fn ended(alloc: Global, words: &[&str], input: Input<'_>) -> Ending {
         text: writer.into_inner().bytes,
         line: errors.into_inner(),
         status,
+        read_failed: reader.into_inner().failed,
     }
 }

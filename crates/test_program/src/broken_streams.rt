@@ -1,5 +1,4 @@
-//! What each run has written once its reader fails, and once its writer does: no more and no less than what came, or
-//! the room that there is, decides.
+//! Outputs of runs whose reader or writer fails.
 
 use crate::broken::{Ending, Input, ended};
 use std::alloc::Global;
@@ -79,8 +78,18 @@ fn piece_of(count: usize) -> usize {
     if count % 2 == 0 { 1 } else { usize::MAX }
 }
 
-/// After each number of bytes that came, all was written that the run writes whose input ends there; and the run has
-/// ended as that does, or says that its input failed.
+/// How a run whose reader fails has to end: if it was told so, it says that its input failed; else it has ended before,
+/// as the run does whose input ends there.
+fn ends_by_its_reader(cut: &Ending, whole: &Ending) -> bool {
+    if cut.read_failed {
+        cut.is_broken()
+    } else {
+        cut.is_as(whole)
+    }
+}
+
+/// After each number of bytes that came, all was written that the run writes whose input ends there, and the run has
+/// ended by its reader.
 fn expect_all_that_came(rt: &impl Abort, alloc: Global, words: &[&str], bytes: &[u8]) {
     for count in 0..=bytes.len() {
         let (came, most) = (&bytes[..count], piece_of(count));
@@ -88,7 +97,7 @@ fn expect_all_that_came(rt: &impl Abort, alloc: Global, words: &[&str], bytes: &
         let cut = unread(alloc, words, came, most);
         let is_same = cut.text.as_slice() == whole.text.as_slice();
         assert!(rt;
-            is_same && (cut.is_broken() || cut.is_as(&whole)),
+            is_same && ends_by_its_reader(&cut, &whole),
             "{words:?} {count}"
         );
     }
@@ -138,7 +147,7 @@ fn a_reader_fails_before_the_end(rt: HostRuntime) {
             let whole = ended(rt.alloc(), words, Input::whole(came, most));
             let cut = unread(rt.alloc(), words, came, most);
             assert!(rt;
-                cut.text.is_empty() && (cut.is_broken() || cut.is_as(&whole)),
+                cut.text.is_empty() && ends_by_its_reader(&cut, &whole),
                 "{words:?} {count}"
             );
         }

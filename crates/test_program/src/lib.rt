@@ -1,5 +1,4 @@
-//! Tests of the program's command line, of what its runs have written where the input or the output fails, and of the
-//! lines with which they end.
+//! Tests of the program's command line, runs and last lines.
 //!
 //! They stand apart from the crate that they test, since a crate with tests is proved twice.
 #![tactic(auto)]

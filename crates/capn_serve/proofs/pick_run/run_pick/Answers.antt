@@ -1,11 +1,10 @@
 use Rattle.std.proofs.Common.{◌≡◌, ℕ, Bool, Option, List, Result, sym, subst}
-use Rattle.capn_words.specs.Watched.{inner_of, has_failed}
 use Rattle.capn_serve.specs.declared.pick.Pick.{Pick}
 use Rattle.capn_serve.specs.declared.pick.StreamForm.{StreamForm}
 use Rattle.capn_serve.specs.declared.pick.StreamForm.TheVariants as forms
 use Rattle.capn_serve.specs.declared.fault.RunFault.{RunFault}
 use Rattle.capn_serve.specs.declared.service.Run.{Run}
-use Rattle.capn_serve.specs.Pick.{first_run}
+use Rattle.capn_serve.specs.StreamRun.{first_run}
 use Rattle.capn_serve.specs.PickRun.{Picks, most_taken}
 use Rattle.capn_serve.specs.PackedRun.{RunsPacked}
 use Rattle.capn_serve.specs.StreamRun.{Runs}
