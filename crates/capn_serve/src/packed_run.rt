@@ -175,10 +175,7 @@ fn serve_packed<S: Service, W: Write, A: Allocator + Copy>(
 }
 
 /// How a run ends at a position whose packed input has ended.
-fn end_of_packed<A: Allocator + Copy>(
-    at: Position,
-    mut packed: Packed<A>,
-) -> Result<(), RunFault>
+fn end_of_packed<A: Allocator + Copy>(at: Position, mut packed: Packed<A>) -> Result<(), RunFault>
     requires held { packed.unpacker.failed ≡ false }
     requires good { packed.framer.failed ≡ false }
     requires part { IsUnfinished packed.framer.rest packed.framer.most }
