@@ -146,7 +146,7 @@ pub(crate) enum First {
     Needs(usize),
 }
 
-#[inline]
+#[inline(always)]
 pub(crate) fn first(stream: &[u8], limits: &capn_limits) -> Result<First, Error> {
     const FRAME_EMPTY: capn_status = 48;
     const FRAME_CUT: capn_status = 51;
