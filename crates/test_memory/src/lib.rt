@@ -21,6 +21,8 @@ mod reads;
 #[cfg(test)]
 mod refused;
 #[cfg(test)]
+mod room_asked;
+#[cfg(test)]
 mod short_runs;
 #[cfg(test)]
 mod short_streams;

@@ -33,8 +33,8 @@ impl Read for Again<'_> {
 
 /// A writer that counts the bytes.
 #[derive(Drop)]
-struct Counted {
-    bytes: u64,
+pub(crate) struct Counted {
+    pub(crate) bytes: u64,
 }
 
 impl Write for Counted {

@@ -1,0 +1,88 @@
+//! Room that is asked for at once.
+
+use crate::long_streams::Counted;
+use crate::short_runs::output;
+use crate::subject::limits;
+use crate::words::bytes_of;
+use capn_canon::Form;
+use capn_show::{Style, show_part};
+use capn_tool::Command;
+use capn_words::{Bare, Watched};
+use std::alloc::{AllocError, Global};
+use std::test::Fail;
+use test_allocator::Refusing;
+
+/// A bare message of `len` bytes: its root, and what is below it, each of whose bytes is the letter x.
+fn bare_of(alloc: Global, root: u64, len: usize) -> Result<Vec<u8>, AllocError> {
+    let mut bytes = bytes_of(alloc, &[root])?;
+    bytes.resize(len, b'x')?;
+    Ok(bytes)
+}
+
+/// Whether a bare message is shown, and no growth asks for more than four pieces of an input and twice its bytes.
+fn follows_its_input(alloc: Global, root: u64, len: usize) -> Result<bool, AllocError> {
+    let input = bare_of(alloc, root, len)?;
+    let most = len.saturating_mul(2).saturating_add(262_144);
+    let heap = Refusing::nth(alloc, 0);
+    heap.refuse_above(most);
+    let command = Command::Show(Form::Bare, limits(64));
+    let (outcome, text) = output(alloc, &heap, command, input.as_slice());
+    Ok(outcome == Ok(()) && !text.is_empty() && heap.greatest() <= most)
+}
+
+/// A bare input may have 2 GiB, for which no room is asked before they came: lists of 7 words, and of 24,999.
+#[test]
+fn room_for_a_bare_input(rt: HostRuntime) -> Result<(), Fail> {
+    assert!(rt; follows_its_input(rt.alloc(), 0x3d_0000_0001, 64)?);
+    assert!(rt; follows_its_input(rt.alloc(), 0x3_0d3d_0000_0001, 200_000)?);
+    Ok(())
+}
+
+/// The root of a list of 4 MiB of bytes, and the bytes of its message.
+const LONG: u64 = 0x200_0002_0000_0001;
+
+const LONG_LEN: usize = 4_194_312;
+
+/// Twice the most bytes of a text that are kept, which are those of a text that isn't long, and of a piece.
+const ROOM: usize = 2 * (65_536 + 4_096);
+
+/// The text of a message in a style, if no growth asks for more than that room: its length.
+fn shown_in(alloc: Global, style: Style, bytes: &[u8]) -> Option<u64> {
+    let heap = Refusing::nth(alloc, 0);
+    heap.refuse_above(ROOM);
+    let space = Bare::new(bytes).ok()?;
+    let mut text = Vec::new(&heap);
+    let mut writer = Watched::new(Counted { bytes: 0 });
+    show_part(
+        &heap,
+        &mut text,
+        &mut writer,
+        &space,
+        limits(64),
+        style,
+        &[],
+    )
+    .ok()?;
+    if heap.greatest() <= ROOM {
+        let written = writer.into_inner().bytes;
+        Some(written.saturating_add(text.len() as u64))
+    } else {
+        None
+    }
+}
+
+/// The text of a list of 4 MiB is written a piece at a time: `bytes 4194304 "x..x"`, its digits below `bytes 4194304`,
+/// and `{"bytes":"78..78"}`.
+#[test]
+fn room_for_the_text_of_a_long_list(rt: HostRuntime) -> Result<(), Fail> {
+    let message = bare_of(rt.alloc(), LONG, LONG_LEN)?;
+    for (style, len) in [
+        (Style::Quoted, 4_194_321u64),
+        (Style::Lines, 8_388_625),
+        (Style::Json, 8_388_621),
+    ] {
+        let shown = shown_in(rt.alloc(), style, message.as_slice());
+        assert!(rt; shown == Some(len), "{style:?} {shown:?}");
+    }
+    Ok(())
+}
