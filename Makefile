@@ -52,7 +52,7 @@ run: program
 	@echo "in:"; od -An -v -tx1 -w8 $(PROGRAM)/stdin
 	@echo "out:"; $(PROGRAM)/out/capn $$(cat $(PROGRAM)/args) < $(PROGRAM)/stdin | od -An -v -tx1 -w8
 
-# The whole gate, line by line as docs/CONTRIBUTING.md has it. What earlier checks built is removed first: after its run
+# The whole gate, line by line as .ci/README.md has it. What earlier checks built is removed first: after its run
 # `rt ci` would put that back in place of its own, and the library for C is built over its own. At the end the gate
 # packs twice what it built, compares, and writes build/PROVED: what passed, of which commit. With ANEW=--anew it proves
 # again what earlier runs have passed.
