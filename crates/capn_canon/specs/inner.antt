@@ -2,4 +2,5 @@
 pub mod Due
 pub mod InPlace
 pub mod Outcomes
+pub mod PassReads
 pub mod WordsOfLayout

@@ -1,7 +1,8 @@
 //! Whether bytes are canonical, without a buffer.
 
-ghost use Rattle.std.specs.Prelude.{◌≡◌, ◌↔◌, ◌≢◌, ◌+◌, ◌<◌, ◌≤◌, [], ◌∷◌, ◌⊎◌, None, IsTrue, IfOk, IfErr};
-ghost use Rattle.std.specs.Prelude.{MatchResult};
+ghost use Rattle.std.specs.Prelude.{◌≡◌, ◌↔◌, ◌≢◌, ◌+◌, ◌*◌, ◌<◌, ◌≤◌, [], ◌∷◌, ◌⊎◌, None, IsTrue, IfOk, IfErr};
+ghost use Rattle.std.specs.Prelude.{MatchResult, length};
+ghost use Rattle.capn_words.specs.Message.{segment_at};
 ghost use Rattle.capn_value.specs.Tree.{Tree as Value};
 ghost use Rattle.capn_value.specs.FirstCap.{first_cap};
 ghost use Rattle.capn_walk.specs.Accepted.{IsValueOf, IsWalkRefused as IsStopped, IsBounded};
@@ -14,11 +15,15 @@ ghost use Rattle.capn_canon.specs.declared.refusal.Refusal.TheVariants as refusa
 ghost use Rattle.capn_canon.specs.BareVerdict.{SaysCanonical, IsBareSurvey};
 
 use crate::canonical_survey::measure_root;
+use crate::counted_words::CountedWords;
 use crate::refusal::Refusal;
 use crate::surveyed_bare::SurveyedBare;
-use capn_walk::{Limits, Stopped, survey};
+use capn_target::counted::{CountedSpace, Reads, count_reads};
+use capn_walk::{Limits, Stopped, survey_counted};
 use capn_words::{Bare, Space};
 use std::alloc::Allocator;
+use std::marker::Brand;
+use std::sync::ledger::{Blank, Ledger};
 
 /// What the walk of a bare message pays and visits within the limits, its first capability, and whether its
 /// bytes are canonical. One pass over the words finds that; the message is surveyed only where it doesn't begin with
@@ -44,11 +49,67 @@ pub fn survey_bare<A: Allocator + Copy>(
     ensures bounded { MatchResult result (λ c. IsBounded limits.budget c.paid c.visits)
         (λ s. IsBounded limits.budget s.paid s.visits) }
 {
-    let _segments = space.segments();
-    if let Some(measured) = measure_root::<false>(space, limits) {
+    survey_with_ledger::<A, Brand>(alloc, space, limits, Blank::new(1))
+}
+
+/// The same, with a new ledger.
+fn survey_with_ledger<A: Allocator + Copy, L: Ledger>(
+    alloc: A,
+    space: &Bare<'_>,
+    limits: Limits,
+    blank: Blank,
+) -> Result<SurveyedBare, Stopped>
+    requires name { blank.name ≡ L.name }
+    requires parts { blank.parts ≡ L.parts }
+    requires one { 0 < blank.parts }
+    // An answer: the message is accepted, what its walk pays, and whether its bytes are those of its value.
+    ensures found { IfOk result (λ c. IsBareSurvey space.now limits c) }
+    // A message that is accepted is answered, or a growth was refused;
+    ensures only { (v : Value) → IsValueOf (space.now ∷ []) limits v
+        → MatchResult result (λ c. c.capability ≡ first_cap v) (λ s. s.fault ≡ faults.Memory) }
+    // any other refusal is the first stop.
+    ensures refused { IfErr result (λ s. (s.fault ≡ faults.Memory)
+        ⊎ IsStopped (space.now ∷ []) limits s.fault s.place s.paid s.visits) }
+    // No growth is needed, whatever the depth.
+    ensures no_memory { IfErr result (λ s. s.fault ≢ faults.Memory) }
+    // No walk pays beyond its budget.
+    ensures bounded { MatchResult result (λ c. IsBounded limits.budget c.paid c.visits)
+        (λ s. IsBounded limits.budget s.paid s.visits) }
+{
+    let (space, mut reads) = count_reads::<Bare<'_>, L>(space, blank);
+    survey_bare_counted(alloc, &space, limits, &mut reads)
+}
+
+/// What [`survey_bare`] answers of a message of one segment, by calls that count what they read, as for
+/// [`survey_canonical_counted`](crate::survey_canonical_counted) and [`survey_counted`]. It takes no memory.
+pub fn survey_bare_counted<S: Space, A: Allocator + Copy, L: Ledger>(
+    alloc: A,
+    space: &CountedSpace<'_, S, L>,
+    limits: Limits,
+    reads: &mut Reads<L>,
+) -> Result<SurveyedBare, Stopped>
+    requires one { length space.now ≡ 1 }
+    // An answer: the message is accepted, what its walk pays, and whether its bytes are those of its value.
+    ensures found { IfOk result (λ c. IsBareSurvey (segment_at space.now 0) limits c) }
+    // A message that is accepted is answered, or a growth was refused;
+    ensures only { (v : Value) → IsValueOf space.now limits v
+        → MatchResult result (λ c. c.capability ≡ first_cap v) (λ s. s.fault ≡ faults.Memory) }
+    // any other refusal is the first stop.
+    ensures refused { IfErr result (λ s. (s.fault ≡ faults.Memory)
+        ⊎ IsStopped space.now limits s.fault s.place s.paid s.visits) }
+    // No growth is needed, whatever the depth.
+    ensures no_memory { IfErr result (λ s. s.fault ≢ faults.Memory) }
+    // No walk pays beyond its budget.
+    ensures bounded { MatchResult result (λ c. IsBounded limits.budget c.paid c.visits)
+        (λ s. IsBounded limits.budget s.paid s.visits) }
+    // The budget bounds the reads of the message and the turns of loops, whatever is answered.
+    ensures work { reads.new ≤ reads.old + 24 * (limits.budget + 1) }
+{
+    let words = CountedWords::of(space);
+    if let Some(measured) = measure_root::<S, L, false>(&words, limits, reads) {
         return Ok(measured.survey);
     }
-    let told = survey(alloc, space, limits)?;
+    let told = survey_counted(alloc, space, limits, reads)?;
     Ok(SurveyedBare {
         paid: told.paid,
         visits: told.visits,

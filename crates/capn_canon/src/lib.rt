@@ -8,6 +8,8 @@
 //!   [`survey_bare`] also reports its price, its visits and its first capability. [`survey_canonical`] is the one pass
 //!   that they make first: it reports on canonical bytes alone. [`measure_canonical`] is the same pass, and also says
 //!   how deep they are.
+//! - [`survey_bare_counted`], [`survey_canonical_counted`] and [`measure_canonical_counted`] do the same to a message
+//!   of one segment whose reads are counted: the budget bounds how often they read it.
 //! - [`survey_bytes`] and [`survey`] report what the walk of a message pays and visits, and write nothing.
 //! - [`layout`] writes the canonical bytes of a tree: one segment, its objects in preorder, every struct
 //!   cut to what it keeps. A tree with a capability has none, and is refused by the first one's index.
@@ -43,6 +45,7 @@ mod bare_verdict;
 mod canonical;
 mod canonical_input;
 mod canonical_survey;
+mod counted_words;
 mod form;
 mod input;
 pub mod laws;
@@ -61,10 +64,12 @@ mod surveyed_bare;
 mod value_survey;
 mod written_bytes;
 
-pub use bare_verdict::{is_canonical, survey_bare};
+pub use bare_verdict::{is_canonical, survey_bare, survey_bare_counted};
 pub use canonical::{Canonical, canonical_of};
 pub use canonical_input::canonicalise;
-pub use canonical_survey::{measure_canonical, survey_canonical};
+pub use canonical_survey::{
+    measure_canonical, measure_canonical_counted, survey_canonical, survey_canonical_counted,
+};
 pub use form::Form;
 pub use length::{CanonicalLength, canonical_length};
 pub use message_refusal::{IntoRefusal, MessageRefusal};

@@ -1,37 +1,49 @@
 //! Objects that one pass meets at the next free word, each by itself: tested, paid, and opened for what is below them.
 
-ghost use Rattle.std.specs.Prelude.{◌≡◌, ◌+◌, ◌-◌, ◌*◌, ◌%◌, ◌^◌, ◌<◌, [], ◌∷◌, slice_index, IfSome, IsSome};
+ghost use Rattle.std.specs.Prelude.{◌≡◌, ◌+◌, ◌-◌, ◌*◌, ◌%◌, ◌^◌, ◌<◌, ◌≤◌, [], ◌∷◌, slice_index, IfSome, IsSome};
 ghost use Rattle.capn_words.specs.Message.{IsMessage};
 ghost use Rattle.capn_words.specs.declared.pointer.Width.TheVariants.{Link, Rows};
 ghost use Rattle.capn_target.specs.Shapes.{IsPlain};
 ghost use Rattle.capn_canon.specs.inner.Due.{DueFirst, DueIn, DueRowsIn};
 ghost use Rattle.capn_canon.specs.inner.InPlace.{IsOpen, HasObject, HasList, FindsPlain, Opens, OpensRows};
+ghost use Rattle.capn_canon.specs.inner.PassReads.{may_read};
 
-use crate::own_words_test::{are_bits_at, are_rows_at, is_kept, tag_of, word_at, words_of};
+use crate::counted_words::{CountedWords, word_at, words_of};
+use crate::own_words_test::{are_bits_at, are_rows_at, is_kept, tag_of};
 use crate::progress::{Pass, Progress, RowPass};
 use capn_layout::bits_of;
-use capn_words::{Bare, Place, Width};
+use capn_target::counted::Reads;
+use capn_words::{Space, Width};
+use std::sync::ledger::Ledger;
 
 /// The slots of the struct at the next free word to which the first slot in hand points, if all of its words and slots
 /// are kept.
 #[inline(always)]
-pub fn open_struct(space: &Bare<'_>, base: u32, word: u64, pass: Pass) -> Option<Pass>
+pub fn open_struct<S: Space, L: Ledger>(
+    space: &CountedWords<'_, S, L>,
+    base: u32,
+    word: u64,
+    pass: Pass,
+    reads: &mut Reads<L>,
+) -> Option<Pass>
     requires message { IsMessage (space.now ∷ []) }
     requires object { HasObject space.now pass }
     requires word { word ≡ slice_index space.now pass.from }
     requires near { word % 2 ^ 32 ≡ 4 * (pass.next - pass.from - 1) }
     ensures found { IfSome result (λ r. (pass.from < r.from) × IsOpen space.now r × Opens space.now base pass r) }
     ensures only { 0 < word → DueFirst space.now base pass → DueIn space.now base result }
+    ensures reads { IfSome result (λ r. reads.new + may_read r ≤ reads.old + 10 * pass.left + 3) }
+    ensures most { reads.new ≤ reads.old + 3 }
 {
     let tag = tag_of(word);
     let words = tag.words as u32;
     let slots = tag.slots as u32;
     let from = pass.next + words;
     let end = from + slots;
-    if end > words_of(space) || words + slots == 0 {
+    if end > words_of(space, reads) || words + slots == 0 {
         return None;
     }
-    if !is_kept(space, pass.next, words) || !is_kept(space, from, slots) {
+    if !is_kept(space, pass.next, words, reads) || !is_kept(space, from, slots, reads) {
         return None;
     }
     match pass.paid(base as u64 + words as u64 + slots as u64, end, slots) {
@@ -49,23 +61,26 @@ pub fn open_struct(space: &Bare<'_>, base: u32, word: u64, pass: Pass) -> Option
 
 /// How far the pass has come after the list of numbers at the next free word to which the first slot in hand points.
 #[inline(always)]
-pub fn check_numbers(
-    space: &Bare<'_>,
+pub fn check_numbers<S: Space, L: Ledger>(
+    space: &CountedWords<'_, S, L>,
     base: u32,
     width: Width,
     count: u32,
     pass: Pass,
+    reads: &mut Reads<L>,
 ) -> Option<Progress>
     requires message { IsMessage (space.now ∷ []) }
     requires list { HasList space.now pass width count }
     requires plain { IsPlain width }
     ensures found { IfSome result (λ q. FindsPlain space.now base pass q) }
     ensures only { DueFirst space.now base pass → IsSome result }
+    ensures pays { IfSome result (λ q. q.left ≤ pass.left) }
+    ensures reads { reads.new ≤ reads.old + 2 }
 {
     let bits = bits_of(width) * count as u64;
     let words = bits.div_ceil(64);
     let end = pass.next as u64 + words;
-    if end > words_of(space) as u64 || !are_bits_at(space, bits, pass.next) {
+    if end > words_of(space, reads) as u64 || !are_bits_at(space, bits, pass.next, reads) {
         return None;
     }
     let without_size = if let Width::W0 = width { count } else { 0 };
@@ -74,14 +89,22 @@ pub fn check_numbers(
 
 /// The elements of the list of pointers at the next free word to which the first slot in hand points.
 #[inline(always)]
-pub fn open_pointers(space: &Bare<'_>, base: u32, count: u32, pass: Pass) -> Option<Pass>
+pub fn open_pointers<S: Space, L: Ledger>(
+    space: &CountedWords<'_, S, L>,
+    base: u32,
+    count: u32,
+    pass: Pass,
+    reads: &mut Reads<L>,
+) -> Option<Pass>
     requires message { IsMessage (space.now ∷ []) }
     requires list { HasList space.now pass Link count }
     ensures found { IfSome result (λ r. (pass.from < r.from) × IsOpen space.now r × Opens space.now base pass r) }
     ensures only { DueFirst space.now base pass → DueIn space.now base result }
+    ensures reads { IfSome result (λ r. reads.new + may_read r ≤ reads.old + 10 * pass.left + 1) }
+    ensures most { reads.new ≤ reads.old + 1 }
 {
     let end = pass.next + count;
-    if end > words_of(space) {
+    if end > words_of(space, reads) {
         return None;
     }
     match pass.paid(base as u64 + count as u64, end, count) {
@@ -100,47 +123,50 @@ pub fn open_pointers(space: &Bare<'_>, base: u32, count: u32, pass: Pass) -> Opt
 /// The rows of the list of structs at the next free word to which the first slot in hand points, if all of their words
 /// and slots are kept.
 #[inline(never)]
-pub fn open_composite(space: &Bare<'_>, base: u32, span: u32, pass: Pass) -> Option<RowPass>
-    requires message { IsMessage (space.now ∷ []) }
-    requires list { HasList space.now pass Rows span }
-    ensures found { IfSome result (λ r. (pass.from < r.pass.from) × IsOpen space.now r.pass
+pub fn open_composite<S: Space, L: Ledger>(
+    space: CountedWords<'_, S, L>,
+    base: u32,
+    span: u32,
+    pass: Pass,
+    reads: &mut Reads<L>,
+) -> Option<RowPass>
+    requires message { IsMessage (space ∷ []) }
+    requires list { HasList space pass Rows span }
+    ensures found { IfSome result (λ r. (pass.from < r.pass.from) × IsOpen space.entry r.pass
         × (r.pass.from + r.tag.count * (r.tag.words + r.tag.slots) ≡ r.pass.end)
-        × OpensRows space.now base pass r) }
-    ensures only { DueFirst space.now base pass → DueRowsIn space.now base result }
+        × OpensRows space.entry base pass r) }
+    ensures only { DueFirst space.entry base pass → DueRowsIn space.entry base result }
+    ensures reads { IfSome result (λ r.
+        reads.new + 10 * r.pass.left + 8 * (r.tag.count * r.tag.slots) ≤ reads.old + 10 * pass.left + 5) }
+    ensures most { reads.new ≤ reads.old + 10 * pass.left + 5 }
 {
     let first = pass.next + 1;
     let end = first + span;
-    if end > words_of(space) {
+    if end > words_of(&space, reads) {
         return None;
     }
-    let tag = tag_of(word_at(space, pass.next));
+    let tag = tag_of(word_at(&space, pass.next, reads));
     let step = tag.words as u32 + tag.slots as u32;
     if tag.count >= 1 << 29 || tag.count as u64 * step as u64 != span as u64 {
         return None;
     }
-    let rows = Place {
-        segment: 0,
-        word: first,
-    };
-    if !are_rows_at(
-        space, rows, tag.count, tag.words, tag.slots, pass.from, pass.next,
-    ) {
-        return None;
-    }
     let without_size = if step == 0 { tag.count } else { 0 };
     let price = base as u64 + 1 + span as u64 + without_size as u64;
-    match pass.paid(price, end, tag.count * tag.slots as u32) {
-        Some(progress) => Some(RowPass {
-            tag,
-            pass: Pass {
-                from: first,
-                end,
-                depth: pass.depth - 1,
-                next: progress.next,
-                left: progress.left,
-                visits: progress.visits,
-            },
-        }),
-        None => None,
+    let Some(progress) = pass.paid(price, end, tag.count * tag.slots as u32) else {
+        return None;
+    };
+    if !are_rows_at(&space, tag, pass.from, pass.next, reads) {
+        return None;
     }
+    Some(RowPass {
+        tag,
+        pass: Pass {
+            from: first,
+            end,
+            depth: pass.depth - 1,
+            next: progress.next,
+            left: progress.left,
+            visits: progress.visits,
+        },
+    })
 }

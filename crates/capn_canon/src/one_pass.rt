@@ -2,18 +2,26 @@
 //!
 //! Every object of a layout is at the next free word, so where each pointer is the one to that word, nothing is out
 //! of range and nothing is read twice: the pass follows the words in order, and needs no survey before it.
+//!
+//! A slot costs at most seven reads and turns: its turn, its word, and five to test the object that it names. What else
+//! a list of structs costs is paid with its rows: at most two for each word of theirs, to see that all are kept, and a
+//! turn for each row with slots.
 
-ghost use Rattle.std.specs.Prelude.{◌≡◌, ◌+◌, ◌-◌, ◌*◌, ◌%◌, ◌^◌, ◌<◌, [], ◌∷◌, slice_index, IfSome, IsSome};
+ghost use Rattle.std.specs.Prelude.{◌≡◌, ◌+◌, ◌-◌, ◌*◌, ◌%◌, ◌^◌, ◌<◌, ◌≤◌, [], ◌∷◌, slice_index, IfSome, IsSome};
 ghost use Rattle.capn_words.specs.Message.{IsMessage};
 ghost use Rattle.capn_words.specs.declared.pointer.Width.TheVariants.{Rows};
 ghost use Rattle.capn_canon.specs.inner.Due.{Due, DueFirst, DueIn, DueRows};
 ghost use Rattle.capn_canon.specs.inner.InPlace.{IsOpen, HasObject, HasList, Leads, Finds, FindsFirst, FindsRows};
 ghost use Rattle.capn_canon.specs.inner.InPlace.{Opens};
+ghost use Rattle.capn_canon.specs.inner.PassReads.{may_read};
 
+use crate::counted_words::{CountedWords, word_at};
 use crate::objects::{check_numbers, open_composite, open_pointers, open_struct};
-use crate::own_words_test::{EMPTY, word_at};
+use crate::own_words_test::EMPTY;
 use crate::progress::{Pass, Progress, lower};
-use capn_words::{Bare, Pointer, Width, split};
+use capn_target::counted::Reads;
+use capn_words::{Pointer, Space, Width, split};
+use std::sync::ledger::Ledger;
 
 /// How far the pass has come once all is checked that is below the slots of an object; none where a word isn't in
 /// place, where a capability is, or where the depth or what may be paid is passed.
@@ -21,37 +29,44 @@ use capn_words::{Bare, Pointer, Width, split};
 /// Each level of depth takes one frame of the stack: that of this function, or of [`check_rows`].
 #[cycle(pass)]
 #[inline(never)]
-pub fn check_object<const DEEP: bool>(
-    space: &Bare<'_>,
+pub fn check_object<S: Space, L: Ledger, const DEEP: bool>(
+    space: CountedWords<'_, S, L>,
     base: u32,
     pass: Pass,
     least: &mut u32,
+    reads: &mut Reads<L>,
 ) -> Option<Progress>
-    requires message { IsMessage (space.now ∷ []) }
-    requires opened { IsOpen space.now pass }
-    ensures found { IfSome result (λ q. Finds space.now base DEEP pass least.old q least.new) }
-    ensures only { Due space.now base pass → IsSome result }
+    requires message { IsMessage (space ∷ []) }
+    requires opened { IsOpen space pass }
+    ensures found { IfSome result (λ q. Finds space.entry base DEEP pass least.old q least.new) }
+    ensures only { Due space.entry base pass → IsSome result }
+    ensures reads { IfSome result (λ q. reads.new + 10 * q.left ≤ reads.old + may_read pass) }
+    ensures most { reads.new ≤ reads.old + may_read pass }
 {
-    check_slots::<DEEP>(space, base, pass, least)
+    check_slots::<S, L, DEEP>(&space, base, pass, least, reads)
 }
 
 /// The same below the slots in hand.
 #[cycle(pass)]
 #[inline(always)]
-fn check_slots<const DEEP: bool>(
-    space: &Bare<'_>,
+fn check_slots<S: Space, L: Ledger, const DEEP: bool>(
+    space: &CountedWords<'_, S, L>,
     base: u32,
     pass: Pass,
     least: &mut u32,
+    reads: &mut Reads<L>,
 ) -> Option<Progress>
     requires message { IsMessage (space.now ∷ []) }
     requires opened { IsOpen space.now pass }
     ensures found { IfSome result (λ q. Finds space.now base DEEP pass least.old q least.new) }
     ensures only { Due space.now base pass → IsSome result }
+    ensures reads { IfSome result (λ q. reads.new + 10 * q.left ≤ reads.old + may_read pass) }
+    ensures most { reads.new ≤ reads.old + may_read pass }
 {
     let mut left = pass;
     while left.from < left.end {
-        match check_slot::<DEEP>(space, base, left, least) {
+        reads.tick();
+        match check_slot::<S, L, DEEP>(space, base, left, least, reads) {
             Some(rest) => left = rest,
             None => return None,
         }
@@ -62,11 +77,12 @@ fn check_slots<const DEEP: bool>(
 /// What is left of a pass after the first slot in hand; after the last one, the slots of the struct that it names.
 #[cycle(pass)]
 #[inline(always)]
-fn check_slot<const DEEP: bool>(
-    space: &Bare<'_>,
+fn check_slot<S: Space, L: Ledger, const DEEP: bool>(
+    space: &CountedWords<'_, S, L>,
     base: u32,
     pass: Pass,
     least: &mut u32,
+    reads: &mut Reads<L>,
 ) -> Option<Pass>
     requires message { IsMessage (space.now ∷ []) }
     requires opened { IsOpen space.now pass }
@@ -74,8 +90,10 @@ fn check_slot<const DEEP: bool>(
     ensures found { IfSome result (λ r. (pass.from < r.from) × IsOpen space.now r
         × Leads space.now base DEEP pass least.old r least.new) }
     ensures only { Due space.now base pass → DueIn space.now base result }
+    ensures reads { IfSome result (λ r. reads.new + 1 + may_read r ≤ reads.old + may_read pass) }
+    ensures most { reads.new + 1 ≤ reads.old + may_read pass }
 {
-    let word = word_at(space, pass.from);
+    let word = word_at(space, pass.from, reads);
     if word == 0 {
         return Some(pass.behind(pass.here()));
     }
@@ -85,10 +103,10 @@ fn check_slot<const DEEP: bool>(
     let low = word % (1 << 32);
     let near = 4 * (pass.next - pass.from - 1) as u64;
     if low == near {
-        return check_struct::<DEEP>(space, base, word, pass, least);
+        return check_struct::<S, L, DEEP>(space, base, word, pass, least, reads);
     }
     if low == near + 1 {
-        return check_list::<DEEP>(space, base, word, pass, least);
+        return check_list::<S, L, DEEP>(space, base, word, pass, least, reads);
     }
     if word == EMPTY {
         lower::<DEEP>(least, pass.depth - 1);
@@ -103,12 +121,13 @@ fn check_slot<const DEEP: bool>(
 /// The same where the first slot in hand is the pointer to a struct at the next free word.
 #[cycle(pass)]
 #[inline(always)]
-fn check_struct<const DEEP: bool>(
-    space: &Bare<'_>,
+fn check_struct<S: Space, L: Ledger, const DEEP: bool>(
+    space: &CountedWords<'_, S, L>,
     base: u32,
     word: u64,
     pass: Pass,
     least: &mut u32,
+    reads: &mut Reads<L>,
 ) -> Option<Pass>
     requires message { IsMessage (space.now ∷ []) }
     requires object { HasObject space.now pass }
@@ -117,9 +136,11 @@ fn check_struct<const DEEP: bool>(
     ensures found { IfSome result (λ r. (pass.from < r.from) × IsOpen space.now r
         × Leads space.now base DEEP pass least.old r least.new) }
     ensures only { 0 < word → Due space.now base pass → DueIn space.now base result }
+    ensures reads { IfSome result (λ r. reads.new + 2 + may_read r ≤ reads.old + may_read pass) }
+    ensures most { reads.new + 2 ≤ reads.old + may_read pass }
 {
-    match open_struct(space, base, word, pass) {
-        Some(below) => check_below::<DEEP>(space, base, pass, below, least),
+    match open_struct(space, base, word, pass, reads) {
+        Some(below) => check_below::<S, L, DEEP>(space, base, pass, below, least, reads),
         None => None,
     }
 }
@@ -127,12 +148,13 @@ fn check_struct<const DEEP: bool>(
 /// The same once the slots of the object are known to which the first slot in hand points.
 #[cycle(pass)]
 #[inline(always)]
-fn check_below<const DEEP: bool>(
-    space: &Bare<'_>,
+fn check_below<S: Space, L: Ledger, const DEEP: bool>(
+    space: &CountedWords<'_, S, L>,
     base: u32,
     pass: Pass,
     below: Pass,
     least: &mut u32,
+    reads: &mut Reads<L>,
 ) -> Option<Pass>
     requires message { IsMessage (space.now ∷ []) }
     requires object { HasObject space.now pass }
@@ -142,12 +164,15 @@ fn check_below<const DEEP: bool>(
     ensures found { IfSome result (λ r. (pass.from < r.from) × IsOpen space.now r
         × Leads space.now base DEEP pass least.old r least.new) }
     ensures only { Due space.now base below → Due space.now base pass → DueIn space.now base result }
+    ensures reads { IfSome result (λ r.
+        reads.new + 7 + may_read r ≤ reads.old + may_read below + 7 * (pass.end - pass.from)) }
+    ensures most { reads.new ≤ reads.old + may_read below }
 {
     lower::<DEEP>(least, below.depth);
     if pass.from + 1 == pass.end {
         return Some(below);
     }
-    match check_first::<DEEP>(space, base, below, least) {
+    match check_first::<S, L, DEEP>(space, base, below, least, reads) {
         Some(progress) => Some(pass.behind(progress)),
         None => None,
     }
@@ -157,16 +182,19 @@ fn check_below<const DEEP: bool>(
 /// the call here, so that nothing is written to the stack where no call is made.
 #[cycle(pass)]
 #[inline(always)]
-fn check_first<const DEEP: bool>(
-    space: &Bare<'_>,
+fn check_first<S: Space, L: Ledger, const DEEP: bool>(
+    space: &CountedWords<'_, S, L>,
     base: u32,
     below: Pass,
     least: &mut u32,
+    reads: &mut Reads<L>,
 ) -> Option<Progress>
     requires message { IsMessage (space.now ∷ []) }
     requires opened { IsOpen space.now below }
     ensures found { IfSome result (λ q. Finds space.now base DEEP below least.old q least.new) }
     ensures only { Due space.now base below → IsSome result }
+    ensures reads { IfSome result (λ q. reads.new + 10 * q.left ≤ reads.old + may_read below) }
+    ensures most { reads.new ≤ reads.old + may_read below }
 {
     if below.from == below.end {
         return Some(below.here());
@@ -179,18 +207,19 @@ fn check_first<const DEEP: bool>(
         left: below.left,
         visits: below.visits,
     };
-    check_object::<DEEP>(space, base, object, least)
+    check_object::<S, L, DEEP>(space.again(), base, object, least, reads)
 }
 
 /// The same where the first slot in hand is the pointer to a list at the next free word.
 #[cycle(pass)]
 #[inline(always)]
-fn check_list<const DEEP: bool>(
-    space: &Bare<'_>,
+fn check_list<S: Space, L: Ledger, const DEEP: bool>(
+    space: &CountedWords<'_, S, L>,
     base: u32,
     word: u64,
     pass: Pass,
     least: &mut u32,
+    reads: &mut Reads<L>,
 ) -> Option<Pass>
     requires message { IsMessage (space.now ∷ []) }
     requires object { HasObject space.now pass }
@@ -199,6 +228,8 @@ fn check_list<const DEEP: bool>(
     ensures found { IfSome result (λ r. (pass.from < r.from) × IsOpen space.now r
         × Leads space.now base DEEP pass least.old r least.new) }
     ensures only { Due space.now base pass → DueIn space.now base result }
+    ensures reads { IfSome result (λ r. reads.new + 2 + may_read r ≤ reads.old + may_read pass) }
+    ensures most { reads.new + 2 ≤ reads.old + may_read pass }
 {
     let Pointer::Many {
         offset: _,
@@ -209,17 +240,17 @@ fn check_list<const DEEP: bool>(
         return None;
     };
     match width {
-        Width::Link => match open_pointers(space, base, count, pass) {
-            Some(below) => check_below::<DEEP>(space, base, pass, below, least),
+        Width::Link => match open_pointers(space, base, count, pass, reads) {
+            Some(below) => check_below::<S, L, DEEP>(space, base, pass, below, least, reads),
             None => None,
         },
-        Width::Rows => match check_composite::<DEEP>(space, base, count, pass, least) {
+        Width::Rows => match check_composite::<S, L, DEEP>(space, base, count, pass, least, reads) {
             Some(progress) => Some(pass.behind(progress)),
             None => None,
         },
         _ => {
             lower::<DEEP>(least, pass.depth - 1);
-            match check_numbers(space, base, width, count, pass) {
+            match check_numbers(space, base, width, count, pass, reads) {
                 Some(progress) => Some(pass.behind(progress)),
                 None => None,
             }
@@ -231,19 +262,22 @@ fn check_list<const DEEP: bool>(
 /// and after all below it.
 #[cycle(pass)]
 #[inline(always)]
-fn check_composite<const DEEP: bool>(
-    space: &Bare<'_>,
+fn check_composite<S: Space, L: Ledger, const DEEP: bool>(
+    space: &CountedWords<'_, S, L>,
     base: u32,
     span: u32,
     pass: Pass,
     least: &mut u32,
+    reads: &mut Reads<L>,
 ) -> Option<Progress>
     requires message { IsMessage (space.now ∷ []) }
     requires list { HasList space.now pass Rows span }
     ensures found { IfSome result (λ q. FindsFirst space.now base DEEP pass least.old q least.new) }
     ensures only { DueFirst space.now base pass → IsSome result }
+    ensures reads { IfSome result (λ q. reads.new + 10 * q.left ≤ reads.old + 10 * pass.left + 5) }
+    ensures most { reads.new ≤ reads.old + 10 * pass.left + 5 }
 {
-    match open_composite(space, base, span, pass) {
+    match open_composite(space.again(), base, span, pass, reads) {
         Some(opened) => {
             let tag = opened.tag;
             let rows = opened.pass;
@@ -251,7 +285,16 @@ fn check_composite<const DEEP: bool>(
             if tag.slots == 0 {
                 return Some(rows.here());
             }
-            check_rows::<DEEP>(space, base, tag.count, tag.words, tag.slots, rows, least)
+            check_rows::<S, L, DEEP>(
+                space.again(),
+                base,
+                tag.count,
+                tag.words,
+                tag.slots,
+                rows,
+                least,
+                reads,
+            )
         }
         None => None,
     }
@@ -260,26 +303,33 @@ fn check_composite<const DEEP: bool>(
 /// How far the pass has come after all that is below the slots of `count` rows, which are the words in hand.
 #[cycle(pass)]
 #[inline(never)]
-fn check_rows<const DEEP: bool>(
-    space: &Bare<'_>,
+fn check_rows<S: Space, L: Ledger, const DEEP: bool>(
+    space: CountedWords<'_, S, L>,
     base: u32,
     count: u32,
     words: u16,
     slots: u16,
     pass: Pass,
     least: &mut u32,
+    reads: &mut Reads<L>,
 ) -> Option<Progress>
-    requires message { IsMessage (space.now ∷ []) }
-    requires opened { IsOpen space.now pass }
+    requires message { IsMessage (space ∷ []) }
+    requires opened { IsOpen space pass }
+    requires some { 0 < slots }
     requires inside { pass.from + count * (words + slots) ≡ pass.end }
     ensures found { IfSome result (λ q.
-        FindsRows space.now base DEEP words slots pass.from count pass.next pass.depth pass.left pass.visits least.old q
-        least.new) }
-    ensures only { DueRows space.now base words slots pass.from count pass.next pass.depth pass.left → IsSome result }
+        FindsRows space.entry base DEEP words slots pass.from count pass.next pass.depth pass.left pass.visits least.old
+        q least.new) }
+    ensures only { DueRows space.entry base words slots pass.from count pass.next pass.depth pass.left
+        → IsSome result }
+    ensures reads { IfSome result (λ q.
+        reads.new + 10 * q.left ≤ reads.old + 10 * pass.left + 8 * (count * slots)) }
+    ensures most { reads.new ≤ reads.old + 10 * pass.left + 8 * (count * slots) }
 {
     let mut progress = pass.here();
     let mut row = pass.from;
     for i in 0..count {
+        reads.tick();
         let from = row + words as u32;
         let end = from + slots as u32;
         let below = Pass {
@@ -290,7 +340,7 @@ fn check_rows<const DEEP: bool>(
             left: progress.left,
             visits: progress.visits,
         };
-        match check_slots::<DEEP>(space, base, below, least) {
+        match check_slots::<S, L, DEEP>(&space, base, below, least, reads) {
             Some(behind) => progress = behind,
             None => return None,
         }

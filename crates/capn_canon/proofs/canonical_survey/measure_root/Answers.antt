@@ -22,7 +22,8 @@ returns-in-None-clause-only g c v h free e =
     let dd = c.depth-depth.ensures.value in
     let small = c.budget-budget.ensures.within in
     let shallow = c.depth-depth.ensures.within in
-    c.in-None.ensures.only
+    let only = rw c.again.ensures at c.in-None.ensures.only in
+    only
     (root-due c.args.space.now l v c.requires (omega arith) (omega arith) h free e c.base.result c.depth-depth.result
     c.budget-budget.result (c.base.ensures.value ∙ ap (λ (t : Tariff). base t) c.tariff.ensures) dd db)
 
@@ -31,7 +32,7 @@ returns-then-this-ne0-clause-found g c =
     let all = c.args.space.now in
     let l = c.args.limits in
     let q = c.in-Some.progress in
-    let size = c.words_of-size.ensures in
+    let size = c.words_of-size.ensures.words in
     let ne = c.if-size-eq0.false in
     let some : 0 < length all = omega arith in
     let base_is = c.base.ensures.value ∙ ap (λ (t : Tariff). base t) c.tariff.ensures in
@@ -39,8 +40,9 @@ returns-then-this-ne0-clause-found g c =
     let small = c.budget-budget.ensures.within in
     let shallow = c.depth-depth.ensures.within in
     let low = c.check_object.new.least in
+    let found = rw c.again.ensures at c.in-Some.ensures.found in
     let f = under-limits all l deep c.base.result c.depth-depth.result c.budget-budget.result q low base_is
-    c.depth-depth.ensures.value c.budget-budget.ensures.value c.in-Some.ensures.found in
+    c.depth-depth.ensures.value c.budget-budget.ensures.value found in
     canonical-survey all l deep some q low f
     (record {
       paid = c.budget-budget.result - q.left;
@@ -58,7 +60,7 @@ returns-then-this-ne0-clause-depth g c on t =
     let all = c.args.space.now in
     let l = c.args.limits in
     let q = c.in-Some.progress in
-    let size = c.words_of-size.ensures in
+    let size = c.words_of-size.ensures.words in
     let ne = c.if-size-eq0.false in
     let some : 0 < length all = omega arith in
     let dd = c.depth-depth.ensures.value in
@@ -68,8 +70,9 @@ returns-then-this-ne0-clause-depth g c on t =
     let base_is = c.base.ensures.value ∙ ap (λ (t : Tariff). base t) c.tariff.ensures in
     let deep = not (nat_eq g.row.DEEP 0) in
     let low = c.check_object.new.least in
+    let found = rw c.again.ensures at c.in-Some.ensures.found in
     let f = under-limits all l deep c.base.result c.depth-depth.result c.budget-budget.result q low base_is dd db
-    c.in-Some.ensures.found in
+    found in
     subst (λ (n : ℕ). IsDepth (all ∷ []) l (n - low)) (sym dd)
     (canonical-depth all l deep some q low f (yes-same q.next c.words_of-size.result t ∙ size) c.requires
     (omega arith) (omega arith) on).0
@@ -79,7 +82,7 @@ returns-else-this-ne0-clause-found g c =
     let all = c.args.space.now in
     let l = c.args.limits in
     let q = c.in-Some.progress in
-    let size = c.words_of-size.ensures in
+    let size = c.words_of-size.ensures.words in
     let ne = c.if-size-eq0.false in
     let some : 0 < length all = omega arith in
     let base_is = c.base.ensures.value ∙ ap (λ (t : Tariff). base t) c.tariff.ensures in
@@ -87,8 +90,9 @@ returns-else-this-ne0-clause-found g c =
     let small = c.budget-budget.ensures.within in
     let shallow = c.depth-depth.ensures.within in
     let low = c.check_object.new.least in
+    let found = rw c.again.ensures at c.in-Some.ensures.found in
     let f = under-limits all l deep c.base.result c.depth-depth.result c.budget-budget.result q low base_is
-    c.depth-depth.ensures.value c.budget-budget.ensures.value c.in-Some.ensures.found in
+    c.depth-depth.ensures.value c.budget-budget.ensures.value found in
     canonical-survey all l deep some q low f
     (record {
       paid = c.budget-budget.result - q.left;

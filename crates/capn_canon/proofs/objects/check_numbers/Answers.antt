@@ -17,7 +17,7 @@ use Rattle.capn_canon.proofs.objects.check_numbers.Goals.{then-end-words_of-via-
 use Rattle.capn_canon.proofs.objects.check_numbers.Goals as goal
 
 pub returns : goal.returns
-returns c =
+returns g c =
     let all = c.args.space.now in
     let p = c.args.pass in
     let n = c.args.count in
@@ -30,11 +30,11 @@ returns c =
     let short = segment-room (all ∷ []) 0 c.requires.message (omega arith) in
     let small : length all ≤ 2 ^ 29 = omega arith in
     let bits = ap (λ (x : ℕ). x * n) c.bits_of.ensures in
-    let w = c.words_of.ensures in
+    let w = c.words_of.ensures.words in
     let le = c.if-end-words_of.false in
     let d = c.div_ceil-words.ensures in
     let stand = subst (λ (x : ℕ). Stand all p.next (first_bits x (drop p.next all))) bits
-    (c.if-not-are_bits_at.ensures.0 refl) in
+    (c.if-not-are_bits_at.ensures.same.0 refl) in
     let price_is : price c.args.base (shapes.Many k n)
     ≡ c.args.base + c.div_ceil-words.result + c.match-width.without_size =
     elim c.match-width.branch as (λ _. price c.args.base (shapes.Many k n)
@@ -51,6 +51,8 @@ returns c =
     room c.requires.list.few o.deep c.requires.list.word stand in
     let high = numbers-high all c.args.base p.from p.next p.depth k n c.requires.message small c.requires.plain order
     room c.requires.list.few o.deep c.requires.list.word stand in
+    let size_read = c.words_of.ensures.reads in
+    let last_read = c.if-not-are_bits_at.ensures.reads in
     record {
       found = if-some c.paid.result
           (λ q h deep least low is. let gn = h.0 in let gl = h.1 in let gv = h.2 in
@@ -73,10 +75,12 @@ returns c =
           (let cheap = numbers-cheap all c.args.base p.from p.next p.depth p.left h small (omega arith) o.deep k n
           c.requires.list.few c.requires.list.word (λ e. subst IsPlain e c.requires.plain) c.requires.message
           c.requires.plain in omega arith);
+      pays = if-some c.paid.result (λ q h. let gl = h.1 in omega arith) c.paid.ensures.found;
+      reads = omega arith;
     }
 
 pub returns-then-end-words_of-clause-only : goal.returns-then-end-words_of-clause-only
-returns-then-end-words_of-clause-only c h =
+returns-then-end-words_of-clause-only g c h =
     let all = c.args.space.now in
     let p = c.args.pass in
     let n = c.args.count in
@@ -88,7 +92,7 @@ returns-then-end-words_of-clause-only c h =
     let short = segment-room (all ∷ []) 0 c.requires.message (omega arith) in
     let small : length all ≤ 2 ^ 29 = omega arith in
     let bits = ap (λ (x : ℕ). x * n) c.bits_of.ensures in
-    let w = c.words_of.ensures in
+    let w = c.words_of.ensures.words in
     let d = c.div_ceil-words.ensures in
     let simple = λ (e : k ≡ Rows). subst IsPlain e c.requires.plain in
     let room = numbers-room all c.args.base p.from p.next p.depth p.left h small (omega arith) o.deep k n
@@ -99,5 +103,5 @@ returns-then-end-words_of-clause-only c h =
     absurd (elim c.then-end-words_of.branch as (λ _. ⊥) [
       | then-end-words_of-via-then-end-words_of b ↦ let gt = b.if-end-words_of.true in omega arith
       | then-end-words_of-via-else-end-words_of+then-not-are_bits_at b ↦
-          not-true (b.if-not-are_bits_at.ensures.1 same)
+          not-true (b.if-not-are_bits_at.ensures.same.1 same)
     ])

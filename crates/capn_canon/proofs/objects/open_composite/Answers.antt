@@ -57,9 +57,9 @@ tagged all base p span x g o small few word at is h =
     let b = ap (λ (t : Tag). t.slots) is ∙ f.2 in
     record { due = k; count = n; words = a; slots = b; whole = ap₂ ◌*◌ n (ap₂ ◌+◌ a b) ∙ sym k.whole }
 
-pub returns-in-Some : goal.returns-in-Some
-returns-in-Some c =
-    let all = c.args.space.now in
+pub returns : goal.returns
+returns g c =
+    let all = c.args.space in
     let p = c.args.pass in
     let o = c.requires.list.object in
     let s = o.some in
@@ -67,13 +67,13 @@ returns-in-Some c =
     let fits = o.opened.fits in
     let room = segment-room (all ∷ []) 0 c.requires.message (omega arith) in
     let small : length all ≤ 2 ^ 29 = omega arith in
-    let w = c.words_of.ensures in
+    let w = c.words_of.ensures.words in
     let le = c.if-end-words_of.false in
     let g = c.tag_of-tag.result in
     let few = c.if-tag.false in
     let span = c.if-tag-step.false in
     let short = c.requires.list.few in
-    let five = c.if-not-are_rows_at.ensures.0 refl in
+    let five = c.if-not-are_rows_at.ensures.same.0 refl in
     let x = c.word_at.result in
     let ea : g.words ≡ field 32 16 x = ap (λ (k : Tag). k.words) c.tag_of-tag.ensures in
     let eb : g.slots ≡ field 48 16 x = ap (λ (k : Tag). k.slots) c.tag_of-tag.ensures in
@@ -89,6 +89,10 @@ returns-in-Some c =
       | else-step-eq0 w ↦
           extra-no (g.words + g.slots) g.count c.if-step-eq0.without_size w.if-step-eq0.false w.without_size-is
     ] in
+    let size_read = c.words_of.ensures.reads in
+    let tag_read = c.word_at.ensures.reads in
+    let row_reads = c.if-not-are_rows_at.ensures.reads in
+    let parts : g.count * (g.words + g.slots) ≡ g.count * g.words + g.count * g.slots = omega arith in
     record {
       found = (
         omega arith,
@@ -99,7 +103,7 @@ returns-in-Some c =
             (omega arith) gv),
       );
       only = λ f.
-          let y = tagged all c.args.base p c.args.span x g o small short c.requires.list.word c.word_at.ensures
+          let y = tagged all c.args.base p c.args.span x g o small short c.requires.list.word c.word_at.ensures.word
           c.tag_of-tag.ensures f in
           let k = y.due in
           let sum = ap₂ ◌+◌ y.words y.slots in
@@ -114,18 +118,20 @@ returns-in-Some c =
           (p.next + 1 + k.n * (k.a + k.b)) q.next (p.depth - 1)
           (p.left - price c.args.base (shapes.Rows k.n k.a k.b (k.n * (k.a + k.b)))) q.left (sym y.words) (sym y.slots)
           (sym y.count) (omega arith) (omega arith) k.below;
+      reads = omega arith;
+      most = omega arith;
     }
 
 pub returns-then-end-words_of-clause-only : goal.returns-then-end-words_of-clause-only
-returns-then-end-words_of-clause-only c h =
-    let all = c.args.space.now in
+returns-then-end-words_of-clause-only g c h =
+    let all = c.args.space in
     let p = c.args.pass in
     let o = c.requires.list.object in
     let s = o.some in
     let before = o.opened.before in
     let fits = o.opened.fits in
     let room = segment-room (all ∷ []) 0 c.requires.message (omega arith) in
-    let w = c.words_of.ensures in
+    let w = c.words_of.ensures.words in
     let gt = c.if-end-words_of.true in
     let k = due-tagged all c.args.base p.from p.next p.depth p.left c.args.span h (omega arith) (omega arith) o.deep
     c.requires.list.few c.requires.list.word in
@@ -134,8 +140,8 @@ returns-then-end-words_of-clause-only c h =
     absurd (omega arith)
 
 pub returns-then-tag-clause-only : goal.returns-then-tag-clause-only
-returns-then-tag-clause-only c h =
-    let all = c.args.space.now in
+returns-then-tag-clause-only g c h =
+    let all = c.args.space in
     let p = c.args.pass in
     let o = c.requires.list.object in
     let s = o.some in
@@ -144,7 +150,7 @@ returns-then-tag-clause-only c h =
     let room = segment-room (all ∷ []) 0 c.requires.message (omega arith) in
     let small : length all ≤ 2 ^ 29 = omega arith in
     let y = tagged all c.args.base p c.args.span c.word_at.result c.tag_of-tag.result o small c.requires.list.few
-    c.requires.list.word c.word_at.ensures c.tag_of-tag.ensures h in
+    c.requires.list.word c.word_at.ensures.word c.tag_of-tag.ensures h in
     let k = y.due in
     let yc = y.count in
     let yw = y.words in
@@ -159,8 +165,8 @@ returns-then-tag-clause-only c h =
 
 pub returns-then-not-are_rows_at-clause-only
     : goal.returns-then-not-are_rows_at-clause-only
-returns-then-not-are_rows_at-clause-only c h =
-    let all = c.args.space.now in
+returns-then-not-are_rows_at-clause-only g c h =
+    let all = c.args.space in
     let p = c.args.pass in
     let o = c.requires.list.object in
     let s = o.some in
@@ -169,7 +175,7 @@ returns-then-not-are_rows_at-clause-only c h =
     let room = segment-room (all ∷ []) 0 c.requires.message (omega arith) in
     let small : length all ≤ 2 ^ 29 = omega arith in
     let y = tagged all c.args.base p c.args.span c.word_at.result c.tag_of-tag.result o small c.requires.list.few
-    c.requires.list.word c.word_at.ensures c.tag_of-tag.ensures h in
+    c.requires.list.word c.word_at.ensures.word c.tag_of-tag.ensures h in
     let k = y.due in
     let yc = y.count in
     let yw = y.words in
@@ -179,14 +185,14 @@ returns-then-not-are_rows_at-clause-only c h =
     × (kept_each (all ∷ []) 0 (p.next + 1 + a) b (a + b) n ≡ b)
     × (slice_index all p.from ≡ list_to p.from p.next Rows (n * (a + b)))
     × (p.next + (1 + n * (a + b)) ≤ length all) × (slice_index all p.next ≡ word_of (Node (pos n) a b)) in
-    absurd (not-true (c.if-not-are_rows_at.ensures.1
+    absurd (not-true (c.if-not-are_rows_at.ensures.same.1
     (subst (λ (n : ℕ). all-kept n c.tag_of-tag.result.words c.tag_of-tag.result.slots) (sym y.count)
     (subst (λ (a : ℕ). all-kept k.n a c.tag_of-tag.result.slots) (sym y.words)
     (subst (λ (b : ℕ). all-kept k.n k.a b) (sym y.slots) (k.words_kept, k.slots_kept, k.word, k.room, k.tag))))))
 
-pub returns-in-None-clause-only : goal.returns-in-None-clause-only
-returns-in-None-clause-only c h =
-    let all = c.args.space.now in
+pub returns-in_default-clause-only : goal.returns-in_default-clause-only
+returns-in_default-clause-only g c h =
+    let all = c.args.space in
     let p = c.args.pass in
     let o = c.requires.list.object in
     let s = o.some in
@@ -195,7 +201,7 @@ returns-in-None-clause-only c h =
     let room = segment-room (all ∷ []) 0 c.requires.message (omega arith) in
     let small : length all ≤ 2 ^ 29 = omega arith in
     let y = tagged all c.args.base p c.args.span c.word_at.result c.tag_of-tag.result o small c.requires.list.few
-    c.requires.list.word c.word_at.ensures c.tag_of-tag.ensures h in
+    c.requires.list.word c.word_at.ensures.word c.tag_of-tag.ensures h in
     let k = y.due in
     let yc = y.count in
     let yw = y.words in
@@ -212,5 +218,5 @@ returns-in-None-clause-only c h =
     ] in
     let each = if-same (g.words + g.slots) (k.a + k.b) g.count k.n (ap₂ ◌+◌ y.words y.slots) y.count in
     let cheap = k.cheap in
-    let e = c.in-None.ensures.only (omega arith) in
+    let e = c.in_default.ensures.only (omega arith) in
     absurd (cc)

@@ -6,7 +6,7 @@ use Rattle.capn_canon.proofs.check.PassLeads.{finds-links}
 use Rattle.capn_canon.proofs.objects.open_pointers.Goals as goal
 
 pub returns-in-Some : goal.returns-in-Some
-returns-in-Some c =
+returns-in-Some g c =
     let all = c.args.space.now in
     let p = c.args.pass in
     let o = c.requires.list.object in
@@ -16,7 +16,7 @@ returns-in-Some c =
     let few = o.opened.few in
     let room = segment-room (all ∷ []) 0 c.requires.message (omega arith) in
     let small : length all ≤ 2 ^ 29 = omega arith in
-    let w = c.words_of.ensures in
+    let w = c.words_of.ensures.words in
     let le = c.if-end-words_of.false in
     let g = c.in-Some.progress in
     let n = c.args.count in
@@ -24,6 +24,7 @@ returns-in-Some c =
     let gn = h.0 in
     let gl = h.1 in
     let gv = h.2 in
+    let size_read = c.words_of.ensures.reads in
     record {
       found = (
         omega arith,
@@ -37,10 +38,12 @@ returns-in-Some c =
           let cheap = k.cheap in
           same-due all c.args.base p.next p.next n (p.next + n - p.next) (p.next + n) g.next (p.depth - 1)
           (p.left - (c.args.base + n)) g.left refl (omega arith) (omega arith) (omega arith) k.below;
+      reads = omega arith;
+      most = omega arith;
     }
 
 pub returns-then-end-words_of-clause-only : goal.returns-then-end-words_of-clause-only
-returns-then-end-words_of-clause-only c h =
+returns-then-end-words_of-clause-only g c h =
     let all = c.args.space.now in
     let p = c.args.pass in
     let o = c.requires.list.object in
@@ -48,7 +51,7 @@ returns-then-end-words_of-clause-only c h =
     let before = o.opened.before in
     let fits = o.opened.fits in
     let room = segment-room (all ∷ []) 0 c.requires.message (omega arith) in
-    let w = c.words_of.ensures in
+    let w = c.words_of.ensures.words in
     let gt = c.if-end-words_of.true in
     let k = due-links all c.args.base p.from p.next p.depth p.left h (omega arith) (omega arith) o.deep c.args.count
     c.requires.list.few c.requires.list.word in
@@ -56,7 +59,7 @@ returns-then-end-words_of-clause-only c h =
     absurd (omega arith)
 
 pub returns-in-None-clause-only : goal.returns-in-None-clause-only
-returns-in-None-clause-only c h =
+returns-in-None-clause-only g c h =
     let all = c.args.space.now in
     let p = c.args.pass in
     let o = c.requires.list.object in

@@ -51,7 +51,7 @@ tagged all base p x g o message e low nz is h =
     record { due = k; words = t.0; slots = t.1 }
 
 pub returns-in-Some : goal.returns-in-Some
-returns-in-Some c =
+returns-in-Some g c =
     let all = c.args.space.now in
     let p = c.args.pass in
     let a = c.tag_of-tag.result.words in
@@ -65,7 +65,7 @@ returns-in-Some c =
     let small = segment-room (all ∷ []) 0 c.requires.message (omega arith) in
     let ea : a ≡ field 32 16 c.args.word = ap (λ (t : Tag). t.words) c.tag_of-tag.ensures in
     let eb : b ≡ field 48 16 c.args.word = ap (λ (t : Tag). t.slots) c.tag_of-tag.ensures in
-    let w = c.words_of.ensures in
+    let w = c.words_of.ensures.words in
     let le = c.if-end-words_of.false in
     let ne = c.if-words-slots-eq0.false in
     let paid = c.in-Some.ensures.found in
@@ -75,12 +75,15 @@ returns-in-Some c =
     let some : 0 < a + b = omega arith in
     let word = sym c.requires.word ∙ struct-word c.args.word p.from p.next a b c.ranges.word.fits (omega arith)
     (omega arith) c.requires.near ea eb some in
+    let size_read = c.words_of.ensures.reads in
+    let word_read = c.if-not-is_kept.ensures.reads in
+    let slot_read = c.if-not-is_kept-2.ensures.reads in
     record {
       found = (
         omega arith,
         record { order = omega arith; before = omega arith; fits = omega arith; few = omega arith },
         (λ deep. finds-struct all c.args.base deep p o (omega arith) a b g (omega arith) (omega arith) (omega arith)
-            some word (c.if-not-is_kept.ensures.0 refl) (c.if-not-is_kept-2.ensures.0 refl) gn gl gv),
+            some word (c.if-not-is_kept.ensures.same.0 refl) (c.if-not-is_kept-2.ensures.same.0 refl) gn gl gv),
       );
       only = λ nz h.
           let t = tagged all c.args.base p c.args.word c.tag_of-tag.result o c.requires.message c.requires.word
@@ -92,10 +95,12 @@ returns-in-Some c =
           same-due all c.args.base (p.next + k.a) (p.next + a) k.b (p.next + a + b - (p.next + a)) (p.next + k.a + k.b)
           g.next (p.depth - 1) (p.left - (c.args.base + k.a + k.b)) g.left (omega arith) (omega arith) (omega arith)
           (omega arith) k.below;
+      reads = omega arith;
+      most = omega arith;
     }
 
 pub returns-then-end-words_of-clause-only : goal.returns-then-end-words_of-clause-only
-returns-then-end-words_of-clause-only c nz h =
+returns-then-end-words_of-clause-only g c nz h =
     let all = c.args.space.now in
     let p = c.args.pass in
     let t = tagged all c.args.base p c.args.word c.tag_of-tag.result c.requires.object c.requires.message
@@ -103,7 +108,7 @@ returns-then-end-words_of-clause-only c nz h =
     let k = t.due in
     let ta = t.words in
     let tb = t.slots in
-    let w = c.words_of.ensures in
+    let w = c.words_of.ensures.words in
     let room = k.room in
     let some = k.some in
     elim c.then-end-words_of.branch as (λ _. ⊥) [
@@ -113,7 +118,7 @@ returns-then-end-words_of-clause-only c nz h =
     ]
 
 pub returns-then-not-is_kept-clause-only : goal.returns-then-not-is_kept-clause-only
-returns-then-not-is_kept-clause-only c nz h =
+returns-then-not-is_kept-clause-only g c nz h =
     let all = c.args.space.now in
     let p = c.args.pass in
     let g = c.tag_of-tag.result in
@@ -124,12 +129,12 @@ returns-then-not-is_kept-clause-only c nz h =
     let below = subst (λ (b : ℕ). kept_words (take b (drop (p.next + g.words) all)) ≡ b) (sym t.slots)
     (subst (λ (a : ℕ). kept_words (take k.b (drop (p.next + a) all)) ≡ k.b) (sym t.words) k.slots_kept) in
     elim c.then-not-is_kept.branch as (λ _. ⊥) [
-      | then-not-is_kept-via-then-not-is_kept b ↦ not-true (b.if-not-is_kept.ensures.1 own)
-      | then-not-is_kept-via-else-not-is_kept+then-not-is_kept-2 b ↦ not-true (b.if-not-is_kept-2.ensures.1 below)
+      | then-not-is_kept-via-then-not-is_kept b ↦ not-true (b.if-not-is_kept.ensures.same.1 own)
+      | then-not-is_kept-via-else-not-is_kept+then-not-is_kept-2 b ↦ not-true (b.if-not-is_kept-2.ensures.same.1 below)
     ]
 
 pub returns-in-None-clause-only : goal.returns-in-None-clause-only
-returns-in-None-clause-only c nz h =
+returns-in-None-clause-only g c nz h =
     let t = tagged c.args.space.now c.args.base c.args.pass c.args.word c.tag_of-tag.result c.requires.object
     c.requires.message c.requires.word c.requires.near nz c.tag_of-tag.ensures h in
     let k = t.due in

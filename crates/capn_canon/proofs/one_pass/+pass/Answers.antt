@@ -8,6 +8,7 @@ use Rattle.capn_canon.specs.declared.progress.Progress.{Progress}
 use Rattle.capn_canon.specs.declared.progress.Pass.{Pass}
 use Rattle.capn_canon.specs.inner.InPlace.{FindsSlots, FindsRows, FindsFirst, Finds, HasObject, IsOpen, Leads}
 use Rattle.capn_canon.specs.inner.Due.{Due, DueSlots, DueRows}
+use Rattle.capn_canon.specs.inner.PassReads.{may_read}
 use Rattle.capn_canon.proofs.check.DueObjects.{due-deep, due-near, due-price}
 use Rattle.capn_canon.proofs.check.DueSlots.{due-first, goes-due, row-due, rows-due}
 use Rattle.capn_canon.proofs.reading.OneSegment.{names-empty}
@@ -30,12 +31,19 @@ check_slots-returns g t c =
       found = subst (λ (q : Progress). Finds c.args.space.now c.args.base deep p c.args.least.now q low)
           (sym c.here.ensures) found;
       only = λ h. refl;
+      reads = let rest = ap (λ (q : Progress). q.left) c.here.ensures in let turns = v.reads in omega arith;
+      most = let turns = v.reads in omega arith;
     }
 
 pub check_slots-returns-in-None-clause-only : goal.check_slots-returns-in-None-clause-only
 check_slots-returns-in-None-clause-only g t c h = absurd (c.in-None.ensures.only (c.loop-left.invariant.due h))
 
 -- ---- a slot
+
+-- what the slots after the first may cost
+behind-reads : (p : Pass) (q : Progress) (r : Pass) → p.from < p.end → r ≡ behind p q
+    → may_read r + 7 ≡ 7 * (p.end - p.from) + 10 * q.left
+behind-reads p q r some e = let f = ap may_read e in omega arith
 
 -- the pass goes on with the slots after the first
 record GoesOn (all : List ℕ) (base : ℕ) (deep : Bool) (p : Pass) (least : ℕ) (r : Pass) (here : ℕ) : Type 0 where
@@ -55,13 +63,17 @@ check_slot-returns-then-word-eq0 g t c =
     let all = c.args.space.now in
     let p = c.args.pass in
     let o = c.requires.opened in
-    let z = sym c.word_at-word.ensures ∙ c.if-word-eq0.true in
+    let z = sym c.word_at-word.ensures.word ∙ c.if-word-eq0.true in
     let deep = not (nat_eq g.row.DEEP 0) in
     let least = c.args.least.now in
     let go = goes-on all c.args.base deep p least least c.requires.some o (come p)
     (finds-null all c.args.base deep p least o z) c.behind.result
     (c.behind.ensures ∙ ap (behind p) c.here.ensures) in
-    record { found = go.found; only = go.only }
+    let left = behind-reads p (come p) c.behind.result c.requires.some
+    (c.behind.ensures ∙ ap (behind p) c.here.ensures) in
+    let read = c.word_at-word.ensures.reads in
+    let some = c.requires.some in
+    record { found = go.found; only = go.only; reads = omega arith; most = omega arith }
 
 pub check_slot-returns-then-pass-eq0-clause-only : goal.check_slot-returns-then-pass-eq0-clause-only
 check_slot-returns-then-pass-eq0-clause-only g t c h =
@@ -69,7 +81,7 @@ check_slot-returns-then-pass-eq0-clause-only g t c h =
     let p = c.args.pass in
     due-deep all c.args.base p.from p.next p.depth p.left
     (due-first all c.args.base p c.requires.some c.requires.opened h)
-    (λ z. c.if-word-eq0.false (c.word_at-word.ensures ∙ z)) c.if-pass-eq0.true
+    (λ z. c.if-word-eq0.false (c.word_at-word.ensures.word ∙ z)) c.if-pass-eq0.true
 
 pub check_slot-returns-in-Some : goal.check_slot-returns-in-Some
 check_slot-returns-in-Some g t c =
@@ -86,10 +98,13 @@ check_slot-returns-in-Some g t c =
     let h = c.in-Some.ensures.found in
     let deep = not (nat_eq g.row.DEEP 0) in
     let go = goes-on all c.args.base deep p c.args.least.now c.lower.new.least s opened c.in-Some.progress
-    (finds-empty all c.args.base deep p o small (sym c.word_at-word.ensures ∙ c.if-word-eq-EMPTY.true)
+    (finds-empty all c.args.base deep p o small (sym c.word_at-word.ensures.word ∙ c.if-word-eq-EMPTY.true)
     c.in-Some.progress h.0 h.1 h.2 c.args.least.now c.lower.new.least c.lower.ensures) c.behind-in-Some.result
     c.behind-in-Some.ensures in
-    record { found = go.found; only = go.only }
+    let left = behind-reads p c.in-Some.progress c.behind-in-Some.result s c.behind-in-Some.ensures in
+    let read = c.word_at-word.ensures.reads in
+    let pays = h.1 in
+    record { found = go.found; only = go.only; reads = omega arith; most = omega arith }
 
 pub check_slot-returns-in-None-clause-only : goal.check_slot-returns-in-None-clause-only
 check_slot-returns-in-None-clause-only g t c h =
@@ -100,7 +115,7 @@ check_slot-returns-in-None-clause-only g t c h =
     let fits = c.requires.opened.fits in
     let ne = c.if-pass-eq0.false in
     let first = due-first all c.args.base p s c.requires.opened h in
-    let named = names-empty all p.from (sym c.word_at-word.ensures ∙ c.if-word-eq-EMPTY.true) (omega arith) in
+    let named = names-empty all p.from (sym c.word_at-word.ensures.word ∙ c.if-word-eq-EMPTY.true) (omega arith) in
     let cheap = (due-price all c.args.base p.from p.next p.depth p.left first p.from (shapes.Node 0 0) named
     (omega arith)).0 in
     let e = c.in-None.ensures.only (omega arith) in
@@ -115,13 +130,23 @@ check_slot-returns-clause-only g t c h =
     let fits = c.requires.opened.fits in
     let room = segment-room (all ∷ []) 0 c.requires.message (omega arith) in
     let near = due-near all c.args.base p.from p.next p.depth p.left (due-first all c.args.base p s c.requires.opened h)
-    (omega arith) (omega arith) (λ z. c.if-word-eq0.false (c.word_at-word.ensures ∙ z)) in
-    let e = c.word_at-word.ensures in
+    (omega arith) (omega arith) (λ z. c.if-word-eq0.false (c.word_at-word.ensures.word ∙ z)) in
+    let e = c.word_at-word.ensures.word in
     let m = ap (λ (x : ℕ). x % 2 ^ 32) e in
     elim near as (λ _. ⊥) [
       | inl x ↦ c.if-word-eq-EMPTY.false (e ∙ x)
       | inr y ↦ elim y as (λ _. ⊥) [ inl u ↦ c.if-low-near.false (m ∙ u) | inr u ↦ c.if-low-near-2.false (m ∙ u) ]
     ]
+
+pub check_slot-returns-then-low-near-clause-reads : goal.check_slot-returns-then-low-near-clause-reads
+check_slot-returns-then-low-near-clause-reads g t c =
+    let read = c.word_at-word.ensures.reads in
+    if-some c.check_struct.result (λ r h. omega arith) c.check_struct.ensures.reads
+
+pub check_slot-returns-then-low-near-2-clause-reads : goal.check_slot-returns-then-low-near-2-clause-reads
+check_slot-returns-then-low-near-2-clause-reads g t c =
+    let read = c.word_at-word.ensures.reads in
+    if-some c.check_list.result (λ r h. omega arith) c.check_list.ensures.reads
 
 -- ---- a struct
 
@@ -130,12 +155,18 @@ check_struct-returns-in-None-clause-only g t c nz h = c.in-None.ensures.only nz
     (due-first c.args.space.now c.args.base c.args.pass c.requires.object.some c.requires.object.opened h)
 
 pub check_struct-returns-in-Some : goal.check_struct-returns-in-Some
-check_struct-returns-in-Some g t c = record {
-  found = c.check_below.ensures.found;
-  only = λ nz h. c.check_below.ensures.only
-      (c.in-Some.ensures.only nz
-      (due-first c.args.space.now c.args.base c.args.pass c.requires.object.some c.requires.object.opened h)) h;
-}
+check_struct-returns-in-Some g t c =
+    let some = c.requires.object.some in
+    let open_reads = c.in-Some.ensures.reads in
+    let most_reads = c.check_below.ensures.most in
+    record {
+      found = c.check_below.ensures.found;
+      only = λ nz h. c.check_below.ensures.only
+          (c.in-Some.ensures.only nz
+          (due-first c.args.space.now c.args.base c.args.pass c.requires.object.some c.requires.object.opened h)) h;
+      reads = if-some c.check_below.result (λ r h. omega arith) c.check_below.ensures.reads;
+      most = omega arith;
+    }
 
 -- ---- the slots of an object
 
@@ -149,6 +180,8 @@ check_below-returns-then-pass g t c = record {
         (c.requires.named (not (nat_eq g.row.DEEP 0)) c.args.least.now c.lower.new.least q low c.lower.ensures f)),
   );
   only = λ d h. d;
+  reads = let some = c.requires.object.some in omega arith;
+  most = omega arith;
 }
 
 pub check_below-returns-in-None-clause-only : goal.check_below-returns-in-None-clause-only
@@ -165,7 +198,9 @@ check_below-returns-in-Some g t c =
     let go = goes-on c.args.space.now c.args.base deep c.args.pass c.args.least.now low o.some o.opened q
     (c.requires.named deep c.args.least.now c.lower.new.least q low c.lower.ensures c.in-Some.ensures.found)
     c.behind.result c.behind.ensures in
-    record { found = go.found; only = λ d. go.only }
+    let left = behind-reads c.args.pass q c.behind.result o.some c.behind.ensures in
+    let first_reads = c.in-Some.ensures.reads in
+    record { found = go.found; only = λ d. go.only; reads = omega arith; most = omega arith }
 
 pub check_first-returns-then-below : goal.check_first-returns-then-below
 check_first-returns-then-below g t c =
@@ -177,17 +212,36 @@ check_first-returns-then-below g t c =
       found = subst (λ (q : Progress). Finds c.args.space.now c.args.base deep b c.args.least.now q c.args.least.now)
           (sym c.here.ensures) found;
       only = λ h. refl;
+      reads = let rest = ap (λ (q : Progress). q.left) c.here.ensures in omega arith;
+      most = omega arith;
+    }
+
+pub check_first-returns : goal.check_first-returns
+check_first-returns g t c =
+    let found = rw c.again.ensures at c.check_object.ensures.found in
+    let only = rw c.again.ensures at c.check_object.ensures.only in
+    record {
+      found = found;
+      only = only;
+      reads = c.check_object.ensures.reads;
+      most = c.check_object.ensures.most;
     }
 
 -- ---- a list
 
 pub check_list-returns-in-Some : goal.check_list-returns-in-Some
-check_list-returns-in-Some g t c = record {
-  found = c.check_below.ensures.found;
-  only = λ h. c.check_below.ensures.only
-      (c.in-Some.ensures.only
-      (due-first c.args.space.now c.args.base c.args.pass c.requires.object.some c.requires.object.opened h)) h;
-}
+check_list-returns-in-Some g t c =
+    let some = c.requires.object.some in
+    let open_reads = c.in-Some.ensures.reads in
+    let most_reads = c.check_below.ensures.most in
+    record {
+      found = c.check_below.ensures.found;
+      only = λ h. c.check_below.ensures.only
+          (c.in-Some.ensures.only
+          (due-first c.args.space.now c.args.base c.args.pass c.requires.object.some c.requires.object.opened h)) h;
+      reads = if-some c.check_below.result (λ r h. omega arith) c.check_below.ensures.reads;
+      most = omega arith;
+    }
 
 pub check_list-returns-in-None-clause-only : goal.check_list-returns-in-None-clause-only
 check_list-returns-in-None-clause-only g t c h = c.in-None.ensures.only
@@ -199,7 +253,10 @@ check_list-returns-in-Some-check_composite g t c =
     let go = goes-on c.args.space.now c.args.base (not (nat_eq g.row.DEEP 0)) c.args.pass c.args.least.now
     c.check_composite.new.least o.some o.opened c.in-Some-check_composite.progress
     c.in-Some-check_composite.ensures.found c.behind.result c.behind.ensures in
-    record { found = go.found; only = go.only }
+    let some = o.some in
+    let left = behind-reads c.args.pass c.in-Some-check_composite.progress c.behind.result o.some c.behind.ensures in
+    let list_reads = c.in-Some-check_composite.ensures.reads in
+    record { found = go.found; only = go.only; reads = omega arith; most = omega arith }
 
 pub check_list-returns-in-Some-check_numbers : goal.check_list-returns-in-Some-check_numbers
 check_list-returns-in-Some-check_numbers g t c =
@@ -211,7 +268,12 @@ check_list-returns-in-Some-check_numbers g t c =
     c.in-Some-check_numbers.progress
     (c.in-Some-check_numbers.ensures.found deep least low c.lower.ensures) c.behind-in-Some-check_numbers.result
     c.behind-in-Some-check_numbers.ensures in
-    record { found = go.found; only = go.only }
+    let some = o.some in
+    let left = behind-reads c.args.pass c.in-Some-check_numbers.progress c.behind-in-Some-check_numbers.result o.some
+    c.behind-in-Some-check_numbers.ensures in
+    let list_reads = c.in-Some-check_numbers.ensures.reads in
+    let pays = c.in-Some-check_numbers.ensures.pays in
+    record { found = go.found; only = go.only; reads = omega arith; most = omega arith }
 
 pub check_list-returns-in-None-check_composite-clause-only : goal.check_list-returns-in-None-check_composite-clause-only
 check_list-returns-in-None-check_composite-clause-only g t c h =
@@ -229,7 +291,7 @@ check_list-returns-in-None-check_numbers-clause-only g t c h =
 
 pub check_rows-loop-i-preserved : goal.check_rows-loop-i-preserved
 check_rows-loop-i-preserved g t c =
-    let all = c.args.space.now in
+    let all = c.args.space in
     let a = c.args in
     let b = c.args.base in
     let i = c.loop-i.i in
@@ -265,11 +327,18 @@ check_rows-loop-i-preserved g t c =
           c.in-Some.behind.next a.pass.depth c.in-Some.behind.left) (omega arith)
           (rows-due all b a.words a.slots c.loop-i.row (a.count - i) c.loop-i.progress.next a.pass.depth
           c.loop-i.progress.left (v.due h) (omega arith) c.loop-i.progress.visits c.in-Some.behind found);
+      reads =
+          let rest = ap (λ (k : ℕ). k * a.slots) one in
+          let before = v.reads in
+          let turn = c.tick.ensures in
+          let row = c.in-Some.ensures.reads in
+          let some = c.requires.some in
+          omega arith;
     }
 
 pub check_rows-returns-in-None-clause-only : goal.check_rows-returns-in-None-clause-only
 check_rows-returns-in-None-clause-only g t c h =
-    let all = c.args.space.now in
+    let all = c.args.space in
     let a = c.args in
     let i = c.loop-i.i in
     let lt = c.loop-i-test.true in
@@ -284,7 +353,7 @@ check_rows-returns-in-None-clause-only g t c h =
 
 pub check_rows-returns : goal.check_rows-returns
 check_rows-returns g t c =
-    let all = c.args.space.now in
+    let all = c.args.space in
     let a = c.args in
     let v = c.loop-i.invariant in
     let q = c.loop-i.progress in
@@ -298,7 +367,22 @@ check_rows-returns g t c =
           q.visits low q low) e
           (finds-no-rows all a.base deep a.words a.slots c.loop-i.row a.pass.depth low q v.fits v.few));
       only = λ h. refl;
+      reads = let turns = v.reads in omega arith;
+      most = let turns = v.reads in omega arith;
     }
+
+pub check_rows-returns-in-None-clause-most : goal.check_rows-returns-in-None-clause-most
+check_rows-returns-in-None-clause-most g t c =
+    let a = c.args in
+    let i = c.loop-i.i in
+    let lt = c.loop-i-test.true in
+    let one : suc (a.count - (i + 1)) ≡ a.count - i = omega arith in
+    let rest = ap (λ (k : ℕ). k * a.slots) one in
+    let before = c.loop-i.invariant.reads in
+    let turn = c.tick.ensures in
+    let row = c.in-None.ensures.most in
+    let some = c.requires.some in
+    omega arith
 
 -- ---- a list of structs
 
@@ -307,7 +391,7 @@ check_composite-returns-then-tag-eq0 g t c =
     let all = c.args.space.now in
     let b = c.args.base in
     let r = c.in-Some.opened in
-    let e = c.in-Some.ensures.found in
+    let e = rw c.again.ensures at c.in-Some.ensures.found in
     let open_of = e.1 in
     let before = open_of.before in
     let fits = open_of.fits in
@@ -324,16 +408,32 @@ check_composite-returns-then-tag-eq0 g t c =
           (finds-bare-rows all b deep r.tag.words r.tag.slots r.pass.from r.tag.count r.pass.depth low (come r.pass)
           none (omega arith) fits open_of.few));
       only = λ h. refl;
+      reads =
+          let rest = ap (λ (q : Progress). q.left) c.here.ensures in
+          let open_reads = c.in-Some.ensures.reads in
+          omega arith;
+      most = c.in-Some.ensures.most;
     }
 
 pub check_composite-returns-else-tag-eq0 : goal.check_composite-returns-else-tag-eq0
-check_composite-returns-else-tag-eq0 g t c = record {
-  found = if-some c.check_rows.result
-      (λ q. c.in-Some.ensures.found.3 (not (nat_eq g.row.DEEP 0)) c.args.least.now c.lower.new.least q
-      c.check_rows.new.least c.lower.ensures)
-      c.check_rows.ensures.found;
-  only = λ h. c.check_rows.ensures.only (c.in-Some.ensures.only h);
-}
+check_composite-returns-else-tag-eq0 g t c =
+    let open_reads = c.in-Some.ensures.reads in
+    let row_reads = c.check_rows.ensures.most in
+    let opened = rw c.again.ensures at c.in-Some.ensures.found in
+    let due = rw c.again.ensures at c.in-Some.ensures.only in
+    let rows = rw c.again-in-Some.ensures at c.check_rows.ensures.found in
+    let rows_due = rw c.again-in-Some.ensures at c.check_rows.ensures.only in
+    record {
+      found = if-some c.check_rows.result
+          (λ q. opened.3 (not (nat_eq g.row.DEEP 0)) c.args.least.now c.lower.new.least q c.check_rows.new.least
+          c.lower.ensures)
+          rows;
+      only = λ h. rows_due (due h);
+      reads = if-some c.check_rows.result (λ q h. omega arith) c.check_rows.ensures.reads;
+      most = omega arith;
+    }
 
 pub check_composite-returns-in-None-clause-only : goal.check_composite-returns-in-None-clause-only
-check_composite-returns-in-None-clause-only g t c h = absurd (c.in-None.ensures.only h)
+check_composite-returns-in-None-clause-only g t c h =
+    let due = rw c.again.ensures at c.in-None.ensures.only in
+    absurd (due h)

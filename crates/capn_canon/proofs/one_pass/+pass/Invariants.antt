@@ -2,6 +2,7 @@ use Rattle.std.proofs.Common.{◌≡◌, ℕ, ◌+◌, ◌-◌, ◌*◌, ◌≤�
 use Rattle.capn_canon.specs.declared.progress.Progress.{Progress}
 use Rattle.capn_canon.specs.inner.Due.{Due, DueRows}
 use Rattle.capn_canon.specs.inner.InPlace.{IsOpen, Leads, FindsRows}
+use Rattle.capn_canon.specs.inner.PassReads.{may_read}
 use Rattle.capn_canon.proofs.one_pass.+pass.Given as goal
 
 abbrev pub decreases-check_below : goal.decreases-check_below
@@ -17,10 +18,10 @@ abbrev pub decreases-check_list : goal.decreases-check_list
 decreases-check_list g l = 6 * (length l.space.now - l.pass.from) + 1
 
 abbrev pub decreases-check_object : goal.decreases-check_object
-decreases-check_object g l = 6 * (length l.space.now - l.pass.from) + 4
+decreases-check_object g l = 6 * (length l.space - l.pass.from) + 4
 
 abbrev pub decreases-check_rows : goal.decreases-check_rows
-decreases-check_rows g l = 6 * (length l.space.now - l.pass.from) + 4
+decreases-check_rows g l = 6 * (length l.space - l.pass.from) + 4
 
 abbrev pub decreases-check_slot : goal.decreases-check_slot
 decreases-check_slot g l = 6 * (length l.space.now - l.pass.from) + 2
@@ -44,6 +45,8 @@ invariant-check_rows-loop-i g l = record {
       l.pass.depth l.pass.left l.pass.visits l.initial.least q low;
   due : DueRows l.space l.base l.words l.slots l.pass.from l.count l.pass.next l.pass.depth l.pass.left
       → DueRows l.space l.base l.words l.slots l.row (l.count - l.i) l.progress.next l.pass.depth l.progress.left;
+  reads : l.reads + 10 * l.progress.left + 8 * ((l.count - l.i) * l.slots)
+      ≤ l.fn.reads + 10 * l.pass.left + 8 * (l.count * l.slots);
 }
 
 abbrev pub invariant-check_slots-loop-left : goal.invariant-check_slots-loop-left
@@ -52,6 +55,7 @@ invariant-check_slots-loop-left g l = record {
   opened : IsOpen l.space l.left;
   leads : Leads l.space l.base (not (nat_eq g.row.DEEP 0)) l.fn.pass l.initial.least l.left l.least;
   due : Due l.space l.base l.fn.pass → Due l.space l.base l.left;
+  reads : l.reads + may_read l.left ≤ l.fn.reads + may_read l.fn.pass;
 }
 
 abbrev pub decreases-check_slots-loop-left : goal.decreases-check_slots-loop-left

@@ -4,13 +4,13 @@ use Rattle.std.proofs.lemmas.Bool.Decides.{nat_tests}
 use Rattle.capn_layout.proofs.shared.Cut.{all-kept, last-kept}
 use Rattle.capn_canon.proofs.own_words_test.is_kept.Goals as goal
 
-pub returns-else-count-eq0 : goal.returns-else-count-eq0
-returns-else-count-eq0 c =
+pub returns-else-count-eq0-clause-same : goal.returns-else-count-eq0-clause-same
+returns-else-count-eq0-clause-same g c =
     let all = c.args.space.now in
     let at = c.args.at in
     let n = c.args.count in
     let e : at + n - 1 ≡ at + (n - 1) = omega arith in
-    let w : c.word_at.result ≡ slice_index all (at + (n - 1)) = c.word_at.ensures ∙ ap (slice_index all) e in
+    let w : c.word_at.result ≡ slice_index all (at + (n - 1)) = c.word_at.ensures.word ∙ ap (slice_index all) e in
     told c.word_at.result _ _ (λ ne. all-kept all at n (omega arith) (λ z. ne (w ∙ z)))
     (λ z k. last-kept all at n (omega arith) k (sym w ∙ z))
   where
