@@ -1,5 +1,6 @@
 -- What no public clause cites.
 pub mod Due
 pub mod InPlace
+pub mod OneSegment
 pub mod Outcomes
 pub mod WordsOfLayout

@@ -8,6 +8,8 @@
 //!   [`survey_bare`] also reports its price, its visits and its first capability. [`survey_canonical`] is the one pass
 //!   that they make first: it reports on canonical bytes alone. [`measure_canonical`] is the same pass, and also says
 //!   how deep they are.
+//! - [`own_canonical`] answers the bytes of a message where they are its canonical bytes already, so that nothing is
+//!   copied; [`measure`] reports what its walk pays and visits, how deep it is, and whether it is canonical.
 //! - [`survey_bytes`] and [`survey`] report what the walk of a message pays and visits, and write nothing.
 //! - [`layout`] writes the canonical bytes of a tree: one segment, its objects in preorder, every struct
 //!   cut to what it keeps. A tree with a capability has none, and is refused by the first one's index.
@@ -47,6 +49,7 @@ mod form;
 mod input;
 pub mod laws;
 mod length;
+mod message_measure;
 mod message_refusal;
 mod message_survey;
 mod no_memory;
@@ -67,8 +70,10 @@ pub use canonical_input::canonicalise;
 pub use canonical_survey::{measure_canonical, survey_canonical};
 pub use form::Form;
 pub use length::{CanonicalLength, canonical_length};
+pub use message_measure::measure;
 pub use message_refusal::{IntoRefusal, MessageRefusal};
 pub use message_survey::survey;
+pub use one_segment::{OwnCanonical, own_canonical};
 pub use refusal::Refusal;
 pub use survey_input::survey_bytes;
 pub use surveyed_bare::{MeasuredBare, SurveyedBare};
