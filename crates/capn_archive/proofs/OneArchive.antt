@@ -23,7 +23,8 @@ use Rattle.capn_serve.specs.declared.position.Position.{Position}
 use Rattle.capn_serve.specs.declared.service.Run.{Run}
 use Rattle.capn_serve.proofs.shared.OneServing.{IsOneWay}
 use Rattle.capn_archive.specs.CanonicalFrame.{framed}
-use Rattle.capn_archive.specs.Findings.{AreFindings, IsCanonical, IsChecked, head_of}
+use Rattle.capn_canon.specs.Measure.{IsCanonicalOf, IsChecked}
+use Rattle.capn_archive.specs.Findings.{AreFindings, head_of}
 use Rattle.capn_archive.specs.Digest.{IsDigest, IsDigestIfAny}
 use Rattle.capn_archive.specs.Lines.{digests_line, list_line}
 use Rattle.capn_archive.specs.Tally.{counted, one_more, skipped}
@@ -108,12 +109,12 @@ module _ (m : List (List ℕ)) (limits : Bounds) where
   one_checked : (c d : SurveyedBare) → IsChecked m limits c → IsChecked m limits d → c ≡ d
   one_checked c d h k =
       let value : h.value ≡ k.value = unique m h.value k.value root h.is.is k.is.is in
-      let answer = subst (λ (v : Tree). IsTrue d.is_canonical ↔ IsCanonical m v) (sym value) k.answer in
+      let answer = subst (λ (v : Tree). IsTrue d.is_canonical ↔ IsCanonicalOf m v) (sym value) k.answer in
       let pays : c.paid ≡ d.paid = h.pays ∙ sym k.pays in
       let counts : c.visits ≡ d.visits = h.counts ∙ sym k.counts in
       let caps : c.capability ≡ d.capability = h.capability ∙ ap first_cap value ∙ sym k.capability in
       let canonical : c.is_canonical ≡ d.is_canonical =
-      one_answer c.is_canonical d.is_canonical (IsCanonical m h.value) h.answer answer in
+      one_answer c.is_canonical d.is_canonical (IsCanonicalOf m h.value) h.answer answer in
       λ i. record { paid = pays i; visits = counts i; capability = caps i; is_canonical = canonical i }
 
   one_findings : (f g : Findings) → AreFindings m limits f → AreFindings m limits g → f ≡ g

@@ -1,4 +1,3 @@
 -- What no public clause cites.
 pub mod Closing
 pub mod LineRoom
-pub mod OneSegment

@@ -15,10 +15,9 @@ use crate::digest::digest_if_any;
 use crate::findings::findings_of;
 use crate::head::head_of;
 use crate::lines::{put_digests_line, put_list_line, put_refused_line};
-use crate::one_segment::own_canonical;
 use crate::tally::{Tally, count, skip};
 use crate::task::{Archive, Task};
-use capn_canon::{Refusal, canonical_of};
+use capn_canon::{Refusal, canonical_of, own_canonical};
 use capn_serve::{Position, ServeFault, Service, flush_long};
 use capn_walk::Limits;
 use capn_words::{Space, Watched};
@@ -52,8 +51,8 @@ fn serve_canonical<S: Space, W: Write, A: Allocator + Copy>(
         (S.message message.now) (outgoing (W.contents (inner_of writer.old)) text.old.items)
         (outgoing (W.contents (inner_of writer.new)) text.new.items) (has_failed writer.new) result tally }
 {
-    if let Some(bytes) = own_canonical(message, limits) {
-        return add_frame(bytes, text, writer);
+    if let Some(own) = own_canonical(message, limits) {
+        return add_frame(own.bytes, text, writer);
     }
     let _budget = limits.budget();
     match canonical_of(alloc, message, limits) {

@@ -5,14 +5,15 @@ ghost use Rattle.capn_canon.specs.Refusal.{IsUnaccepted};
 ghost use Rattle.capn_archive.specs.Digest.{IsDigest, IsDigestIfAny, IsUndigested};
 ghost use Rattle.capn_archive.specs.Tasks.{Finds};
 
-use capn_canon::{Refusal, canonical_of};
+use capn_canon::{Refusal, canonical_of, own_canonical};
 use capn_serve::ServeFault;
 use capn_walk::Limits;
 use capn_words::Space;
 use sha2::{Digest, Sha256};
 use std::alloc::Allocator;
 
-/// The digest of a message's canonical bytes.
+/// The digest of a message's canonical bytes. Those of a message that is canonical are hashed where they lie: one pass
+/// finds them, and no copy is made of them.
 pub(crate) fn digest_of<S: Space, A: Allocator + Copy>(
     alloc: A,
     limits: Limits,
@@ -21,6 +22,9 @@ pub(crate) fn digest_of<S: Space, A: Allocator + Copy>(
     ensures { Finds (λ digest. IsDigest (S.message message.now) limits digest)
         (λ r. IsUndigested (S.message message.now) limits r) (MayNeedBytes (S.message message.now) limits) result }
 {
+    if let Some(own) = own_canonical(message, limits) {
+        return Ok(Sha256::digest(own.bytes));
+    }
     let _budget = limits.budget();
     match canonical_of(alloc, message, limits) {
         Ok(canonical) => Ok(Sha256::digest(&canonical.bytes)),

@@ -18,7 +18,6 @@ pub mod laws;
 mod line;
 mod lines;
 mod needs;
-mod one_segment;
 mod sieve;
 mod tally;
 mod task;

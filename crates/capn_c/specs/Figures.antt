@@ -7,8 +7,6 @@ use Rattle.capn_value.specs.FirstCap.{first_cap}
 use Rattle.capn_walk.specs.Accepted.{IsValueOf, number_of_visits, paid}
 use Rattle.capn_walk.specs.Depth.{IsDepth}
 use Rattle.capn_walk.specs.Limits.{Bounds}
-use Rattle.capn_walk.specs.Surveyed.{IsSurvey}
-use Rattle.capn_walk.specs.declared.survey_answer.Surveyed.{Surveyed}
 use Rattle.capn_canon.specs.Layout.{canon}
 use Rattle.capn_canon.specs.Reads.{Reads}
 use Rattle.capn_canon.specs.declared.form.Form.{Form}
@@ -26,12 +24,6 @@ pub record IsCanonicalMessage (message : List (List ℕ)) (limits : Bounds) : Ty
   pub is : IsValueOf message limits value
   pub free : first_cap value ≡ None
   pub same : canon value ≡ bytes (segment_at message 0)
-
--- the message is canonical, and a survey says this of it, and this is its depth
-pub record IsCanonicalSurvey (message : List (List ℕ)) (limits : Bounds) (s : Surveyed) (least : ℕ) : Type 0 where
-  pub survey : IsSurvey message limits s
-  pub depth : IsDepth message limits least
-  pub canonical : IsCanonicalMessage message limits
 
 -- how many words and segments a message has, how deep it is, and whether it is canonical
 pub record AreMeasures (message : List (List ℕ)) (limits : Bounds) (m : Measured) : Type 0 where

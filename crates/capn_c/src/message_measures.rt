@@ -1,33 +1,26 @@
 //! What a message comes to beside its price.
 
-ghost use Rattle.std.specs.Prelude.{◌≡◌, ◌≢◌, [], ◌∷◌, None, length, IfSome, IsSome};
+ghost use Rattle.std.specs.Prelude.{◌≡◌, ◌≢◌, None, length, IfSome, IsSome};
 ghost use Rattle.std.specs.Prelude.{IfOk, IfErr, IsOk, MatchResult};
 ghost use Rattle.capn_words.specs.Message.{total};
 ghost use Rattle.capn_value.specs.Tree.{Tree as Value};
 ghost use Rattle.capn_walk.specs.Accepted.{IsBounded, IsValueOf};
-ghost use Rattle.capn_walk.specs.Depth.{IsDepth};
 ghost use Rattle.capn_walk.specs.Surveyed.{IsSurvey};
 ghost use Rattle.capn_canon.specs.Denotes.{Denotes};
 ghost use Rattle.capn_canon.specs.MemoryNeed.{MayNeedMemory};
 ghost use Rattle.capn_canon.specs.Refusal.{IsPaidWithin, IsUnaccepted};
 ghost use Rattle.capn_canon.specs.declared.form.Form.TheVariants as forms;
 ghost use Rattle.capn_canon.specs.declared.refusal.Refusal.TheVariants as refusals;
-ghost use Rattle.capn_c.specs.Figures.{AreMeasures, IsCanonicalMessage, IsCanonicalSurvey, MeasuresIn};
+ghost use Rattle.capn_c.specs.Figures.{AreMeasures, MeasuresIn};
 ghost use Rattle.capn_c.specs.MemoryAsked.{MayAsk};
 
 use crate::few_frame::read_frame;
-use capn_canon::{Refusal, measure_canonical};
+use capn_canon::{Refusal, measure};
 use capn_pack::unpack;
 use capn_stream::{MOST_TABLE_WORDS, first};
-use capn_walk::{Limits, Surveyed, survey_depth};
-use capn_words::{Bare, Place, Space, total_words};
+use capn_walk::{Limits, Surveyed};
+use capn_words::{Bare, Space, total_words};
 use std::alloc::Global;
-
-/// Where the pointer to the root is.
-const ROOT: Place = Place {
-    segment: 0,
-    word: 0,
-};
 
 /// What a message comes to beside its price.
 #[derive(Clone, Copy)]
@@ -42,103 +35,6 @@ pub struct Measured {
     pub canonical: bool,
 }
 
-/// The least depth under which a message is accepted, or `None` where it is not.
-fn depth_of<S: Space>(alloc: Global, space: &S, limits: Limits) -> Option<u32>
-    ensures found { IfSome result (λ d. IsDepth (S.message space.now) limits d) }
-    ensures only { (v : Value) → IsValueOf (S.message space.now) limits v → IsSome result }
-{
-    match survey_depth(alloc, space, limits) {
-        Ok(told) => Some(told.depth),
-        Err(_) => None,
-    }
-}
-
-/// The depth of bare words whose bytes are canonical, or `None` where they are not. One pass over them finds it.
-fn canonical_depth_bare(space: &Bare<'_>, limits: Limits) -> Option<u32>
-    ensures found { IfSome result (λ d. IsDepth (space.now ∷ []) limits d
-        × IsCanonicalMessage (space.now ∷ []) limits) }
-    ensures only { IsCanonicalMessage (space.now ∷ []) limits → IsSome result }
-{
-    let _segments = space.segments();
-    let told = measure_canonical(space, limits)?;
-    if told.survey.is_canonical {
-        Some(told.depth)
-    } else {
-        None
-    }
-}
-
-/// The depth of a message of one segment whose bytes are canonical, or `None` where it is no such message.
-fn canonical_depth<S: Space>(space: &S, limits: Limits) -> Option<u32>
-    ensures found { IfSome result (λ d. IsDepth (S.message space.now) limits d
-        × IsCanonicalMessage (S.message space.now) limits) }
-    ensures only { IsCanonicalMessage (S.message space.now) limits → IsSome result }
-{
-    if space.segments() > 1 {
-        return None;
-    }
-    let words = space.words(0).unwrap_or(0);
-    match Bare::new(space.bytes(ROOT, 8 * words as usize)) {
-        Ok(bare) => canonical_depth_bare(&bare, limits),
-        Err(_) => unreachable!(),
-    }
-}
-
-/// What a message comes to beside its price, or `None` where it is not accepted.
-fn measure<S: Space>(alloc: Global, space: &S, limits: Limits) -> Option<Measured>
-    ensures found { IfSome result (λ m. AreMeasures (S.message space.now) limits m) }
-    ensures only { (v : Value) → IsValueOf (S.message space.now) limits v → IsSome result }
-{
-    let canonical = canonical_depth(space, limits);
-    let depth = match canonical {
-        Some(depth) => depth,
-        None => depth_of(alloc, space, limits)?,
-    };
-    Some(Measured {
-        words: total_words(space),
-        segments: space.segments(),
-        depth,
-        canonical: canonical.is_some(),
-    })
-}
-
-/// What a survey says of bare words whose bytes are canonical, and their depth, or `None` where they are not. One pass
-/// over them finds it.
-fn canonical_survey_bare(space: &Bare<'_>, limits: Limits) -> Option<(Surveyed, u32)>
-    ensures found { IfSome result (λ t. IsCanonicalSurvey (space.now ∷ []) limits t.0 t.1) }
-    ensures only { IsCanonicalMessage (space.now ∷ []) limits → IsSome result }
-    ensures bounded { IfSome result (λ t. IsBounded limits.budget t.0.paid t.0.visits) }
-{
-    let _segments = space.segments();
-    let told = measure_canonical(space, limits)?;
-    if told.survey.is_canonical {
-        let surveyed = Surveyed {
-            paid: told.survey.paid,
-            visits: told.survey.visits,
-            capability: told.survey.capability,
-        };
-        Some((surveyed, told.depth))
-    } else {
-        None
-    }
-}
-
-/// The same of a message of one segment; `None` of others.
-fn canonical_survey<S: Space>(space: &S, limits: Limits) -> Option<(Surveyed, u32)>
-    ensures found { IfSome result (λ t. IsCanonicalSurvey (S.message space.now) limits t.0 t.1) }
-    ensures only { IsCanonicalMessage (S.message space.now) limits → IsSome result }
-    ensures bounded { IfSome result (λ t. IsBounded limits.budget t.0.paid t.0.visits) }
-{
-    if space.segments() > 1 {
-        return None;
-    }
-    let words = space.words(0).unwrap_or(0);
-    match Bare::new(space.bytes(ROOT, 8 * words as usize)) {
-        Ok(bare) => canonical_survey_bare(&bare, limits),
-        Err(_) => unreachable!(),
-    }
-}
-
 /// What a message comes to, by its depth and by whether it is canonical.
 fn measures_of<S: Space>(space: &S, depth: u32, canonical: bool) -> Measured
     ensures words { result.words ≡ total (S.message space.now) }
@@ -151,6 +47,17 @@ fn measures_of<S: Space>(space: &S, depth: u32, canonical: bool) -> Measured
         segments: space.segments(),
         depth,
         canonical,
+    }
+}
+
+/// What a message comes to beside its price, or `None` where it is not accepted.
+fn measure_message<S: Space>(alloc: Global, space: &S, limits: Limits) -> Option<Measured>
+    ensures found { IfSome result (λ m. AreMeasures (S.message space.now) limits m) }
+    ensures only { (v : Value) → IsValueOf (S.message space.now) limits v → IsSome result }
+{
+    match measure(alloc, space, limits) {
+        Ok(told) => Some(measures_of(space, told.depth, told.survey.is_canonical)),
+        Err(_) => None,
     }
 }
 
@@ -171,12 +78,17 @@ pub fn survey_and_measure<S: Space>(
     ensures bounded { MatchResult result (λ t. IsBounded limits.budget t.0.paid t.0.visits)
         (λ e. IsPaidWithin limits.budget e) }
 {
-    match canonical_survey(space, limits) {
-        Some((surveyed, depth)) => Ok((surveyed, measures_of(space, depth, true))),
-        None => {
-            let told = survey_depth(alloc, space, limits)?;
-            Ok((told.survey, measures_of(space, told.depth, false)))
+    match measure(alloc, space, limits) {
+        Ok(told) => {
+            let surveyed = Surveyed {
+                paid: told.survey.paid,
+                visits: told.survey.visits,
+                capability: told.survey.capability,
+            };
+            let measured = measures_of(space, told.depth, told.survey.is_canonical);
+            Ok((surveyed, measured))
         }
+        Err(stopped) => Err(Refusal::Walk(stopped)),
     }
 }
 
@@ -191,7 +103,7 @@ fn measure_with_table(alloc: Global, bytes: &[u8], limits: Limits) -> Option<Mea
             if taken < bytes.len() {
                 return None;
             }
-            measure(alloc, &message, limits)
+            measure_message(alloc, &message, limits)
         }
         Err(_) => None,
     }
@@ -209,7 +121,7 @@ pub fn measure_frame(alloc: Global, bytes: &[u8], limits: Limits) -> Option<Meas
         return measure_with_table(alloc, bytes, limits);
     };
     match read {
-        Ok(message) => measure(alloc, &message, limits),
+        Ok(message) => measure_message(alloc, &message, limits),
         Err(_) => None,
     }
 }
@@ -233,7 +145,7 @@ pub fn measure_bare(alloc: Global, bytes: &[u8], limits: Limits) -> Option<Measu
         → MayNeedMemory forms.Bare bytes.now limits }
 {
     match Bare::new(bytes) {
-        Ok(space) => measure(alloc, &space, limits),
+        Ok(space) => measure_message(alloc, &space, limits),
         Err(_) => None,
     }
 }

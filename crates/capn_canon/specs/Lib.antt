@@ -8,6 +8,7 @@ pub mod RefusalOf
 pub mod BareVerdict
 pub mod SurveyedBytes
 pub mod Display
+pub mod Measure
 pub mod MemoryNeed
 pub mod Theorem
 pub mod CanonicalLength

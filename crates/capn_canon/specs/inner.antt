@@ -1,6 +1,7 @@
 -- What no public clause cites.
 pub mod Due
 pub mod InPlace
+pub mod OneSegment
 pub mod Outcomes
 pub mod PassReads
 pub mod WordsOfLayout

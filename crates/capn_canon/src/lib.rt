@@ -10,6 +10,8 @@
 //!   how deep they are.
 //! - [`survey_bare_counted`], [`survey_canonical_counted`] and [`measure_canonical_counted`] do the same to a message
 //!   of one segment whose reads are counted: the budget bounds how often they read it.
+//! - [`own_canonical`] answers the bytes of a message where they are its canonical bytes already, so that nothing is
+//!   copied; [`measure`] reports what its walk pays and visits, how deep it is, and whether it is canonical.
 //! - [`survey_bytes`] and [`survey`] report what the walk of a message pays and visits, and write nothing.
 //! - [`layout`] writes the canonical bytes of a tree: one segment, its objects in preorder, every struct
 //!   cut to what it keeps. A tree with a capability has none, and is refused by the first one's index.
@@ -50,6 +52,7 @@ mod form;
 mod input;
 pub mod laws;
 mod length;
+mod message_measure;
 mod message_refusal;
 mod message_survey;
 mod no_memory;
@@ -72,8 +75,10 @@ pub use canonical_survey::{
 };
 pub use form::Form;
 pub use length::{CanonicalLength, canonical_length};
+pub use message_measure::measure;
 pub use message_refusal::{IntoRefusal, MessageRefusal};
 pub use message_survey::survey;
+pub use one_segment::{OwnCanonical, own_canonical};
 pub use refusal::Refusal;
 pub use survey_input::survey_bytes;
 pub use surveyed_bare::{MeasuredBare, SurveyedBare};

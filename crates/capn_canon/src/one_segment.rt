@@ -1,25 +1,102 @@
-//! A message of one segment.
+//! Messages of one segment, and those that are their own canonical bytes.
 
-ghost use Rattle.std.specs.Prelude.{◌≡◌, [], ◌∷◌, IfSome};
+ghost use Rattle.std.specs.Prelude.{◌≡◌, ◌≢◌, ℕ, ◌^◌, ◌<◌, ◌≤◌, List, [], ◌∷◌, None, length, IfSome, IfNone, IsSome};
+ghost use Rattle.capn_words.specs.Message.{IsBare, bytes as bytes_of};
+ghost use Rattle.capn_value.specs.Tree.{Tree as Value};
+ghost use Rattle.capn_value.specs.FirstCap.{first_cap};
+ghost use Rattle.capn_walk.specs.Accepted.{IsValueOf};
+ghost use Rattle.capn_layout.specs.Layout.{canon};
+ghost use Rattle.capn_canon.specs.Denotes.{AnswersMessage};
+ghost use Rattle.capn_canon.specs.inner.OneSegment.{IsOnlySegment};
 
+use crate::canonical_survey::survey_canonical;
+use capn_walk::Limits;
 use capn_words::{Bare, Place, Space};
 
-/// Where the first segment begins.
-const BEGINNING: Place = Place {
+/// Where the pointer to the root is.
+const ROOT: Place = Place {
     segment: 0,
     word: 0,
 };
 
-/// A message of one segment as its bytes alone, which are faster to read; `None` if it has more.
-pub(crate) fn alone<S: Space>(space: &S) -> Option<Bare<'_>>
-    ensures { IfSome result (λ words. S.message space.now ≡ words ∷ []) }
+/// Canonical bytes that lie in the message itself, and the words that its walk pays. (Own.)
+#[derive(Clone, Copy, Debug, PartialEq, Eq)]
+pub struct OwnCanonical<'a> {
+    /// The bytes: all of the only segment.
+    pub bytes: &'a [u8],
+    /// The words paid, at most the budget.
+    pub paid: u32,
+}
+
+/// The bytes of the only segment of a message, or `None` if it has more than one.
+fn only_bytes<S: Space>(space: &S) -> Option<&[u8]>
+    ensures one { IfSome result (λ bytes. IsOnlySegment (S.message space.now) bytes.now) }
+    ensures other { IfNone result (length (S.message space.now) ≢ 1) }
 {
     let words = space.words(0).unwrap_or(0);
     if space.segments() != 1 {
         return None;
     }
-    match Bare::new(space.bytes(BEGINNING, 8 * words as usize)) {
-        Ok(bare) => Some(bare),
+    Some(space.bytes(ROOT, 8 * words as usize))
+}
+
+/// A message of one segment as its bytes alone, which are faster to read; `None` if it has more.
+pub(crate) fn alone<S: Space>(space: &S) -> Option<Bare<'_>>
+    ensures one { IfSome result (λ words. S.message space.now ≡ words ∷ []) }
+    ensures other { IfNone result (length (S.message space.now) ≢ 1) }
+{
+    match only_bytes(space) {
+        Some(bytes) => match Bare::new(bytes) {
+            Ok(bare) => Some(bare),
+            Err(_) => None,
+        },
+        None => None,
+    }
+}
+
+/// These bytes, if they are a message of one segment and its canonical bytes. One pass over them finds it out.
+fn own_words(bytes: &[u8], limits: Limits) -> Option<OwnCanonical<'_>>
+    ensures own { IfSome result (λ own. (words : List ℕ) → IsBare bytes.now words
+        → AnswersMessage (words ∷ []) limits own.bytes.now own.paid) }
+    ensures same { IfSome result (λ own. own.bytes.now ≡ bytes.now) }
+    ensures only { (words : List ℕ) (v : Value) → IsBare bytes.now words → IsValueOf (words ∷ []) limits v
+        → first_cap v ≡ None → canon v ≡ bytes_of words → IsSome result }
+    ensures bounded { IfSome result (λ own. own.paid ≤ limits.budget) }
+{
+    match Bare::new(bytes) {
+        Ok(bare) => {
+            let _segments = bare.segments();
+            match survey_canonical(&bare, limits) {
+                Some(checked) => {
+                    if checked.is_canonical {
+                        let paid = checked.paid;
+                        Some(OwnCanonical { bytes, paid })
+                    } else {
+                        None
+                    }
+                }
+                None => None,
+            }
+        }
         Err(_) => None,
+    }
+}
+
+/// The bytes of a message of one segment, if they are its canonical bytes, and what its walk pays. (Own.)
+///
+/// One pass finds it out, which is [`survey_canonical`]'s. It takes no memory and copies nothing.
+pub fn own_canonical<S: Space>(space: &S, limits: Limits) -> Option<OwnCanonical<'_>>
+    // They are its canonical bytes.
+    ensures own { IfSome result (λ own. AnswersMessage (S.message space.now) limits own.bytes.now own.paid) }
+    // Those of any such message are answered.
+    ensures only { (words : List ℕ) (v : Value) → S.message space.now ≡ words ∷ []
+        → IsValueOf (words ∷ []) limits v → first_cap v ≡ None → canon v ≡ bytes_of words → IsSome result }
+    ensures short { IfSome result (λ own. length own.bytes.now < 2 ^ 34) }
+    // No walk reports more paid than its budget.
+    ensures bounded { IfSome result (λ own. own.paid ≤ limits.budget) }
+{
+    match only_bytes(space) {
+        Some(bytes) => own_words(bytes, limits),
+        None => None,
     }
 }

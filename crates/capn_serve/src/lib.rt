@@ -25,7 +25,8 @@ mod stream_run;
 mod whole_input;
 
 pub use adding::add_bytes;
-pub use bare_run::run_bare;
+pub use bare_run::{read_bare, run_bare};
+pub use chunk::CHUNK;
 pub use fault::{RunFault, ServeFault};
 pub use form_run::serve_form;
 pub use output::{flush_long, write_all};
@@ -35,3 +36,4 @@ pub use pick_run::run_pick;
 pub use position::{Position, number_of};
 pub use service::{Run, Service};
 pub use stream_run::run_stream;
+pub use whole_input::{MOST_INPUT, WholeInput, read_all};

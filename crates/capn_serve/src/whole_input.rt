@@ -11,19 +11,23 @@ use std::alloc::Allocator;
 use std::io::Read;
 
 /// The most bytes of an input that is read to its end.
-const MOST_BYTES: usize = 1 << 32;
+pub const MOST_INPUT: usize = 1 << 32;
 
 /// The bytes that an input begins with, and how many bytes it has.
 #[derive(Drop)]
-pub(crate) struct WholeInput<A: Allocator> {
+pub struct WholeInput<A: Allocator> {
+    /// The first bytes.
     pub bytes: Vec<u8, A>,
+    /// The number of all bytes.
     pub len: usize,
 }
 
 /// Reads an input to its end, and keeps its first bytes, at most this number. What follows is dropped as it comes.
 ///
 /// Each call of the reader asks for at most 65,536 bytes, and for no byte past the one that makes the input too long.
-pub(crate) fn read_all<R: Read, A: Allocator>(
+/// `InputTooLong`: it has more than 2^32 bytes. `Io`: the reader failed. `Memory`: a growth for bytes that came was
+/// refused.
+pub fn read_all<R: Read, A: Allocator>(
     alloc: A,
     reader: &mut Watched<R>,
     most: usize,
@@ -35,8 +39,8 @@ pub(crate) fn read_all<R: Read, A: Allocator>(
     let mut bytes = Vec::new(alloc);
     let mut chunk = [0; CHUNK as usize];
     let mut len = 0;
-    'chunks: while len <= MOST_BYTES {
-        let room = (MOST_BYTES + 1 - len).min(CHUNK as usize);
+    'chunks: while len <= MOST_INPUT {
+        let room = (MOST_INPUT + 1 - len).min(CHUNK as usize);
         match reader.read(&mut chunk[..room]) {
             Err(_) => return Err(RunFault::Io),
             Ok(0) => return Ok(WholeInput { bytes, len }),

@@ -1,7 +1,7 @@
 -- What is made of an input, from what was read of it.
 use Rattle.std.proofs.Common.{◌≡◌, ◌⊎◌, inl, inr, ℕ, ◌+◌, ◌*◌, ◌<◌, ◌≤◌, ◌^◌, List, length, Bool, Option, Result, Ok}
 use Rattle.std.proofs.Common.{Err, IsErr, IsErrAnd}
-use Rattle.std.proofs.Common.{Vec, refl, sym, subst, ◌∙◌, arith, take_all}
+use Rattle.std.proofs.Common.{Vec, ap, refl, sym, subst, ◌∙◌, arith, take_all}
 use Rattle.capn_words.specs.Message.{ReadsBare}
 use Rattle.capn_words.specs.declared.bare.BareFault.{BareFault}
 use Rattle.capn_stream.specs.Frames.{most_table_words}
@@ -11,9 +11,15 @@ use Rattle.capn_canon.specs.declared.form.Form.{Form}
 use Rattle.capn_canon.specs.declared.form.Form.TheVariants as forms
 use Rattle.capn_canon.specs.declared.refusal.Refusal.{Refusal}
 use Rattle.capn_canon.specs.declared.refusal.Refusal.TheVariants as refusals
-use Rattle.capn_tool.specs.inner.ReadInput.{HasGivenAll, IsBeginning, IsShortBare, IsUntaken, TakesAll}
+use Rattle.capn_serve.specs.BareRun.{IsShortBare, IsUnbare}
+use Rattle.capn_serve.specs.WholeInput.{HasGivenAll, IsBeginning}
+use Rattle.capn_serve.specs.WholeInput as served
+use Rattle.capn_serve.specs.declared.fault.RunFault.{RunFault}
+use Rattle.capn_serve.specs.declared.position.Position.{Position}
+use Rattle.capn_serve.specs.declared.whole_input.WholeInput.{WholeInput}
+use Rattle.capn_tool.specs.CommandRun.{unplaced}
+use Rattle.capn_tool.specs.inner.ReadInput.{IsUntaken, TakesAll}
 use Rattle.capn_tool.specs.WholeInput.{Gives, IsFaultOf, MakesNothing}
-use Rattle.capn_tool.specs.declared.input.Input.{Input}
 use Rattle.capn_tool.specs.declared.plan.MessageText.{MessageText}
 use Rattle.capn_tool.specs.declared.plan.Whole.{Whole}
 use Rattle.capn_tool.specs.declared.plan.Whole.TheVariants as wholes
@@ -34,19 +40,32 @@ TakesNone P a b f fault = IsUntaken a b f fault ⊎ ((bytes : List ℕ) × HasGi
 abbrev FailsBare : List ℕ → ToolFault → Type 0
 FailsBare bytes fault = (e : BareFault) × (fault ≡ faults.Refused (refusals.Bare e)) × ReadsBare bytes (Err e)
 
+-- an input that was not read to its end
+untaken : (a b : Option (List ℕ)) (f : Bool) (fault : RunFault) → served.IsUntaken a b f fault
+    → IsUntaken a b f (unplaced fault)
+untaken a b f fault (bytes, inl (given, inl (is, some))) = (bytes, inl (given, inl (ap unplaced is)))
+untaken a b f fault (bytes, inl (given, inr (is, long))) = (bytes, inl (given, inr (ap unplaced is, long)))
+untaken a b f fault (bytes, inr (read, bound, broken, is)) = (bytes, inr (read, bound, broken, ap unplaced is))
+
+-- of no bytes was anything else said
+pub unread : (a b : Option (List ℕ)) (f : Bool) (fault : RunFault) (whole : Whole)
+    → served.IsUntaken a b f fault ⊎ ((bytes : List ℕ) × HasGivenAll a b f bytes × ⊥)
+    → TakesNone (λ bytes. Fails whole bytes (unplaced fault)) a b f (unplaced fault)
+unread a b f fault whole (inl h) = inl (untaken a b f fault h)
+unread a b f fault whole (inr (bytes, all, none)) = absurd none
+
+-- or they are no segment
+pub unread_bare : (a b : Option (List ℕ)) (f : Bool) (fault : RunFault) (at : Position)
+    → served.IsUntaken a b f fault ⊎ ((bytes : List ℕ) × HasGivenAll a b f bytes × IsUnbare at bytes fault)
+    → TakesNone (λ bytes. FailsBare bytes (unplaced fault)) a b f (unplaced fault)
+unread_bare a b f fault at (inl h) = inl (untaken a b f fault h)
+unread_bare a b f fault at (inr (bytes, all, (e, is, why))) = inr (bytes, all, (e, ap unplaced is, why))
+
 module _ (a b : Option (List ℕ)) (f : Bool) (fault : ToolFault) where
   none_else : (P Q : List ℕ → Type 0) → ((bytes : List ℕ) → P bytes → Q bytes) → TakesNone P a b f fault
       → TakesNone Q a b f fault
   none_else P Q change (inl untaken) = inl untaken
   none_else P Q change (inr (bytes, all, p)) = inr (bytes, all, change bytes p)
-
-  -- an input that was not taken
-  pub unread : (whole : Whole) → TakesNone (λ bytes. ⊥) a b f fault
-      → TakesNone (λ bytes. Fails whole bytes fault) a b f fault
-  unread whole h = none_else (λ bytes. ⊥) (λ bytes. Fails whole bytes fault) (λ bytes none. absurd none) h
-
-  pub unread_bare : TakesNone (λ bytes. ⊥) a b f fault → TakesNone (λ bytes. FailsBare bytes fault) a b f fault
-  unread_bare h = none_else (λ bytes. ⊥) (λ bytes. FailsBare bytes fault) (λ bytes none. absurd none) h
 
   -- a packed text that packs no words
   pub unmade_packed : (limits : Bounds) (most : ℕ) → most ≡ limits.message_words + most_table_words
@@ -84,16 +103,16 @@ gives_refused form bytes limits r (Err fault) refused (is_err, inr (other, is)) 
 
 module _ {A : Type 0} (a b : Option (List ℕ)) (f : Bool) where
   -- all of it is held
-  pub made_held : (whole : Whole) (input : Input A) (held : List ℕ) (r : Result (Vec ℕ A) ToolFault)
-      → TakesAll (IsBeginning (2 ^ 32)) a b f (Ok input) → held ≡ input.bytes.items
+  pub made_held : (whole : Whole) (input : WholeInput A) (held : List ℕ) (r : Result (Vec ℕ A) ToolFault)
+      → served.TakesAll (IsBeginning (2 ^ 32)) a b f (Ok input) → held ≡ input.bytes.items
       → Gives whole held r → TakesAll (Gives whole) a b f r
   made_held whole input held r (bytes, all, is) same gives =
       takes_so (Gives whole) a b f r bytes all
       (subst (λ (xs : List ℕ). Gives whole xs r) (same ∙ sym is.0 ∙ take_all (2 ^ 32) bytes all.within) gives)
 
   -- of a frame its beginning is
-  pub made_framed : (limits : Bounds) (n : ℕ) (input : Input A) (held : List ℕ) (r : Result (Vec ℕ A) ToolFault)
-      → 8 * (limits.message_words + most_table_words) < n → TakesAll (IsBeginning n) a b f (Ok input)
+  pub made_framed : (limits : Bounds) (n : ℕ) (input : WholeInput A) (held : List ℕ) (r : Result (Vec ℕ A) ToolFault)
+      → 8 * (limits.message_words + most_table_words) < n → served.TakesAll (IsBeginning n) a b f (Ok input)
       → held ≡ input.bytes.items → Gives (wholes.Canonical forms.Stream limits) held r
       → TakesAll (Gives (wholes.Canonical forms.Stream limits)) a b f r
   made_framed limits n input held r enough (bytes, all, is) same gives =
@@ -113,20 +132,8 @@ module _ {A : Type 0} (a b : Option (List ℕ)) (f : Bool) where
 
   -- ---- bare bytes
 
-  -- a segment is held whole
-  pub read_short : (n : ℕ) (input : Input A) → TakesAll (IsBeginning n) a b f (Ok input) → input.len ≤ n
-      → TakesAll IsShortBare a b f (Ok input.bytes)
-  read_short n input (bytes, all, is) short =
-      (bytes, all, sym (take_all n bytes (omega (arith, short, is.1))) ∙ is.0)
-
-  -- what is longer is refused
-  pub read_long : (n : ℕ) (input : Input A) (e : BareFault) (len : ℕ) → TakesAll (IsBeginning n) a b f (Ok input)
-      → len ≡ input.len → ((bytes : List ℕ) → length bytes ≡ len → ReadsBare bytes (Err e))
-      → TakesNone (λ bytes. FailsBare bytes (faults.Refused (refusals.Bare e))) a b f (faults.Refused (refusals.Bare e))
-  read_long n input e len (bytes, all, is) same why = inr (bytes, all, (e, refl, why bytes (is.1 ∙ sym same)))
-
-  pub made_bare : (whole : Whole) (input : Vec ℕ A) (held : List ℕ) (r : Result (Vec ℕ A) ToolFault)
-      → TakesAll IsShortBare a b f (Ok input) → held ≡ input.items → Gives whole held r → TakesAll (Gives whole) a b f r
-  made_bare whole input held r (bytes, all, is) same gives =
+  pub made_bare : (at : Position) (whole : Whole) (input : Vec ℕ A) (held : List ℕ) (r : Result (Vec ℕ A) ToolFault)
+      → served.TakesAll (IsShortBare at) a b f (Ok input) → held ≡ input.items → Gives whole held r → TakesAll (Gives whole) a b f r
+  made_bare at whole input held r (bytes, all, is) same gives =
       takes_so (Gives whole) a b f r bytes all
       (subst (λ (xs : List ℕ). Gives whole xs r) (same ∙ sym is) gives)

@@ -6,7 +6,8 @@ use Rattle.std.proofs.lemmas.Bool.Decides.{nat_tests}
 use Rattle.std.proofs.KnownBytes.{Appends-nil}
 use Rattle.std.specs.Io.KnownBytes.{Appends}
 use Rattle.capn_words.specs.Watched.{HasBegun}
-use Rattle.capn_tool.specs.inner.ReadInput.{HasGiven, HasGivenAll, IsUntaken, TakesAll}
+use Rattle.capn_serve.specs.WholeInput.{HasGiven, HasGivenAll}
+use Rattle.capn_tool.specs.inner.ReadInput.{IsUntaken, TakesAll}
 use Rattle.capn_tool.specs.Text.{HasEnded, PlanBegins, PlanEndsAs, has_more, taken_of}
 use Rattle.capn_tool.specs.WholeInput.{Gives, Makes, MakesNothing}
 use Rattle.capn_tool.specs.declared.plan.Whole.{Whole}

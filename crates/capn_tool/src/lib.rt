@@ -20,7 +20,6 @@ mod command_run;
 mod exit_status;
 mod fault;
 pub mod help;
-mod input;
 pub mod laws;
 mod message_stream;
 mod message_text;

@@ -6,10 +6,9 @@ ghost use Rattle.capn_tool.specs.CommandRun.{Runs};
 ghost use Rattle.capn_tool.specs.declared.plan.Plan.TheVariants as plans;
 
 use crate::fault::ToolFault;
-use crate::input::MOST_BYTES;
 use crate::message_texts::first_run;
 use crate::plan::MessageText;
-use capn_serve::{run_packed, run_stream};
+use capn_serve::{MOST_INPUT, run_packed, run_stream};
 use capn_walk::Limits;
 use capn_words::Watched;
 use std::alloc::Allocator;
@@ -31,7 +30,7 @@ pub fn run_each<R: Read, W: Write, A: Allocator + Copy>(
 {
     let mut run = first_run(piece, limits);
     let most = limits.message_words();
-    run_stream(alloc, most, MOST_BYTES as u64, &mut run, reader, writer)?;
+    run_stream(alloc, most, MOST_INPUT as u64, &mut run, reader, writer)?;
     Ok(())
 }
 
@@ -55,7 +54,7 @@ pub fn run_each_packed<R: Read, W: Write, A: Allocator + Copy>(
     run_packed(
         alloc,
         most,
-        MOST_BYTES as u64,
+        MOST_INPUT as u64,
         u64::MAX,
         &mut run,
         reader,

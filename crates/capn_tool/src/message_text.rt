@@ -8,7 +8,7 @@ ghost use Rattle.capn_tool.specs.declared.plan.MessageText.TheVariants as kinds;
 
 use crate::fault::ToolFault;
 use crate::price_line::{PriceLine, short_line};
-use capn_canon::{canonical_of, survey_bare};
+use capn_canon::{canonical_of, own_canonical, survey_bare};
 use capn_walk::{Limits, survey};
 use capn_words::{Bare, Space};
 use sha2::{Digest, Sha256};
@@ -103,7 +103,8 @@ fn put_digest_line<A: Allocator>(bytes: &[u8], text: &mut Vec<u8, A>) -> Result<
     }
 }
 
-/// Appends the line of the digest of a message's canonical bytes. After a fault the text is as it was.
+/// Appends the line of the digest of a message's canonical bytes. Those of a message that is canonical are hashed where
+/// they lie: one pass finds them, and no copy is made of them. After a fault the text is as it was.
 pub fn put_digest<S: Space, A: Allocator + Copy>(
     alloc: A,
     space: &S,
@@ -112,6 +113,9 @@ pub fn put_digest<S: Space, A: Allocator + Copy>(
 ) -> Result<(), ToolFault>
     ensures { PutsMessageText kinds.Digest (S.message space.now) limits text.old.items text.new.items result }
 {
+    if let Some(own) = own_canonical(space, limits) {
+        return put_digest_line(own.bytes, text);
+    }
     let canonical = canonical_of(alloc, space, limits)?;
     put_digest_line(&canonical.bytes, text)
 }

@@ -9,15 +9,15 @@ ghost use Rattle.capn_tool.specs.WholeInput.{Gives};
 ghost use Rattle.capn_tool.specs.declared.plan.Whole.TheVariants as wholes;
 
 use crate::fault::ToolFault;
-use crate::input::{MOST_BYTES, PIECE};
 use capn_canon::Refusal;
 use capn_pack::{Next, UnpackFault, unpack_some};
+use capn_serve::{CHUNK, MOST_INPUT};
 use capn_words::Watched;
 use std::alloc::{AllocError, Allocator};
 use std::io::Read;
 
 /// Room for the beginning of a group and for a piece.
-const ROOM: usize = 2050 + PIECE;
+const ROOM: usize = 2050 + CHUNK as usize;
 
 /// What of a packed input is not unpacked yet.
 #[derive(Drop)]
@@ -57,7 +57,7 @@ fn take_chunk<A: Allocator>(
     piece: &[u8],
     words: &mut Vec<u8, A>,
 ) -> Result<(), AllocError>
-    requires short { length piece.now ≤ PIECE }
+    requires short { length piece.now ≤ 65536 }
     requires held { pending.old.len < most_group }
     requires near { pending.old.at ≤ 2 ^ 32 }
     ensures held { pending.new.len < most_group }
@@ -127,10 +127,10 @@ pub fn read_words<R: Read, A: Allocator>(
         left: most,
         is_long: false,
     };
-    let mut piece = [0; PIECE];
+    let mut piece = [0; CHUNK as usize];
     let mut taken = 0;
-    'pieces: while taken <= MOST_BYTES {
-        let room = (MOST_BYTES + 1 - taken).min(PIECE);
+    'pieces: while taken <= MOST_INPUT {
+        let room = (MOST_INPUT + 1 - taken).min(CHUNK as usize);
         match reader.read(&mut piece[..room]) {
             Err(_) => return Err(ToolFault::Io),
             Ok(0) => return end_pending(&pending, words),

@@ -1,25 +1,30 @@
 //! What is made of an input that is taken whole.
 
-ghost use Rattle.std.specs.Prelude.{◌≡◌, ℕ, ◌*◌, ◌<◌, List, length, false, Err};
-ghost use Rattle.capn_words.specs.Message.{most_words, ReadsBare};
+ghost use Rattle.std.specs.Prelude.{◌≡◌, false};
 ghost use Rattle.capn_words.specs.Watched.{inner_of, has_failed};
-ghost use Rattle.capn_tool.specs.inner.ReadInput.{IsShortBare, TakesAll};
+ghost use Rattle.capn_tool.specs.inner.ReadInput.{TakesAll};
 ghost use Rattle.capn_tool.specs.WholeInput.{Gives};
 ghost use Rattle.capn_canon.specs.declared.form.Form.TheVariants as forms;
 ghost use Rattle.capn_tool.specs.declared.plan.MessageText.TheVariants as kinds;
 ghost use Rattle.capn_tool.specs.declared.plan.Whole.TheVariants as wholes;
 
 use crate::fault::ToolFault;
-use crate::input::{MOST_BYTES, read_all};
 use crate::message_text::put_verdict;
 use crate::pending::read_words;
 use capn_canon::{Form, Refusal, canonicalise};
 use capn_pack::{PackFault, pack};
+use capn_serve::{MOST_INPUT, Position, read_all, read_bare};
 use capn_stream::MOST_TABLE_WORDS;
 use capn_walk::Limits;
-use capn_words::{Bare, BareFault, MOST_WORDS, Watched};
+use capn_words::{Bare, Watched};
 use std::alloc::Allocator;
 use std::io::Read;
+
+/// Where the one message of a bare input begins.
+const START: Position = Position {
+    index: 0,
+    offset: 0,
+};
 
 /// The packed text of words.
 fn packed<A: Allocator + Copy>(alloc: A, bytes: &[u8]) -> Result<Vec<u8, A>, ToolFault>
@@ -82,35 +87,6 @@ fn make_packed<R: Read, A: Allocator + Copy>(
     Ok(canonical.bytes)
 }
 
-/// Why `len` bytes are not one segment.
-fn bare_fault(len: u64) -> BareFault
-    requires { 8 * most_words < len }
-    ensures { (bytes : List ℕ) → length bytes ≡ len → ReadsBare bytes (Err result) }
-{
-    if len % 8 == 0 {
-        BareFault::TooLong(len / 8)
-    } else {
-        BareFault::NotWhole(len)
-    }
-}
-
-/// Reads a bare input to its end. Of words past those that a segment may have none is held.
-fn read_bare<R: Read, A: Allocator>(
-    alloc: A,
-    reader: &mut Watched<R>,
-) -> Result<Vec<u8, A>, ToolFault>
-    requires { has_failed reader.old ≡ false }
-    ensures { TakesAll IsShortBare (R.remaining (inner_of reader.old)) (R.remaining (inner_of reader.new))
-        (has_failed reader.new) result }
-{
-    let input = read_all(alloc, reader, 8 * MOST_WORDS as usize)?;
-    if input.len <= 8 * MOST_WORDS as usize {
-        return Ok(input.bytes);
-    }
-    let fault = bare_fault(input.len as u64);
-    Err(ToolFault::Refused(Refusal::Bare(fault)))
-}
-
 /// The packed text of an input's words, which are held whole.
 pub fn make_text<R: Read, A: Allocator + Copy>(
     alloc: A,
@@ -120,7 +96,7 @@ pub fn make_text<R: Read, A: Allocator + Copy>(
     ensures { TakesAll (Gives wholes.Packed) (R.remaining (inner_of reader.old)) (R.remaining (inner_of reader.new))
         (has_failed reader.new) result }
 {
-    let input = read_all(alloc, reader, MOST_BYTES)?;
+    let input = read_all(alloc, reader, MOST_INPUT)?;
     packed(alloc, &input.bytes)
 }
 
@@ -134,7 +110,7 @@ fn make_trimmed<R: Read, A: Allocator + Copy>(
     ensures { TakesAll (Gives (wholes.Canonical forms.Bare limits)) (R.remaining (inner_of reader.old))
         (R.remaining (inner_of reader.new)) (has_failed reader.new) result }
 {
-    let bytes = read_bare(alloc, reader)?;
+    let bytes = read_bare(alloc, START, reader)?;
     let canonical = canonicalise(alloc, Form::Bare, &bytes, limits)?;
     Ok(canonical.bytes)
 }
@@ -149,7 +125,7 @@ pub fn make_verdict<R: Read, A: Allocator + Copy>(
     ensures { TakesAll (Gives (wholes.Bare kinds.Price limits)) (R.remaining (inner_of reader.old))
         (R.remaining (inner_of reader.new)) (has_failed reader.new) result }
 {
-    let bytes = read_bare(alloc, reader)?;
+    let bytes = read_bare(alloc, START, reader)?;
     verdict(alloc, &bytes, limits)
 }
 

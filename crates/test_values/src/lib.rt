@@ -12,6 +12,8 @@ mod layouts;
 #[cfg(test)]
 mod making;
 #[cfg(test)]
+mod measures;
+#[cfg(test)]
 mod steps;
 #[cfg(test)]
 mod targets;

@@ -8,7 +8,8 @@ use Rattle.capn_words.proofs.shared.Words.{bytes-injective, length-bytes}
 use Rattle.capn_walk.specs.Accepted.{root}
 use Rattle.capn_target.proofs.shared.Segments.{length_of_none, length_of_some}
 
-only-segment : (m : List (List ℕ)) → length m ≡ 1 → m ≡ segment_at m 0 ∷ []
+-- a message of one segment is that segment
+pub only-segment : (m : List (List ℕ)) → length m ≡ 1 → m ≡ segment_at m 0 ∷ []
 only-segment [] e = absurd (omega arith)
 only-segment (ws ∷ []) e = refl
 only-segment (ws ∷ (vs ∷ m)) e = absurd (omega arith)

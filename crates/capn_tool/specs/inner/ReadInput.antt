@@ -1,13 +1,10 @@
 -- What a run has read and written.
-use Rattle.std.specs.Prelude.{◌≡◌, ◌⊎◌, ℕ, ◌+◌, ◌<◌, ◌≤◌, List, length, take, Bool, true, false, Option}
-use Rattle.std.specs.Prelude.{Result, Ok, Err, Vec}
+use Rattle.std.specs.Prelude.{◌≡◌, ◌⊎◌, ℕ, ◌+◌, ◌<◌, ◌≤◌, List, length, Bool, true, false, Option}
+use Rattle.std.specs.Prelude.{Result, Ok, Err}
 use Rattle.std.specs.Io.KnownBytes.{Consumes, IsAtEnd}
-use Rattle.capn_words.specs.Message.{ReadsBare}
-use Rattle.capn_words.specs.declared.bare.BareFault.{BareFault}
-use Rattle.capn_canon.specs.declared.refusal.Refusal.TheVariants as refusals
+use Rattle.capn_serve.specs.WholeInput.{HasGiven, HasGivenAll}
 use Rattle.capn_tool.specs.Limits.{most_input}
 use Rattle.capn_tool.specs.Text.{taken_of, has_more}
-use Rattle.capn_tool.specs.declared.input.Input.{Input}
 use Rattle.capn_tool.specs.declared.fault.ToolFault.{ToolFault}
 use Rattle.capn_tool.specs.declared.fault.ToolFault.TheVariants as faults
 
@@ -24,18 +21,6 @@ pub record Kept (old new : Option (List ℕ)) (kept : List ℕ) (is_longer : Boo
   pub more : has_more bytes ≡ is_longer
   pub ended : is_longer ≡ false → IsAtEnd new
 
--- a reader has given these bytes, at most 2^32 and one, and has not failed
-pub record HasGiven (old new : Option (List ℕ)) (failed : Bool) (bytes : List ℕ) : Type 0 where
-  pub read : Consumes old new bytes
-  pub bounded : length bytes ≤ most_input + 1
-  pub fine : failed ≡ false
-
--- these bytes are all that it had, and no more than a run takes
-pub record HasGivenAll (old new : Option (List ℕ)) (failed : Bool) (bytes : List ℕ) : Type 0 where
-  pub given : HasGiven old new failed bytes
-  pub within : length bytes ≤ most_input
-  pub ended : IsAtEnd new
-
 -- an input was not taken: memory was refused; or the reader failed; or there are more bytes than a run takes
 abbrev pub IsUntaken : Option (List ℕ) → Option (List ℕ) → Bool → ToolFault → Type 0
 IsUntaken old new failed fault = (bytes : List ℕ)
@@ -49,13 +34,3 @@ abbrev pub TakesAll : {T : Type 0} → (List ℕ → Result T ToolFault → Type
 TakesAll P old new failed (Ok x) = (bytes : List ℕ) × HasGivenAll old new failed bytes × P bytes (Ok x)
 TakesAll P old new failed (Err fault) = IsUntaken old new failed fault
     ⊎ ((bytes : List ℕ) × HasGivenAll old new failed bytes × P bytes (Err fault))
-
--- the first bytes, at most `most`, and the number of all
-abbrev pub IsBeginning : {A : Type 0} → ℕ → List ℕ → Result (Input A) ToolFault → Type 0
-IsBeginning most bytes (Ok input) = (take most bytes ≡ input.bytes.items) × (length bytes ≡ input.len)
-IsBeginning most bytes (Err fault) = ⊥
-
--- all bytes, unless they are refused as one segment
-abbrev pub IsShortBare : {A : Type 0} → List ℕ → Result (Vec ℕ A) ToolFault → Type 0
-IsShortBare bytes (Ok held) = bytes ≡ held.items
-IsShortBare bytes (Err fault) = (e : BareFault) × (fault ≡ faults.Refused (refusals.Bare e)) × ReadsBare bytes (Err e)

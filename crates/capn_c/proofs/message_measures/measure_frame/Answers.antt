@@ -14,7 +14,7 @@ returns-in-Ok-clause-memory c v d e =
     let l = c.args.limits in
     let reads = subst (λ (r : Result (List (List ℕ)) Refusal). IfOk r (λ m. Reads forms.Stream bs l.message_words m))
     c.in-Ok.is c.in-Some.ensures.read in
-    let some = c.measure.ensures.only v (value_of forms.Stream bs l c.in-Ok.message reads v d) in
+    let some = c.measure_message.ensures.only v (value_of forms.Stream bs l c.in-Ok.message reads v d) in
     let no : false ≡ true = subst (λ o. is_some o ≡ true) e some in
     absurd cc
 
@@ -24,7 +24,7 @@ returns-in-Ok-clause-asked c v d e =
     let l = c.args.limits in
     let reads = subst (λ (r : Result (List (List ℕ)) Refusal). IfOk r (λ m. Reads forms.Stream bs l.message_words m))
     c.in-Ok.is c.in-Some.ensures.read in
-    let some = c.measure.ensures.only v (value_of forms.Stream bs l c.in-Ok.message reads v d) in
+    let some = c.measure_message.ensures.only v (value_of forms.Stream bs l c.in-Ok.message reads v d) in
     let no : false ≡ true = subst (λ o. is_some o ≡ true) e some in
     absurd cc
 

@@ -22,7 +22,7 @@ returns-else-taken-bytes-clause-memory c v d e =
     let P : ℕ → Type 0 = λ most. StandsFirst bs most d.message (length bs) in
     let same = c.in-Ok.ensures.only d.message (length bs) (subst P (sym c.message_words.ensures.value) s) in
     let Q : List (List ℕ) → Type 0 = λ m. IsValueOf m c.args.limits v in
-    let some = c.measure.ensures.only v (subst Q (sym same.0) d.value) in
+    let some = c.measure_message.ensures.only v (subst Q (sym same.0) d.value) in
     let no : false ≡ true = subst (λ o. is_some o ≡ true) e some in
     absurd cc
 

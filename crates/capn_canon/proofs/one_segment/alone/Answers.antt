@@ -1,14 +1,13 @@
-use Rattle.std.proofs.Common.{ℕ, ◌*◌, ap, ◌∙◌, arith}
-use Rattle.capn_words.specs.Message.{bytes_at}
-use Rattle.capn_walk.specs.Accepted.{root}
-use Rattle.capn_canon.proofs.shared.OneBare.{one-bare, first-words}
+use Rattle.std.proofs.Common.{◌≡◌, List, ℕ, [], ◌∷◌, ap, sym, ◌∙◌}
 use Rattle.capn_canon.proofs.one_segment.alone.Goals as goal
 
-pub returns-in-Ok : goal.returns-in-Ok
-returns-in-Ok g c =
-    let m = g.S.Space.message c.args.space.now in
-    let n = first-words m c.words.result c.unwrap_or-words.result c.words.ensures c.unwrap_or-words.ensures in
-    let k = c.if-segments-ne1.false in
-    let l = c.segments.ensures.count in
-    one-bare m c.bytes.result.now c.in-Ok.bare c.segments.ensures.bounds (omega arith) (c.bytes.ensures
-    ∙ ap (λ (j : ℕ). bytes_at m root (8 * j)) n) c.in-Ok.ensures.exact
+pub returns-in-Ok-clause-one : goal.returns-in-Ok-clause-one
+returns-in-Ok-clause-one g c =
+    let only = c.in-Some.ensures.one in
+    let read = c.in-Ok.ensures.only only.0 only.2 in
+    let same : c.in-Ok.bare ≡ only.0 = cc in
+    only.1 ∙ ap (λ (ws : List ℕ). ws ∷ []) (sym same)
+
+pub returns-in-Err-clause-other : goal.returns-in-Err-clause-other
+returns-in-Err-clause-other g c =
+    let only = c.in-Some.ensures.one in let read = c.in-Err.ensures.only only.0 only.2 in absurd (cc)

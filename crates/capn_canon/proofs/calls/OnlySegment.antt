@@ -1,18 +1,17 @@
--- A message of one segment is what its bytes are read as.
+-- A message of one segment is what its bytes are read as, and may be its own canonical bytes.
 use Rattle.std.proofs.Common.{◌≡◌, ℕ, ◌*◌, ◌^◌, ◌<◌, List, [], ◌∷◌, length, true, refl, ap, sym, ◌∙◌, subst, arith}
-use Rattle.std.proofs.Common.{Option, Some, None, Result, Ok}
-use Rattle.std.specs.Option.{unwrap_or}
+use Rattle.std.proofs.Common.{Result, Ok}
 use Rattle.std.proofs.lemmas.List.{take_all}
-use Rattle.capn_words.specs.Message.{IsMessage, segment_at, bytes_at, words_of, bytes, IsBare}
+use Rattle.capn_words.specs.Message.{IsMessage, segment_at, bytes_at, bytes, IsBare}
+use Rattle.capn_words.specs.declared.bare.BareFault.{BareFault}
 use Rattle.capn_words.proofs.shared.Words.{length-bytes}
 use Rattle.capn_walk.specs.Limits.{Bounds}
-use Rattle.capn_words.specs.declared.bare.BareFault.{BareFault}
-use Rattle.capn_walk.specs.Accepted.{paid, root}
-use Rattle.capn_target.proofs.shared.Segments.{length_of_none, length_of_some, segment-room}
+use Rattle.capn_walk.specs.Accepted.{root}
+use Rattle.capn_target.proofs.shared.Segments.{segment-room}
 use Rattle.capn_canon.specs.BareVerdict.{IsBareSurvey}
 use Rattle.capn_canon.specs.Denotes.{AnswersMessage}
 use Rattle.capn_canon.specs.declared.surveyed_bare.SurveyedBare.{SurveyedBare}
-use Rattle.capn_archive.specs.inner.OneSegment.{IsOnlySegment}
+use Rattle.capn_canon.specs.inner.OneSegment.{IsOnlySegment}
 
 -- what bytes are read as
 abbrev ok : List ℕ → Result (List ℕ) BareFault
@@ -26,6 +25,7 @@ all_bytes m bs is =
     let l = length-bytes seg in
     is ∙ take_all (8 * length seg) (bytes seg) (omega arith)
 
+-- the bytes of the only segment
 pub one_segment : (m : List (List ℕ)) (bs : List ℕ) → IsMessage m → length m ≡ 1
     → bs ≡ bytes_at m root (8 * length (segment_at m 0)) → IsOnlySegment m bs
 one_segment [] bs is e eb = absurd (omega arith)
@@ -40,33 +40,26 @@ one_segment (ws ∷ []) bs is e eb = (
 )
 one_segment (ws ∷ (vs ∷ m)) bs is e eb = absurd (omega arith)
 
--- the words of the first segment, if there is one
-pub first_words : (m : List (List ℕ)) (r : Option ℕ) (n : ℕ) → r ≡ words_of m 0 → n ≡ unwrap_or r 0
-    → n ≡ length (segment_at m 0)
-first_words m None n e f = f ∙ sym (length_of_none m 0 (sym e))
-first_words m (Some k) n e f = f ∙ sym (length_of_some m 0 k (sym e))
-
 -- bytes are the canonical ones, since a survey of their words says so
 pub own_answer : (bs ws vs : List ℕ) → IsBare bs ws → ok vs ≡ ok ws → (limits : Bounds) (c : SurveyedBare)
-    → IsBareSurvey vs limits c → c.is_canonical ≡ true → (price : ℕ) × AnswersMessage (ws ∷ []) limits bs price
+    → IsBareSurvey vs limits c → c.is_canonical ≡ true → AnswersMessage (ws ∷ []) limits bs c.paid
 own_answer bs ws vs bare same limits c told so =
     let is : vs ≡ ws = cc in
     let here = subst (λ (l : List ℕ). IsBareSurvey l limits c) is told in
-    let are = here.answer.0 so in (
-      paid (ws ∷ []) limits,
-      record {
-        value = here.value;
-        is = here.is;
-        free = are.0;
-        canonical = bare.same ∙ sym are.1;
-        priced = refl;
-      },
-    )
+    let are = here.answer.0 so in
+    record {
+      value = here.value;
+      is = here.is;
+      free = are.0;
+      canonical = bare.same ∙ sym are.1;
+      priced = here.pays;
+    }
 
-pub own_message : (m : List (List ℕ)) (bs : List ℕ) (limits : Bounds) (only : IsOnlySegment m bs) → (price : ℕ)
-    × AnswersMessage (only.0 ∷ []) limits bs price → (price : ℕ) × AnswersMessage m limits bs price
-own_message m bs limits only answer =
-    subst (λ (n : List (List ℕ)). (price : ℕ) × AnswersMessage n limits bs price) (sym only.1) answer
+-- the answer of the only segment is that of the message
+pub own_message : (m : List (List ℕ)) (bs : List ℕ) (price : ℕ) (limits : Bounds) (only : IsOnlySegment m bs)
+    (own : List ℕ) → AnswersMessage (only.0 ∷ []) limits own price → AnswersMessage m limits own price
+own_message m bs price limits only own answer =
+    subst (λ (n : List (List ℕ)). AnswersMessage n limits own price) (sym only.1) answer
 
 -- there are less than 2^34 of them
 pub own_short : (bs ws : List ℕ) → IsBare bs ws → length bs < 2 ^ 34

@@ -1,4 +1,4 @@
--- What the check of a message of one segment finds.
+-- What is found of a message, of one segment or of more.
 use Rattle.std.proofs.Common.{◌≡◌, ◌∙◌, ℕ, List, [], ◌∷◌, length, true, false, Option, None, is_some, refl, ap, sym}
 use Rattle.capn_words.specs.Message.{bytes}
 use Rattle.capn_value.specs.Tree.{Tree}
@@ -8,11 +8,11 @@ use Rattle.capn_walk.specs.Accepted.{IsValueOf}
 use Rattle.capn_walk.specs.Depth.{IsDepth}
 use Rattle.capn_walk.specs.Surveyed.{IsSurvey}
 use Rattle.capn_walk.specs.declared.survey_answer.Surveyed.{Surveyed}
-use Rattle.capn_canon.specs.Layout.{canon}
+use Rattle.capn_layout.specs.Layout.{canon}
 use Rattle.capn_canon.specs.BareVerdict.{IsBareSurvey}
+use Rattle.capn_canon.specs.Measure.{IsCanonicalOf, IsChecked, IsMeasure}
 use Rattle.capn_canon.specs.declared.surveyed_bare.MeasuredBare.{MeasuredBare}
 use Rattle.capn_canon.specs.declared.surveyed_bare.SurveyedBare.{SurveyedBare}
-use Rattle.capn_archive.specs.Findings.{AreFindings, IsCanonical, IsChecked}
 
 same_words : (ws vs : List ℕ) → ◌≡◌ {A = List (List ℕ)} (ws ∷ []) (vs ∷ []) → ws ≡ vs
 same_words ws vs same = cc
@@ -33,7 +33,7 @@ bare_checked words limits c told = record {
 }
 
 -- one that has not one segment is not canonical
-pub not_one : (message : List (List ℕ)) (v : Tree) → (length message ≡ 1 → ⊥) → IsCanonical message v → ⊥
+pub not_one : (message : List (List ℕ)) (v : Tree) → (length message ≡ 1 → ⊥) → IsCanonicalOf message v → ⊥
 not_one message v not is = not (ap length is.1)
 
 -- there is no survey
@@ -46,15 +46,15 @@ not_none is = absurd (cc)
 -- nor is one of one segment of which no survey says so
 pub not_told : (words : List ℕ) (limits : Bounds)
     → ((v : Tree) → IsValueOf (words ∷ []) limits v → first_cap v ≡ None → canon v ≡ bytes words
-    → is_some none ≡ true) → (v : Tree) → IsValueOf (words ∷ []) limits v → IsCanonical (words ∷ []) v → ⊥
+    → is_some none ≡ true) → (v : Tree) → IsValueOf (words ∷ []) limits v → IsCanonicalOf (words ∷ []) v → ⊥
 not_told words limits only v told is =
     not_none (only v told is.2 (is.3 ∙ ap bytes (sym (same_words words is.0 is.1))))
 
 -- what a survey reports is what is found of a message that is not canonical
 pub not_checked : (message : List (List ℕ)) (limits : Bounds) (s : Surveyed) (depth : ℕ) → IsSurvey message limits s
-    → IsDepth message limits depth → ((v : Tree) → IsValueOf message limits v → IsCanonical message v → ⊥)
-    → AreFindings message limits (record {
-      checked = record {
+    → IsDepth message limits depth → ((v : Tree) → IsValueOf message limits v → IsCanonicalOf message v → ⊥)
+    → IsMeasure message limits (record {
+      survey = record {
         paid = s.paid;
         visits = s.visits;
         capability = s.capability;

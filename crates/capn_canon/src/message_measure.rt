@@ -1,0 +1,88 @@
+//! What a message costs, how deep it is, whether it is canonical.
+
+ghost use Rattle.std.specs.Prelude.{◌≡◌, ◌≢◌, [], ◌∷◌, IfOk, IfErr, IsOk, MatchResult};
+ghost use Rattle.capn_value.specs.Tree.{Tree as Value};
+ghost use Rattle.capn_target.specs.declared.target.Fault.TheVariants as faults;
+ghost use Rattle.capn_walk.specs.Accepted.{IsValueOf, IsWalkRefused as IsStopped, IsBounded};
+ghost use Rattle.capn_canon.specs.Measure.{IsCanonicalOf, IsMeasure};
+
+use crate::canonical_survey::measure_canonical;
+use crate::one_segment::alone;
+use crate::surveyed_bare::{MeasuredBare, SurveyedBare};
+use capn_walk::{Limits, Stopped, survey_depth};
+use capn_words::{Bare, Space};
+use std::alloc::Allocator;
+
+/// What a survey finds of a message that is not canonical.
+fn measure_other<S: Space, A: Allocator + Copy>(
+    alloc: A,
+    space: &S,
+    limits: Limits,
+) -> Result<MeasuredBare, Stopped>
+    requires { (v : Value) → IsValueOf (S.message space.now) limits v → IsCanonicalOf (S.message space.now) v → ⊥ }
+    ensures found { IfOk result (λ m. IsMeasure (S.message space.now) limits m) }
+    ensures only { (v : Value) → IsValueOf (S.message space.now) limits v → IsOk result }
+    ensures refused { IfErr result (λ s. IsStopped (S.message space.now) limits s.fault s.place s.paid s.visits) }
+    ensures no_memory { IfErr result (λ s. s.fault ≢ faults.Memory) }
+    ensures bounded { MatchResult result (λ m. IsBounded limits.budget m.survey.paid m.survey.visits)
+        (λ s. IsBounded limits.budget s.paid s.visits) }
+{
+    let measured = survey_depth(alloc, space, limits)?;
+    Ok(MeasuredBare {
+        survey: SurveyedBare {
+            paid: measured.survey.paid,
+            visits: measured.survey.visits,
+            capability: measured.survey.capability,
+            is_canonical: false,
+        },
+        depth: measured.depth,
+    })
+}
+
+/// What is found of a message of one segment: by one pass if its bytes are canonical, else by a survey.
+fn measure_bare<A: Allocator + Copy>(
+    alloc: A,
+    space: &Bare<'_>,
+    limits: Limits,
+) -> Result<MeasuredBare, Stopped>
+    ensures found { IfOk result (λ m. IsMeasure (space.now ∷ []) limits m) }
+    ensures only { (v : Value) → IsValueOf (space.now ∷ []) limits v → IsOk result }
+    ensures refused { IfErr result (λ s. IsStopped (space.now ∷ []) limits s.fault s.place s.paid s.visits) }
+    ensures no_memory { IfErr result (λ s. s.fault ≢ faults.Memory) }
+    ensures bounded { MatchResult result (λ m. IsBounded limits.budget m.survey.paid m.survey.visits)
+        (λ s. IsBounded limits.budget s.paid s.visits) }
+{
+    let _segments = space.segments();
+    match measure_canonical(space, limits) {
+        Some(measured) => Ok(measured),
+        None => measure_other(alloc, space, limits),
+    }
+}
+
+/// What the walk of a message pays and visits, its first capability, the least depth under which it is accepted with
+/// the other limits as they are, and whether it has one segment whose bytes are its canonical bytes. (Own.)
+///
+/// A message that is canonical is walked once, another of one segment twice at most, and one of more segments once. It
+/// refuses what the walk refuses, in the same way. It takes no memory.
+pub fn measure<S: Space, A: Allocator + Copy>(
+    alloc: A,
+    space: &S,
+    limits: Limits,
+) -> Result<MeasuredBare, Stopped>
+    // An answer: the message is accepted, and this is what is found of it.
+    ensures found { IfOk result (λ m. IsMeasure (S.message space.now) limits m) }
+    // A message that is accepted is answered.
+    ensures only { (v : Value) → IsValueOf (S.message space.now) limits v → IsOk result }
+    // Any other is refused as its walk is,
+    ensures refused { IfErr result (λ s. IsStopped (S.message space.now) limits s.fault s.place s.paid s.visits) }
+    // and never for memory.
+    ensures no_memory { IfErr result (λ s. s.fault ≢ faults.Memory) }
+    // No walk reports more paid than its budget.
+    ensures bounded { MatchResult result (λ m. IsBounded limits.budget m.survey.paid m.survey.visits)
+        (λ s. IsBounded limits.budget s.paid s.visits) }
+{
+    match alone(space) {
+        Some(bare) => measure_bare(alloc, &bare, limits),
+        None => measure_other(alloc, space, limits),
+    }
+}

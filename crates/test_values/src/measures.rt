@@ -1,0 +1,88 @@
+//! What is found of a message, canonical or not.
+
+use crate::words::bytes_of;
+use capn_canon::{MeasuredBare, SurveyedBare, measure, own_canonical};
+use capn_stream::first;
+use capn_walk::{Fault, Limits, Stopped};
+use std::alloc::Global;
+use std::test::Fail;
+
+/// What is measured of the frame of these words within the usual limits; and where its own bytes are canonical, and all
+/// that is behind the table, what they pay.
+fn told(
+    alloc: Global,
+    words: &[u64],
+) -> Result<(Result<MeasuredBare, Stopped>, Option<u32>), Fail> {
+    let bytes = bytes_of(alloc, words)?;
+    let Ok((message, _taken)) = first(alloc, bytes.as_slice(), 8_388_608) else {
+        return Err(Fail::new("no frame"));
+    };
+    let limits = Limits::usual();
+    let own = match own_canonical(&message, limits) {
+        Some(own) => {
+            if own.bytes != &bytes.as_slice()[8..] {
+                return Err(Fail::new("other bytes"));
+            }
+            Some(own.paid)
+        }
+        None => None,
+    };
+    Ok((measure(alloc, &message, limits), own))
+}
+
+/// What is measured, by its numbers.
+fn measured(
+    paid: u32,
+    visits: u32,
+    capability: Option<u32>,
+    is_canonical: bool,
+    depth: u32,
+) -> MeasuredBare {
+    MeasuredBare {
+        survey: SurveyedBare {
+            paid,
+            visits,
+            capability,
+            is_canonical,
+        },
+        depth,
+    }
+}
+
+/// A struct of one word: its bytes are its own canonical form.
+#[test]
+fn a_canonical_message(rt: HostRuntime) -> Result<(), Fail> {
+    let (found, own) = told(rt.alloc(), &[0x2_0000_0000, 0x1_0000_0000, 5])?;
+    assert!(rt; found == Ok(measured(2, 1, None, true, 1)));
+    assert!(rt; own == Some(2));
+    Ok(())
+}
+
+/// A zero word at the end of a struct, a word after the value, a capability, two segments: none is its own form.
+#[test]
+fn messages_that_are_not_canonical(rt: HostRuntime) -> Result<(), Fail> {
+    let (found, own) = told(rt.alloc(), &[0x3_0000_0000, 0x2_0000_0000, 5, 0])?;
+    assert!(rt; found == Ok(measured(3, 1, None, false, 1)) && own.is_none());
+    let (found, own) = told(rt.alloc(), &[0x3_0000_0000, 0x1_0000_0000, 5, 7])?;
+    assert!(rt; found == Ok(measured(2, 1, None, false, 1)) && own.is_none());
+    let slot = [0x2_0000_0000, 0x1_0000_0000_0000, 0x2_0000_0003];
+    let (found, own) = told(rt.alloc(), &slot)?;
+    assert!(rt; found == Ok(measured(2, 2, Some(2), false, 1)) && own.is_none());
+    // The root is a far pointer to the second segment, whose first word is the landing pad.
+    let apart = [0x1_0000_0001, 2, 0x1_0000_0002, 0x1_0000_0000, 5];
+    let (found, own) = told(rt.alloc(), &apart)?;
+    assert!(rt; found.is_ok_and(|found| !found.survey.is_canonical && found.depth == 1));
+    assert!(rt; own.is_none());
+    Ok(())
+}
+
+/// A struct whose slot leads to the struct itself is refused as its walk is.
+#[test]
+fn a_message_that_is_refused(rt: HostRuntime) -> Result<(), Fail> {
+    let (found, own) = told(rt.alloc(), &[0x1_0000_0000, 0x1_0000_ffff_fffc])?;
+    assert!(rt;
+        matches!(found, Err(stopped) if stopped.fault == Fault::TooDeep && stopped.visits == 65)
+    );
+    assert!(rt; own.is_none());
+    Ok(())
+}
