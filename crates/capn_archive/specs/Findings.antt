@@ -17,8 +17,8 @@ head_of at frame message = record {
   words = total message;
 }
 
--- the message is accepted: what its walk pays and visits, its first capability, whether it is canonical, and how deep it
--- is
+-- the message is accepted: what its walk pays and visits, its first capability, whether it is canonical, and its least
+-- depth
 pub record AreFindings (message : List (List ℕ)) (limits : Bounds) (findings : Findings) : Type 0 where
   pub checked : IsChecked message limits findings.checked
   pub depth : IsDepth message limits findings.depth

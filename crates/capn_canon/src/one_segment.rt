@@ -20,7 +20,7 @@ const ROOT: Place = Place {
 };
 
 /// Canonical bytes that lie in the message itself, and the words that its walk pays. (Own.)
-#[derive(Clone, Copy, Debug, PartialEq, Eq)]
+#[derive(Clone, Copy)]
 pub struct OwnCanonical<'a> {
     /// The bytes: all of the only segment.
     pub bytes: &'a [u8],

@@ -33,8 +33,8 @@ fn bare_fault(len: u64) -> BareFault
     }
 }
 
-/// The bytes of a bare input, which is read to its end; refused at this position if there are more than one segment has.
-/// The other faults are those of [`read_all`](crate::read_all).
+/// The bytes of a bare input, which is read to its end; refused at this position if there are more than one segment
+/// has. The other faults are those of [`read_all`](crate::read_all).
 pub fn read_bare<R: Read, A: Allocator>(
     alloc: A,
     at: Position,

@@ -133,7 +133,8 @@ module _ {A : Type 0} (a b : Option (List ℕ)) (f : Bool) where
   -- ---- bare bytes
 
   pub made_bare : (at : Position) (whole : Whole) (input : Vec ℕ A) (held : List ℕ) (r : Result (Vec ℕ A) ToolFault)
-      → served.TakesAll (IsShortBare at) a b f (Ok input) → held ≡ input.items → Gives whole held r → TakesAll (Gives whole) a b f r
+      → served.TakesAll (IsShortBare at) a b f (Ok input) → held ≡ input.items → Gives whole held r
+      → TakesAll (Gives whole) a b f r
   made_bare at whole input held r (bytes, all, is) same gives =
       takes_so (Gives whole) a b f r bytes all
       (subst (λ (xs : List ℕ). Gives whole xs r) (same ∙ sym is) gives)
