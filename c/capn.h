@@ -18,12 +18,11 @@
  * A call reads bytes, writes into a buffer of the caller's, and keeps nothing: no state, no handle, nothing to free.
  * Calls may run in any threads at once, also on the same input. A call that takes memory asks malloc for it, and gives
  * it back before it returns. Of bare words and of a stream of at most 64 segments, capn_canonical, capn_check,
- * capn_survey and capn_is_canonical ask for none, nor does capn_index if it has no room, nor a call whose name ends in
- * `_segments` but capn_hash_segments. Memory is asked for by a packed text, by a stream of more segments, for the bytes
- * that are hashed, packed or unpacked, for the entries of an index, and for the text of capn_show; and by capn_first,
- * capn_hash, capn_show and an index that has room, for the table of a stream of two segments or more. A call takes at
- * most 16 KiB of stack, and 352 bytes more for each level of depth that the limits allow, capn_show 432: 104 KiB at
- * depth 256, capn_show 124 KiB.
+ * capn_survey, capn_index and capn_is_canonical ask for none, nor does a call whose name ends in `_segments` but
+ * capn_hash_segments. Memory is asked for by a packed text, by a stream of more segments, for the bytes that are
+ * hashed, packed or unpacked, and for the text of capn_show; and by capn_first, capn_hash and capn_show, for the table
+ * of a stream of two segments or more. A call takes at most 16 KiB of stack, and 352 bytes more for each level of depth
+ * that the limits allow, capn_show 432: 104 KiB at depth 256, capn_show 124 KiB.
  *
  * Each call answers a status and fills its report in; a field that the status does not speak of is 0. */
 #ifndef CAPN_H
@@ -248,8 +247,7 @@ capn_status capn_survey(uint32_t form, const uint8_t *bytes, size_t size, const 
  * `most_entries` counts entries, and `length` bytes: so have malloc(report.length), and pass report.visits, never
  * report.length.
  * It accepts and refuses what capn_check does. Unless it answers CAPN_OK, the entries are as they were. It takes memory
- * where capn_check does, and, once there is room, for 24 bytes an entry, 4 a segment, and the table of two segments or
- * more.
+ * where capn_check does: of a stream of more than 64 segments, for its table.
  * All that an entry says lies within `bytes`, also of a hostile message: an offset, and from there on as many bytes as
  * its kind and its numbers say. Of null and of a capability the offset says nothing. */
 capn_status capn_index(uint32_t form, const uint8_t *bytes, size_t size, const capn_limits *limits, capn_entry *entries,

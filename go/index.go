@@ -52,8 +52,8 @@ type Index struct {
 	checked Checked
 }
 
-// NewIndex makes the index of one message. A packed message is unpacked first. An index takes 24 bytes for each slot,
-// and as many more while it is made; there is at most one slot more than words were paid.
+// NewIndex makes the index of one message. A packed message is unpacked first. An index takes 24 bytes for each slot;
+// there is at most one slot more than words were paid.
 func NewIndex(message []byte, form Form, limits *Limits) (*Index, error) {
 	l := limitsOf(limits)
 	if form == Packed {

@@ -546,10 +546,9 @@ def read(
     """One message within limits, to be read in place: an index is made of it, and what is read follows no pointer. A
     packed message is unpacked first.
 
-    An index takes 24 bytes for each slot, and as many more while it is made; there is at most one slot more than words
-    were paid. With `most_slots` a message with more of them is a `Refusal` of the name "TooManySlots", which has their
-    number as `at`, before any index is made. With `in_place` nothing may change the bytes as long as the message or an
-    object of it is used."""
+    An index takes 24 bytes for each slot; there is at most one slot more than words were paid. With `most_slots` a
+    message with more of them is a `Refusal` of the name "TooManySlots", which has their number as `at`, before any
+    index is made. With `in_place` nothing may change the bytes as long as the message or an object of it is used."""
     bounds, number = _laid_out(limits), _form(form)
     most = -1 if most_slots is None else index(most_slots)
     if most < 0 and most_slots is not None:

@@ -154,8 +154,7 @@ static void in_turn(void) {
     each("first", first, &stream, 1);
     each("survey, 65 segments", surveyed, &more, 2);
     each("survey, packed", surveyed, &pack, 4);
-    each("index, bare", indexed, &bare, 2);
-    each("index, stream", indexed, &stream, 3);
+    each("index, 65 segments", indexed, &more, 3);
     each("index, 65 segments, no room", counted, &more, 1);
     each("unpack_some", some, &pack, 1);
 }
@@ -174,22 +173,27 @@ static void at_depth(uint32_t most, size_t depth, uint32_t wanted) {
     wants("check, one segment", checked, &stream, 0, wanted);
     wants("survey, bare", surveyed, &bare, 0, wanted);
     wants("survey, one segment", surveyed, &stream, 0, wanted);
+    wants("index, bare", indexed, &bare, 0, wanted);
+    wants("index, one segment", indexed, &stream, 0, wanted);
     wants("index, no room", counted, &stream, 0, room);
     wants("no room, one segment", measured, &stream, 0, room);
     stream.size = frame(framed, 2, deep, bare.size);
     wants("check, two segments", checked, &stream, 0, wanted);
     wants("canonical, two segments", canonical, &stream, 0, wanted);
     wants("survey, two segments", surveyed, &stream, 0, wanted);
+    wants("index, two segments", indexed, &stream, 0, wanted);
     wants("index, two segments, no room", counted, &stream, 0, room);
     const input few = {CAPN_STREAM, many, frame(many, 64, deep, bare.size), limits};
     wants("check, 64 segments", checked, &few, 0, wanted);
     wants("canonical, 64 segments", canonical, &few, 0, wanted);
     wants("survey, 64 segments", surveyed, &few, 0, wanted);
+    wants("index, 64 segments", indexed, &few, 0, wanted);
     wants("no room, 64 segments", measured, &few, 0, room);
     const input more = {CAPN_STREAM, many, frame(many, 65, deep, bare.size), limits};
     wants("check, 65 segments", checked, &more, 1, wanted);
     wants("no room, 65 segments", measured, &more, 1, room);
     wants("survey, 65 segments", surveyed, &more, wanted == CAPN_OK ? 2 : 1, wanted);
+    wants("index, 65 segments", indexed, &more, wanted == CAPN_OK ? 3 : 1, wanted);
 }
 
 /* What is refused as it is read needs no memory: nothing to pack or unpack, no whole words, a first group that is cut

@@ -1,5 +1,5 @@
 /* The stored cases of bare words and of streams of at most 64 segments, with every growth refused: each call asks for
- * no memory, and answers as with ample memory, with a room of 0, of 1 byte and of many. */
+ * no memory, and answers as with ample memory, with a room of 0, of 1 byte or entry, and of many. */
 #include "capn.h"
 #include "refusing.h"
 #include <stdio.h>
@@ -29,6 +29,10 @@ static capn_status checked(const input *in, uint8_t *out, size_t room, capn_repo
 static capn_status judged(const input *in, uint8_t *out, size_t room, capn_report *report) {
     (void)out, (void)room;
     return capn_is_canonical(bytes, in->size, &in->limits, report);
+}
+static capn_status indexed(const input *in, uint8_t *out, size_t room, capn_report *report) {
+    capn_entry *entries = (capn_entry *)(void *)out;
+    return capn_index(in->form, bytes, in->size, &in->limits, entries, room / sizeof(capn_entry), report);
 }
 static capn_status counted(const input *in, uint8_t *out, size_t room, capn_report *report) {
     (void)out, (void)room;
@@ -63,6 +67,8 @@ static void each(const input *in) {
     twice("canonical, no room", canonical, in, 0);
     twice("canonical, 1 byte", canonical, in, 1);
     twice("check", checked, in, 0);
+    twice("index", indexed, in, ROOM);
+    twice("index, room of one entry", indexed, in, sizeof(capn_entry));
     twice("index, no room", counted, in, 0);
     twice("survey", surveyed, in, sizeof(capn_figures));
     if (in->form == CAPN_BARE) twice("is_canonical", judged, in, 0);

@@ -2,28 +2,26 @@
 use Rattle.std.proofs.Common.{◌≡◌, ℕ, zero, suc, ◌+◌, ◌<◌, ◌≤◌, List, [], ◌∷◌, ◌++◌, length, take, drop, map, set}
 use Rattle.std.proofs.Common.{get_or, refl, ap, ◌∙◌, arith}
 use Rattle.std.specs.List.{sum_by}
+use Rattle.std.proofs.lemmas.List.{length-map, take_all, take_at}
 use Rattle.std.proofs.lemmas.List.Sums.{sum_by-cons}
 use Rattle.capn_walk.specs.Index.{filled}
-use Rattle.capn_walk.specs.declared.entry.Entry.{Entry}
 use Rattle.capn_c.specs.Entries.{starts_from}
 
 -- one more is written
-pub one_more : {A B : Type 0} (f : A → B) (es : List A) (old : List B) (i : ℕ) (none : A) → i < length es
-    → length es ≤ length old
-    → set (map f (take i es) ++ drop i old) i (f (get_or es i none)) ≡ map f (take (suc i) es) ++ drop (suc i) old
-one_more f [] old i none h room = absurd (omega (arith, h))
-one_more f (e ∷ es) [] i none h room = absurd (omega (arith, room))
-one_more f (e ∷ es) (o ∷ old) zero none h room = refl
-one_more f (e ∷ es) (o ∷ old) (suc i) none h room =
-    ap (λ xs. f e ∷ xs) (one_more f es old i none (omega (arith, h)) (omega (arith, room)))
+pub one_more : {A : Type 0} (xs old : List A) (i : ℕ) (none : A) → i < length xs → length xs ≤ length old
+    → set (take i xs ++ drop i old) i (get_or xs i none) ≡ take (suc i) xs ++ drop (suc i) old
+one_more [] old i none h room = absurd (omega (arith, h))
+one_more (x ∷ xs) [] i none h room = absurd (omega (arith, room))
+one_more (x ∷ xs) (o ∷ old) zero none h room = refl
+one_more (x ∷ xs) (o ∷ old) (suc i) none h room =
+    ap (λ ys. x ∷ ys) (one_more xs old i none (omega (arith, h)) (omega (arith, room)))
 
 -- the same by the next index
-pub one_further : {A B : Type 0} (f : A → B) (es : List A) (old : List B) (i : ℕ) (none : A) → i < length es
-    → length es ≤ length old
-    → set (map f (take i es) ++ drop i old) i (f (get_or es i none)) ≡ map f (take (i + 1) es) ++ drop (i + 1) old
-one_further f es old i none h room =
+pub one_further : {A : Type 0} (xs old : List A) (i : ℕ) (none : A) → i < length xs → length xs ≤ length old
+    → set (take i xs ++ drop i old) i (get_or xs i none) ≡ take (i + 1) xs ++ drop (i + 1) old
+one_further xs old i none h room =
     let on : suc i ≡ i + 1 = omega arith in
-    one_more f es old i none h room ∙ ap (λ (n : ℕ). map f (take n es) ++ drop n old) on
+    one_more xs old i none h room ∙ ap (λ (n : ℕ). take n xs ++ drop n old) on
 
 -- a segment starts after the words of those before it
 pub start_at : (n i : ℕ) (m : List (List ℕ)) (none : ℕ) → i < length m
@@ -39,9 +37,15 @@ pub starts_length : (n : ℕ) (m : List (List ℕ)) → length (starts_from n m)
 starts_length n [] = refl
 starts_length n (ws ∷ m) = ap suc (starts_length (n + length ws) m)
 
--- a room of exactly as many entries has them all
-pub filled_all : (es room : List Entry) → length room ≡ length es → filled es room ≡ es
-filled_all [] [] h = refl
-filled_all [] (r ∷ room) h = absurd (omega (arith, h))
-filled_all (e ∷ es) [] h = absurd (omega (arith, h))
-filled_all (e ∷ es) (r ∷ room) h = ap (λ xs. e ∷ xs) (filled_all es room (omega (arith, h)))
+-- they stand at the front of a longer room
+pub starts_first : (m : List (List ℕ)) (rest : List ℕ)
+    → take (length m) (starts_from 0 m ++ rest) ≡ starts_from 0 m
+starts_first m rest = take_at (starts_from 0 m) rest (length m) (starts_length 0 m)
+
+-- a room of as many entries, or more, has them all
+pub filled_whole : {A B : Type 0} (f : A → B) (es : List A) (room : List B) → length es ≤ length room
+    → filled (map f es) room ≡ map f es ++ drop (length es) room
+filled_whole f es room h =
+    let many = length-map es f in
+    ap (λ ys. ys ++ drop (length (map f es)) room) (take_all (length room) (map f es) (omega (arith, h, many)))
+    ∙ ap (λ (n : ℕ). map f es ++ drop n room) many

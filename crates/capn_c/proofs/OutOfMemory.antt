@@ -1,5 +1,5 @@
 -- The status 8 says only that memory ran out: no bytes, and no message, are refused with it.
-use Rattle.std.proofs.Common.{◌≡◌, ℕ, List, refl, arith}
+use Rattle.std.proofs.Common.{◌≡◌, ◌⊎◌, inl, inr, ℕ, List, refl, arith}
 use Rattle.capn_words.specs.declared.bare.BareFault.{BareFault}
 use Rattle.capn_words.specs.declared.bare.BareFault.TheVariants as bare
 use Rattle.capn_pack.specs.declared.fault.UnpackFault.{UnpackFault}
@@ -17,6 +17,8 @@ use Rattle.capn_canon.specs.declared.form.Form.TheVariants as forms
 use Rattle.capn_canon.specs.declared.refusal.Refusal.{Refusal}
 use Rattle.capn_canon.specs.declared.refusal.Refusal.TheVariants as refusals
 use Rattle.capn_canon.specs.Refusal.{IsRefused, IsUnacceptedIn}
+use Rattle.capn_canon.specs.MemoryNeed.{MayNeedMemory}
+use Rattle.capn_c.specs.MemoryAsked.{MayAsk}
 use Rattle.capn_c.specs.Held.{IsMisheld, IsRefusedHeld, IsUnacceptedHeld}
 use Rattle.capn_c.specs.StatusCodes.{bare_code, packed_code, frame_code, walk_code, code}
 
@@ -115,3 +117,11 @@ unaccepted_held_memory m l (refusals.Packed e) h c = absurd h
 pub stopped_memory : (m : List (List ℕ)) (l : Bounds) (s : Stopped)
     → IsWalkRefused m l s.fault s.place s.paid s.visits → code (refusals.Walk s) ≡ 8 → ⊥
 stopped_memory m l s h c = plain-refusal m l s.fault s.place s.paid s.visits h (walk_memory s.fault c)
+
+-- where memory may be asked for by bare words or a stream, it may be needed
+pub flat_needs : (f : Form) (bs : List ℕ) (l : Bounds) → (f ≡ forms.Stream) ⊎ (f ≡ forms.Bare) → MayAsk f bs l
+    → MayNeedMemory f bs l
+flat_needs forms.Stream bs l h (whole, more) = (whole, omega (arith, more))
+flat_needs forms.Bare bs l h never = absurd never
+flat_needs forms.Packed bs l (inl e) asks = absurd cc
+flat_needs forms.Packed bs l (inr e) asks = absurd cc

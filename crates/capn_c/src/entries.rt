@@ -1,12 +1,11 @@
 //! What an index has for each slot, as C reads it.
 
-ghost use Rattle.std.specs.Prelude.{◌≡◌, ◌≤◌, ◌++◌, length, drop, get_or, map, IfOk};
+ghost use Rattle.std.specs.Prelude.{◌≡◌, ◌≤◌, ◌++◌, length, drop, get_or};
 ghost use Rattle.capn_words.specs.Message.{segment_at};
 ghost use Rattle.capn_c.specs.Entries.{c_entry, kind_number, starts_from};
 
-use capn_walk::{Entry, Kind};
+use capn_walk::{Entry, EntryForm, Kind};
 use capn_words::Space;
-use std::alloc::{AllocError, Global};
 
 /// What an index has for a slot: what its pointer names, and how many entries it takes with all below it.
 #[derive(Clone, Copy)]
@@ -27,6 +26,7 @@ pub struct CapnEntry {
 }
 
 /// The number of a kind.
+#[inline(always)]
 fn number_of_kind(kind: Kind) -> u32
     ensures { result ≡ kind_number kind }
 {
@@ -46,6 +46,7 @@ fn number_of_kind(kind: Kind) -> u32
 }
 
 /// Where a segment starts.
+#[inline(always)]
 fn start_of(starts: &[u32], segment: u32) -> u32
     ensures { result ≡ get_or starts.now segment 0 }
 {
@@ -58,6 +59,7 @@ fn start_of(starts: &[u32], segment: u32) -> u32
 }
 
 /// An entry as C reads it.
+#[inline(always)]
 fn entry_of(entry: Entry, table: u32, starts: &[u32]) -> CapnEntry
     ensures { result ≡ c_entry table starts.now entry }
 {
@@ -72,13 +74,34 @@ fn entry_of(entry: Entry, table: u32, starts: &[u32]) -> CapnEntry
     }
 }
 
-/// Writes entries, as C reads them, at the start of a room.
-pub fn put_entries(entries: &[Entry], table: u32, starts: &[u32], out: &mut [CapnEntry])
-    requires { length entries.now ≤ length out.old }
-    ensures { out.new ≡ map (c_entry table starts.now) entries.now ++ drop (length entries.now) out.old }
-{
-    for index in 0..entries.len() {
-        out[index] = entry_of(entries[index], table, starts);
+/// The form in which C reads entries: with offsets in bytes.
+#[derive(Drop)]
+pub struct Offsets<'a> {
+    /// How many bytes come before the words.
+    pub table: u32,
+    /// Where each segment starts, in words after the table.
+    pub starts: &'a [u32],
+}
+
+impl<'a> EntryForm for Offsets<'a> {
+    type Item = CapnEntry;
+
+    ghost written = { λ o. c_entry o.table o.starts.now };
+
+    #[inline(always)]
+    fn put(&self, room: &mut [CapnEntry], at: u32, entry: Entry) {
+        let at = at as usize;
+        if at < room.len() {
+            room[at] = entry_of(entry, self.table, self.starts);
+        }
+    }
+
+    #[inline(always)]
+    fn set_span(&self, room: &mut [CapnEntry], at: u32, span: u32) {
+        let at = at as usize;
+        if at < room.len() {
+            room[at].span = span;
+        }
     }
 }
 
@@ -89,17 +112,16 @@ fn words_at<S: Space>(space: &S, segment: u32) -> u32
     space.words(segment).unwrap_or(0)
 }
 
-/// Where each segment of a message starts, in words after its table.
+/// Writes where each segment of a message starts, in words after its table, at the start of a room.
 #[tactic(auto, using(std::proofs::lemmas::List::Sums::sum_by_more_le))]
-pub fn starts_of<S: Space>(alloc: Global, space: &S) -> Result<Vec<u32>, AllocError>
-    ensures { IfOk result (λ starts. starts.items ≡ starts_from 0 (S.message space.now)) }
+pub fn put_starts<S: Space>(space: &S, starts: &mut [u32])
+    requires { length (S.message space.now) ≤ length starts.old }
+    ensures { starts.new ≡ starts_from 0 (S.message space.now)
+        ++ drop (length (S.message space.now)) starts.old }
 {
-    let segments = space.segments();
-    let mut starts = Vec::with_capacity(alloc, segments as usize)?;
     let mut total = 0;
-    for segment in 0..segments {
-        starts.push_reserved(total);
+    for segment in 0..space.segments() {
+        starts[segment as usize] = total;
         total += words_at(space, segment);
     }
-    Ok(starts)
 }

@@ -1,6 +1,7 @@
 //! Frames of few segments, which are read without memory.
 
-ghost use Rattle.std.specs.Prelude.{◌≡◌, None, IfOk, IfErr, IfSome};
+ghost use Rattle.std.specs.Prelude.{◌≡◌, ◌≤◌, None, length, IfOk, IfErr, IfSome};
+ghost use Rattle.capn_few.specs.Few.{most_few};
 ghost use Rattle.capn_canon.specs.Reads.{Reads};
 ghost use Rattle.capn_canon.specs.Refusal.{IsMisframed};
 ghost use Rattle.capn_canon.specs.declared.form.Form.TheVariants as forms;
@@ -14,6 +15,7 @@ use capn_walk::Limits;
 /// more than 64 segments does.
 pub fn read_frame<'a>(bytes: &'a [u8], limits: Limits) -> Option<Result<FewSegments<'a>, Refusal>>
     ensures read { IfSome result (λ r. IfOk r (λ m. Reads forms.Stream bytes.now limits.message_words m)) }
+    ensures few { IfSome result (λ r. IfOk r (λ m. length m ≤ most_few)) }
     ensures refused { IfSome result (λ r. IfErr r (λ e. IsMisframed bytes.now limits.message_words e)) }
     ensures more { result ≡ None → MayAsk forms.Stream bytes.now limits }
 {

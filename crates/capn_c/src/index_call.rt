@@ -1,6 +1,8 @@
 //! Indexes of messages.
 
 ghost use Rattle.std.specs.Prelude.{IsTrue, ◌≡◌, ◌≢◌, ◌⊎◌, ◌↔◌, ◌<◌, ◌≤◌, ◌*◌, ◌++◌, ℕ, length, drop, false};
+ghost use Rattle.capn_few.specs.Few.{most_few};
+ghost use Rattle.capn_stream.specs.FrameRefusal.{head_length};
 ghost use Rattle.capn_value.specs.Tree.{Tree as Value};
 ghost use Rattle.capn_walk.specs.Accepted.{IsAccepted, IsBounded};
 ghost use Rattle.capn_walk.specs.Index.{index_of};
@@ -13,115 +15,137 @@ ghost use Rattle.capn_canon.specs.declared.form.Form.TheVariants as forms;
 ghost use Rattle.capn_canon.specs.declared.refusal.Refusal.{Refusal as Refusals};
 ghost use Rattle.capn_c.specs.Calls.{form_named, GiveLimits, IsTariff, bounds_of};
 ghost use Rattle.capn_c.specs.StatusCodes.{Reports, answered, at_number, is_status};
-ghost use Rattle.capn_c.specs.Entries.{HasEntries, IndexedIn, c_index};
+ghost use Rattle.capn_c.specs.Entries.{HasEntries, HasRoom, IndexedIn, c_index, starts_from};
 ghost use Rattle.capn_c.specs.Figures.{IsFlat};
 ghost use Rattle.capn_c.specs.MemoryAsked.{MayAsk};
 
-use crate::entries::{CapnEntry, put_entries, starts_of};
+use crate::entries::{CapnEntry, Offsets, put_starts};
+use crate::few_frame::read_frame;
 use crate::frame_need::head_of;
 use crate::limits::{CapnLimits, flat_form_of, limits_of};
 use crate::report::{CapnReport, answer_of, report_at};
 use crate::status_codes::{BAD_FORM, DONE, NO_ROOM, refuse};
 use crate::survey_bytes::survey_bytes;
 use capn_canon::{Form, Refusal};
+use capn_few::FewSegments;
 use capn_stream::first;
 use capn_walk::laws::indexes;
-use capn_walk::{Entry, Limits, Surveyed, index_into};
+use capn_walk::{Limits, Surveyed, index_into_form};
 use capn_words::{Bare, Space};
 use std::alloc::Global;
 
-/// Writes the index of a message that has this number of entries, and comes after a table of this number of bytes; or
-/// nothing, where memory was refused.
+/// Writes the index of an accepted message, which comes after a table of this number of bytes and has its segments at
+/// these starts, into a room that it fits.
 fn write_index<S: Space>(
-    alloc: Global,
     space: &S,
     limits: Limits,
     table: u32,
-    count: u32,
+    starts: &[u32],
     out: &mut [CapnEntry],
-) -> bool
-    requires { count ≤ length out.old }
-    ensures accepted { IsTrue result → IsAccepted (S.message space.now) limits }
-    ensures written { IsTrue result → out.new ≡ c_index table (S.message space.now) limits
+)
+    requires accepted { IsAccepted (S.message space.now) limits }
+    requires fits { length (index_of (S.message space.now) limits) ≤ length out.old }
+    requires starts { starts.now ≡ starts_from 0 (S.message space.now) }
+    ensures { out.new ≡ c_index table (S.message space.now) limits
         ++ drop (length (index_of (S.message space.now) limits)) out.old }
-    ensures kept { result ≡ false → out.new ≡ out.old }
 {
-    let Ok(mut entries) = vec![in alloc; Entry::nil(); count as usize] else {
-        return false;
-    };
-    let Ok(starts) = starts_of(alloc, space) else {
-        return false;
-    };
-    match index_into(space, limits, &mut entries) {
-        Ok(told) => {
-            if told.visits != count {
-                return false;
-            }
-            put_entries(&entries, table, &starts, out);
-            true
-        }
-        Err(_) => false,
+    match index_into_form(space, limits, &Offsets { table, starts }, out) {
+        Ok(_) => {}
+        Err(_) => unreachable!(),
     }
 }
 
-/// Writes the index of the message of a stream; false where the message is refused or memory is.
-fn index_frame(
-    alloc: Global,
-    bytes: &[u8],
-    limits: Limits,
-    count: u32,
-    out: &mut [CapnEntry],
-) -> bool
-    requires { count ≤ length out.old }
+/// Writes the index of an accepted message of at most 64 segments, which comes after the table of a stream.
+fn write_few(message: &FewSegments<'_>, limits: Limits, out: &mut [CapnEntry])
+    requires few { length message.now ≤ most_few }
+    requires accepted { IsAccepted message.now limits }
+    requires fits { length (index_of message.now limits) ≤ length out.old }
+    ensures { out.new ≡ c_index (head_length (length message.now)) message.now limits
+        ++ drop (length (index_of message.now limits)) out.old }
+{
+    let mut starts = [0; 64];
+    put_starts(message, &mut starts);
+    let count = message.segments() as usize;
+    write_index(
+        message,
+        limits,
+        head_of(count) as u32,
+        &starts[..count],
+        out,
+    );
+}
+
+/// Writes the index of the accepted message that comes first in a stream, of any number of segments; false where
+/// memory is refused.
+fn write_many(alloc: Global, bytes: &[u8], limits: Limits, out: &mut [CapnEntry]) -> bool
+    requires room { HasRoom forms.Stream bytes.now limits out.old }
     ensures written { IsTrue result → IndexedIn forms.Stream bytes.now limits out.old out.new }
     ensures kept { result ≡ false → out.new ≡ out.old }
 {
-    match first(alloc, bytes, limits.message_words()) {
-        Ok((message, taken)) => {
-            if taken < bytes.len() {
-                return false;
-            }
-            let table = head_of(message.segments() as usize) as u32;
-            write_index(alloc, &message, limits, table, count, out)
+    let Ok((message, taken)) = first(alloc, bytes, limits.message_words()) else {
+        return false;
+    };
+    if taken < bytes.len() {
+        return false;
+    }
+    let count = message.segments() as usize;
+    let Ok(mut starts) = vec![in alloc; 0u32; count] else {
+        return false;
+    };
+    put_starts(&message, &mut starts);
+    write_index(&message, limits, head_of(count) as u32, &starts, out);
+    true
+}
+
+/// Writes the index of the accepted message of a stream; false where memory is refused.
+fn index_frame(alloc: Global, bytes: &[u8], limits: Limits, out: &mut [CapnEntry]) -> bool
+    requires room { HasRoom forms.Stream bytes.now limits out.old }
+    ensures written { IsTrue result → IndexedIn forms.Stream bytes.now limits out.old out.new }
+    ensures kept { result ≡ false → out.new ≡ out.old }
+    ensures asked { result ≡ false → MayAsk forms.Stream bytes.now limits }
+{
+    let Some(read) = read_frame(bytes, limits) else {
+        return write_many(alloc, bytes, limits, out);
+    };
+    match read {
+        Ok(message) => {
+            write_few(&message, limits, out);
+            true
         }
-        Err(_) => false,
+        Err(_) => unreachable!(),
     }
 }
 
-/// Writes the index of bare words; false where they are refused or memory is.
-fn index_bare(
-    alloc: Global,
-    bytes: &[u8],
-    limits: Limits,
-    count: u32,
-    out: &mut [CapnEntry],
-) -> bool
-    requires { count ≤ length out.old }
-    ensures written { IsTrue result → IndexedIn forms.Bare bytes.now limits out.old out.new }
-    ensures kept { result ≡ false → out.new ≡ out.old }
+/// Writes the index of accepted bare words.
+fn index_bare(bytes: &[u8], limits: Limits, out: &mut [CapnEntry])
+    requires room { HasRoom forms.Bare bytes.now limits out.old }
+    ensures { IndexedIn forms.Bare bytes.now limits out.old out.new }
 {
     match Bare::new(bytes) {
-        Ok(space) => write_index(alloc, &space, limits, 0, count, out),
-        Err(_) => false,
+        Ok(space) => write_index(&space, limits, 0, &[0], out),
+        Err(_) => unreachable!(),
     }
 }
 
-/// The same in a form.
+/// Writes the index of the accepted message of a form; false where memory is refused, and of a packed one.
 fn index_form(
     alloc: Global,
     form: Form,
     bytes: &[u8],
     limits: Limits,
-    count: u32,
     out: &mut [CapnEntry],
 ) -> bool
-    requires { count ≤ length out.old }
+    requires room { HasRoom form bytes.now limits out.old }
     ensures written { IsTrue result → IndexedIn form bytes.now limits out.old out.new }
     ensures kept { result ≡ false → out.new ≡ out.old }
+    ensures asked { result ≡ false → MayAsk form bytes.now limits }
 {
     match form {
-        Form::Stream => index_frame(alloc, bytes, limits, count, out),
-        Form::Bare => index_bare(alloc, bytes, limits, count, out),
+        Form::Stream => index_frame(alloc, bytes, limits, out),
+        Form::Bare => {
+            index_bare(bytes, limits, out);
+            true
+        }
         Form::Packed => false,
     }
 }
@@ -153,10 +177,7 @@ fn index_in(
     ensures refused { 8 ≤ result → (e : Refusals) × Reports result report.new e
         × IsUnacceptedIn form bytes.now limits e }
     ensures entries { result ≤ 1 → HasEntries form bytes.now limits report.new.visits }
-    ensures memory { result ≡ 8 → MayNeedMemory form bytes.now limits
-        ⊎ ((n : ℕ) × HasEntries form bytes.now limits n × (n ≤ length out.old)) }
-    ensures asked { result ≡ 8 → MayAsk form bytes.now limits
-        ⊎ ((n : ℕ) × HasEntries form bytes.now limits n × (n ≤ length out.old)) }
+    ensures asked { result ≡ 8 → MayAsk form bytes.now limits }
     ensures bounded { IsBounded limits.budget report.new.paid report.new.visits }
     ensures kept { result ≢ 0 → out.new ≡ out.old }
 {
@@ -167,7 +188,7 @@ fn index_in(
             if surveyed.visits as usize > out.len() {
                 return NO_ROOM;
             }
-            if index_form(alloc, form, bytes, limits, surveyed.visits, out) {
+            if index_form(alloc, form, bytes, limits, out) {
                 return DONE;
             }
             refuse(Refusal::Memory, report)
@@ -183,7 +204,8 @@ fn index_in(
 /// `visits` is how many they are, and `length` is 24 bytes for each. 2, 3 and 4: the form is neither, a limit or the
 /// tariff is out of its range. 8: memory was refused. Others: the refusal, which is never that of a capability.
 ///
-/// Where there is room it takes memory of 24 bytes for each entry; else where `capn_check` does.
+/// Bare words, and a stream of at most 64 segments, take no memory: their entries are written into the room. A stream
+/// of more segments takes it for its table.
 #[unsafe(no_mangle)]
 pub extern "C" fn capn_index(
     alloc: Global,
@@ -215,12 +237,10 @@ pub extern "C" fn capn_index(
     // What each refusal means; no other status stands for it.
     ensures refused { 5 ≤ result → (e : Refusals) × Reports result report.new e
         × IsUnacceptedIn (form_named form) bytes.now (bounds_of limits.now) e }
-    // Memory is needed only where `capn_check` may need it, and for an index that has room.
-    ensures memory { result ≡ 8 → MayNeedMemory (form_named form) bytes.now (bounds_of limits.now)
-        ⊎ ((n : ℕ) × HasEntries (form_named form) bytes.now (bounds_of limits.now) n × (n ≤ length out.old)) }
-    // Of those, it is asked for only by a frame of more than 64 segments, and for an index that has room.
-    ensures asked { result ≡ 8 → MayAsk (form_named form) bytes.now (bounds_of limits.now)
-        ⊎ ((n : ℕ) × HasEntries (form_named form) bytes.now (bounds_of limits.now) n × (n ≤ length out.old)) }
+    // Memory is needed only where `capn_check` may need it.
+    ensures memory { result ≡ 8 → MayNeedMemory (form_named form) bytes.now (bounds_of limits.now) }
+    // It is asked for only by a stream of more than 64 segments.
+    ensures asked { result ≡ 8 → MayAsk (form_named form) bytes.now (bounds_of limits.now) }
     // No walk reports more paid than its budget.
     ensures bounded { IsBounded limits.now.budget report.new.paid report.new.visits }
     // Where nothing is written, the room is as it was.

@@ -43,6 +43,7 @@ pub fn first_few<'a>(
     requires { max_words ≤ most_message_words }
     // What each answer means, and that each such message is answered.
     ensures found { IfSome result (λ r. IfOk r (λ answer. StandsFirst bytes.now max_words answer.0 answer.1)) }
+    ensures few { IfSome result (λ r. IfOk r (λ answer. length answer.0 ≤ most_few)) }
     ensures only { (message : List (List ℕ)) (taken : ℕ) → StandsFirst bytes.now max_words message taken
         → length message ≤ most_few → result ≡ Some (Ok (message, taken)) }
     // What each refusal means: memory is never refused.

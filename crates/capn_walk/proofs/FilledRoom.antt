@@ -1,7 +1,8 @@
 -- What an index knows while it is under way.
 use Rattle.std.proofs.Common.{◌≡◌, ◌≢◌, ◌⊎◌, inl, inr, ℕ, zero, suc, ◌+◌, ◌-◌, ◌<◌, ◌≤◌, List, [], ◌∷◌, ◌++◌, length}
-use Rattle.std.proofs.Common.{set, slice_index_or, Result, Ok, Err, refl, ap, ap₂, sym, ◌∙◌, arith, length-append}
+use Rattle.std.proofs.Common.{set, Result, Ok, Err, refl, ap, ap₂, sym, ◌∙◌, arith, length-append}
 use Rattle.std.specs.List.{flat_map}
+use Rattle.std.proofs.lemmas.List.{set-set, set_comm}
 use Rattle.capn_words.specs.declared.space.Place.{Place}
 use Rattle.capn_walk.specs.declared.entry.Entry.{Entry}
 use Rattle.capn_target.specs.declared.target.Target.{Target}
@@ -15,34 +16,27 @@ use Rattle.capn_walk.specs.Visits.{Visit, pays, slots, visits, visit, last_visit
 use Rattle.capn_walk.specs.inner.Verdict.{Gives, Refuses, accepted, refused, after, judge}
 use Rattle.capn_walk.specs.View.{slots_below}
 use Rattle.capn_walk.specs.Index.{entry_of, entered, entries_by, entries, entries_of}
-use Rattle.capn_walk.specs.inner.IndexRoom.{laid, respan, IsLaid}
+use Rattle.capn_walk.specs.inner.IndexRoom.{laid, IsLaid}
 use Rattle.capn_walk.proofs.shared.Judge.{judge-more, judge-stops, judge-pays, after-after, after-none}
 
 -- ---- a room
 
 -- entries after entries
-pub laid-append : (i : ℕ) (xs ys room : List Entry) → laid i (xs ++ ys) room ≡ laid (i + length xs) ys (laid i xs room)
-laid-append i [] ys room = let z : i + 0 ≡ i = omega arith in rw z refl
-laid-append i (x ∷ xs) ys room =
+pub laid-append : {A : Type 0} (f : Entry → A) (i : ℕ) (xs ys : List Entry) (room : List A)
+    → laid f i (xs ++ ys) room ≡ laid f (i + length xs) ys (laid f i xs room)
+laid-append f i [] ys room = let z : i + 0 ≡ i = omega arith in rw z refl
+laid-append f i (x ∷ xs) ys room =
     let e : i + suc (length xs) ≡ suc i + length xs = omega arith in
-    rw e (laid-append (suc i) xs ys (set room i x))
+    rw e (laid-append f (suc i) xs ys (set room i (f x)))
 
--- a span may be set before those entries after it are put, or after them
-respan-swap : (room : List Entry) (i j n : ℕ) (a : Entry) → i ≢ j
-    → respan (set room j a) i n ≡ set (respan room i n) j a
-respan-swap [] i j n a h = refl
-respan-swap (x ∷ room) zero zero n a h = absurd (h refl)
-respan-swap (x ∷ room) zero (suc j) n a h = refl
-respan-swap (x ∷ room) (suc i) zero n a h = refl
-respan-swap (x ∷ room) (suc i) (suc j) n a h =
-    ap (λ (r : List Entry). x ∷ r) (respan-swap room i j n a (λ e. h (ap suc e)))
-
-respan-laid : (es : List Entry) (i k n : ℕ) (room : List Entry) → k < i
-    → respan (laid i es room) k n ≡ laid i es (respan room k n)
-respan-laid [] i k n room h = refl
-respan-laid (x ∷ es) i k n room h =
-    let other : k ≢ i = omega arith in
-    respan-laid es (suc i) k n (set room i x) (omega arith) ∙ ap (laid (suc i) es) (respan-swap room k i n x other)
+-- an entry may be put before those after it, or after them
+set-laid : {A : Type 0} (f : Entry → A) (es : List Entry) (i k : ℕ) (a : A) (room : List A) → k < i
+    → set (laid f i es room) k a ≡ laid f i es (set room k a)
+set-laid f [] i k a room h = refl
+set-laid f (x ∷ es) i k a room h =
+    let other : i ≢ k = omega arith in
+    set-laid f es (suc i) k a (set room i (f x)) (omega arith)
+    ∙ ap (laid f (suc i) es) (set_comm room i k (f x) a other)
 
 respanned : (t : Target) (k n : ℕ) → record (entry_of t k) { span = n } ≡ entry_of t n
 respanned targets.Nil k n = refl
@@ -51,31 +45,19 @@ respanned (targets.Content s start (shapes.Node a b) pads) k n = refl
 respanned (targets.Content s start (shapes.Many width c) pads) k n = refl
 respanned (targets.Content s start (shapes.Rows c a b span) pads) k n = refl
 
-respan-set : (room : List Entry) (i k n : ℕ) (t : Target)
-    → respan (set room i (entry_of t k)) i n ≡ set room i (entry_of t n)
-respan-set [] i k n t = refl
-respan-set (x ∷ room) zero k n t = ap (λ (e : Entry). e ∷ room) (respanned t k n)
-respan-set (x ∷ room) (suc i) k n t = ap (λ (r : List Entry). x ∷ r) (respan-set room i k n t)
+-- an entry, and then those after it: it is still there, and another one in its place is as if put at first
+module _ {A : Type 0} (f : Entry → A) (es : List Entry) (i : ℕ) (room : List A) (x : A) where
+  put-again : (y : A) → set (laid f (i + 1) es (set room i x)) i y ≡ laid f (suc i) es (set room i y)
+  put-again y =
+      let s : i + 1 ≡ suc i = omega arith in
+      ap (λ (c : ℕ). set (laid f c es (set room i x)) i y) s
+      ∙ set-laid f es (suc i) i y (set room i x) (omega arith)
+      ∙ ap (laid f (suc i) es) (set-set room i x y)
 
-pub respan-front : (es : List Entry) (i k n : ℕ) (room : List Entry) (t : Target)
-    → respan (laid (i + 1) es (set room i (entry_of t k))) i n ≡ laid i (entry_of t n ∷ es) room
-respan-front es i k n room t =
-    let s : i + 1 ≡ suc i = omega arith in
-    ap (λ (c : ℕ). respan (laid c es (set room i (entry_of t k))) i n) s
-    ∙ respan-laid es (suc i) i n (set room i (entry_of t k)) (omega arith)
-    ∙ ap (laid (suc i) es) (respan-set room i k n t)
-
--- what setting a span does, by the index
-pub respan-inside : (room : List Entry) (i n : ℕ) (d : Entry) → i < length room
-    → respan room i n ≡ set room i (record (slice_index_or room i d) { span = n })
-respan-inside [] i n d h = absurd (omega arith)
-respan-inside (x ∷ room) zero n d h = refl
-respan-inside (x ∷ room) (suc i) n d h = ap (λ (r : List Entry). x ∷ r) (respan-inside room i n d (omega arith))
-
-pub respan-outside : (room : List Entry) (i n : ℕ) → length room ≤ i → respan room i n ≡ room
-respan-outside [] i n h = refl
-respan-outside (x ∷ room) zero n h = absurd (omega arith)
-respan-outside (x ∷ room) (suc i) n h = ap (λ (r : List Entry). x ∷ r) (respan-outside room i n (omega arith))
+  pub still-there : laid f (i + 1) es (set room i x) ≡ set (laid f (i + 1) es (set room i x)) i x
+  still-there =
+      let s : i + 1 ≡ suc i = omega arith in
+      ap (λ (c : ℕ). laid f c es (set room i x)) s ∙ sym (put-again x)
 
 -- ---- the entries of a slot by its target
 
@@ -237,14 +219,14 @@ leaf-gives left p at fits =
 
 -- ---- entries under way: of all, some are put, and the others are to come
 
-module _ (whole here rest : List Entry) (e : whole ≡ here ++ rest) (i k j : ℕ) (old new : List Entry)
-    (h : IsLaid here (i + k) old new j) where
-  pub room-takes : laid (i + k) whole old ≡ laid (i + (k + j)) rest new
+module _ {A : Type 0} (f : Entry → A) (whole here rest : List Entry) (e : whole ≡ here ++ rest) (i k j : ℕ)
+    (old new : List A) (h : IsLaid f here (i + k) old new j) where
+  pub room-takes : laid f (i + k) whole old ≡ laid f (i + (k + j)) rest new
   room-takes =
       let c = h.count in
       let n : i + k + length here ≡ i + (k + j) = omega arith in
-      ap (λ (es : List Entry). laid (i + k) es old) e ∙ laid-append (i + k) here rest old
-      ∙ ap₂ (λ (x : ℕ) (r : List Entry). laid x rest r) n (sym h.is)
+      ap (λ (es : List Entry). laid f (i + k) es old) e ∙ laid-append f (i + k) here rest old
+      ∙ ap₂ (λ (x : ℕ) (r : List A). laid f x rest r) n (sym h.is)
 
   pub count-takes : (all : ℕ) → all ≡ k + length whole → all ≡ k + j + length rest
   count-takes all a =
@@ -253,16 +235,21 @@ module _ (whole here rest : List Entry) (e : whole ≡ here ++ rest) (i k j : �
       omega arith
 
 -- an object's entry is put before those of its slots, and has its span once these are there
-module _ (es : List Entry) (t : Target) (below : List Entry) (e : es ≡ entered t below) (i j : ℕ)
-    (old first mid new : List Entry) (q : first ≡ set old i (entry_of t 1)) (h : IsLaid below (i + 1) first mid j)
-    (p : new ≡ respan mid i (1 + j)) where
-  pub object-laid : IsLaid es i old new (1 + j)
+module _ {A : Type 0} (f : Entry → A) (es : List Entry) (t : Target) (below : List Entry) (e : es ≡ entered t below)
+    (i j : ℕ) (old first mid new : List A) (q : first ≡ set old i (f (entry_of t 1)))
+    (h : IsLaid f below (i + 1) first mid j)
+    (p : (x : Entry) → mid ≡ set mid i (f x) → new ≡ set mid i (f (record x { span = 1 + j }))) where
+  pub object-laid : IsLaid f es i old new (1 + j)
   object-laid =
       let c = h.count in
+      let one = entry_of t 1 in
+      let laid_there : mid ≡ laid f (i + 1) below (set old i (f one)) = h.is ∙ ap (laid f (i + 1) below) q in
       record {
-        is = p ∙ ap (λ (r : List Entry). respan r i (1 + j)) (h.is ∙ ap (laid (i + 1) below) q)
-            ∙ respan-front below i 1 (1 + j) old t
-            ∙ ap (λ (n : ℕ). laid i (entry_of t (1 + n) ∷ below) old) (sym c)
-            ∙ ap (λ (xs : List Entry). laid i xs old) (sym e);
+        is = p one (rw laid_there (still-there f below i old (f one)))
+            ∙ ap (λ (r : List A). set r i (f (record one { span = 1 + j }))) laid_there
+            ∙ put-again f below i old (f one) (f (record one { span = 1 + j }))
+            ∙ ap (λ (x : Entry). laid f i (x ∷ below) old) (respanned t 1 (1 + j))
+            ∙ ap (λ (n : ℕ). laid f i (entry_of t (1 + n) ∷ below) old) (sym c)
+            ∙ ap (λ (xs : List Entry). laid f i xs old) (sym e);
         count = let n : length es ≡ suc (length below) = ap length e in omega arith;
       }

@@ -1,5 +1,5 @@
 -- An index of a whole message.
-use Rattle.std.proofs.Common.{◌≡◌, ◌⊎◌, inl, inr, true, ℕ, suc, ◌<◌, List, [], ◌∷◌, length, set}
+use Rattle.std.proofs.Common.{◌≡◌, ◌⊎◌, inl, inr, true, ℕ, suc, ◌<◌, List, [], ◌∷◌, length, map, set}
 use Rattle.std.proofs.Common.{Ok, Err, refl, ap, sym, ◌∙◌}
 use Rattle.capn_words.specs.Message.{segment_at}
 use Rattle.capn_value.specs.Cost.{base}
@@ -13,7 +13,7 @@ use Rattle.capn_walk.specs.Visits.{Visit, visits}
 use Rattle.capn_walk.specs.inner.Verdict.{judge}
 use Rattle.capn_walk.specs.Accepted.{root, may_be_root, IsWalkRefused, visits_within}
 use Rattle.capn_walk.specs.Limits.{Bounds}
-use Rattle.capn_walk.specs.Index.{entries, filled, IsIndexed}
+use Rattle.capn_walk.specs.Index.{entries, filled, IsIndexedAs}
 use Rattle.capn_walk.specs.inner.IndexRoom.{laid, Indexes}
 use Rattle.capn_walk.proofs.shared.Stops.{accepted-within}
 use Rattle.capn_walk.proofs.RootWalks.{from-root, refused-below}
@@ -21,25 +21,28 @@ use Rattle.capn_walk.proofs.FilledRoom.{as-many-entries}
 
 -- ---- a room that is filled from its front
 
-laid-nothing : (i : ℕ) (es : List Entry) → laid i es [] ≡ []
-laid-nothing i [] = refl
-laid-nothing i (e ∷ es) = laid-nothing (suc i) es
+laid-nothing : {A : Type 0} (f : Entry → A) (i : ℕ) (es : List Entry) → laid f i es [] ≡ []
+laid-nothing f i [] = refl
+laid-nothing f i (e ∷ es) = laid-nothing f (suc i) es
 
-laid-behind : (i : ℕ) (es room : List Entry) (x : Entry) → laid (suc i) es (x ∷ room) ≡ x ∷ laid i es room
-laid-behind i [] room x = refl
-laid-behind i (e ∷ es) room x = laid-behind (suc i) es (set room i e) x
+laid-behind : {A : Type 0} (f : Entry → A) (i : ℕ) (es : List Entry) (room : List A) (x : A)
+    → laid f (suc i) es (x ∷ room) ≡ x ∷ laid f i es room
+laid-behind f i [] room x = refl
+laid-behind f i (e ∷ es) room x = laid-behind f (suc i) es (set room i (f e)) x
 
-pub laid-filled : (es room : List Entry) → laid 0 es room ≡ filled es room
-laid-filled [] [] = refl
-laid-filled [] (x ∷ room) = refl
-laid-filled (e ∷ es) [] = laid-nothing 1 es
-laid-filled (e ∷ es) (x ∷ room) = laid-behind 0 es room e ∙ ap (λ (r : List Entry). e ∷ r) (laid-filled es room)
+laid-filled : {A : Type 0} (f : Entry → A) (es : List Entry) (room : List A)
+    → laid f 0 es room ≡ filled (map f es) room
+laid-filled f [] [] = refl
+laid-filled f [] (x ∷ room) = refl
+laid-filled f (e ∷ es) [] = laid-nothing f 1 es
+laid-filled f (e ∷ es) (x ∷ room) =
+    laid-behind f 0 es room (f e) ∙ ap (λ r. f e ∷ r) (laid-filled f es room)
 
-module _ (m : List (List ℕ)) (limits : Bounds) (some : 0 < length (segment_at m 0)) (t : Target)
-    (e : target m root ≡ Ok t) (kind : may_be_root t ≡ true) where
-  pub indexed : (old new : List Entry) (told : Indexed)
-      → Indexes limits.budget (visits m (base limits.tariff) limits.depth root) 1 (entries m limits.depth root) 0 old
-      new (Ok told) → IsIndexed m limits old new told
+module _ {A : Type 0} (f : Entry → A) (m : List (List ℕ)) (limits : Bounds) (some : 0 < length (segment_at m 0))
+    (t : Target) (e : target m root ≡ Ok t) (kind : may_be_root t ≡ true) where
+  pub indexed : (old new : List A) (told : Indexed)
+      → Indexes limits.budget (visits m (base limits.tariff) limits.depth root) 1 f (entries m limits.depth root) 0 old
+      new (Ok told) → IsIndexedAs f m limits old new told
   indexed old new told (g, h) =
       let same = from-root m (base limits.tariff) limits.depth t e kind in
       let (w, p, k) =
@@ -47,15 +50,15 @@ module _ (m : List (List ℕ)) (limits : Bounds) (some : 0 < length (segment_at 
       ∙ g.is) in
       record {
         accepted = record { some = some; within = w };
-        entries = h.is ∙ laid-filled (entries m limits.depth root) old;
+        entries = h.is ∙ laid-filled f (entries m limits.depth root) old;
         pays = p;
         counts = k;
         each = as-many-entries m (base limits.tariff) limits.depth root
             ∙ ap (λ (vs : List Visit). length vs) (sym same);
       }
 
-  pub unindexed : (old new : List Entry) (s : Stopped)
-      → Indexes limits.budget (visits m (base limits.tariff) limits.depth root) 1 (entries m limits.depth root) 0 old
+  pub unindexed : (old new : List A) (s : Stopped)
+      → Indexes limits.budget (visits m (base limits.tariff) limits.depth root) 1 f (entries m limits.depth root) 0 old
       new (Err s) → IsWalkRefused m limits s.fault s.place s.paid s.visits
   unindexed old new s (r, other) = but (refused-below m limits some t e kind s r)
     where

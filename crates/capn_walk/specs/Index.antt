@@ -57,13 +57,22 @@ abbrev pub index_of : List (List ℕ) → Bounds → List Entry
 index_of message limits = entries message limits.depth root
 
 -- the room has the first entries, as many as go into it, and after them what it had
-abbrev pub filled : List Entry → List Entry → List Entry
+abbrev pub filled : {A : Type 0} → List A → List A → List A
 filled es room = take (length room) es ++ drop (length es) room
 
 -- the message is accepted, and the room has its index; the answer has what its walk pays and how many slots it visits
 pub record IsIndexed (message : List (List ℕ)) (limits : Bounds) (old new : List Entry) (t : Indexed) : Type 0 where
   pub accepted : IsAccepted message limits
   pub entries : new ≡ filled (index_of message limits) old
+  pub pays : t.paid ≡ paid message limits
+  pub counts : t.visits ≡ number_of_visits message limits
+  pub each : length (index_of message limits) ≡ number_of_visits message limits
+
+-- the same, where a room has each entry in a form
+pub record IsIndexedAs {A : Type 0} (form : Entry → A) (message : List (List ℕ)) (limits : Bounds) (old new : List A)
+    (t : Indexed) : Type 0 where
+  pub accepted : IsAccepted message limits
+  pub entries : new ≡ filled (map form (index_of message limits)) old
   pub pays : t.paid ≡ paid message limits
   pub counts : t.visits ≡ number_of_visits message limits
   pub each : length (index_of message limits) ≡ number_of_visits message limits

@@ -3,16 +3,17 @@
 //! A slot costs at most thirteen reads and turns: its turn of the loop, and one before it that begins its row; its
 //! word; eight to find what it names; the length of the segment below it, and the last turn there.
 
-ghost use Rattle.std.specs.Prelude.{◌≡◌, ◌+◌, ◌*◌, ◌<◌, ◌≤◌, ◌^◌, length, set, MatchResult};
+ghost use Rattle.std.specs.Prelude.{◌≡◌, ◌+◌, ◌*◌, ◌<◌, ◌≤◌, ◌^◌, length, MatchResult};
 ghost use Rattle.capn_words.specs.Message.{segment_at, IsMessage, IsPlace};
 ghost use Rattle.capn_value.specs.Cost.{most_cost};
 ghost use Rattle.capn_target.specs.Target as spec;
 ghost use Rattle.capn_walk.specs.Visits.{visits, visits_of};
 ghost use Rattle.capn_walk.specs.inner.SlotsLeft.{places_of, owed, Lies};
 ghost use Rattle.capn_walk.specs.Index.{entries, entries_of};
-ghost use Rattle.capn_walk.specs.inner.IndexRoom.{Indexes, respan};
+ghost use Rattle.capn_walk.specs.inner.IndexRoom.{Indexes};
 
 use crate::entry::{Entry, Indexed};
+use crate::entry_form::EntryForm;
 use crate::slots_left::SlotsLeft;
 use crate::step::{price_within, slots_below};
 use crate::walk_answer::{Stopped, stop};
@@ -21,32 +22,10 @@ use capn_target::{Fault, Target};
 use capn_words::{Place, Pointer, Space, split};
 use std::sync::ledger::Ledger;
 
-/// Puts an entry into the room, if there is room for it.
-#[inline(always)]
-fn put(room: &mut [Entry], at: u32, entry: Entry)
-    ensures { room.new ≡ set room.old at entry }
-{
-    let at = at as usize;
-    if at < room.len() {
-        room[at] = entry;
-    }
-}
-
-/// Sets the span of an entry, if there was room for it.
-#[inline(always)]
-fn set_span(room: &mut [Entry], at: u32, span: u32)
-    ensures { room.new ≡ respan room.old at span }
-{
-    let at = at as usize;
-    if at < room.len() {
-        room[at].span = span;
-    }
-}
-
 /// The entries of a slot whose target is known, from an index on.
 #[cycle(index_slots)]
 #[inline(always)]
-pub fn index_found<S: Space, L: Ledger>(
+pub fn index_found<S: Space, L: Ledger, F: EntryForm>(
     space: &CountedSpace<'_, S, L>,
     at: Place,
     size: u32,
@@ -54,7 +33,8 @@ pub fn index_found<S: Space, L: Ledger>(
     depth: u32,
     left: u32,
     base: u32,
-    room: &mut [Entry],
+    form: &F,
+    room: &mut [F::Item],
     first: u32,
     reads: &mut Reads<L>,
 ) -> Result<Indexed, Stopped>
@@ -64,8 +44,8 @@ pub fn index_found<S: Space, L: Ledger>(
     requires found { found ≡ spec.target space.now at }
     requires left { left ≤ most_cost }
     requires fits { first + 1 + left < 2 ^ 32 }
-    ensures indexes { Indexes left (visits space.now base depth at) 1 (entries space.now depth at) first
-        room.old room.new result }
+    ensures indexes { Indexes left (visits space.now base depth at) 1 (F.written form.now)
+        (entries space.now depth at) first room.old room.new result }
     ensures reads { MatchResult result (λ t. reads.new + 11 ≤ reads.old + 13 * t.visits)
         (λ s. reads.new + 11 ≤ reads.old + 13 * s.visits) }
 {
@@ -77,7 +57,7 @@ pub fn index_found<S: Space, L: Ledger>(
         Ok(price) => price,
         Err(fault) => return Err(stop(fault, at)),
     };
-    put(room, first, Entry::of(target, 1));
+    form.put(room, first, Entry::of(target, 1));
     let below = slots_below(space, target);
     if below.is_done() {
         return Ok(Indexed {
@@ -93,13 +73,14 @@ pub fn index_found<S: Space, L: Ledger>(
         depth - 1,
         left - price,
         base,
+        form,
         room,
         first + 1,
         reads,
     ) {
         Ok(told) => {
             let span = 1 + told.visits;
-            set_span(room, first, span);
+            form.set_span(room, first, span);
             Ok(Indexed {
                 paid: price + told.paid,
                 visits: span,
@@ -112,7 +93,7 @@ pub fn index_found<S: Space, L: Ledger>(
 /// The entries of a slot whose pointer is that of a struct or list that is near.
 #[cycle(index_slots)]
 #[inline(always)]
-fn index_near<S: Space, L: Ledger>(
+fn index_near<S: Space, L: Ledger, F: EntryForm>(
     space: &CountedSpace<'_, S, L>,
     at: Place,
     size: u32,
@@ -120,7 +101,8 @@ fn index_near<S: Space, L: Ledger>(
     depth: u32,
     left: u32,
     base: u32,
-    room: &mut [Entry],
+    form: &F,
+    room: &mut [F::Item],
     first: u32,
     reads: &mut Reads<L>,
 ) -> Result<Indexed, Stopped>
@@ -131,28 +113,29 @@ fn index_near<S: Space, L: Ledger>(
         ≡ spec.target space.now at }
     requires left { left ≤ most_cost }
     requires fits { first + 1 + left < 2 ^ 32 }
-    ensures indexes { Indexes left (visits space.now base depth at) 1 (entries space.now depth at) first
-        room.old room.new result }
+    ensures indexes { Indexes left (visits space.now base depth at) 1 (F.written form.now)
+        (entries space.now depth at) first room.old room.new result }
     ensures reads { MatchResult result (λ t. reads.new + 10 ≤ reads.old + 13 * t.visits)
         (λ s. reads.new + 10 ≤ reads.old + 13 * s.visits) }
 {
     let found = near(space, at.segment, size, at.word, 0, pointer, reads);
     index_found(
-        space, at, size, found, depth, left, base, room, first, reads,
+        space, at, size, found, depth, left, base, form, room, first, reads,
     )
 }
 
 /// The entries of a slot, whatever its pointer names.
 #[cycle(index_slots)]
 #[inline(never)]
-fn index_elsewhere<S: Space, L: Ledger>(
+fn index_elsewhere<S: Space, L: Ledger, F: EntryForm>(
     space: CountedSpace<'_, S, L>,
     at: Place,
     size: u32,
     depth: u32,
     left: u32,
     base: u32,
-    room: &mut [Entry],
+    form: &F,
+    room: &mut [F::Item],
     first: u32,
     reads: &mut Reads<L>,
 ) -> Result<Indexed, Stopped>
@@ -161,14 +144,14 @@ fn index_elsewhere<S: Space, L: Ledger>(
     requires place { IsPlace space at }
     requires left { left ≤ most_cost }
     requires fits { first + 1 + left < 2 ^ 32 }
-    ensures indexes { Indexes left (visits space.entry base depth at) 1 (entries space.entry depth at) first
-        room.old room.new result }
+    ensures indexes { Indexes left (visits space.entry base depth at) 1 (F.written form.now)
+        (entries space.entry depth at) first room.old room.new result }
     ensures reads { MatchResult result (λ t. reads.new + 3 ≤ reads.old + 13 * t.visits)
         (λ s. reads.new + 3 ≤ reads.old + 13 * s.visits) }
 {
     let found = resolve(&space, at, reads);
     index_found(
-        &space, at, size, found, depth, left, base, room, first, reads,
+        &space, at, size, found, depth, left, base, form, room, first, reads,
     )
 }
 
@@ -176,14 +159,15 @@ fn index_elsewhere<S: Space, L: Ledger>(
 /// its form alone.
 #[cycle(index_slots)]
 #[inline(always)]
-fn index_slot<S: Space, L: Ledger>(
+fn index_slot<S: Space, L: Ledger, F: EntryForm>(
     space: &CountedSpace<'_, S, L>,
     at: Place,
     size: u32,
     depth: u32,
     left: u32,
     base: u32,
-    room: &mut [Entry],
+    form: &F,
+    room: &mut [F::Item],
     first: u32,
     reads: &mut Reads<L>,
 ) -> Result<Indexed, Stopped>
@@ -192,23 +176,23 @@ fn index_slot<S: Space, L: Ledger>(
     requires place { IsPlace space.now at }
     requires left { left ≤ most_cost }
     requires fits { first + 1 + left < 2 ^ 32 }
-    ensures indexes { Indexes left (visits space.now base depth at) 1 (entries space.now depth at) first
-        room.old room.new result }
+    ensures indexes { Indexes left (visits space.now base depth at) 1 (F.written form.now)
+        (entries space.now depth at) first room.old room.new result }
     ensures reads { MatchResult result (λ t. reads.new + 2 ≤ reads.old + 13 * t.visits)
         (λ s. reads.new + 2 ≤ reads.old + 13 * s.visits) }
 {
     let word = space.word(at, reads);
     if word == 0 {
-        put(room, first, Entry::nil());
+        form.put(room, first, Entry::nil());
         return Ok(Indexed { paid: 0, visits: 1 });
     }
     let pointer = split(word);
     match pointer {
         Pointer::Node { .. } => index_near(
-            space, at, size, pointer, depth, left, base, room, first, reads,
+            space, at, size, pointer, depth, left, base, form, room, first, reads,
         ),
         Pointer::Many { .. } => index_near(
-            space, at, size, pointer, depth, left, base, room, first, reads,
+            space, at, size, pointer, depth, left, base, form, room, first, reads,
         ),
         _ => index_elsewhere(
             space.again(),
@@ -217,6 +201,7 @@ fn index_slot<S: Space, L: Ledger>(
             depth,
             left,
             base,
+            form,
             room,
             first,
             reads,
@@ -227,14 +212,15 @@ fn index_slot<S: Space, L: Ledger>(
 /// The entries of the slots of a frame, one after the other, each with all below it.
 #[cycle(index_slots)]
 #[inline(never)]
-fn index_frame<S: Space, L: Ledger>(
+fn index_frame<S: Space, L: Ledger, F: EntryForm>(
     space: CountedSpace<'_, S, L>,
     slots: SlotsLeft,
     size: u32,
     depth: u32,
     left: u32,
     base: u32,
-    room: &mut [Entry],
+    form: &F,
+    room: &mut [F::Item],
     first: u32,
     reads: &mut Reads<L>,
 ) -> Result<Indexed, Stopped>
@@ -244,7 +230,7 @@ fn index_frame<S: Space, L: Ledger>(
     requires left { left ≤ most_cost }
     requires fits { first + owed slots + left < 2 ^ 32 }
     ensures indexes { Indexes left (visits_of space.entry base depth (places_of slots)) (owed slots)
-        (entries_of space.entry depth (places_of slots)) first room.old room.new result }
+        (F.written form.now) (entries_of space.entry depth (places_of slots)) first room.old room.new result }
     ensures reads { MatchResult result (λ t. reads.new ≤ reads.old + 13 * t.visits + 1)
         (λ s. reads.new ≤ reads.old + 13 * s.visits + 1) }
 {
@@ -268,6 +254,7 @@ fn index_frame<S: Space, L: Ledger>(
             depth,
             left - paid,
             base,
+            form,
             room,
             first + visits,
             reads,

@@ -7,7 +7,7 @@
 //!   leads in circles or shares its objects costs at most the budget.
 //! - [`survey`] answers the same price and refusal and makes no tree, and [`survey_depth`] also the least depth that
 //!   admits the message. [`index`] and [`index_into`] add an entry for each slot that was visited, by which the message
-//!   can be read in place with no further test.
+//!   can be read in place with no further test. [`index_into_form`] writes them in another [`EntryForm`].
 //! - [`walk_counted`], [`survey_counted`], [`survey_depth_counted`] and [`index_into_counted`] do the same to a message
 //!   whose reads are counted: the budget bounds how often they read it.
 //! - [`View`] goes from one object to those below it, and pays from a [`Meter`] for each.
@@ -23,6 +23,7 @@
 
 mod digits;
 mod entry;
+mod entry_form;
 mod found;
 mod index_visits;
 mod kind;
@@ -45,9 +46,10 @@ mod walk_answer;
 mod walk_visits;
 
 pub use entry::{Entry, Index, Indexed};
+pub use entry_form::{EntryForm, Plain};
 pub use kind::Kind;
 pub use limits::Limits;
-pub use message_index::{index, index_into, index_into_counted};
+pub use message_index::{index, index_into, index_into_counted, index_into_form};
 pub use message_survey::{survey, survey_counted, survey_depth, survey_depth_counted};
 pub use message_walk::{walk, walk_counted};
 pub use meter::Meter;

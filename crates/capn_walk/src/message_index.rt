@@ -1,12 +1,13 @@
 //! An index of a message: an entry for each slot that its walk visits, in preorder.
 
 ghost use Rattle.std.specs.Prelude.{◌≡◌, ◌⊎◌, ◌<◌, ◌≤◌, ◌+◌, ◌*◌, length, IfOk, IfErr, IsOk, OnOk, MatchResult};
-ghost use Rattle.capn_walk.specs.Index.{index_of, IsIndexed};
+ghost use Rattle.capn_walk.specs.Index.{index_of, IsIndexed, IsIndexedAs};
 ghost use Rattle.capn_walk.specs.Accepted.{IsAccepted, IsValueOf, IsWalkRefused, IsBounded, paid};
 ghost use Rattle.capn_value.specs.Tree.{Tree};
 ghost use Rattle.capn_target.specs.declared.target.Fault.TheVariants.{Memory};
 
 use crate::entry::{Entry, Index, Indexed};
+use crate::entry_form::{EntryForm, Plain};
 use crate::index_visits::index_found;
 use crate::limits::Limits;
 use crate::message_survey::survey;
@@ -44,21 +45,45 @@ pub fn index_into<S: Space>(
     ensures bounded { MatchResult result (λ t. IsBounded limits.budget t.paid t.visits)
         (λ s. IsBounded limits.budget s.paid s.visits) }
 {
-    index_into_with_ledger::<S, Brand>(space, limits, room, Blank::new(1))
+    index_into_with_ledger::<S, Brand, Plain>(space, limits, &Plain, room, Blank::new(1))
+}
+
+/// The same index, each of its entries written in a form.
+///
+/// It reads, answers, refuses and pays as [`index_into`] does, and takes no memory but the stack.
+pub fn index_into_form<S: Space, F: EntryForm>(
+    space: &S,
+    limits: Limits,
+    form: &F,
+    room: &mut [F::Item],
+) -> Result<Indexed, Stopped>
+    // An answer: the message is accepted, and the room has its index in the form, as far as it goes.
+    ensures found { IfOk result (λ t.
+        IsIndexedAs (F.written form.now) (S.message space.now) limits room.old room.new t) }
+    // A message that is accepted is answered; any refusal is the first stop.
+    ensures only { IsAccepted (S.message space.now) limits → IsOk result }
+    ensures refused { IfErr result (λ s. IsWalkRefused (S.message space.now) limits s.fault s.place s.paid s.visits) }
+    // No walk pays beyond its budget.
+    ensures bounded { MatchResult result (λ t. IsBounded limits.budget t.paid t.visits)
+        (λ s. IsBounded limits.budget s.paid s.visits) }
+{
+    index_into_with_ledger::<S, Brand, F>(space, limits, form, room, Blank::new(1))
 }
 
 /// The same, with a new ledger.
-fn index_into_with_ledger<S: Space, L: Ledger>(
+fn index_into_with_ledger<S: Space, L: Ledger, F: EntryForm>(
     space: &S,
     limits: Limits,
-    room: &mut [Entry],
+    form: &F,
+    room: &mut [F::Item],
     blank: Blank,
 ) -> Result<Indexed, Stopped>
     requires name { blank.name ≡ L.name }
     requires parts { blank.parts ≡ L.parts }
     requires one { 0 < blank.parts }
-    // An answer: the message is accepted, and the room has its index, as far as it goes.
-    ensures found { IfOk result (λ t. IsIndexed (S.message space.now) limits room.old room.new t) }
+    // An answer: the message is accepted, and the room has its index in the form, as far as it goes.
+    ensures found { IfOk result (λ t.
+        IsIndexedAs (F.written form.now) (S.message space.now) limits room.old room.new t) }
     // A message that is accepted is answered; any refusal is the first stop.
     ensures only { IsAccepted (S.message space.now) limits → IsOk result }
     ensures refused { IfErr result (λ s. IsWalkRefused (S.message space.now) limits s.fault s.place s.paid s.visits) }
@@ -67,22 +92,23 @@ fn index_into_with_ledger<S: Space, L: Ledger>(
         (λ s. IsBounded limits.budget s.paid s.visits) }
 {
     let (space, mut reads) = count_reads::<S, L>(space, blank);
-    index_into_counted(&space, limits, room, &mut reads)
+    index_into_counted(&space, limits, form, room, &mut reads)
 }
 
-/// What [`index_into`] answers, by calls that count what they read, as for
+/// What [`index_into_form`] answers, by calls that count what they read, as for
 /// [`survey_counted`](crate::survey_counted). With the reads it counts the turns of its one loop.
 ///
 /// It reads and turns at most thirteen times for each visit that it answers or refuses with, and once more. So the
 /// budget alone bounds its work, whatever the message says. It takes no memory but the stack.
-pub fn index_into_counted<S: Space, L: Ledger>(
+pub fn index_into_counted<S: Space, L: Ledger, F: EntryForm>(
     space: &CountedSpace<'_, S, L>,
     limits: Limits,
-    room: &mut [Entry],
+    form: &F,
+    room: &mut [F::Item],
     reads: &mut Reads<L>,
 ) -> Result<Indexed, Stopped>
-    // An answer: the message is accepted, and the room has its index, as far as it goes.
-    ensures found { IfOk result (λ t. IsIndexed space.now limits room.old room.new t) }
+    // An answer: the message is accepted, and the room has its index in the form, as far as it goes.
+    ensures found { IfOk result (λ t. IsIndexedAs (F.written form.now) space.now limits room.old room.new t) }
     // A message that is accepted is answered; any refusal is the first stop.
     ensures only { IsAccepted space.now limits → IsOk result }
     ensures refused { IfErr result (λ s. IsWalkRefused space.now limits s.fault s.place s.paid s.visits) }
@@ -106,6 +132,7 @@ pub fn index_into_counted<S: Space, L: Ledger>(
         limits.depth(),
         limits.budget(),
         limits.tariff().base(),
+        form,
         room,
         0,
         reads,

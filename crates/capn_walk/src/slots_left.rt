@@ -36,24 +36,6 @@ pub struct Waiting {
 }
 
 impl SlotsLeft {
-    /// No slots.
-    #[inline(always)]
-    pub fn none() -> SlotsLeft
-        ensures places { places_of result ≡ [] }
-        ensures owed { owed result ≡ 0 }
-        ensures end { end_of result ≡ 0 }
-        ensures rows { HasRows result }
-    {
-        SlotsLeft {
-            segment: 0,
-            next: 0,
-            left: 0,
-            rows: 0,
-            words: 0,
-            slots: 0,
-        }
-    }
-
     /// The slots of an object whose content starts at a place.
     #[inline(always)]
     pub fn of_object(start: Place, shape: Shape) -> SlotsLeft

@@ -88,6 +88,6 @@ pub fn slots_below<S: Space, L: Ledger>(space: &CountedSpace<'_, S, L>, target: 
             };
             SlotsLeft::of_object(start, shape)
         }
-        _ => SlotsLeft::none(),
+        _ => SlotsLeft::default(),
     }
 }

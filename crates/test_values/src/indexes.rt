@@ -1,7 +1,9 @@
 //! Indexes of messages, and rooms that are too short for them.
 
 use crate::words::bytes_of;
-use capn_walk::{Entry, Fault, Indexed, Kind, Limits, Stopped, index, index_into};
+use capn_walk::{
+    Entry, EntryForm, Fault, Indexed, Kind, Limits, Stopped, index, index_into, index_into_form,
+};
 use capn_words::{Bare, Place};
 use std::alloc::Global;
 use std::test::Fail;
@@ -161,6 +163,46 @@ fn each_entry_of_a_message(rt: HostRuntime) -> Result<(), Fail> {
     assert!(rt; is_indexed(rt.alloc(), &BYTES, &BYTES_INDEX, 4)?);
     assert!(rt; is_indexed(rt.alloc(), &ROWS, &ROWS_INDEX, 7)?);
     assert!(rt; is_indexed(rt.alloc(), &SHARED, &SHARED_INDEX, 7)?);
+    Ok(())
+}
+
+/// The form that has of each entry its span alone.
+struct Spans;
+
+impl EntryForm for Spans {
+    type Item = u32;
+
+    ghost written = { λ _ e. e.span };
+
+    fn put(&self, room: &mut [u32], at: u32, entry: Entry) {
+        let at = at as usize;
+        if at < room.len() {
+            room[at] = entry.span;
+        }
+    }
+
+    fn set_span(&self, room: &mut [u32], at: u32, span: u32) {
+        let at = at as usize;
+        if at < room.len() {
+            room[at] = span;
+        }
+    }
+}
+
+#[test]
+fn an_index_in_another_form(rt: HostRuntime) -> Result<(), Fail> {
+    let bytes = bytes_of(rt.alloc(), &ROWS)?;
+    let Ok(bare) = Bare::new(bytes.as_slice()) else {
+        return Err(Fail::new("no words"));
+    };
+    for most in 0..=6usize {
+        let mut room = [96u32; 6];
+        let told = index_into_form(&bare, Limits::usual(), &Spans, &mut room[..most]);
+        assert!(rt; told == Ok(Indexed { paid: 7, visits: 4 }));
+        let filled = most.min(4);
+        assert!(rt; room[..filled] == [4u32, 3, 1, 1][..filled]);
+        assert!(rt; room[filled..] == [96u32; 6][filled..]);
+    }
     Ok(())
 }
 

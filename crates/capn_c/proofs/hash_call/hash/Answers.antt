@@ -17,5 +17,5 @@ pub returns-in-Some-clause-only : goal.returns-in-Some-clause-only
 returns-in-Some-clause-only c v d free =
     let (text, answers, is) = c.in-Some.ensures in
     let same =
-        answers_only c.args.form c.args.bytes.now c.args.limits text c.in-Some.own.paid answers v d in
+    answers_only c.args.form c.args.bytes.now c.args.limits text c.in-Some.own.paid answers v d in
     inr (refl, is ∙ ap sha256 same)

@@ -1,5 +1,6 @@
 -- The index has as many entries as its survey has visits; what is accepted is refused only if memory runs out.
-use Rattle.std.proofs.Common.{◌≤◌, inl, inr, length, ap, sym, ◌∙◌, arith, Err}
+use Rattle.std.proofs.Common.{rules, ◌≤◌, inr, length, ap, sym, ◌∙◌, arith, Err}
+use Rattle.capn_c.specs.Entries.{HasRoom}
 use Rattle.capn_c.specs.StatusCodes.{code}
 use Rattle.capn_c.proofs.Counted.{entries_of_survey, entries_told}
 use Rattle.capn_c.proofs.OutOfMemory.{unaccepted_memory}
@@ -15,37 +16,22 @@ returns-then-index_form-clause-entries c e =
     entries_told c.indexes.ensures.visits c.args.form c.args.bytes.now c.args.limits c.in-Ok.surveyed
     c.in-Ok.ensures.found c.report_of_index.result c.report_of_index.ensures
 
-pub returns-else-index_form-clause-memory : goal.returns-else-index_form-clause-memory
-returns-else-index_form-clause-memory c e =
+pub index_form-requires : goal.index_form-requires
+index_form-requires c =
     let s = c.in-Ok.surveyed in
-    let room : s.visits ≤ length c.args.out.now = omega (arith, c.if-surveyed-out.false) in
+    let fits : s.visits ≤ length c.args.out.now = omega (arith, c.if-surveyed-out.false) in
     let has = entries_of_survey c.indexes.ensures.visits c.args.form c.args.bytes.now c.args.limits s
     c.in-Ok.ensures.found in
-    inr (s.visits, has, room)
+    let room : HasRoom c.args.form c.args.bytes.now c.args.limits c.args.out.now =
+    record { count = s.visits; entries = has; fits = fits } in
+    search rules
 
 pub returns-in-Err-clause-only : goal.returns-in-Err-clause-only
 returns-in-Err-clause-only c v d = inr (c.refuse-in-Err.ensures.status_is ∙ ap code (c.in-Err.ensures.only v d))
 
-pub returns-in-Err-clause-memory : goal.returns-in-Err-clause-memory
-returns-in-Err-clause-memory c e =
-    inl
-    (c.in-Err.ensures.memory
-    (ap Err
-    (unaccepted_memory c.args.form c.args.bytes.now c.args.limits c.in-Err.refusal c.in-Err.ensures.refused
-    (sym c.refuse-in-Err.ensures.status_is ∙ e))))
-
-pub returns-else-index_form-clause-asked : goal.returns-else-index_form-clause-asked
-returns-else-index_form-clause-asked c e =
-    let s = c.in-Ok.surveyed in
-    let room : s.visits ≤ length c.args.out.now = omega (arith, c.if-surveyed-out.false) in
-    let has = entries_of_survey c.indexes.ensures.visits c.args.form c.args.bytes.now c.args.limits s
-    c.in-Ok.ensures.found in
-    inr (s.visits, has, room)
-
 pub returns-in-Err-clause-asked : goal.returns-in-Err-clause-asked
 returns-in-Err-clause-asked c e =
-    inl
-    (c.in-Err.ensures.asked
+    c.in-Err.ensures.asked
     (ap Err
     (unaccepted_memory c.args.form c.args.bytes.now c.args.limits c.in-Err.refusal c.in-Err.ensures.refused
-    (sym c.refuse-in-Err.ensures.status_is ∙ e))))
+    (sym c.refuse-in-Err.ensures.status_is ∙ e)))

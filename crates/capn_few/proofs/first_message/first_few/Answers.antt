@@ -17,3 +17,8 @@ returns-in-Err-clause-only c message taken h few =
     let whole = whole_of c.args.bytes.now c.args.max_words message taken h in
     absurd (c.in-Err.ensures.no_memory
     (refused_whole c.args.bytes.now c.args.max_words c.in-Err.fault whole c.in-Err.ensures.refused))
+
+pub returns-else-head-clause-few : goal.returns-else-head-clause-few
+returns-else-head-clause-few c =
+    let a = announces c.args.bytes.now c.args.max_words _ _ c.message_of.ensures in
+    omega (arith, a.count, c.in-Ok.ensures.segments, c.if-head.false)

@@ -55,11 +55,12 @@ index_found-returns-then-is_done-clause-indexes g t c =
     let m = c.args.space.now in
     let e = sym c.requires.found ∙ c.in-Ok.is in
     let x = c.in-Ok-price_within in
-    let f = c.slots_below-below.ensures in
+    let o = c.slots_below-below.ensures in
+    let f = g.F.EntryForm.written c.args.form.now in
     let p = step-pays m c.args.base c.args.at c.args.depth c.args.left c.in-Ok.target
     (ap (stepped c.args.base c.args.depth c.args.left) e ∙ x.ensures.found) in
     let z = done c.is_done.result _ c.is_done.ensures c.if-is_done.true in
-    let empty = sym f.places ∙ nothing-left c.slots_below-below.result f.lies.rows z in
+    let empty = sym o.places ∙ nothing-left c.slots_below-below.result o.lies.rows z in
     let v = p.is
     ∙ ap₂ (λ (n : ℕ) (ps : List Place). pays c.args.at n ∷ visits_of m c.args.base (c.args.depth - 1) ps)
     (sym x.ensures.price) empty in
@@ -67,8 +68,8 @@ index_found-returns-then-is_done-clause-indexes g t c =
       rw v (leaf-gives c.args.left x.price c.args.at x.ensures.within),
       record {
         is = c.put.ensures
-            ∙ ap (λ (x : Entry). laid c.args.first (x ∷ []) c.args.room.now) c.of.ensures
-            ∙ ap (λ (es : List Entry). laid c.args.first es c.args.room.now) (sym l);
+            ∙ ap (λ (x : Entry). laid f c.args.first (x ∷ []) c.args.room.now) c.of.ensures
+            ∙ ap (λ (es : List Entry). laid f c.args.first es c.args.room.now) (sym l);
         count = ap length l;
       },
     )
@@ -76,6 +77,7 @@ index_found-returns-then-is_done-clause-indexes g t c =
 pub index_found-returns-in-Ok-index_frame-clause-indexes : goal.index_found-returns-in-Ok-index_frame-clause-indexes
 index_found-returns-in-Ok-index_frame-clause-indexes g t c =
     let m = c.args.space.now in
+    let w = g.F.EntryForm.written c.args.form.now in
     let e = sym c.requires.found ∙ c.in-Ok.is in
     let x = c.in-Ok-price_within in
     let f = c.slots_below-below.ensures in
@@ -98,9 +100,10 @@ index_found-returns-in-Ok-index_frame-clause-indexes g t c =
       rw v
           (object-gives c.args.left x.price c.args.at _ (owed below) x.ensures.within few r.told.paid r.told.visits
           i.0),
-      object-laid (entries m c.args.depth c.args.at) c.in-Ok.target (entries_of m (c.args.depth - 1) (places_of below))
-          es c.args.first r.told.visits c.args.room.now _ _ _
-          (c.put.ensures ∙ ap (set c.args.room.now c.args.first) c.of.ensures) i.1 c.set_span.ensures,
+      object-laid w (entries m c.args.depth c.args.at) c.in-Ok.target
+          (entries_of m (c.args.depth - 1) (places_of below)) es c.args.first r.told.visits c.args.room.now _ _ _
+          (c.put.ensures ∙ ap (λ (x : Entry). set c.args.room.now c.args.first (w x)) c.of.ensures) i.1
+          c.set_span.ensures,
     )
 
 pub index_found-returns-in-Err-index_frame-clause-indexes : goal.index_found-returns-in-Err-index_frame-clause-indexes
@@ -130,14 +133,15 @@ index_found-returns-in-Err-index_frame-clause-indexes g t c =
 pub index_slot-returns-then-word-eq0-clause-indexes : goal.index_slot-returns-then-word-eq0-clause-indexes
 index_slot-returns-then-word-eq0-clause-indexes g t c =
     let m = c.args.space.now in
+    let f = g.F.EntryForm.written c.args.form.now in
     let e = null-target m c.args.at (cc) in
     let l = entries-leaf m c.args.depth c.args.at targets.Nil e refl in (
       gives-nothing m c.args.base c.args.at c.args.left c.args.depth
           (visits-null m c.args.base c.args.at c.args.depth e),
       record {
         is = c.put.ensures
-            ∙ ap (λ (x : Entry). laid c.args.first (x ∷ []) c.args.room.now) c.nil.ensures
-            ∙ ap (λ (es : List Entry). laid c.args.first es c.args.room.now) (sym l);
+            ∙ ap (λ (x : Entry). laid f c.args.first (x ∷ []) c.args.room.now) c.nil.ensures
+            ∙ ap (λ (es : List Entry). laid f c.args.first es c.args.room.now) (sym l);
         count = ap length l;
       },
     )
@@ -166,6 +170,7 @@ index_slot-index_near-requires-in-Many g t c κs within =
 pub index_frame-slots-preserved : goal.index_frame-slots-preserved
 index_frame-slots-preserved g t c =
     let m = c.args.space in
+    let f = g.F.EntryForm.written c.args.form.now in
     let w = c.slots in
     let i = c.slots.invariant in
     let k = c.take.ensures in
@@ -180,9 +185,9 @@ index_frame-slots-preserved g t c =
           (ap (visits_of m c.args.base c.args.depth) k.places) k.owed i.way x.ensures.indexes.0;
       lies = lies;
       segment = k.segment ∙ i.segment;
-      room = i.room ∙ room-takes _ (entries m c.args.depth at) all (ap (entries_of m c.args.depth) k.places)
+      room = i.room ∙ room-takes f _ (entries m c.args.depth at) all (ap (entries_of m c.args.depth) k.places)
           c.args.first w.visits x.told.visits _ _ x.ensures.indexes.1;
-      count = count-takes _ (entries m c.args.depth at) all (ap (entries_of m c.args.depth) k.places)
+      count = count-takes f _ (entries m c.args.depth at) all (ap (entries_of m c.args.depth) k.places)
           c.args.first w.visits x.told.visits _ _ x.ensures.indexes.1 _ i.count;
       reads = let n = x.ensures.reads in let so_far = i.reads in omega arith;
     }

@@ -27,13 +27,14 @@ decreases-index_frame-slots g l = 2 * owed l.frame + (1 - l.frame.left)
 abbrev pub invariant-index_frame-slots : goal.invariant-index_frame-slots
 invariant-index_frame-slots g l =
     let m = l.space in
+    let f = g.F.EntryForm.written l.form in
     record {
       way : IsOnWay l.left (visits_of m l.base l.depth (places_of l.fn.slots)) (owed l.fn.slots)
           (visits_of m l.base l.depth (places_of l.frame)) (owed l.frame) l.paid l.visits;
       lies : Lies m l.frame;
       segment : l.frame.segment ≡ l.fn.slots.segment;
-      room : laid l.first (entries_of m l.depth (places_of l.fn.slots)) l.fn.room
-          ≡ laid (l.first + l.visits) (entries_of m l.depth (places_of l.frame)) l.room;
+      room : laid f l.first (entries_of m l.depth (places_of l.fn.slots)) l.fn.room
+          ≡ laid f (l.first + l.visits) (entries_of m l.depth (places_of l.frame)) l.room;
       count : length (entries_of m l.depth (places_of l.fn.slots))
           ≡ l.visits + length (entries_of m l.depth (places_of l.frame));
       reads : l.reads ≤ l.fn.reads + 13 * l.visits + (1 - (1 - l.frame.left));

@@ -10,8 +10,8 @@ returns-in_err-told-clause-only g c is =
     let s = c.in_err-told.field-0.0 in
     let r = rw (c.depth.ensures.value, c.budget.ensures.value, c.base.ensures.value, c.tariff.ensures) at
     c.in_err-told.ensures.indexes in
-    let e = unindexed m c.args.limits t.ensures.place t.target t.ensures.target t.ensures.kind c.args.room.now
-    c.index_found.new.room s r in
+    let e = unindexed (g.F.EntryForm.written c.args.form.now) m c.args.limits t.ensures.place t.target t.ensures.target
+    t.ensures.kind c.args.room.now c.index_found.new.room s r in
     absurd (not-refused m c.args.limits s.fault s.place s.paid s.visits is e)
 
 pub returns-in_err-told-clause-refused : goal.returns-in_err-told-clause-refused
@@ -21,8 +21,8 @@ returns-in_err-told-clause-refused g c =
     let s = c.in_err-told.field-0.0 in
     let r = rw (c.depth.ensures.value, c.budget.ensures.value, c.base.ensures.value, c.tariff.ensures) at
     c.in_err-told.ensures.indexes in
-    let e = unindexed m c.args.limits t.ensures.place t.target t.ensures.target t.ensures.kind c.args.room.now
-    c.index_found.new.room s r in
+    let e = unindexed (g.F.EntryForm.written c.args.form.now) m c.args.limits t.ensures.place t.target t.ensures.target
+    t.ensures.kind c.args.room.now c.index_found.new.room s r in
     let p = err_from_is_err_and c.from_residual-in_err-told.result c.from_residual-in_err-told.ensures.1 in
     rw (p.1, p.2) e
 
@@ -33,5 +33,5 @@ returns-clause-found g c =
     let x = c.in_ok-told in
     let r = rw (c.depth.ensures.value, c.budget.ensures.value, c.base.ensures.value, c.tariff.ensures) at
     x.ensures.indexes in
-    indexed m c.args.limits t.ensures.place t.target t.ensures.target t.ensures.kind c.args.room.now
-    c.index_found.new.room x.told r
+    indexed (g.F.EntryForm.written c.args.form.now) m c.args.limits t.ensures.place t.target t.ensures.target
+    t.ensures.kind c.args.room.now c.index_found.new.room x.told r

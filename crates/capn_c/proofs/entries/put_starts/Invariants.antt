@@ -1,11 +1,11 @@
-use Rattle.std.proofs.Common.{◌≡◌, length, take}
+use Rattle.std.proofs.Common.{◌≡◌, ◌++◌, drop, length, take}
 use Rattle.std.specs.List.{sum_by}
 use Rattle.capn_c.specs.Entries.{starts_from}
-use Rattle.capn_c.proofs.entries.starts_of.Given as goal
+use Rattle.capn_c.proofs.entries.put_starts.Given as goal
 
 -- the segments so far have their starts, and the next one starts after their words
 abbrev pub invariant-loop-segment : goal.invariant-loop-segment
 invariant-loop-segment g l = record {
-  starts : l.starts.items ≡ take l.segment (starts_from 0 (g.S.Space.message l.space));
+  starts : l.starts ≡ take l.segment (starts_from 0 (g.S.Space.message l.space)) ++ drop l.segment l.fn.starts;
   words : l.total ≡ sum_by length (take l.segment (g.S.Space.message l.space));
 }
