@@ -9,4 +9,5 @@ pub mod Finish
 pub mod ArchiveRun
 pub mod Sieve
 pub mod UniqRun
+pub mod FaultText
 pub mod Laws

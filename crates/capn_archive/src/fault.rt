@@ -1,7 +1,10 @@
 //! Why a run over an archive does not end as done.
 
 use capn_canon::Refusal;
-use capn_serve::Position;
+use capn_endings::{Ending, Line};
+use capn_serve::{Position, say_place, say_refusal};
+use capn_words::Watched;
+use std::io::Write;
 
 /// The messages that were passed over in a run.
 #[derive(Clone, Copy, Debug, PartialEq, Eq)]
@@ -27,4 +30,39 @@ pub enum ArchiveFault {
     Refused(Position, Refusal),
     /// All of the input was served, except for messages that were passed over.
     PassedOver(Passed),
+}
+
+impl Ending for ArchiveFault {
+    ghost use Rattle.capn_archive.specs.FaultText.{archive_text, status_of};
+
+    ghost text = { archive_text };
+
+    ghost exit = { status_of };
+
+    fn say<E: Write>(&self, line: &mut Line, errors: &mut Watched<E>) {
+        match self {
+            ArchiveFault::Memory => line.put(b"out of memory", errors),
+            ArchiveFault::Io => line.put(b"input or output failed", errors),
+            ArchiveFault::InputTooLong => line.put(b"input too long", errors),
+            ArchiveFault::Refused(at, refusal) => {
+                line.put(b"message ", errors);
+                say_place(at, line, errors);
+                line.put(b": ", errors);
+                say_refusal(refusal, line, errors);
+            }
+            ArchiveFault::PassedOver(passed) => {
+                line.put_number(passed.refused, errors);
+                line.put_named(b" of ", passed.messages, errors);
+                line.put(b" messages refused, the first is ", errors);
+                say_place(&passed.first, line, errors);
+            }
+        }
+    }
+
+    fn exit_status(&self) -> u8 {
+        match self {
+            ArchiveFault::Refused(_, _) | ArchiveFault::PassedOver(_) => 1,
+            ArchiveFault::Memory | ArchiveFault::Io | ArchiveFault::InputTooLong => 3,
+        }
+    }
 }

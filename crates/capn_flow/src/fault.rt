@@ -3,9 +3,12 @@
 ghost use Rattle.std.specs.Prelude.{◌≡◌};
 ghost use Rattle.capn_flow.specs.FaultText.{status_of};
 
+use capn_endings::{Ending, Line};
+use capn_words::Watched;
 use std::alloc::AllocError;
 use std::error::Error;
 use std::fmt;
+use std::io::Write;
 
 /// Why a stream isn't packed or unpacked to its end.
 #[derive(Clone, Copy, Debug, PartialEq, Eq)]
@@ -60,5 +63,27 @@ impl FlowFault {
             FlowFault::Cut(_) | FlowFault::NotWhole(_) => 1,
             FlowFault::Memory | FlowFault::Io | FlowFault::InputTooLong => 3,
         }
+    }
+}
+
+impl Ending for FlowFault {
+    ghost use Rattle.capn_flow.specs.FaultText.{fault_text};
+
+    ghost text = { fault_text };
+
+    ghost exit = { status_of };
+
+    fn say<E: Write>(&self, line: &mut Line, errors: &mut Watched<E>) {
+        match self {
+            FlowFault::Memory => line.put(b"out of memory", errors),
+            FlowFault::Io => line.put(b"input or output failed", errors),
+            FlowFault::InputTooLong => line.put(b"input too long", errors),
+            FlowFault::Cut(at) => line.put_named(b"packed: Cut at ", *at, errors),
+            FlowFault::NotWhole(bytes) => line.put_between(b"NotWhole(", *bytes, b")", errors),
+        }
+    }
+
+    fn exit_status(&self) -> u8 {
+        self.status()
     }
 }

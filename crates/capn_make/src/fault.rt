@@ -1,13 +1,17 @@
 //! Why a run of `make` ends without having made all of its input.
 
 ghost use Rattle.std.specs.Prelude.{◌≡◌};
+ghost use Rattle.capn_value.specs.Display.{misfit_name};
 ghost use Rattle.capn_make.specs.FaultText.{status_of};
 ghost use Rattle.capn_make.specs.declared.fault.MakeFault.TheVariants as faults;
 
+use capn_endings::{Ending, Line};
 use capn_value::Misfit;
+use capn_words::Watched;
 use std::alloc::AllocError;
 use std::error::Error;
 use std::fmt;
+use std::io::Write;
 
 /// Why a run ends without having made all of its input. Lines are counted from 1 over the whole input.
 #[derive(Clone, Copy, Debug, PartialEq, Eq)]
@@ -65,6 +69,54 @@ impl fmt::Display for MakeFault {
             MakeFault::Another(line) => write!(f, "line {line}: another text"),
             MakeFault::NoText => write!(f, "line 1: no text"),
         }
+    }
+}
+
+/// The name of a misfit.
+fn name_of(misfit: Misfit) -> &'static [u8]
+    ensures { result.now ≡ misfit_name misfit }
+{
+    match misfit {
+        Misfit::Wide => b"Wide",
+        Misfit::Long => b"Long",
+        Misfit::Ragged => b"Ragged",
+        Misfit::Costly => b"Costly",
+        Misfit::Tall => b"Tall",
+        Misfit::BadRoot => b"BadRoot",
+    }
+}
+
+impl Ending for MakeFault {
+    ghost use Rattle.capn_make.specs.FaultText.{fault_text};
+
+    ghost text = { fault_text };
+
+    ghost exit = { status_of };
+
+    fn say<E: Write>(&self, line: &mut Line, errors: &mut Watched<E>) {
+        match self {
+            MakeFault::Memory => line.put(b"out of memory", errors),
+            MakeFault::Io => line.put(b"input or output failed", errors),
+            MakeFault::InputTooLong => line.put(b"input too long", errors),
+            MakeFault::NotText(at) => {
+                line.put_between(b"line ", *at, b": not the text of a value", errors)
+            }
+            MakeFault::Misfit(at, misfit) => {
+                line.put_named(b"line ", *at, errors);
+                line.put(b": ", errors);
+                line.put(name_of(*misfit), errors);
+            }
+            MakeFault::Capability(at, index) => {
+                line.put_named(b"line ", *at, errors);
+                line.put_named(b": capability ", *index as u64, errors);
+            }
+            MakeFault::Another(at) => line.put_between(b"line ", *at, b": another text", errors),
+            MakeFault::NoText => line.put(b"line 1: no text", errors),
+        }
+    }
+
+    fn exit_status(&self) -> u8 {
+        self.status()
     }
 }
 

@@ -1,37 +1,28 @@
--- How a run over an archive, over texts or over bytes that flow ends the program. (Own.)
-use Rattle.std.specs.Prelude.{ℕ, Result, Ok, Err}
-use Rattle.capn_archive.specs.declared.fault.ArchiveFault.{ArchiveFault}
-use Rattle.capn_archive.specs.declared.fault.ArchiveFault.TheVariants as faults
+-- How a run over an archive, over texts or over bytes that flow ends the program: with 0 where it is done, and else
+-- with the status of its fault. (Own.)
+use Rattle.std.specs.Prelude.{ℕ, Result}
+use Rattle.capn_endings.specs.Ending.{status_of_ending}
+use Rattle.capn_serve.specs.FaultText as served
 use Rattle.capn_serve.specs.declared.fault.RunFault.{RunFault}
-use Rattle.capn_serve.specs.declared.fault.RunFault.TheVariants as run_faults
+use Rattle.capn_archive.specs.FaultText as archived
+use Rattle.capn_archive.specs.declared.fault.ArchiveFault.{ArchiveFault}
 use Rattle.capn_make.specs.FaultText as made
 use Rattle.capn_make.specs.declared.fault.MakeFault.{MakeFault}
 use Rattle.capn_flow.specs.FaultText as flowing
 use Rattle.capn_flow.specs.declared.fault.FlowFault.{FlowFault}
 
--- 0 where it is done, 1 where a message is refused or was passed over, 3 where it could not be carried out
+-- of a run over an archive
 abbrev pub archive_status : Result (Unit {0}) ArchiveFault → ℕ
-archive_status (Ok u) = 0
-archive_status (Err faults.Memory) = 3
-archive_status (Err faults.Io) = 3
-archive_status (Err faults.InputTooLong) = 3
-archive_status (Err (faults.Refused at refusal)) = 1
-archive_status (Err (faults.PassedOver passed)) = 1
+archive_status = status_of_ending archived.status_of
 
--- 0 where it is done, 1 where a frame is refused, 3 where it could not be carried out
+-- of one that picks messages
 abbrev pub pick_status : Result (Unit {0}) RunFault → ℕ
-pick_status (Ok u) = 0
-pick_status (Err run_faults.Memory) = 3
-pick_status (Err run_faults.Io) = 3
-pick_status (Err run_faults.InputTooLong) = 3
-pick_status (Err (run_faults.Refused at refusal)) = 1
+pick_status = status_of_ending served.status_of
 
--- 0 where all texts are made, and else what the fault says
+-- of one over texts
 abbrev pub make_status : Result (Unit {0}) MakeFault → ℕ
-make_status (Ok u) = 0
-make_status (Err fault) = made.status_of fault
+make_status = status_of_ending made.status_of
 
--- 0 where all bytes have flowed, and else what the fault says
+-- and of one that lets bytes flow
 abbrev pub flow_status : Result (Unit {0}) FlowFault → ℕ
-flow_status (Ok u) = 0
-flow_status (Err fault) = flowing.status_of fault
+flow_status = status_of_ending flowing.status_of

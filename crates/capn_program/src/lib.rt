@@ -11,31 +11,26 @@
 //! ```
 #![tactic(auto)]
 
-mod archive_exit;
 mod command_line;
-mod fault_line;
-mod flow_exit;
+mod endings;
+mod fault_text;
 mod help;
 pub mod laws;
-mod make_exit;
 mod option_help;
 mod option_values;
 mod order;
 mod part_run;
 mod part_texts;
-mod pick_exit;
 mod program_run;
 mod show_options;
 mod subcommands;
 mod way;
 
-pub use archive_exit::{archive_text, end_archive, status_of_archive};
 pub use command_line::order_of;
-pub use flow_exit::end_flow;
-pub use make_exit::end_make;
+pub use endings::{end_archive, end_flow, end_make, end_pick, status_of_archive};
+pub use fault_text::archive_text;
 pub use order::{Flow, Order, Show};
 pub use part_run::show_parts;
-pub use pick_exit::end_pick;
 pub use program_run::program;
 pub use subcommands::program_command;
 

@@ -10,14 +10,11 @@ ghost use Rattle.capn_program.specs.Program.{Ends, EndsFlushed, EndsUnordered, L
 ghost use Rattle.capn_program.specs.Program.{Flowed, LetsFlow, PicksMessages, ShowsParts, ShowsVersion};
 ghost use Rattle.capn_program.specs.Usage.{WishesVersion};
 
-use crate::archive_exit::end_archive;
 use crate::command_line::order_of;
-use crate::flow_exit::end_flow;
+use crate::endings::{end_archive, end_flow, end_make, end_pick};
 use crate::help::VERSION_LINE;
-use crate::make_exit::end_make;
 use crate::order::{Flow, Order, Show};
 use crate::part_run::show_parts;
-use crate::pick_exit::end_pick;
 use capn_archive::{Archive, ArchiveFault, RunFault, Uniq, run_archive, run_uniq};
 use capn_flow::{FlowFault, pack_stream, unpack_stream};
 use capn_make::{MakeFault, make};
@@ -220,8 +217,8 @@ fn end_unordered<W: Write, E: Write>(
 /// writer. If the run is done and the flush fails, it ends as a failed output does; after any other run a failed flush
 /// changes nothing. The status is 0 if all is done, 1 if the input, or a message of it, is refused, and 3 if memory,
 /// the input or the output failed or the input is too long.
-/// With 1 and 3 one line on `errors` says why: `capn: ` and the text of the fault, or `capn: out of memory` if there is
-/// no memory for that text. A command line that orders nothing ends with 2, and `errors` says what is wrong with it.
+/// With 1 and 3 one line on `errors` says why: `capn: ` and the text of the fault. A command line that orders nothing
+/// ends with 2, and `errors` says what is wrong with it, or `capn: out of memory` if there is no memory for that.
 /// Help and the version are written to the writer and end with 0, or with 3 if that fails.
 pub fn program<'a, S: AsStr, R: Read, W: Write, E: Write>(
     alloc: Global,

@@ -10,4 +10,5 @@ pub mod PackedRun
 pub mod Pick
 pub mod PickRun
 pub mod FormRun
+pub mod FaultText
 pub mod Laws

@@ -1,7 +1,11 @@
 //! Why a run over a stream ends.
 
 use crate::position::Position;
+use crate::refusal_line::{say_place, say_refusal};
 use capn_canon::Refusal;
+use capn_endings::{Ending, Line};
+use capn_words::Watched;
+use std::io::Write;
 
 /// Why a service did not serve a message.
 #[derive(Clone, Copy, Debug, PartialEq, Eq)]
@@ -25,4 +29,33 @@ pub enum RunFault {
     InputTooLong,
     /// The message at this position is refused, or no message can begin there.
     Refused(Position, Refusal),
+}
+
+impl Ending for RunFault {
+    ghost use Rattle.capn_serve.specs.FaultText.{fault_text, status_of};
+
+    ghost text = { fault_text };
+
+    ghost exit = { status_of };
+
+    fn say<E: Write>(&self, line: &mut Line, errors: &mut Watched<E>) {
+        match self {
+            RunFault::Memory => line.put(b"out of memory", errors),
+            RunFault::Io => line.put(b"input or output failed", errors),
+            RunFault::InputTooLong => line.put(b"input too long", errors),
+            RunFault::Refused(at, refusal) => {
+                line.put(b"message ", errors);
+                say_place(at, line, errors);
+                line.put(b": ", errors);
+                say_refusal(refusal, line, errors);
+            }
+        }
+    }
+
+    fn exit_status(&self) -> u8 {
+        match self {
+            RunFault::Refused(_, _) => 1,
+            RunFault::Memory | RunFault::Io | RunFault::InputTooLong => 3,
+        }
+    }
 }

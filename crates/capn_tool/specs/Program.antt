@@ -5,12 +5,13 @@ use Rattle.clap.specs.Words.{Text, subcommand_of, takes}
 use Rattle.clap.specs.declared.error.ErrorKind.{ErrorKind}
 use Rattle.clap.specs.declared.error.ErrorKind.TheVariants as kinds
 use Rattle.capn_words.specs.Watched.{HasBegun}
+use Rattle.capn_endings.specs.Line.{WritesLine}
 use Rattle.capn_tool.specs.CommandLine.{tool_line}
 use Rattle.capn_tool.specs.Meaning.{Means}
 use Rattle.capn_tool.specs.Usage.{IsHelp, IsReason}
 use Rattle.capn_tool.specs.Outgoing.{EndsFlushed}
 use Rattle.capn_tool.specs.ExitStatus.{status_of}
-use Rattle.capn_tool.specs.FaultText.{ReportsEnding, WritesLine, fault_line}
+use Rattle.capn_tool.specs.FaultText.{ReportsEnding, fault_line}
 use Rattle.capn_tool.specs.Text.{EndsAs, EndsBy, IsText, Begins}
 use Rattle.capn_tool.specs.CommandRun.{KeepsUp}
 use Rattle.capn_tool.specs.declared.command.Command.{Command}

@@ -1,28 +1,52 @@
 //! How a run ends: its exit status, and the line that says why.
 
-ghost use Rattle.std.specs.Prelude.{◌≡◌, IfOk, string_bytes, codes, false};
+ghost use Rattle.std.specs.Prelude.{◌≡◌, IfOk, string_bytes, false};
 ghost use Rattle.capn_words.specs.Watched.{inner_of, has_failed};
 ghost use Rattle.capn_tool.specs.ExitStatus.{status_of};
 ghost use Rattle.capn_tool.specs.FaultText as spec;
-ghost use Rattle.capn_tool.specs.FaultText.{ReportsEnding, WritesFault};
+ghost use Rattle.capn_tool.specs.FaultText.{ReportsEnding};
 
 use crate::fault::ToolFault;
+use capn_endings::{Ending, Line};
+use capn_serve::say_refusal;
 use capn_value::Memory;
 use capn_words::Watched;
 use std::alloc::Allocator;
 use std::fmt;
 use std::io::Write;
 
+impl Ending for ToolFault {
+    ghost use Rattle.capn_tool.specs.ExitStatus.{exit_of};
+    ghost use Rattle.capn_tool.specs.FaultText.{fault_text};
+
+    ghost text = { fault_text };
+
+    ghost exit = { exit_of };
+
+    fn say<E: Write>(&self, line: &mut Line, errors: &mut Watched<E>) {
+        match self {
+            ToolFault::Memory => line.put(b"out of memory", errors),
+            ToolFault::Io => line.put(b"input or output failed", errors),
+            ToolFault::InputTooLong => line.put(b"input too long", errors),
+            ToolFault::NotWhole(length) => line.put_between(b"NotWhole(", *length, b")", errors),
+            ToolFault::Refused(refusal) => say_refusal(refusal, line, errors),
+        }
+    }
+
+    fn exit_status(&self) -> u8 {
+        match self {
+            ToolFault::NotWhole(_) | ToolFault::Refused(_) => 1,
+            ToolFault::Memory | ToolFault::Io | ToolFault::InputTooLong => 3,
+        }
+    }
+}
+
 /// The exit status of a run: 0 where it is done, 1 where the input is refused, 3 where memory, the reader or the
 /// writer failed or the input is too long.
 pub fn status(outcome: &Result<(), ToolFault>) -> u8
     ensures { result ≡ status_of outcome.now }
 {
-    match outcome {
-        Ok(()) => 0,
-        Err(ToolFault::NotWhole(_) | ToolFault::Refused(_)) => 1,
-        Err(ToolFault::Memory | ToolFault::Io | ToolFault::InputTooLong) => 3,
-    }
+    capn_endings::status(outcome)
 }
 
 /// A fault of which the text is shown. A `ToolFault` itself shows the name of its variant.
@@ -53,30 +77,10 @@ pub fn fault_text<A: Allocator>(alloc: A, fault: &ToolFault) -> Result<String<A>
     Ok(format!(in alloc; "{text}")?)
 }
 
-/// The line that the program prints for a fault.
-fn fault_line<A: Allocator + Copy>(alloc: A, fault: &ToolFault) -> Result<String<A>, Memory>
-    ensures { IfOk result (λ line. string_bytes line ≡ spec.fault_line fault.now) }
-{
-    let text = Text(*fault);
-    Ok(format!(in alloc; "capn: {text}\n")?)
-}
-
-/// Writes the line of a fault, or the line of Memory if there is no memory for it.
-fn tell<E: Write, A: Allocator + Copy>(alloc: A, fault: &ToolFault, errors: &mut Watched<E>)
-    requires { has_failed errors.old ≡ false }
-    ensures { WritesFault fault.now (E.contents (inner_of errors.old)) (E.contents (inner_of errors.new))
-        (has_failed errors.new) }
-{
-    let _told = match fault_line(alloc, fault) {
-        Ok(line) => errors.write_all(line.as_bytes()),
-        Err(_) => errors.write_all(b"capn: out of memory\n"),
-    };
-}
-
-/// Writes the line that says why a run ended, if it is not done, and answers its exit status. If there is no memory for
-/// the line, that of Memory is written, and the status stays.
+/// Writes the line that says why a run ended, if it is not done, and answers its exit status. The line is written
+/// whole, or a beginning of it where the errors fail; the allocator is asked for nothing.
 pub fn end<E: Write, A: Allocator + Copy>(
-    alloc: A,
+    _alloc: A,
     outcome: &Result<(), ToolFault>,
     errors: &mut Watched<E>,
 ) -> u8
@@ -85,8 +89,5 @@ pub fn end<E: Write, A: Allocator + Copy>(
     ensures says { ReportsEnding outcome.now (E.contents (inner_of errors.old)) (E.contents (inner_of errors.new))
         (has_failed errors.new) }
 {
-    if let Err(fault) = outcome {
-        tell(alloc, fault, errors);
-    }
-    status(outcome)
+    capn_endings::end(outcome, errors)
 }

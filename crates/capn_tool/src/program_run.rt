@@ -3,9 +3,10 @@
 ghost use Rattle.std.specs.Prelude.{◌≡◌, List, ℕ, map, false, IfOk, IfErr, string_bytes};
 ghost use Rattle.clap.specs.Words.{kind_of};
 ghost use Rattle.capn_words.specs.Watched.{inner_of, has_failed};
+ghost use Rattle.capn_endings.specs.Line.{WritesLine};
 ghost use Rattle.capn_tool.specs.Program.{CarriesOut, Ends, EndsUnordered, ShowsHelp, WritesText, course};
 ghost use Rattle.capn_tool.specs.Usage.{WishesHelp, error_of};
-ghost use Rattle.capn_tool.specs.FaultText.{WritesLine, fault_line};
+ghost use Rattle.capn_tool.specs.FaultText.{fault_line};
 ghost use Rattle.capn_tool.specs.declared.fault.ToolFault.TheVariants as faults;
 
 use crate::command::Command;
@@ -109,9 +110,9 @@ pub fn end_unordered<W: Write, E: Write>(
 /// It carries out the command that the words order, from the reader to the writer, as [`run`] promises, and flushes the
 /// writer. If the run is done and the flush fails, it ends as a failed output does; after any other run a failed flush
 /// changes nothing. The status is 0 if all is done, 1 if the input is refused, and 3 if memory, the input or the output
-/// failed or the input is too long. With 1 and 3 one line on `errors` says why: `capn: ` and the text of the fault, or
-/// `capn: out of memory` if there is no memory for that text. A command line that names no command ends with 2, and
-/// `errors` says what is wrong with it. Help is written to the writer and ends with 0, or with 3 if that fails.
+/// failed or the input is too long. With 1 and 3 one line on `errors` says why: `capn: ` and the text of the fault.
+/// A command line that names no command ends with 2, and `errors` says what is wrong with it, or `capn: out of memory`
+/// if there is no memory for that. Help is written to the writer and ends with 0, or with 3 if that fails.
 pub fn program<'a, S: AsStr, R: Read, W: Write, E: Write>(
     alloc: Global,
     words: &'a [S],

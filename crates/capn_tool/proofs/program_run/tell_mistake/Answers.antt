@@ -1,6 +1,7 @@
 use Rattle.std.proofs.Common.{inl, inr, ℕ, List, Result, Ok, Err, IfOk, IfErr, string_bytes, String}
 use Rattle.capn_tool.specs.Program.{Course, WritesText}
-use Rattle.capn_tool.specs.FaultText.{WritesLine, fault_line}
+use Rattle.capn_endings.specs.Line.{WritesLine}
+use Rattle.capn_tool.specs.FaultText.{fault_line}
 use Rattle.capn_tool.specs.declared.fault.ToolFault.TheVariants as faults
 use Rattle.capn_tool.proofs.program_run.tell_mistake.Goals as goal
 

@@ -1,0 +1,35 @@
+-- A line on its way to a writer. (Own.)
+use Rattle.std.specs.Prelude.{ℕ, ◌≡◌, List, ◌++◌, Bool, true, false, Option}
+use Rattle.std.specs.Io.KnownBytes.{Appends}
+use Rattle.capn_words.specs.Watched.{HasBegun}
+
+-- how far a line has come: what is held back of it, what the writer holds, and whether the writer has failed
+pub record Way : Type 0 where
+  pub held : List ℕ
+  pub written : Option (List ℕ)
+  pub failed : Bool
+
+abbrev pub way : List ℕ → Option (List ℕ) → Bool → Way
+way held written failed = record { held = held; written = written; failed = failed }
+
+-- a line was written, or a beginning of it where the writer has failed
+abbrev pub WritesLine : List ℕ → Option (List ℕ) → Option (List ℕ) → Bool → Type 0
+WritesLine line old new true = HasBegun old new line
+WritesLine line old new false = Appends old new line
+
+-- a part was written to a writer that had not failed, or a beginning of it where the writer has failed; one that had
+-- failed was left alone
+abbrev pub Goes : List ℕ → Option (List ℕ) → Bool → Option (List ℕ) → Bool → Type 0
+Goes part old false new failed = WritesLine part old new failed
+Goes part old true new failed = (new ≡ old) × (failed ≡ true)
+
+-- From a writer that held the first bytes, what was said since is its front, which was written, and what is held back;
+-- or a beginning was written, and the writer has failed.
+abbrev pub IsOnItsWay : Option (List ℕ) → List ℕ → List ℕ → Option (List ℕ) → Bool → Type 0
+IsOnItsWay start said held now false = (front : List ℕ) × Appends start now front × (said ≡ front ++ held)
+IsOnItsWay start said held now true = HasBegun start now said
+
+-- a part was said, after whatever was said before
+pub record Says (part : List ℕ) (old new : Way) : Type 0 where
+  pub goes_on : (start : Option (List ℕ)) (said : List ℕ) → IsOnItsWay start said old.held old.written old.failed
+      → IsOnItsWay start (said ++ part) new.held new.written new.failed
