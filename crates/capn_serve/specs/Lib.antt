@@ -11,3 +11,4 @@ pub mod Pick
 pub mod PickRun
 pub mod FormRun
 pub mod Laws
+pub mod inner
