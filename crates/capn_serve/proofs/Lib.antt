@@ -9,6 +9,7 @@ pub mod WholeRead
 pub mod BareEnds
 pub mod PackedMore
 pub mod PackedEnds
+pub mod Ranges
 pub mod Picks
 pub mod EachForm
 pub mod OnePick

@@ -12,3 +12,4 @@ pub mod PickRun
 pub mod FormRun
 pub mod FaultText
 pub mod Laws
+pub mod inner

@@ -6,10 +6,10 @@ use Rattle.capn_pack.specs.PackedPieces as packing
 use Rattle.capn_serve.specs.declared.fault.RunFault.{RunFault}
 use Rattle.capn_serve.specs.declared.fault.RunFault.TheVariants as faults
 use Rattle.capn_serve.specs.declared.pick.Pick.{Pick}
+use Rattle.capn_serve.specs.declared.pick.Range.{Range}
 use Rattle.capn_serve.specs.declared.pick.StreamForm.{StreamForm}
 use Rattle.capn_serve.specs.declared.pick.StreamForm.TheVariants as forms
-use Rattle.capn_serve.specs.declared.service.Run.{Run}
-use Rattle.capn_serve.specs.Pick.{IsEnough, IsTooFew, last, pick_fold}
+use Rattle.capn_serve.specs.Pick.{IsEnough, IsTooFew, Picking, last_of, pick_fold, ranges_of}
 use Rattle.capn_serve.specs.StreamRun as streams
 use Rattle.capn_serve.specs.StreamRun.{TakesBytes, first_run, has_more, taken_of}
 use Rattle.capn_serve.specs.PackedRun as packings
@@ -18,20 +18,20 @@ use Rattle.capn_serve.specs.PackedRun as packings
 abbrev pub most_taken : ℕ
 most_taken = 2 ^ 64 - 1
 
-module _ (most : ℕ) (p : Pick) where
+module _ (most : ℕ) (ranges : List Range) where
   -- This is picked of the bytes that are taken of an input, and a run over them ends so: as done, if the messages up
   -- to the last are whole; else with the stream.
   -- Of a packed input the same holds of what its whole groups unpack to.
   abbrev pub IsPickedOf : StreamForm → List ℕ → Bool → List ℕ → Result (Unit {0}) RunFault → Type 0
   IsPickedOf forms.Stream bytes is_longer text ending =
-      (IsEnough most p bytes text × (ending ≡ Ok tt))
-      ⊎ ((y : Run Pick) × streams.IsDue (pick_fold most) (first_run p) most_taken bytes is_longer text ending y
-      × (y.at.index < last p))
+      (IsEnough most ranges bytes text × (ending ≡ Ok tt))
+      ⊎ ((y : Picking) × streams.IsDue (pick_fold most) (first_run ranges) most_taken bytes is_longer text ending y
+      × (y.at.index < last_of ranges))
   IsPickedOf forms.Packed bytes is_longer text ending =
-      ((stream : List ℕ) × packing.Begins bytes [] stream × IsEnough most p (taken_of most_taken stream) text
+      ((stream : List ℕ) × packing.Begins bytes [] stream × IsEnough most ranges (taken_of most_taken stream) text
       × (ending ≡ Ok tt))
-      ⊎ ((y : Run Pick) × packings.IsDuePacked (pick_fold most) (first_run p) most_taken bytes is_longer text ending y
-      × (y.at.index < last p))
+      ⊎ ((y : Picking) × packings.IsDuePacked (pick_fold most) (first_run ranges) most_taken bytes is_longer text ending y
+      × (y.at.index < last_of ranges))
 
   -- this is picked of what is taken of a whole input, and a run over it ends so
   abbrev pub IsPicked : StreamForm → List ℕ → List ℕ → Result (Unit {0}) RunFault → Type 0
@@ -47,16 +47,16 @@ module _ (most : ℕ) (p : Pick) where
 
   -- in these bytes, or in what their whole groups unpack to, fewer messages are whole than are looked at
   abbrev pub IsShort : StreamForm → List ℕ → Type 0
-  IsShort forms.Stream bytes = IsTooFew most p bytes
+  IsShort forms.Stream bytes = IsTooFew most ranges bytes
   IsShort forms.Packed bytes = (stream : List ℕ) × (group : List ℕ) × (offset : ℕ)
-      × packing.Splits bytes group [] stream offset × IsTooFew most p stream
+      × packing.Splits bytes group [] stream offset × IsTooFew most ranges stream
 
   -- a beginning of what is picked of these bytes was written
   abbrev pub HasWritten : StreamForm → List ℕ → Option (List ℕ) → Option (List ℕ) → Type 0
   HasWritten forms.Stream bytes old new =
-      streams.HasWritten (pick_fold most) (first_run p) most_taken (taken_of most_taken bytes) old new
+      streams.HasWritten (pick_fold most) (first_run ranges) most_taken (taken_of most_taken bytes) old new
   HasWritten forms.Packed bytes old new =
-      packings.HasWrittenPacked (pick_fold most) (first_run p) most_taken (taken_of most_taken bytes) old new
+      packings.HasWrittenPacked (pick_fold most) (first_run ranges) most_taken (taken_of most_taken bytes) old new
 
   -- a reader gave some bytes, no more pieces than needed, and a writer took a beginning of what is picked of them
   pub record Begins (form : StreamForm) (a b c d : Option (List ℕ)) : Type 0 where
@@ -68,14 +68,19 @@ module _ (most : ℕ) (p : Pick) where
 
   -- all that is picked of the bytes that a reader gave was written
   abbrev pub KeepsUp : StreamForm → Option (List ℕ) → Option (List ℕ) → Option (List ℕ) → Option (List ℕ) → Type 0
-  KeepsUp forms.Stream a b c d = streams.KeepsUp (pick_fold most) (first_run p) most_taken a b c d
-  KeepsUp forms.Packed a b c d = packings.KeepsUpPacked (pick_fold most) (first_run p) most_taken most_taken a b c d
+  KeepsUp forms.Stream a b c d = streams.KeepsUp (pick_fold most) (first_run ranges) most_taken a b c d
+  KeepsUp forms.Packed a b c d = packings.KeepsUpPacked (pick_fold most) (first_run ranges) most_taken most_taken a b c d
 
   -- what a run did, over a reader (from a to b) and a writer (from c to d)
-  pub record Picks (form : StreamForm) (a b c d : Option (List ℕ)) (reader_failed writer_failed : Bool)
+  pub record PicksRanges (form : StreamForm) (a b c d : Option (List ℕ)) (reader_failed writer_failed : Bool)
       (r : Result (Unit {0}) RunFault) : Type 0 where
     pub exact : IfSome a (EndsAs form c d r)
     pub io : (r ≡ Err faults.Io) ↔ ((reader_failed ≡ true) ⊎ (writer_failed ≡ true))
     pub begun : Begins form a b c d
     pub heard : reader_failed ≡ true → KeepsUp form a b c d
     pub memory : r ≡ Err faults.Memory → TakesBytes a b
+
+-- what a run did that picks the messages from one number to another
+abbrev pub Picks : ℕ → Pick → StreamForm → Option (List ℕ) → Option (List ℕ) → Option (List ℕ) → Option (List ℕ) → Bool
+    → Bool → Result (Unit {0}) RunFault → Type 0
+Picks most p = PicksRanges most (ranges_of p)

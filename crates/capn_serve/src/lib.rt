@@ -4,7 +4,8 @@
 //! [`run_stream`], [`run_packed`] and [`run_bare`] are the loops over the three forms, and [`serve_form`] is the loop
 //! of a given form. Each ends where the service is done, and does not read on.
 //!
-//! [`run_pick`] writes the frames of some messages as they stand; its service is done after the last of them.
+//! [`run_only`] and [`run_pick`] write the frames of some messages as they stand; their service is done after the last
+//! of them.
 #![tactic(auto)]
 
 mod adding;
@@ -18,6 +19,7 @@ mod output;
 mod packed_run;
 mod pick;
 mod pick_run;
+mod picker;
 mod position;
 mod refusal_line;
 mod service;
@@ -32,8 +34,8 @@ pub use fault::{RunFault, ServeFault};
 pub use form_run::serve_form;
 pub use output::{flush_long, write_all};
 pub use packed_run::run_packed;
-pub use pick::{Pick, StreamForm};
-pub use pick_run::run_pick;
+pub use pick::{Pick, Range, StreamForm};
+pub use pick_run::{run_only, run_pick};
 pub use position::{Position, number_of};
 pub use refusal_line::{say_place, say_refusal};
 pub use service::{Run, Service};

@@ -1,7 +1,7 @@
 //! Runs that pick messages which were made by hand.
 
 use capn_canon::{Limits, Refusal};
-use capn_serve::{Pick, Position, RunFault, StreamForm, run_pick};
+use capn_serve::{Pick, Position, Range, RunFault, StreamForm, run_only, run_pick};
 use capn_stream::FrameFault;
 use capn_words::Watched;
 use std::alloc::Global;
@@ -150,5 +150,108 @@ fn picks_a_long_message(rt: HostRuntime) -> Result<(), Fail> {
     let mut writer = Watched::new(Vec::new(rt.alloc()));
     let ending = run_pick(rt.alloc(), pick, &mut reader, &mut writer);
     assert!(rt; ending == Ok(()) && writer.into_inner().as_slice() == stream.as_slice());
+    Ok(())
+}
+
+/// Picks the messages of ranges of a reader that fails if it is read again.
+fn picked_only(alloc: Global, form: StreamForm, ranges: &[Range], bytes: &[u8]) -> Outcome {
+    let mut reader = Watched::new(Once {
+        bytes,
+        is_over: false,
+    });
+    let mut writer = Watched::new(Vec::new(alloc));
+    let limits = Limits::usual();
+    let ending = run_only(alloc, form, limits, ranges, &mut reader, &mut writer);
+    Outcome {
+        text: writer.into_inner(),
+        ending,
+    }
+}
+
+/// A range.
+fn range(from: u64, to: u64) -> Range {
+    Range { from, to }
+}
+
+/// The first and the third frame are written, the second is not, and nothing is read after the third.
+#[test]
+fn picks_ranges(rt: HostRuntime) -> Result<(), Fail> {
+    let ranges = [range(1, 1), range(3, 3)];
+    let two = picked_only(rt.alloc(), StreamForm::Stream, &ranges, &FRAMES);
+    assert!(rt; two.ending == Ok(()) && two.text.len() == 24);
+    assert!(rt; &two.text.as_slice()[..16] == &FRAMES[..16]);
+    assert!(rt; &two.text.as_slice()[16..] == &FRAMES[32..40]);
+    Ok(())
+}
+
+/// Ranges that touch are as good as one.
+#[test]
+fn picks_adjacent_ranges(rt: HostRuntime) -> Result<(), Fail> {
+    let ranges = [range(1, 2), range(3, 3)];
+    let all = picked_only(rt.alloc(), StreamForm::Stream, &ranges, &FRAMES);
+    assert!(rt; all.ending == Ok(()) && all.text.as_slice() == &FRAMES[..40]);
+    Ok(())
+}
+
+/// Of a packed stream too, and a group after the last message is not looked at.
+#[test]
+fn picks_packed_ranges(rt: HostRuntime) -> Result<(), Fail> {
+    let second = picked_only(rt.alloc(), StreamForm::Packed, &[range(2, 2)], &PACKED);
+    assert!(rt; second.ending == Ok(()) && second.text.as_slice() == &FRAMES[16..32]);
+    Ok(())
+}
+
+/// A frame that is refused before the last range ends the run, and what was picked before it is written.
+#[test]
+fn ends_between_ranges(rt: HostRuntime) -> Result<(), Fail> {
+    let ranges = [range(2, 2), range(9, 12)];
+    let refused = picked_only(rt.alloc(), StreamForm::Stream, &ranges, &FRAMES);
+    let at = Position {
+        index: 3,
+        offset: 40,
+    };
+    let fault = Refusal::Frame(FrameFault::TooManySegments(4_294_967_296));
+    assert!(rt; refused.ending == Err(RunFault::Refused(at, fault)));
+    assert!(rt; refused.text.as_slice() == &FRAMES[16..32]);
+    Ok(())
+}
+
+/// Fewer messages than the ranges name are those that there are.
+#[test]
+fn picks_fewer_than_asked_for(rt: HostRuntime) -> Result<(), Fail> {
+    let ranges = [range(2, 2), range(3, 9), range(20, u64::MAX)];
+    let mut reader = Watched::new(&FRAMES[..40]);
+    let mut writer = Watched::new(Vec::new(rt.alloc()));
+    let (alloc, limits) = (rt.alloc(), Limits::usual());
+    let ending = run_only(
+        alloc,
+        StreamForm::Stream,
+        limits,
+        &ranges,
+        &mut reader,
+        &mut writer,
+    );
+    assert!(rt; ending == Ok(()) && writer.into_inner().as_slice() == &FRAMES[16..40]);
+    Ok(())
+}
+
+/// Without a range nothing is read.
+#[test]
+fn reads_nothing_for_no_range(rt: HostRuntime) -> Result<(), Fail> {
+    let mut reader = Watched::new(Once {
+        bytes: &FRAMES,
+        is_over: true,
+    });
+    let mut writer = Watched::new(Vec::new(rt.alloc()));
+    let (alloc, limits) = (rt.alloc(), Limits::usual());
+    let ending = run_only(
+        alloc,
+        StreamForm::Stream,
+        limits,
+        &[],
+        &mut reader,
+        &mut writer,
+    );
+    assert!(rt; ending == Ok(()) && writer.into_inner().is_empty());
     Ok(())
 }

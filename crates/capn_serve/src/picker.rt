@@ -1,0 +1,83 @@
+//! The service that writes the frames of the messages of some ranges.
+
+ghost use Rattle.std.specs.Prelude.{◌≡◌};
+ghost use Rattle.capn_serve.specs.inner.Picker as spec;
+
+use crate::adding::add_bytes;
+use crate::fault::ServeFault;
+use crate::pick::Range;
+use crate::position::{Position, number_of};
+use crate::service::Service;
+use capn_words::{Space, Watched};
+use std::alloc::Allocator;
+use std::io::Write;
+
+/// The ranges of the messages that are still to be picked, in ascending order. As a service it writes the frame of each
+/// message of a range, as it stands, and walks none. It looks at the first range alone, which it drops after the last
+/// message of that, so that the cost of a message does not depend on the number of ranges.
+#[derive(Drop)]
+pub(crate) struct Picker<'r> {
+    /// The ranges.
+    pub rest: &'r [Range],
+}
+
+/// Whether a number is in the first of some ranges.
+#[inline(always)]
+fn is_first(rest: &[Range], number: u128) -> bool
+    ensures { result ≡ spec.is_first rest.now number }
+{
+    match rest {
+        [range, ..] => u128::from(range.from) <= number && number <= u128::from(range.to),
+        [] => false,
+    }
+}
+
+/// The ranges that are left after a number.
+#[inline(always)]
+fn left<'r>(rest: &'r [Range], number: u128) -> &'r [Range]
+    ensures { result.now ≡ spec.left rest.now number }
+{
+    match rest {
+        [range, after @ ..] => {
+            if number < u128::from(range.to) {
+                rest
+            } else {
+                after
+            }
+        }
+        [] => rest,
+    }
+}
+
+impl<'r> Service for Picker<'r> {
+    ghost use Rattle.capn_serve.specs.inner.Picker as spec;
+
+    ghost serves = { spec.serves };
+
+    ghost refuses = { spec.refuses };
+
+    ghost done = { spec.done };
+
+    #[inline(always)]
+    fn is_done(&self, _at: Position) -> bool {
+        self.rest.is_empty()
+    }
+
+    fn serve<S: Space, W: Write, A: Allocator + Copy>(
+        &mut self,
+        _alloc: A,
+        at: Position,
+        frame: &[u8],
+        _message: &S,
+        text: &mut Vec<u8, A>,
+        writer: &mut Watched<W>,
+    ) -> Result<(), ServeFault> {
+        let number = number_of(at.index);
+        let writes = is_first(self.rest, number);
+        self.rest = left(self.rest, number);
+        if writes {
+            return add_bytes(frame, text, writer);
+        }
+        Ok(())
+    }
+}
