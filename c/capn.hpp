@@ -234,6 +234,20 @@ inline capn_figures survey(bytes message, form written = form::stream, const lim
     return figures;
 }
 
+/* How the text of a message is written: lines, the same with printable bytes between quotes, or one line of JSON. */
+enum class style : std::uint32_t { lines = CAPN_STYLE_LINES, text = CAPN_STYLE_TEXT, json = CAPN_STYLE_JSON };
+
+/* The text of one message: what `capn show` writes of it in a style. */
+inline std::string show(bytes message, form written = form::stream, const limits &most = {},
+                        style as = style::lines) {
+    const std::size_t hint = (written == form::packed ? 16 : 4) * message.size() + 256;
+    const buffer out = detail::made(hint, [&](std::uint8_t *at, std::size_t room, capn_report *report) {
+        return capn_show(detail::number(written), message.u8(), message.size(), &most, static_cast<std::uint32_t>(as),
+                         reinterpret_cast<char *>(at), room, report);
+    });
+    return std::string(bytes(out).chars());
+}
+
 /* The packed text of whole words. */
 inline buffer pack(bytes words) {
     return detail::made(words.size() / 2 + 16, [&](std::uint8_t *out, std::size_t room, capn_report *report) {

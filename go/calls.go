@@ -36,6 +36,12 @@ package capn
 //     told.status = capn_survey(form, bytes, size, &limits, &told.figures, &told.report);
 //     return told;
 // }
+// static capn_told told_show(uint32_t form, const uint8_t *bytes, size_t size, capn_limits limits, uint32_t style,
+//                            uint8_t *out, size_t room) {
+//     capn_told told;
+//     told.status = capn_show(form, bytes, size, &limits, style, (char *)out, room, &told.report);
+//     return told;
+// }
 // static capn_told told_pack(const uint8_t *bytes, size_t size, uint8_t *out, size_t room) {
 //     capn_told told;
 //     told.status = capn_pack(bytes, size, out, room, &told.report);
@@ -120,6 +126,12 @@ func callSurvey(form Form, m []byte, l Limits) (Figures, uint32, report) {
 		Canonical: f.canonical != 0,
 	}
 	return figures, uint32(told.status), reported(told.report)
+}
+
+func callShow(form Form, m []byte, l Limits, style Style, out []byte) (uint32, report) {
+	told := C.told_show(C.uint32_t(form), start(m), C.size_t(len(m)), laidOut(l), C.uint32_t(style), start(out),
+		C.size_t(len(out)))
+	return uint32(told.status), reported(told.report)
 }
 
 func callPack(m, out []byte) (uint32, report) {

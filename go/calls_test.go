@@ -89,6 +89,43 @@ func TestLongAnswer(t *testing.T) {
 	}
 }
 
+func TestShow(t *testing.T) {
+	list := bytesOf([][]uint64{{1 | 26<<32, 0x6968}})[0]
+	long := append(bytesOf([][]uint64{{1 | 2<<32 | 8000<<35}})[0], make([]byte, 8000)...)
+	// A text that is longer than the room that is tried first.
+	bits := append(bytesOf([][]uint64{{1 | 1<<32 | 64000<<35}})[0], make([]byte, 8000)...)
+	packed, err := Pack(small)
+	if err != nil {
+		t.Fatal(err)
+	}
+	const five = "struct 2 0\n  word 0000000000000005\n  word 0000000000000000\nend\n"
+	for _, one := range []struct {
+		message []byte
+		form    Form
+		style   Style
+		text    string
+	}{
+		{small, Stream, Lines, five},
+		{small[8:], Bare, Text, five},
+		{packed, Packed, Lines, five},
+		{list, Bare, Lines, "bytes 3\n  686900\nend\n"},
+		{list, Bare, Text, "bytes 3 \"hi\\0\"\nend\n"},
+		{list, Bare, JSON, "{\"bytes\":\"686900\"}\n"},
+		{bits, Bare, Lines, "bits 64000\n  " + strings.Repeat("0", 64000) + "\nend\n"},
+		{long, Bare, JSON, "{\"bytes\":\"" + strings.Repeat("00", 8000) + "\"}\n"},
+	} {
+		if text, err := Show(one.message, one.form, nil, one.style); err != nil || text != one.text {
+			t.Errorf("%q, %v, not %q", text, err, one.text)
+		}
+	}
+	if _, err := Show(small, Stream, nil, Style(3)); err != ErrStyle {
+		t.Error(err)
+	}
+	if text, err := Show(small, Stream, &Limits{9, 2, 9, Strict}, Lines); !errors.Is(err, ErrOverBudget) || text != "" {
+		t.Error(text, err)
+	}
+}
+
 func TestRefusals(t *testing.T) {
 	outside, little := []byte("\x00\x00\x00\x00\x01\x00\x00\x00"), &Limits{9, 2, 9, Strict}
 	capability := []byte("\x00\x00\x00\x00\x00\x00\x01\x00" + "\x03\x00\x00\x00\x07\x00\x00\x00")

@@ -27,6 +27,15 @@ const (
 	Plain                // nothing beside it, as the traversal limit of the C++ implementation counts
 )
 
+// Style is how the text of a message is written.
+type Style uint32
+
+const (
+	Lines Style = iota // lines, with the digits of each list of bytes: as `capn show` writes it
+	Text               // the same, but a list of printable bytes stands between quotes: as `capn show --text`
+	JSON               // one line of JSON: as `capn show --json`
+)
+
 // Limits are how much a call takes on. The root object has depth 1; walks pay words.
 type Limits struct {
 	MessageWords uint32 // of one framed message: 1 to 2^28
@@ -113,6 +122,18 @@ func IsCanonical(bytes []byte, limits *Limits) (bool, error) {
 		return false, failure(status, r)
 	}
 	return status == ok, nil
+}
+
+// Show has the text of one message: what the program capn show writes of it in a style. It may be far longer than a
+// small message, so have limits.
+func Show(message []byte, form Form, limits *Limits, style Style) (string, error) {
+	room := 4*len(message) + 256
+	if form == Packed {
+		room = 16*len(message) + 256
+	}
+	l := limitsOf(limits)
+	text, err := filled(nil, room, func(out []byte) (uint32, report) { return callShow(form, message, l, style, out) })
+	return string(text), err
 }
 
 // Pack has the packed text of whole words.

@@ -18,6 +18,9 @@ var ErrForm = errors.New("capn: the form is none of the three")
 // ErrLimits says that a limit is out of its range, or that the tariff is none of the two.
 var ErrLimits = errors.New("capn: a limit is out of its range")
 
+// ErrStyle says that a style is none of the three.
+var ErrStyle = errors.New("capn: the style is none of the three")
+
 // Kind is what is wrong with a message that is refused. It is an error that errors.Is compares others with.
 type Kind uint32
 
@@ -132,8 +135,12 @@ func failure(status uint32, r report) error {
 		return ErrUnsupported
 	case 2:
 		return ErrForm
-	case 3, 4:
+	case 3:
 		return ErrLimits
+	case 4:
+		return ErrLimits
+	case 6:
+		return ErrStyle
 	case 8:
 		return ErrMemory
 	}

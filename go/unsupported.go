@@ -18,6 +18,8 @@ func callSurvey(Form, []byte, Limits) (Figures, uint32, report) {
 	return Figures{}, unsupported, report{}
 }
 
+func callShow(Form, []byte, Limits, Style, []byte) (uint32, report) { return unsupported, report{} }
+
 func callPack(_, _ []byte) (uint32, report) { return unsupported, report{} }
 
 func callUnpack([]byte, uint32, []byte) (uint32, report) { return unsupported, report{} }

@@ -20,6 +20,8 @@ func TestUnsupported(t *testing.T) {
 	errs = append(errs, err)
 	_, err = IsCanonical(message, nil)
 	errs = append(errs, err)
+	_, err = Show(message, Stream, nil, Lines)
+	errs = append(errs, err)
 	_, err = Pack(message)
 	errs = append(errs, err)
 	_, err = Unpack(message, 9)

@@ -95,8 +95,25 @@ DECLARED = """
     } capn_look;
     capn_status capn_look_at(const uint8_t *bytes, size_t size, const capn_limits *limits, capn_look *look,
                              capn_report *report);
+    typedef struct {
+        capn_limits limits;
+        uint64_t number, offset;
+        size_t have;
+        uint8_t out[...];
+    } capn_raw;
+    size_t capn_read_one(int file, capn_raw *raw);
+    ptrdiff_t capn_peek(int file, uint8_t *out, size_t most);
     capn_status capn_look_at_packed(const uint8_t *text, size_t size, const capn_limits *limits, uint8_t *out,
                                     size_t room, uint32_t most, capn_look *look, capn_report *report);
+    typedef struct {
+        capn_limits limits;
+        uint8_t *out;
+        size_t room, length;
+        capn_status status;
+        capn_report report;
+        ...;
+    } capn_packed_one;
+    size_t capn_look_at_one(const uint8_t *text, size_t size, capn_packed_one *one);
 """
 
 binding = FFI()

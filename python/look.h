@@ -2,6 +2,11 @@
  * loop over the library's calls, and keeps nothing. */
 #include "capn.h"
 
+#include <errno.h>
+#include <fcntl.h>
+#include <stddef.h>
+#include <unistd.h>
+
 enum { CAPN_LOOK_MOST = 128 };
 
 typedef struct {
@@ -57,4 +62,69 @@ static capn_status capn_look_at_packed(const uint8_t *text, size_t size, const c
         look->takes[look->count++] = from;
     }
     return CAPN_OK;
+}
+
+/* The first message of a packed text: where it is unpacked to, and what was found of it. */
+typedef struct {
+    capn_limits limits;
+    uint8_t *out;
+    size_t room, length; /* of the message, in the unpacked bytes */
+    capn_status status;
+    capn_report report;
+    capn_look look;
+} capn_packed_one;
+
+/* The same of one message; the answer is how many packed bytes it has, or 0. */
+static size_t capn_look_at_one(const uint8_t *text, size_t size, capn_packed_one *one) {
+    one->status = capn_look_at_packed(text, size, &one->limits, one->out, one->room, 1, &one->look, &one->report);
+    one->length = one->look.end;
+    return one->look.take;
+}
+
+/* A file that the system has, as a pipe is: the limits, and the message that was read last or has begun. */
+typedef struct {
+    capn_limits limits;
+    uint64_t number, offset; /* how many messages were read, and how many bytes they have */
+    size_t have;             /* the bytes of one that has begun */
+    uint8_t out[65536];
+} capn_raw;
+
+/* Reads the next message off a file, by two of the system's reads if that has one segment. The answer is its length, or
+ * 0: then it isn't whole yet, or not read so. A call goes on with the bytes that there are. */
+static size_t capn_read_one(int file, capn_raw *raw) {
+    size_t have = raw->have, need = 8;
+    capn_report report;
+    for (;;) {
+        if (have >= need) {
+            const capn_status status = capn_first(raw->out, have, &raw->limits, &report);
+            if (status == CAPN_OK) {
+                raw->number++;
+                raw->offset += have;
+                raw->have = 0;
+                return have;
+            }
+            need = report.length;
+            if (status != CAPN_FRAME_CUT || need > sizeof raw->out) break;
+        }
+        const ssize_t more = read(file, raw->out + have, need - have);
+        if (more <= 0) break;
+        have += (size_t)more;
+        if (have < need) break;
+    }
+    raw->have = have;
+    return 0;
+}
+
+/* What a pipe has, at most so many bytes, which stay in it: they are put into a second pipe too, and read from that.
+ * The answer is how many they are, 0 if there are none now, and less than 0 if the system can't. */
+static ptrdiff_t capn_peek(int file, uint8_t *out, size_t most) {
+    int second[2];
+    ssize_t seen;
+    if (pipe2(second, O_CLOEXEC) != 0) return -1;
+    seen = tee(file, second[1], most, SPLICE_F_NONBLOCK);
+    if (seen < 0 && (errno == EAGAIN || errno == EINTR)) seen = 0;
+    if (seen > 0) seen = read(second[0], out, (size_t)seen);
+    close(second[0]);
+    close(second[1]);
+    return seen;
 }

@@ -10,62 +10,70 @@ from ._splitter import FRAME_CUT, HEAD, MEMORY, OK, PACKED_CUT, PACKED_TOO_LONG,
 
 __all__ = ["Packed"]
 
-_first, _unpack_some, _look_at_packed = lib.capn_first, lib.capn_unpack_some, lib.capn_look_at_packed
+_first, _unpack_some, _look_at_one = lib.capn_first, lib.capn_unpack_some, lib.capn_look_at_one
+_one_type = ffi.typeof("capn_packed_one *")
 
 
 class Packed(Messages):
     """The same of a packed stream. If a file can be looked into before it is read, a message is taken at once; else it
     is read group by group. What is held is packed."""
 
-    __slots__ = ("_peek", "_ready", "_look", "_out", "_words")
+    __slots__ = ("_peek", "_ready", "_one", "_out", "_words", "_has_begun")
 
     def __init__(self, read: Callable[[int], Any], peek: Callable[[int], Any] | None, splitter: Splitter) -> None:
         super().__init__(read, splitter)
         # Where words are unpacked to, and what has the bytes of it all.
-        self._peek, self._look, self._out = peek, splitter._look, splitter._out
+        self._peek, self._out = peek, splitter._out
         self._words = ffi.buffer(splitter._out)
+        self._one = ffi.new(_one_type, {"limits": self._bounds[0], "out": self._out, "room": PIECE})
         # Messages that a group ended all at once.
         self._ready: list[bytes] = []
+        # Whether it may be within a message, or can't be looked into.
+        self._has_begun = peek is None
 
     def _is_between(self) -> bool:
         splitter = self._splitter
         return not (self._held or self._ready or splitter._held or splitter._text or self._over is not None)
 
     def __next__(self) -> bytes:
-        splitter, peek = self._splitter, self._peek
-        if peek is None or self._held or self._ready or splitter._held or splitter._text or self._over is not None:
+        peek = self._peek
+        if self._has_begun or peek is None:
             return self._any()
         # As most messages are: short, all of it can be seen, and it ends where a group does.
-        seen, look = peek(1), self._look
+        seen = peek(1)
         if type(seen) is bytes and seen:
-            status = _look_at_packed(seen, len(seen), self._bounds, self._out, PIECE, 1, look, self._report)
-            if look.count:
-                need, taken = look.end, look.take
+            one = self._one
+            taken = _look_at_one(seen, len(seen), one)
+            if taken:
                 piece = self._read(taken)
                 if piece and len(piece) == taken:
+                    need = one.length
                     self._taken += taken
                     self._number += 1
                     self._offset += need
                     return self._words[0:need]  # type: ignore[no-any-return]
+                self._has_begun = True
                 self._came(piece)
-            elif status == PACKED_CUT and self._report.length <= PIECE:
+            elif one.status == PACKED_CUT and one.report.length <= PIECE:
+                self._has_begun = True
                 self._came(self._read(len(seen)))
                 return self._crossing(peek)
-            elif status == MEMORY:
-                raise failure(status, self._report)
+            elif one.status == MEMORY:
+                raise failure(MEMORY, one.report)
         return self._any()
 
     def _crossing(self, peek: Callable[[int], Any]) -> bytes:
         """The next message, of which a part is held: by a look at what comes next, if that has the rest of it."""
-        held, look, seen = len(self._held), self._look, peek(1)
+        held, one, seen = len(self._held), self._one, peek(1)
         if seen:
             text = bytes(self._held) + seen
-            _look_at_packed(text, len(text), self._bounds, self._out, PIECE, 1, look, self._report)
-            need, taken = look.end, look.take
+            taken = _look_at_one(text, len(text), one)
             if taken > held:
                 piece = self._read(taken - held)
                 if piece and len(piece) == taken - held:
+                    need = one.length
                     self._held = b""
+                    self._has_begun = False
                     self._taken += taken
                     self._number += 1
                     self._offset += need
@@ -74,6 +82,13 @@ class Packed(Messages):
         return self._any()
 
     def _any(self) -> bytes:
+        self._has_begun = True
+        frame = self._whole()
+        self._has_begun = self._peek is None or not self._is_between()
+        return frame
+
+    def _whole(self) -> bytes:
+        """The next message, of whatever shape."""
         if self._over is not None:
             raise self._over
         splitter = self._splitter

@@ -2,25 +2,32 @@
 from __future__ import annotations
 
 from collections import deque
+from io import FileIO
 from typing import Any, Callable, Iterator, NoReturn
 
-from ._capn import lib
+from ._capn import ffi, lib
 from ._refusal import Refusal
 from ._splitter import FRAME_CUT, HEAD, LEAST, OK, ONE, PIECE, Splitter
 
-__all__ = ["Ahead", "Messages"]
+__all__ = ["Ahead", "Messages", "Raw"]
 
-_first = lib.capn_first
+_raw, _raw_type = ffi.new_allocator(should_clear_after_alloc=False), ffi.typeof("capn_raw *")
+_first, _read_one = lib.capn_first, lib.capn_read_one
+# How many tables are remembered at most, each with how many bytes follow it.
+_TABLES = 256
 
 
 class Messages(Iterator[bytes]):
     """The messages of a stream, one frame each; `messages` makes it. It goes on after an exception of the file."""
 
-    __slots__ = ("_splitter", "_read", "_report", "_bounds", "_held", "_need", "_over", "_taken", "_number", "_offset")
+    __slots__ = ("_splitter", "_read", "_report", "_bounds", "_sizes", "_held", "_need", "_over", "_taken", "_number",
+                 "_offset")
 
     def __init__(self, read: Callable[[int], Any], splitter: Splitter) -> None:
         self._read, self._splitter = read, splitter
         self._report, self._bounds = splitter._report, splitter._bounds
+        # What `_size` answered of the tables that came, by the table: to find it here is faster than to call.
+        self._sizes: dict[bytes, int] = {}
         # The bytes of the message that has begun, and how many say more about it.
         self._held: bytes | bytearray = b""
         self._need = LEAST
@@ -51,12 +58,11 @@ class Messages(Iterator[bytes]):
         if self._held or self._over is not None:
             return self._any()
         # As most messages are: of one segment, short, and read by two calls of the file.
-        read, report = self._read, self._report
+        read = self._read
         head = read(HEAD)
-        if type(head) is bytes and head[:4] == ONE and _first(head, len(head), self._bounds, report) == FRAME_CUT:
-            # The frame of one segment is as long as its table says, of which all of these bytes are there.
-            size = report.length - HEAD
-            if 0 < size <= PIECE:
+        if type(head) is bytes:
+            size = self._sizes.get(head) or self._size(head)
+            if size:
                 try:
                     body = read(size)
                 except BaseException:
@@ -71,6 +77,19 @@ class Messages(Iterator[bytes]):
                 return self._any()
         self._came(head)
         return self._any()
+
+    def _size(self, head: bytes) -> int:
+        """How many bytes follow the table of a short message of one segment; 0 of what begins otherwise."""
+        report, sizes = self._report, self._sizes
+        if len(head) != HEAD or head[:4] != ONE or _first(head, HEAD, self._bounds, report) != FRAME_CUT:
+            return 0
+        # The frame of one segment is as long as its table says, of which all of these bytes are there.
+        size: int = report.length - HEAD
+        if size > PIECE:
+            return 0
+        if len(sizes) < _TABLES:
+            sizes[head] = size
+        return size
 
     def _came(self, piece: Any) -> None:
         """Holds what the file gave, or raises what it means that it gave nothing."""
@@ -126,6 +145,42 @@ class Messages(Iterator[bytes]):
         """Refuses a message that is cut."""
         if self._held:
             self._refuse(FRAME_CUT)
+
+
+class Raw(Messages):
+    """The same of a file that buffers nothing and can't be wound, as a pipe: the system's reads of a message are made
+    by one call."""
+
+    __slots__ = ("_number_of", "_raw", "_words")
+
+    def __init__(self, file: FileIO, splitter: Splitter) -> None:
+        super().__init__(file.read, splitter)
+        # The number that the system gave to the file; it raises an exception if the file is closed.
+        self._number_of = file.fileno
+        self._raw = _raw(_raw_type)
+        self._raw.limits, self._raw.number, self._raw.offset, self._raw.have = self._bounds[0], 0, 0, 0
+        self._words = ffi.buffer(self._raw.out)
+
+    @property
+    def number(self) -> int:
+        return self._number + self._raw.number  # type: ignore[no-any-return]
+
+    @property
+    def offset(self) -> int:
+        return self._offset + self._raw.offset  # type: ignore[no-any-return]
+
+    def __next__(self) -> bytes:
+        if self._held or self._over is not None:
+            return self._any()
+        # A signal's handler that raises an exception here leaves what was read in `_raw`.
+        count = _read_one(self._number_of(), self._raw)
+        if count:
+            return self._words[0:count]  # type: ignore[no-any-return]
+        # The file says what it means that no more came.
+        raw = self._raw
+        self._number, self._offset, self._held = self.number, self.offset, self._words[0:raw.have]
+        raw.number = raw.offset = raw.have = 0
+        return self._any()
 
 
 class Ahead(Messages):

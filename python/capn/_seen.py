@@ -2,12 +2,14 @@
 from __future__ import annotations
 
 from io import BufferedRandom, BufferedReader, BytesIO, FileIO
-from os import pread
+from os import fstat, pread
+from stat import S_ISFIFO
 from typing import Any, Callable
 
+from ._calls import _room, _room_type
 from ._capn import ffi, lib
 from ._packed import Packed
-from ._reader import Messages
+from ._reader import Messages, Raw
 from ._refusal import failure
 from ._splitter import HEAD, MEMORY, ONE, PIECE, Splitter
 
@@ -178,6 +180,10 @@ def reader(file: Any, splitter: Splitter) -> Messages:
             file.seek(-len(found), 1)
         return found
 
+    def of_pipe(least: int) -> bytes:
+        count = lib.capn_peek(file.fileno(), room, _FEW)
+        return bytes(ffi.buffer(room, max(count, 0)))
+
     look = peek if callable(peek) else seen
     raw = file.raw if is_wound and kind is BufferedReader else file
     if is_wound and type(raw) is FileIO:
@@ -187,6 +193,9 @@ def reader(file: Any, splitter: Splitter) -> Messages:
     # Of what Python itself buffers, a look takes no longer than a read.
     if is_wound and (type(raw) is BytesIO or callable(peek) and (splitter._packed or kind in _BUFFERED)):
         return Seen(file, wound_back if type(raw) is BytesIO else peeked, look, _NEVER, splitter)
+    if splitter._packed and kind is FileIO and S_ISFIFO(fstat(file.fileno()).st_mode):
+        room = _room(_room_type, _FEW)
+        return Packed(read, of_pipe, splitter)
     if splitter._packed:
         return Packed(read, look if is_wound or callable(peek) else None, splitter)
-    return Messages(read, splitter)
+    return Raw(file, splitter) if kind is FileIO and not is_wound else Messages(read, splitter)

@@ -61,6 +61,16 @@ static void answers() {
     want("digest", digits(capn::digest(one)) == digest_of_one);
     want("check", capn::check(one).paid == 3 && capn::check(one).visits == 1);
     want("survey", capn::survey(one).depth == 1 && !capn::survey(one).canonical);
+    want("show", capn::show(one) == "struct 2 0\n  word 0000000000000005\n"
+                                      "  word 0000000000000000\nend\n");
+    const std::string list = words({1 | 26ull << 32, 0x6968});
+    const auto shown = [&](capn::style as) { return capn::show(list, capn::form::bare, {}, as); };
+    want("show as lines", shown(capn::style::lines) == "bytes 3\n  686900\nend\n");
+    want("show as text", shown(capn::style::text) == "bytes 3 \"hi\\0\"\nend\n");
+    want("show as JSON", shown(capn::style::json) == "{\"bytes\":\"686900\"}\n");
+    /* Longer than the room that is tried first. */
+    const std::string bits = words({1 | 1ull << 32 | 64000ull << 35}) + std::string(8000, '\xff');
+    want("a longer text", capn::show(bits, capn::form::bare).size() == 64018);
     want("pack", digits(capn::pack(one)) == "1003100201050000");
     const capn::buffer packed = capn::pack(one);
     want("unpack", capn::bytes(capn::unpack(packed)).chars() == one);
@@ -82,6 +92,10 @@ static void refusals() {
         want("its status", why.status() == CAPN_TOO_DEEP && why.report().visits == 65);
         want("its name", std::string(why.name()) == "TooDeep");
     }
+    want("no text", thrown<capn::refusal>([] { capn::show(hostile); }) == "TooDeep at 0:0, paid 128, visits 65");
+    want("no style", thrown<std::invalid_argument>([] {
+                         capn::show(one, capn::form::stream, {}, static_cast<capn::style>(3));
+                     }) == "the style is none of the three");
     want("limits", thrown<std::invalid_argument>([] { capn::check(one, capn::form::stream, {1, 1, 0}); })
                        == "a limit is out of its range");
     want("a low budget", thrown<capn::refusal>([] { capn::check(one, capn::form::stream, {99, 2, 9}); })

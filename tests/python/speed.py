@@ -1,6 +1,8 @@
 """What calls of the package take, in nanoseconds: the shortest of many. The first three say what `capn.check` of a
 message of 32 bytes takes above an empty Python call."""
+import fcntl
 import io
+import os
 import sys
 from time import perf_counter
 
@@ -59,6 +61,22 @@ def streamed(**options):
     return shortest(read, None, calls=1, runs=30) / count
 
 
+def piped(buffering, packed):
+    """What reads a pipe that has many messages, for each of them."""
+    message, count, least = longer(), 500, float("inf")
+    data = (capn.pack(message) if packed else message) * count
+    for _ in range(30):
+        read, write = os.pipe()
+        fcntl.fcntl(write, fcntl.F_SETPIPE_SZ, 1 << 20)
+        os.write(write, data)
+        os.close(write)
+        with open(read, "rb", buffering=buffering) as file:
+            start = perf_counter()
+            assert sum(1 for _ in capn.messages(file, packed)) == count
+            least = min(least, (perf_counter() - start) / count)
+    return least * 1e9
+
+
 def main():
     nothing = shortest(empty, MESSAGE)
     for name, data in ("bytes", MESSAGE), ("bytearray", bytearray(MESSAGE)), ("memoryview", memoryview(MESSAGE)):
@@ -68,6 +86,10 @@ def main():
         print(f"{call.__name__}, {len(message)} bytes: {shortest(call, message, 200, 100):.0f} ns")
     for options in {}, {"packed": True}, {"read_ahead": True}, {"packed": True, "read_ahead": True}:
         print(f"messages, {' '.join(options) or 'no option'}: {streamed(**options):.0f} ns a message")
+    for buffering, name in (-1, "buffered"), (0, "without a buffer"):
+        for packed in False, True:
+            kind = "packed, " if packed else ""
+            print(f"messages of a pipe, {kind}{name}: {piped(buffering, packed):.0f} ns a message")
 
 
 if __name__ == "__main__":

@@ -7,6 +7,7 @@ import io
 import os
 import pickle
 import random
+import signal
 import socket
 import subprocess
 import sys
@@ -472,6 +473,89 @@ class AfterAnException(unittest.TestCase):
                     self.assertRaises(StopIteration, next, found)
                     self.assertRaises(StopIteration, next, found)
 
+    def pipes(self):
+        """Pipes, buffered and not, with what packs the messages for them."""
+        for buffering in 0, -1:
+            for packed in False, True:
+                read, write = os.pipe()
+                with open(write, "wb", buffering=0) as other, open(read, "rb", buffering=buffering) as file:
+                    yield file, other, packed, capn.pack if packed else bytes
+
+    def test_a_signal_comes_while_a_pipe_is_waited_on(self):
+        def handler(*_):
+            raise TimeoutError
+
+        before = signal.signal(signal.SIGALRM, handler)
+        try:
+            for file, other, packed, sent in self.pipes():
+                if isinstance(file, io.BufferedReader):
+                    # It forgets what it read before the exception.
+                    continue
+                found = capn.messages(file, packed=packed)
+                for message in SHAPES[:3] * 2:
+                    text, begin = sent(message), 0
+                    for end in sorted({1, 8, 16, len(text) - 1}):
+                        if end < len(text):
+                            other.write(text[begin:end])
+                            signal.setitimer(signal.ITIMER_REAL, 0.02)
+                            self.assertRaises(TimeoutError, next, found)
+                            begin = end
+                    other.write(text[begin:])
+                    self.assertEqual(next(found), message)
+                self.assertEqual((found.number, found.offset), (6, 2 * sum(map(len, SHAPES[:3]))))
+        finally:
+            signal.setitimer(signal.ITIMER_REAL, 0)
+            signal.signal(signal.SIGALRM, before)
+
+    def test_a_pipe_is_read_by_another_one_between_two_messages(self):
+        for file, other, packed, sent in self.pipes():
+            found, another = capn.messages(file, packed=packed), b"5 more bytes\0\0\0\0" * 9
+            for message in SHAPES[:3] * 3:
+                other.write(sent(message) + another)
+            for number, message in enumerate(SHAPES[:3] * 3):
+                self.assertEqual((next(found), found.number), (message, number + 1))
+                self.assertEqual(file.read(len(another)), another)
+            other.close()
+            self.assertRaises(StopIteration, next, found)
+
+    def test_a_pipe_is_closed(self):
+        for file, other, packed, sent in self.pipes():
+            other.write(sent(SMALL) * 2)
+            found = capn.messages(file, packed=packed)
+            self.assertEqual(next(found), SMALL)
+            file.close()
+            self.assertRaises(ValueError, next, found)
+            self.assertEqual((found.number, found.offset), (1, len(SMALL)))
+
+    def test_a_pipe_is_read_by_a_child_too(self):
+        for file, other, packed, sent in self.pipes():
+            if isinstance(file, io.BufferedReader):
+                continue
+            found = capn.messages(file, packed=packed)
+            other.write(sent(SMALL) + sent(SHAPES[1]) + sent(SMALL))
+            self.assertEqual(next(found), SMALL)
+            child = os.fork()
+            if not child:
+                os._exit(next(found) != SHAPES[1])
+            self.assertEqual(os.waitpid(child, 0)[1], 0)
+            self.assertEqual((next(found), found.number), (SMALL, 2))
+
+    def test_a_pipe_has_long_messages_and_wrong_ones(self):
+        long = stream(random.Random(71).randbytes(70_000))
+        for file, other, packed, sent in self.pipes():
+            found = capn.messages(file, packed=packed)
+            parts = [SMALL, long, SHAPES[1], stream(bytes(65_528)), stream(bytes(65_536)), SMALL]
+            text = b"".join(map(sent, parts)) + sent(bytes(4) + b"\xff" * 4 + bytes(8))
+            thread = threading.Thread(target=other.write, args=(text,), daemon=True)
+            thread.start()
+            self.assertEqual([next(found) for _ in parts], parts)
+            for _ in range(2):
+                with self.assertRaises(capn.Refusal) as caught:
+                    next(found)
+                self.assertEqual(
+                    (caught.exception.number, caught.exception.offset), (7, sum(map(len, parts))))
+            thread.join(SECONDS)
+
     def test_a_pipe_that_does_not_block_and_is_read_ahead(self):
         for buffering in 0, -1:
             read, write = os.pipe()
@@ -687,7 +771,20 @@ class Splitters(unittest.TestCase):
                 return status
             return little
 
+        def once_of_one(call):
+            """The same of the look at one message, which answers how many bytes it has."""
+            def little(text, size, one):
+                taken = call(text, size, one)
+                if taken and not refusals:
+                    refusals.append(taken)
+                    one.status = 8
+                    return 0
+                return taken
+            return little
+
         with contextlib.ExitStack() as patches:
+            patches.enter_context(unittest.mock.patch.object(
+                capn._packed, "_look_at_one", once_of_one(capn._packed._look_at_one)))
             for module in capn._reader, capn._packed, capn._seen, capn._splitter:
                 for name in "_first", "_look_at", "_look_at_packed":
                     if hasattr(module, name):

@@ -154,6 +154,16 @@ extern "C" {
         room: usize,
         report: *mut capn_report,
     ) -> capn_status;
+    pub fn capn_show(
+        form: u32,
+        bytes: *const u8,
+        size: usize,
+        limits: *const capn_limits,
+        style: u32,
+        out: *mut c_char,
+        room: usize,
+        report: *mut capn_report,
+    ) -> capn_status;
     pub fn capn_canonical_segments(
         segments: *const capn_segment,
         count: usize,

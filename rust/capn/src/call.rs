@@ -2,12 +2,13 @@
 //!
 //! What a caller owes (`capn.h`) is met by types: bytes behind a shared reference don't change while it lives, what a
 //! call writes is borrowed alone or is spare room of a vector, and each pointer goes with the size of its slice.
+use alloc::string::String;
 use alloc::vec::Vec;
 use core::mem::MaybeUninit;
 
 use capn_sys::{capn_entry, capn_figures, capn_limits, capn_report, capn_segment, capn_status};
 
-use crate::{Error, Form};
+use crate::{Error, Form, Style};
 
 const OK: capn_status = 0;
 const NO_ROOM: capn_status = 1;
@@ -115,6 +116,24 @@ pub(crate) fn survey(
         capn_sys::capn_survey(form as u32, bytes, size, limits, &mut figures, report)
     })?;
     Ok(figures)
+}
+
+pub(crate) fn show(
+    form: Form,
+    message: &[u8],
+    limits: &capn_limits,
+    style: Style,
+) -> Result<String, Error> {
+    let (bytes, size) = (message.as_ptr(), message.len());
+    let each = if form == Form::Packed { 16 } else { 4 };
+    let mut out = Vec::new();
+    unsafe {
+        appended(&mut out, each * size + 256, |at, room, report| {
+            let (number, style, at) = (form as u32, style as u32, at.cast());
+            capn_sys::capn_show(number, bytes, size, limits, style, at, room, report)
+        })
+    }?;
+    Ok(String::from_utf8(out).expect("the text is ASCII"))
 }
 
 pub(crate) fn pack(words: &[u8], out: &mut Vec<u8>) -> Result<capn_report, Error> {

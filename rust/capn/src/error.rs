@@ -15,6 +15,8 @@ pub enum Error {
     Limits,
     /// The call does not take the form.
     Form,
+    /// The style is none of the three.
+    Style,
     /// The input is refused.
     Refused {
         /// The fault that was found.
@@ -120,8 +122,10 @@ impl Error {
     pub(crate) fn of(status: capn_status, report: &capn_report) -> Self {
         let place = match status {
             2 => return Error::Form,
-            3 | 4 => return Error::Limits,
-            0..=15 => return Error::Memory,
+            3 => return Error::Limits,
+            4 => return Error::Limits,
+            6 => return Error::Style,
+            8 => return Error::Memory,
             48 | 51 => Place::Nowhere,
             64..=79 => Place::Slot {
                 segment: report.segment,
@@ -180,6 +184,7 @@ impl fmt::Display for Error {
             Error::Memory => (8, Place::Nowhere),
             Error::Limits => (3, Place::Nowhere),
             Error::Form => (2, Place::Nowhere),
+            Error::Style => (6, Place::Nowhere),
         };
         let report = place.report();
         f.write_str(call::refusal_text(status, &report, &mut [0; 128]))

@@ -48,9 +48,10 @@ mod stream;
 pub use error::{Error, Kind, Place};
 pub use fields::{Number, Numbers, Pointers, Rows, Struct};
 pub use index::{Index, Value};
-pub use limits::{Form, Limits, Tariff};
+pub use limits::{Form, Limits, Style, Tariff};
 pub use message::{
-    canonical, canonical_into, check, digest, is_canonical, pack, survey, unpack, Checked, Figures,
+    canonical, canonical_into, check, digest, is_canonical, pack, show, survey, unpack, Checked,
+    Figures,
 };
 #[cfg(feature = "std")]
 pub use reader::{ReadError, Reader};

@@ -1,4 +1,4 @@
-//! Forms, tariffs and limits.
+//! Forms, styles, tariffs and limits.
 
 /// How the bytes of a message are written.
 #[derive(Clone, Copy, Debug, Default, PartialEq, Eq, Hash)]
@@ -10,6 +10,18 @@ pub enum Form {
     Packed,
     /// The words of one segment, with no table.
     Bare,
+}
+
+/// How the text of a message is written.
+#[derive(Clone, Copy, Debug, Default, PartialEq, Eq, Hash)]
+pub enum Style {
+    /// Lines, with the digits of each list of bytes, as `capn show` writes it.
+    #[default]
+    Lines,
+    /// The same, but a list of printable bytes stands between quotes, as `capn show --text` writes it.
+    Text,
+    /// One line of JSON, as `capn show --json` writes it.
+    Json,
 }
 
 /// How a walk counts what it pays.

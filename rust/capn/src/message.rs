@@ -1,8 +1,9 @@
 //! Calls on one message, as its bytes.
+use alloc::string::String;
 use alloc::vec::Vec;
 
 use crate::call;
-use crate::{Error, Form, Limits};
+use crate::{Error, Form, Limits, Style};
 
 /// What reading a message pays, in words, and how many visits it makes.
 #[derive(Clone, Copy, Debug, PartialEq, Eq, Hash)]
@@ -160,6 +161,24 @@ pub fn check(message: &[u8], form: Form, limits: &Limits) -> Result<Checked, Err
 #[inline]
 pub fn survey(message: &[u8], form: Form, limits: &Limits) -> Result<Figures, Error> {
     Ok(Figures::of(&call::survey(form, message, &limits.raw())?))
+}
+
+/// The text of one message: what `capn show` writes of it in a style. It may be far longer than a small message, so
+/// have limits.
+///
+/// ```
+/// use capn::{Form, Limits, Style};
+///
+/// // A list of three bytes, of which the last is zero.
+/// let message = [1, 0, 0, 0, 26, 0, 0, 0, b'h', b'i', 0, 0, 0, 0, 0, 0];
+/// let shown = |style| capn::show(&message, Form::Bare, &Limits::usual(), style);
+/// assert_eq!(shown(Style::Lines)?, "bytes 3\n  686900\nend\n");
+/// assert_eq!(shown(Style::Text)?, "bytes 3 \"hi\\0\"\nend\n");
+/// assert_eq!(shown(Style::Json)?, "{\"bytes\":\"686900\"}\n");
+/// # Ok::<(), capn::Error>(())
+/// ```
+pub fn show(message: &[u8], form: Form, limits: &Limits, style: Style) -> Result<String, Error> {
+    call::show(form, message, &limits.raw(), style)
 }
 
 /// The packed text of whole words.

@@ -1,5 +1,7 @@
 //! The calls by hand.
-use capn::{segments, Error, Form, Index, Kind, Limits, Place, ReadError, Reader, Tariff, Value};
+use capn::{
+    segments, Error, Form, Index, Kind, Limits, Place, ReadError, Reader, Style, Tariff, Value,
+};
 use std::io::{self, Read, Write};
 use std::os::unix::net::UnixStream;
 
@@ -48,6 +50,31 @@ fn answers() {
             .capability,
         Some(7)
     );
+}
+
+#[test]
+fn a_message_is_shown() {
+    let shown = |message: &[u8], form, style| capn::show(message, form, &USUAL, style).unwrap();
+    let five = "struct 2 0\n  word 0000000000000005\n  word 0000000000000000\nend\n";
+    let packed = capn::pack(&one()).unwrap();
+    assert_eq!(shown(&one(), Form::Stream, Style::Lines), five);
+    assert_eq!(shown(&packed, Form::Packed, Style::Lines), five);
+    assert_eq!(shown(&one()[8..], Form::Bare, Style::Text), five);
+    // Longer than the room that is tried first.
+    let mut bits = words(&[1 | 1 << 32 | 64_000 << 35]);
+    bits.resize(8008, 0xff);
+    assert_eq!(shown(&bits, Form::Bare, Style::Lines).len(), 64_018);
+    let mut long = words(&[1 | 2 << 32 | 8000 << 35]);
+    long.resize(8008, b'a');
+    assert_eq!(shown(&long, Form::Bare, Style::Lines).len(), 16_018);
+    assert_eq!(shown(&long, Form::Bare, Style::Text).len(), 8_018);
+    assert_eq!(
+        shown(&long, Form::Bare, Style::Json),
+        format!("{{\"bytes\":\"{}\"}}\n", "61".repeat(8000))
+    );
+    let refused = capn::show(&hostile(), Form::Stream, &USUAL, Style::Text).unwrap_err();
+    assert_eq!(refused.kind(), Some(Kind::TooDeep));
+    assert_eq!(Error::Style.to_string(), "the style is none of the three");
 }
 
 /// An object that three pointers lead to is written three times: the answer is longer than the message.
