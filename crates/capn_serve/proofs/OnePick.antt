@@ -54,8 +54,8 @@ module _ (most : ℕ) where
 
     -- the messages up to the last, and any after them, write one text
     one_enough : (x y z : Picking) (ps qs : List Part) (rest other : List ℕ) → AreServed f x ps y
-        → AreServed f x qs z → frames_of ps ++ rest ≡ frames_of qs ++ other → x.service ≡ ranges → last_of ranges ≤ y.at.index
-        → last_of ranges ≤ z.at.index → texts_of ps ≡ texts_of qs
+        → AreServed f x qs z → frames_of ps ++ rest ≡ frames_of qs ++ other → x.service ≡ ranges
+        → last_of ranges ≤ y.at.index → last_of ranges ≤ z.at.index → texts_of ps ≡ texts_of qs
     one_enough x y z [] qs rest other h k e same past after =
         sym (beyond x z qs k same (omega (arith, past, ap (λ (r : Picking). r.at.index) h)))
     one_enough x y z (a ∷ ps) [] rest other h k e same past after =
@@ -97,8 +97,8 @@ module _ (most : ℕ) where
         first.1.1 behind short past
 
     one_of : (bytes t u : List ℕ) (is_longer : Bool) (r s : Ending)
-        → IsPickedOf most ranges forms.Stream bytes is_longer t r → IsPickedOf most ranges forms.Stream bytes is_longer u s
-        → (t ≡ u) × (r ≡ s)
+        → IsPickedOf most ranges forms.Stream bytes is_longer t r
+        → IsPickedOf most ranges forms.Stream bytes is_longer u s → (t ≡ u) × (r ≡ s)
     one_of bytes t u is_longer r s (inl ((ps, rest, y, are, past, e), a)) (inl ((qs, other, z, also, after, d), b)) = (
       e ∙ one_enough (first_run ranges) y z ps qs rest other are.each also.each (sym are.is ∙ also.is) refl past after
           ∙ sym d,

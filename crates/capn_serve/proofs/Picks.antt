@@ -63,7 +63,8 @@ module _ (most : ℕ) (ranges : List Range) (p : Picker) (same : p.rest.now ≡ 
       record { frame = part.frame; room = part.room; going = refl },
       (
         (
-          step.0.0 ∙ ap (λ (b : Bool). if b then q.frame else []) (first_decides ranges w.service.rest.now w.at.index h),
+          step.0.0
+              ∙ ap (λ (b : Bool). if b then q.frame else []) (first_decides ranges w.service.rest.now w.at.index h),
           refl,
         ),
         step.1,

@@ -30,7 +30,8 @@ module _ (most : ℕ) (ranges : List Range) where
   IsPickedOf forms.Packed bytes is_longer text ending =
       ((stream : List ℕ) × packing.Begins bytes [] stream × IsEnough most ranges (taken_of most_taken stream) text
       × (ending ≡ Ok tt))
-      ⊎ ((y : Picking) × packings.IsDuePacked (pick_fold most) (first_run ranges) most_taken bytes is_longer text ending y
+      ⊎ ((y : Picking)
+      × packings.IsDuePacked (pick_fold most) (first_run ranges) most_taken bytes is_longer text ending y
       × (y.at.index < last_of ranges))
 
   -- this is picked of what is taken of a whole input, and a run over it ends so
@@ -69,7 +70,8 @@ module _ (most : ℕ) (ranges : List Range) where
   -- all that is picked of the bytes that a reader gave was written
   abbrev pub KeepsUp : StreamForm → Option (List ℕ) → Option (List ℕ) → Option (List ℕ) → Option (List ℕ) → Type 0
   KeepsUp forms.Stream a b c d = streams.KeepsUp (pick_fold most) (first_run ranges) most_taken a b c d
-  KeepsUp forms.Packed a b c d = packings.KeepsUpPacked (pick_fold most) (first_run ranges) most_taken most_taken a b c d
+  KeepsUp forms.Packed a b c d =
+      packings.KeepsUpPacked (pick_fold most) (first_run ranges) most_taken most_taken a b c d
 
   -- what a run did, over a reader (from a to b) and a writer (from c to d)
   pub record PicksRanges (form : StreamForm) (a b c d : Option (List ℕ)) (reader_failed writer_failed : Bool)
