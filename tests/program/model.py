@@ -6,6 +6,7 @@ slow, and it is not proved. `archives`, beside it, compares the two.
 
 import hashlib
 import json
+import unicodedata
 import sys
 
 sys.setrecursionlimit(10_000)
@@ -325,19 +326,32 @@ def shown(value, level=0, with_texts=False):
     return head + "".join(f"{pad}  {item}\n" for item in items)
 
 
-def plain_of(value):
-    """A value as what `json` writes."""
+def text_of(items):
+    """The text that a list of bytes is in JSON, or None: UTF-8 without control characters, and a zero after it."""
+    if not items or items[-1] != 0:
+        return None
+    try:
+        text = bytes(items[:-1]).decode("utf-8")
+    except UnicodeDecodeError:
+        return None
+    return None if any(unicodedata.category(it) == "Cc" and it not in "\t\n\r" for it in text) else text
+
+
+def plain_of(value, with_texts):
+    """A value as what `json` writes, and with texts a list of bytes that is one as a text."""
     kind = value[0]
     if kind == "null":
         return None
     if kind == "struct":
-        return {"words": [f"{word:016x}" for word in value[1]], "slots": [plain_of(slot) for slot in value[2]]}
+        slots = [plain_of(slot, with_texts) for slot in value[2]]
+        return {"words": [f"{word:016x}" for word in value[1]], "slots": slots}
     if kind in ("pointers", "rows"):
-        return {kind: [plain_of(item) for item in value[1]]}
+        return {kind: [plain_of(item, with_texts) for item in value[1]]}
     if kind == "bits":
         return {kind: "".join(map(str, value[1]))}
     if kind == "bytes":
-        return {kind: bytes(value[1]).hex()}
+        text = text_of(value[1]) if with_texts else None
+        return {kind: bytes(value[1]).hex()} if text is None else {"text": text}
     if kind == "u64":
         return {kind: [str(item) for item in value[1]]}
     return {kind: value[1]}
@@ -356,9 +370,11 @@ def stands(value, way):
 
 
 def styled(value, style):
-    """The text of what is somewhere, if anything is, in a style: plain, text or json. What ends it follows."""
-    if style == "json":
-        return "\n" if value is None else json.dumps(plain_of(value), separators=(",", ":")) + "\n"
+    """The text of what is somewhere, if anything is, in a style: plain, text, json or both. What ends it follows."""
+    if style in ("json", "both"):
+        if value is None:
+            return "\n"
+        return json.dumps(plain_of(value, style == "both"), separators=(",", ":"), ensure_ascii=False) + "\n"
     return ("none\n" if value is None else shown(value, 0, style == "text")) + "end\n"
 
 

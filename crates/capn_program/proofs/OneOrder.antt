@@ -237,16 +237,29 @@ style_one rows styles.Lines styles.Quoted a b =
     absurd (let bad : false ≡ true = flag_one rows (codes "text") false true a.0 b.0 in cc)
 style_one rows styles.Lines styles.Json a b =
     absurd (let bad : false ≡ true = flag_one rows (codes "json") false true a.1 b.1 in cc)
+style_one rows styles.Lines styles.JsonText a b =
+    absurd (let bad : false ≡ true = flag_one rows (codes "text") false true a.0 b.0 in cc)
 style_one rows styles.Quoted styles.Lines a b =
     absurd (let bad : true ≡ false = flag_one rows (codes "text") true false a.0 b.0 in cc)
 style_one rows styles.Quoted styles.Quoted a b = refl
 style_one rows styles.Quoted styles.Json a b =
     absurd (let bad : true ≡ false = flag_one rows (codes "text") true false a.0 b.0 in cc)
+style_one rows styles.Quoted styles.JsonText a b =
+    absurd (let bad : false ≡ true = flag_one rows (codes "json") false true a.1 b.1 in cc)
 style_one rows styles.Json styles.Lines a b =
     absurd (let bad : true ≡ false = flag_one rows (codes "json") true false a.1 b.1 in cc)
 style_one rows styles.Json styles.Quoted a b =
     absurd (let bad : false ≡ true = flag_one rows (codes "text") false true a.0 b.0 in cc)
 style_one rows styles.Json styles.Json a b = refl
+style_one rows styles.Json styles.JsonText a b =
+    absurd (let bad : false ≡ true = flag_one rows (codes "text") false true a.0 b.0 in cc)
+style_one rows styles.JsonText styles.Lines a b =
+    absurd (let bad : true ≡ false = flag_one rows (codes "text") true false a.0 b.0 in cc)
+style_one rows styles.JsonText styles.Quoted a b =
+    absurd (let bad : true ≡ false = flag_one rows (codes "json") true false a.1 b.1 in cc)
+style_one rows styles.JsonText styles.Json a b =
+    absurd (let bad : true ≡ false = flag_one rows (codes "text") true false a.0 b.0 in cc)
+style_one rows styles.JsonText styles.JsonText a b = refl
 
 -- and a way by the value of `--at`
 way_one : (rows : List Row) (f g : Style) (v w : Option (Bor Text)) → WayIs rows f v → WayIs rows g w → IsSameWay v w

@@ -93,11 +93,12 @@ IsFlow name rows flows.Pack = (name ≡ codes "pack") × FlagIs rows (codes "str
 IsFlow name rows flows.Unpack =
     (name ≡ codes "unpack") × FlagIs rows (codes "streaming") true × IsUsual rows (codes "message-words")
 
--- the style that two flags order, which don't go together
+-- the style that two flags order
 abbrev pub StyleIs : List Row → Style → Type 0
 StyleIs rows styles.Lines = FlagIs rows (codes "text") false × FlagIs rows (codes "json") false
 StyleIs rows styles.Quoted = FlagIs rows (codes "text") true × FlagIs rows (codes "json") false
 StyleIs rows styles.Json = FlagIs rows (codes "text") false × FlagIs rows (codes "json") true
+StyleIs rows styles.JsonText = FlagIs rows (codes "text") true × FlagIs rows (codes "json") true
 
 -- `--at` is given, and its value is a way; or it isn't, and the style is another than that of a plain `show`
 abbrev pub WayIs : List Row → Style → Option (Bor Text) → Type 0

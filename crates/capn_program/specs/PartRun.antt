@@ -27,6 +27,7 @@ abbrev pub end_of : Style → List ℕ
 end_of styles.Lines = codes "end" ++ 10 ∷ []
 end_of styles.Quoted = codes "end" ++ 10 ∷ []
 end_of styles.Json = []
+end_of styles.JsonText = []
 
 -- the text of what is at a way from a value, in a style, and what ends it
 abbrev pub ended_part : Style → List ℕ → Tree → List ℕ

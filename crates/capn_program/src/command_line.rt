@@ -16,7 +16,7 @@ ghost use Rattle.capn_program.specs.declared.order.Order.{Order};
 use crate::option_help;
 use crate::option_values::{flag_of, is_usual, limits_with, number_in, stream_form_of};
 use crate::order::{Flow, Order};
-use crate::show_options::{said_of_show, show_of};
+use crate::show_options::show_of;
 use crate::subcommands::{mistake, program_command};
 use capn_archive::{Archive, Task, Uniq};
 use capn_serve::Pick;
@@ -164,8 +164,8 @@ fn named_order<'a>(name: &str, matches: &ArgMatches<'a>) -> Option<Order<'a>>
 }
 
 /// The message for options of this command that mean nothing: for `pick`, what its `--form` takes; for `unpack`, which
-/// two don't go together; for the others, that on `--form`, or else on `--tariff`, or else on `--json` and `--at` of
-/// `show`, and on `--keep-going` of `canonical`.
+/// two don't go together; for the others, that on `--form`, or else on `--tariff`, or else on `--at` of `show`,
+/// and on `--keep-going` of `canonical`.
 fn said_of(name: &str, matches: &ArgMatches) -> &'static str {
     if name == "pick" {
         return option_help::NO_FRAMED_FORM;
@@ -180,7 +180,7 @@ fn said_of(name: &str, matches: &ArgMatches) -> &'static str {
         return tool_help::NO_SUCH_TARIFF;
     }
     if name == "show" {
-        return said_of_show(matches);
+        return option_help::NO_WAY;
     }
     option_help::ONLY_FRAMED
 }
@@ -207,7 +207,7 @@ fn meaningless(alloc: Global, matches: &ArgMatches) -> Usage
 /// What the words order, the first of them being the program's name: the subcommand's work, with the form, the limits,
 /// the tariff and the flags that its options have, given or usual. A request for help or for the version, a word, an
 /// option or a value that is not known, a number out of its range, a form or a tariff that the command does not take,
-/// a value of `--at` that is no way, `--text` with `--json`, `--keep-going` of `canonical` without `--framed`,
+/// a value of `--at` that is no way, `--keep-going` of `canonical` without `--framed`,
 /// `--message-words` of `unpack` with `--streaming`, and refused memory are answered as `Usage`, with the text for the
 /// user.
 pub fn order_of<'a, S: AsStr>(alloc: Global, words: &'a [S]) -> Result<Order<'a>, Usage>

@@ -40,7 +40,9 @@ With `--text` a list of bytes that is a text is one line, as `bytes 3 \"hi\\0\"`
 each byte but the last is from 0x20 to 0x7e, and the last is so too or is zero.
 A quote is written `\\\"`, a backslash `\\\\` and the last zero `\\0`.
 With `--json` each message is one line of JSON without blanks, and no line `end`
-follows.
+follows. With `--text` too a list of bytes that is a text is `{\"text\":\"T\"}`:
+its last byte is zero, and T is those before it, which are UTF-8 without control
+characters but tab, newline and carriage return.
 With `--at` only what stands at a place in each message is written, as a text of
 its own, or the line `none` if nothing stands there. The place is a way from the
 root, numbers below 2^64 parted by dots: in a struct the number of a pointer, in

@@ -8,11 +8,7 @@ parted by dots, as `0.3.1`";
 pub const TEXT: &str = "Write a list of bytes that is a text between quotes";
 
 /// `--json`.
-pub const JSON: &str = "Write each message as a line of JSON; it goes without
-`--text`";
-
-/// The message for `--json` together with `--text`.
-pub const WITHOUT_TEXT: &str = "--json goes without --text";
+pub const JSON: &str = "Write each message as a line of JSON";
 
 /// The message for a value that `--at` does not take.
 pub const NO_WAY: &str = "--at takes numbers below 2^64, parted by dots";

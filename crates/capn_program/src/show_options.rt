@@ -8,7 +8,6 @@ ghost use Rattle.capn_program.specs.Meaning.{MeansOrder, StyleIs};
 ghost use Rattle.capn_program.specs.inner.Styles as spec;
 ghost use Rattle.capn_program.specs.declared.order.Order.{Order};
 
-use crate::option_help;
 use crate::option_values::flag_of;
 use crate::order::{Order, Show};
 use crate::way::is_way;
@@ -24,27 +23,27 @@ fn way_in<'a>(matches: &ArgMatches<'a>) -> Option<&'a str>
     matches.get_str("at")
 }
 
-/// The style of two flags, if they go together.
-fn style_for(text: bool, json: bool) -> Option<Style>
+/// The style of two flags.
+fn style_for(text: bool, json: bool) -> Style
     ensures { result ≡ spec.style_for text json }
 {
     if text {
-        if json { None } else { Some(Style::Quoted) }
+        if json { Style::JsonText } else { Style::Quoted }
     } else if json {
-        Some(Style::Json)
+        Style::Json
     } else {
-        Some(Style::Lines)
+        Style::Lines
     }
 }
 
-/// The style that `--text` and `--json` order, if they go together.
+/// The style that `--text` and `--json` order.
 fn style_of(matches: &ArgMatches) -> Option<Style>
     ensures read { IfSome result (StyleIs (rows_of (found_of matches.now))) }
     ensures served { (style : Style) → StyleIs (rows_of (found_of matches.now)) style → IsSome result }
 {
     let text = flag_of(matches, "text")?;
     let json = flag_of(matches, "json")?;
-    style_for(text, json)
+    Some(style_for(text, json))
 }
 
 /// What `show` orders without `--at`, in a style: all of each message.
@@ -62,11 +61,12 @@ fn whole_order<'a>(form: Form, limits: Limits, style: Style) -> Order<'a>
         Style::Lines => Order::Message(Command::Show(form, limits)),
         Style::Quoted => Order::Show(show),
         Style::Json => Order::Show(show),
+        Style::JsonText => Order::Show(show),
     }
 }
 
 /// What `show` orders with these options, if they mean something: with `--at`, whose value is a way, that parts of
-/// messages are shown; with `--text` or `--json` that messages or parts are shown in another style.
+/// messages are shown; with `--text`, `--json` or both that messages or parts are shown in another style.
 pub(crate) fn show_of<'a>(matches: &ArgMatches<'a>) -> Option<Order<'a>>
     ensures means { IfSome result (MeansOrder (Some (codes "show", rows_of (found_of matches.now)))) }
     ensures served { (order : Order) → MeansOrder (Some (codes "show", rows_of (found_of matches.now))) order
@@ -91,12 +91,4 @@ pub(crate) fn show_of<'a>(matches: &ArgMatches<'a>) -> Option<Order<'a>>
         }
         None => Some(whole_order(form, limits, style)),
     }
-}
-
-/// The message for options of `show` that mean nothing although its form and its limits do.
-pub(crate) fn said_of_show(matches: &ArgMatches) -> &'static str {
-    if style_of(matches).is_none() {
-        return option_help::WITHOUT_TEXT;
-    }
-    option_help::NO_WAY
 }

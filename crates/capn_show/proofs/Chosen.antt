@@ -1,7 +1,18 @@
 -- How lists of bytes are written, by a const parameter.
-use Rattle.std.proofs.Common.{ℕ, List, not, eqb}
+use Rattle.std.proofs.Common.{◌≡◌, ℕ, Bool, List, not, eqb, ap}
+use Rattle.std.proofs.lemmas.Bool.{ne_eqb}
+use Rattle.capn_show.specs.JsonTexts.{text_or_digits}
+use Rattle.capn_show.specs.inner.JsonPlaces.{bytes_json_of}
 use Rattle.capn_show.specs.inner.ReadyPlaces.{bytes_of}
 
 -- by the bits of the parameter, whether a text is written between quotes
 abbrev pub by_bits : ℕ → ℕ → List ℕ → List ℕ
 by_bits n = bytes_of (not (eqb n 0))
+
+-- the same in JSON
+abbrev pub json_bits_of : ℕ → List ℕ → List ℕ
+json_bits_of n = bytes_json_of (not (eqb n 0))
+
+-- texts are asked for
+pub texts-chosen : (n : ℕ) → (n ≡ 0 → ⊥) → json_bits_of n ≡ text_or_digits
+texts-chosen n some = ap (λ (b : Bool). bytes_json_of (not b)) (ne_eqb n 0 some)

@@ -7,7 +7,7 @@ use Rattle.std.proofs.Math.Seq.{take-add}
 use Rattle.std.proofs.lemmas.List.{append-nil, take_all, take_more, take-append-drop}
 use Rattle.hex.specs.Hex.{encode_lower}
 use Rattle.capn_value.specs.Text.{line, one_line, hex16, word_lines, number_lines, digit, digits_of}
-use Rattle.capn_show.specs.Quoting.{escaped, escapes}
+use Rattle.capn_show.specs.Quoting.{escapes_by}
 use Rattle.capn_show.specs.declared.fault.Broken.{Broken}
 use Rattle.capn_show.specs.Outgoing.{Outgoing, Adds, BreaksOff}
 use Rattle.capn_show.proofs.shared.Appended.{both, otherwise, otherwise-broken, then-broken, broken-before}
@@ -91,37 +91,39 @@ encode_lower-joined (x ∷ xs) ys =
     ∙ sym (append_assoc (encode_lower (x ∷ [])) (encode_lower xs) (encode_lower ys))
     ∙ ap (λ (l : List ℕ). l ++ encode_lower ys) (sym (encode_lower-cons x xs))
 
-module _ (p q : Outgoing) where
+module _ (by : ℕ → List ℕ) (p q : Outgoing) where
   module _ (xs : List ℕ) (i : ℕ) where
-    pub escapes-more : (r : Outgoing) (x : ℕ) → i < length xs → x ≡ get_or xs i 0 → Adds p q (escapes (take i xs))
-        → Adds q r (escaped x) → Adds p r (escapes (take (i + 1) xs))
+    pub escapes-more : (r : Outgoing) (x : ℕ) → i < length xs → x ≡ get_or xs i 0 → Adds p q (escapes_by by (take i xs))
+        → Adds q r (by x) → Adds p r (escapes_by by (take (i + 1) xs))
     escapes-more r x below e h k =
-        more escapes escapes-joined p q xs i r 0 below h
-        (otherwise q r (escaped x) (escapes (get_or xs i 0 ∷ []))
-        (ap escaped e ∙ sym (append-nil (escaped (get_or xs i 0)))) k)
+        more (escapes_by by) (escapes-joined by) p q xs i r 0 below h
+        (otherwise q r (by x) (escapes_by by (get_or xs i 0 ∷ []))
+        (ap by e ∙ sym (append-nil (by (get_or xs i 0)))) k)
 
     pub escapes-cut : (r : Outgoing) (e : Broken) (x : ℕ) → i < length xs → x ≡ get_or xs i 0
-        → Adds p q (escapes (take i xs)) → BreaksOff q r e (escaped x) → BreaksOff p r e (escapes xs)
+        → Adds p q (escapes_by by (take i xs)) → BreaksOff q r e (by x) → BreaksOff p r e (escapes_by by xs)
     escapes-cut r e x below is h k =
-        cut escapes escapes-joined p q xs i r e 0 below h
-        (otherwise-broken q r e (escaped x) (escapes (get_or xs i 0 ∷ []))
-        (ap escaped is ∙ sym (append-nil (escaped (get_or xs i 0)))) k)
+        cut (escapes_by by) (escapes-joined by) p q xs i r e 0 below h
+        (otherwise-broken q r e (by x) (escapes_by by (get_or xs i 0 ∷ []))
+        (ap by is ∙ sym (append-nil (by (get_or xs i 0)))) k)
 
-    pub escapes-all : i ≡ length xs → Adds p q (escapes (take i xs)) → Adds p q (escapes xs)
-    escapes-all = all escapes escapes-joined p q xs i
+    pub escapes-all : i ≡ length xs → Adds p q (escapes_by by (take i xs)) → Adds p q (escapes_by by xs)
+    escapes-all = all (escapes_by by) (escapes-joined by) p q xs i
 
     -- bytes that are left as they are
     module _ (r : Outgoing) (k : ℕ) (rest : List ℕ) (left : rest ≡ drop i xs)
-        (bare : escapes (take k rest) ≡ take k rest) where
-      run-is : take k rest ≡ escapes (take k (drop i xs))
-      run-is = sym bare ∙ ap (λ (l : List ℕ). escapes (take k l)) left
+        (bare : escapes_by by (take k rest) ≡ take k rest) where
+      run-is : take k rest ≡ escapes_by by (take k (drop i xs))
+      run-is = sym bare ∙ ap (λ (l : List ℕ). escapes_by by (take k l)) left
 
-      pub bare-more : Adds p q (escapes (take i xs)) → Adds q r (take k rest) → Adds p r (escapes (take (i + k) xs))
-      bare-more h j = block-more escapes escapes-joined p q r xs i k h (otherwise q r _ _ run-is j)
+      pub bare-more : Adds p q (escapes_by by (take i xs)) → Adds q r (take k rest)
+          → Adds p r (escapes_by by (take (i + k) xs))
+      bare-more h j = block-more (escapes_by by) (escapes-joined by) p q r xs i k h (otherwise q r _ _ run-is j)
 
-      pub bare-cut : (e : Broken) → Adds p q (escapes (take i xs)) → BreaksOff q r e (take k rest)
-          → BreaksOff p r e (escapes xs)
-      bare-cut e h j = block-cut escapes escapes-joined p q r xs i k e h (otherwise-broken q r e _ _ run-is j)
+      pub bare-cut : (e : Broken) → Adds p q (escapes_by by (take i xs)) → BreaksOff q r e (take k rest)
+          → BreaksOff p r e (escapes_by by xs)
+      bare-cut e h j =
+          block-cut (escapes_by by) (escapes-joined by) p q r xs i k e h (otherwise-broken q r e _ _ run-is j)
 
 module _ (p q : Outgoing) where
   module _ (level : ℕ) (xs : List ℕ) (i : ℕ) where

@@ -6,7 +6,7 @@ use Rattle.std.proofs.lemmas.List.{append-nil, get_or-map, take_all, take-append
 use Rattle.std.proofs.lemmas.List.{replicate-append-replicate}
 use Rattle.capn_value.specs.Tree.{Trees, no_trees, tree, Bodies, no_bodies, body, count, count_rows, tree_at}
 use Rattle.capn_walk.specs.ShownValue.{words_of_row, slots_of_row}
-use Rattle.capn_show.specs.Json.{with_commas, word_text, number_text, struct_text, json_of, each_json, each_row}
+use Rattle.capn_show.specs.Json.{with_commas, word_text, number_text, struct_text, json_by, each_json_by, each_row_by}
 use Rattle.capn_show.specs.inner.JsonPlaces.{items_text, words_front}
 
 -- a struct
@@ -30,24 +30,26 @@ pub item-at : (each : ℕ → List ℕ) (xs : List ℕ) (i x : ℕ) → i < leng
     → each x ≡ get_or (map each xs) i []
 item-at each xs i x below e = ap each e ∙ sym (get_or-map each xs i 0 [] below)
 
-pub slot-at : (ts : Trees) (i : ℕ) → i < count ts → json_of (tree_at ts i) ≡ get_or (each_json ts) i []
-slot-at no_trees i below = absurd (omega arith)
-slot-at (tree t ts) zero below = refl
-slot-at (tree t ts) (suc i) below = slot-at ts i (omega arith)
+-- by how lists of bytes are written
+module _ (by : List ℕ → List ℕ) where
+  pub slot-at : (ts : Trees) (i : ℕ) → i < count ts → json_by by (tree_at ts i) ≡ get_or (each_json_by by ts) i []
+  slot-at no_trees i below = absurd (omega arith)
+  slot-at (tree t ts) zero below = refl
+  slot-at (tree t ts) (suc i) below = slot-at ts i (omega arith)
 
-pub slots-length : (ts : Trees) → length (each_json ts) ≡ count ts
-slots-length no_trees = refl
-slots-length (tree t ts) = ap suc (slots-length ts)
+  pub slots-length : (ts : Trees) → length (each_json_by by ts) ≡ count ts
+  slots-length no_trees = refl
+  slots-length (tree t ts) = ap suc (slots-length ts)
 
-pub row-at : (bs : Bodies) (i : ℕ) → i < count_rows bs
-    → struct_text (words_of_row bs i) (each_json (slots_of_row bs i)) ≡ get_or (each_row bs) i []
-row-at no_bodies i below = absurd (omega arith)
-row-at (body ws ss bs) zero below = refl
-row-at (body ws ss bs) (suc i) below = row-at bs i (omega arith)
+  pub row-at : (bs : Bodies) (i : ℕ) → i < count_rows bs
+      → struct_text (words_of_row bs i) (each_json_by by (slots_of_row bs i)) ≡ get_or (each_row_by by bs) i []
+  row-at no_bodies i below = absurd (omega arith)
+  row-at (body ws ss bs) zero below = refl
+  row-at (body ws ss bs) (suc i) below = row-at bs i (omega arith)
 
-pub rows-length : (bs : Bodies) → length (each_row bs) ≡ count_rows bs
-rows-length no_bodies = refl
-rows-length (body ws ss bs) = ap suc (rows-length bs)
+  pub rows-length : (bs : Bodies) → length (each_row_by by bs) ≡ count_rows bs
+  rows-length no_bodies = refl
+  rows-length (body ws ss bs) = ap suc (rows-length bs)
 
 -- ---- digits in an array of quotes
 

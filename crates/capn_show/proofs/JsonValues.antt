@@ -1,7 +1,6 @@
 -- The JSON of what a pointer names.
 use Rattle.std.proofs.Common.{◌≡◌, ℕ, ◌+◌, Bool, List, [], ◌∷◌, ◌++◌, codes, map, subst, sym, ap, ◌∙◌}
 use Rattle.std.specs.Fmt.{decimal}
-use Rattle.hex.specs.Hex.{encode_lower}
 use Rattle.capn_words.specs.declared.space.Place.{Place}
 use Rattle.capn_words.specs.declared.pointer.Width.{Width}
 use Rattle.capn_words.specs.declared.pointer.Width.TheVariants.{W0, W1, W8, W16, W32, W64, Link}
@@ -16,7 +15,7 @@ use Rattle.capn_target.specs.declared.target.Shape.TheVariants as shapes
 use Rattle.capn_target.specs.Target.{target}
 use Rattle.capn_walk.specs.ShownValue.{Shows, ViewsShow}
 use Rattle.std.specs.Prelude.{Ok}
-use Rattle.capn_show.specs.Json.{member, quoted, with_commas, number_text, json_of, each_json, each_row}
+use Rattle.capn_show.specs.Json.{member, quoted, with_commas, number_text, json_by, each_json_by, each_row_by}
 use Rattle.capn_show.specs.inner.ReadyPlaces.{NumbersShown, BitsShown}
 use Rattle.capn_show.specs.inner.JsonPlaces.{IsInJson, IsFoundInJson, IsRowInJson, AreInJson, RowsInJson, WordsInJson}
 use Rattle.capn_show.specs.inner.JsonPlaces.{values_text, words_front, items_text}
@@ -24,10 +23,10 @@ use Rattle.capn_show.proofs.FoundKinds.{as-nil, as-cap, as-voids, as-bits, as-nu
 use Rattle.capn_show.proofs.FoundKinds.{as-node, as-links, as-rows}
 use Rattle.capn_show.proofs.JsonTexts.{struct-parts, closed}
 
-module _ (m : List (List ℕ)) (s w n : ℕ) (width : Width) (Says : List ℕ → Type 0) where
+module _ (by : List ℕ → List ℕ) (m : List (List ℕ)) (s w n : ℕ) (width : Width) (Says : List ℕ → Type 0) where
   -- whatever pads led to the list, this is said of its JSON
   abbrev IsListInJson : Type 0
-  IsListInJson = (pads : ℕ) → IsFoundInJson m (targets.Content s w (shapes.Many width n) pads) Says
+  IsListInJson = (pads : ℕ) → IsFoundInJson m by (targets.Content s w (shapes.Many width n) pads) Says
 
   known : (other : Width) (pads : ℕ) (v : Tree) → width ≡ other
       → Shows m (targets.Content s w (shapes.Many width n) pads) v
@@ -35,7 +34,7 @@ module _ (m : List (List ℕ)) (s w n : ℕ) (width : Width) (Says : List ℕ �
   known other pads v e = subst (λ (x : Width). Shows m (targets.Content s w (shapes.Many x n) pads) v) e
 
   pub voids-json : width ≡ W0 → Says (codes "{\"void\":" ++ (decimal n ++ 125 ∷ [])) → IsListInJson
-  voids-json e h pads v i = subst Says (sym (ap json_of (as-voids m s w pads n v (known W0 pads v e i)))) h
+  voids-json e h pads v i = subst Says (sym (ap (json_by by) (as-voids m s w pads n v (known W0 pads v e i)))) h
 
   pub bits-json : width ≡ W1 → BitsShown m s w n (λ xs. codes "{\"bits\":\"" ++ (digits_of xs ++ codes "\"}")) Says
       → IsListInJson
@@ -44,15 +43,13 @@ module _ (m : List (List ℕ)) (s w n : ℕ) (width : Width) (Says : List ℕ �
       subst Says
       (closed (codes "{\"bits\":\"") (digits_of x.digits) 34
       ∙ ap (λ (bs : List Bool). member (codes "bits") (quoted (digits_of bs))) (sym (bits_again x.digits))
-      ∙ sym (ap json_of x.is))
+      ∙ sym (ap (json_by by) x.is))
       (h x.digits x.are x.count)
 
-  pub bytes-json : width ≡ W8
-      → NumbersShown m s w W8 n (λ xs. codes "{\"bytes\":\"" ++ (encode_lower xs ++ codes "\"}")) Says → IsListInJson
+  pub bytes-json : width ≡ W8 → NumbersShown m s w W8 n by Says → IsListInJson
   bytes-json e h pads v i =
       let x = as-numbers m byte s w pads n v (known W8 pads v e i) in
-      subst Says (closed (codes "{\"bytes\":\"") (encode_lower x.items) 34 ∙ sym (ap json_of x.is))
-      (h x.items x.are x.count)
+      subst Says (sym (ap (json_by by) x.is)) (h x.items x.are x.count)
 
   -- what is said of the numbers of a list of a known width
   numbers-of : (head : List ℕ) (other : Width) → width ≡ other
@@ -65,7 +62,7 @@ module _ (m : List (List ℕ)) (s w n : ℕ) (width : Width) (Says : List ℕ �
   pairs-json e h pads v i =
       let x = as-numbers m pair s w pads n v (known W16 pads v e i) in
       subst Says
-      (closed (codes "{\"u16\":[") (with_commas (map decimal x.items)) 93 ∙ sym (ap json_of x.is))
+      (closed (codes "{\"u16\":[") (with_commas (map decimal x.items)) 93 ∙ sym (ap (json_by by) x.is))
       (numbers-of (codes "{\"u16\":[") W16 e h x.items x.are x.count)
 
   pub quads-json : width ≡ W32 → NumbersShown m s w width n (values_text (codes "{\"u32\":[") width) Says
@@ -73,7 +70,7 @@ module _ (m : List (List ℕ)) (s w n : ℕ) (width : Width) (Says : List ℕ �
   quads-json e h pads v i =
       let x = as-numbers m quad s w pads n v (known W32 pads v e i) in
       subst Says
-      (closed (codes "{\"u32\":[") (with_commas (map decimal x.items)) 93 ∙ sym (ap json_of x.is))
+      (closed (codes "{\"u32\":[") (with_commas (map decimal x.items)) 93 ∙ sym (ap (json_by by) x.is))
       (numbers-of (codes "{\"u32\":[") W32 e h x.items x.are x.count)
 
   pub octs-json : width ≡ W64 → NumbersShown m s w width n (values_text (codes "{\"u64\":[") width) Says
@@ -81,37 +78,37 @@ module _ (m : List (List ℕ)) (s w n : ℕ) (width : Width) (Says : List ℕ �
   octs-json e h pads v i =
       let x = as-numbers m oct s w pads n v (known W64 pads v e i) in
       subst Says
-      (closed (codes "{\"u64\":[") (with_commas (map number_text x.items)) 93 ∙ sym (ap json_of x.is))
+      (closed (codes "{\"u64\":[") (with_commas (map number_text x.items)) 93 ∙ sym (ap (json_by by) x.is))
       (numbers-of (codes "{\"u64\":[") W64 e h x.items x.are x.count)
 
-module _ (m : List (List ℕ)) where
+module _ (by : List ℕ → List ℕ) (m : List (List ℕ)) where
   -- what is at a place is what its pointer names
   pub slot-json : (laws : (message : List (List ℕ)) (at : Place) (t : Target) (v : Tree) → ViewsShow message at t v)
-      (at : Place) (t : Target) (Says : List ℕ → Type 0) → target m at ≡ Ok t → IsFoundInJson m t Says
-      → IsInJson m at Says
+      (at : Place) (t : Target) (Says : List ℕ → Type 0) → target m at ≡ Ok t → IsFoundInJson m by t Says
+      → IsInJson m by at Says
   slot-json laws at t Says e h v i = h v (laws m at t v e i)
 
   -- a struct, by its words and its slots
   pub row-json : (s w a b : ℕ) (Says Words Below : List ℕ → Type 0)
       → ((x y : List ℕ) → Words x → Below y → Says (x ++ y))
-      → WordsInJson m s w a Words → AreInJson m s (w + a) b (codes "],\"slots\":[") Below
-      → IsRowInJson m s w a b Says
+      → WordsInJson m s w a Words → AreInJson m by s (w + a) b (codes "],\"slots\":[") Below
+      → IsRowInJson m by s w a b Says
   row-json s w a b Says Words Below step words slots ws ss h =
-      subst Says (struct-parts ws (each_json ss))
-      (step (words_front ws) (items_text (codes "],\"slots\":[") (each_json ss)) (words ws h.word (sym h.words))
+      subst Says (struct-parts ws (each_json_by by ss))
+      (step (words_front ws) (items_text (codes "],\"slots\":[") (each_json_by by ss)) (words ws h.word (sym h.words))
       (slots ss h.slot (sym h.slots)))
 
-module _ (m : List (List ℕ)) (found : Target) (Says : List ℕ → Type 0) where
-  pub nil-json : found ≡ targets.Nil → Says (codes "null") → IsFoundInJson m found Says
+module _ (by : List ℕ → List ℕ) (m : List (List ℕ)) (found : Target) (Says : List ℕ → Type 0) where
+  pub nil-json : found ≡ targets.Nil → Says (codes "null") → IsFoundInJson m by found Says
   nil-json e h v i =
       let is = as-nil m v (subst (λ (t : Target). Shows m t v) e i) in
-      subst Says (sym (ap json_of is)) h
+      subst Says (sym (ap (json_by by) is)) h
 
   pub cap-json : (k : ℕ) → found ≡ targets.Cap k → Says (codes "{\"capability\":" ++ (decimal k ++ 125 ∷ []))
-      → IsFoundInJson m found Says
+      → IsFoundInJson m by found Says
   cap-json k e h v i =
       let is = as-cap m k v (subst (λ (t : Target). Shows m t v) e i) in
-      subst Says (sym (ap json_of is)) h
+      subst Says (sym (ap (json_by by) is)) h
 
   module _ (s w pads : ℕ) (shape : Shape) (e : found ≡ targets.Content s w shape pads) where
     named-by : (other : Shape) (v : Tree) → shape ≡ other → Shows m found v
@@ -119,29 +116,29 @@ module _ (m : List (List ℕ)) (found : Target) (Says : List ℕ → Type 0) whe
     named-by other v f i =
         subst (λ (t : Target). Shows m t v) (e ∙ ap (λ (x : Shape). targets.Content s w x pads) f) i
 
-    pub node-json : (a b : ℕ) → shape ≡ shapes.Node a b → IsRowInJson m s w a b Says → IsFoundInJson m found Says
+    pub node-json : (a b : ℕ) → shape ≡ shapes.Node a b → IsRowInJson m by s w a b Says → IsFoundInJson m by found Says
     node-json a b f h v i =
         let x = as-node m s w pads a b v (named-by (shapes.Node a b) v f i) in
-        subst Says (sym (ap json_of x.is)) (h x.words x.slots x.are)
+        subst Says (sym (ap (json_by by) x.is)) (h x.words x.slots x.are)
 
     pub list-json : (width : Width) (n : ℕ) → shape ≡ shapes.Many width n
-        → ((any : ℕ) → IsFoundInJson m (targets.Content s w (shapes.Many width n) any) Says)
-        → IsFoundInJson m found Says
+        → ((any : ℕ) → IsFoundInJson m by (targets.Content s w (shapes.Many width n) any) Says)
+        → IsFoundInJson m by found Says
     list-json width n f h v i = h pads v (named-by (shapes.Many width n) v f i)
 
     pub links-json : (width : Width) (n : ℕ) → shape ≡ shapes.Many width n → width ≡ Link
-        → AreInJson m s w n (codes "{\"pointers\":[") Says → IsFoundInJson m found Says
+        → AreInJson m by s w n (codes "{\"pointers\":[") Says → IsFoundInJson m by found Says
     links-json width n f g h v i =
         let x = as-links m s w pads n v (named-by (shapes.Many Link n) v (f
         ∙ ap (λ (y : Width). shapes.Many y n) g) i) in
         subst Says
-        (closed (codes "{\"pointers\":[") (with_commas (each_json x.slots)) 93 ∙ sym (ap json_of x.is))
+        (closed (codes "{\"pointers\":[") (with_commas (each_json_by by x.slots)) 93 ∙ sym (ap (json_by by) x.is))
         (h x.slots x.are x.number)
 
     pub rows-json : (n a b span : ℕ) → shape ≡ shapes.Rows n a b span
-        → RowsInJson m s (w + 1) n a b Says → IsFoundInJson m found Says
+        → RowsInJson m by s (w + 1) n a b Says → IsFoundInJson m by found Says
     rows-json n a b span f h v i =
         let x = as-rows m s w pads n a b span v (named-by (shapes.Rows n a b span) v f i) in
         subst Says
-        (closed (codes "{\"rows\":[") (with_commas (each_row x.bodies)) 93 ∙ sym (ap json_of x.is))
+        (closed (codes "{\"rows\":[") (with_commas (each_row_by by x.bodies)) 93 ∙ sym (ap (json_by by) x.is))
         (h x.bodies x.are x.number)

@@ -2,6 +2,7 @@ pub mod shared
 mod TextDigits
 mod LineTexts
 mod TextBytes
+mod ClearTexts
 mod Grown
 mod Within
 mod RowFront
@@ -20,3 +21,4 @@ mod BitDigits
 mod JsonItems
 mod JsonTexts
 mod JsonValues
+mod OneJson

@@ -2,8 +2,8 @@
 use Rattle.std.proofs.Common.{◌≡◌, ℕ, zero, suc, ◌+◌, ◌<◌, ◌==◌, ◌&&◌, ◌||◌, List, [], ◌∷◌, ◌++◌, Bool, true, false}
 use Rattle.std.proofs.Common.{if◌then◌else◌, length, take, drop, get_or, ap, ap₂, sym, refl, ◌∙◌, arith, append_assoc}
 use Rattle.std.proofs.lemmas.List.{append-nil, take_more}
-use Rattle.capn_show.specs.Quoting.{is_printable, is_text, escaped, escapes}
-use Rattle.capn_show.specs.inner.ReadyPlaces.{is_escaped}
+use Rattle.capn_show.specs.Quoting.{is_printable, is_text, escapes_by}
+use Rattle.capn_show.specs.inner.ReadyPlaces.{escaped_of, is_escaped}
 
 -- the bytes from one on that is not the last
 text-from : (xs : List ℕ) (i : ℕ) → suc i < length xs
@@ -40,11 +40,12 @@ module _ (xs : List ℕ) (i : ℕ) (so_far : is_text xs ≡ is_text (drop i xs))
 
 -- ---- between quotes
 
-pub escapes-joined : (xs ys : List ℕ) → escapes (xs ++ ys) ≡ escapes xs ++ escapes ys
-escapes-joined [] ys = refl
-escapes-joined (x ∷ xs) ys =
-    ap (λ (l : List ℕ). escaped x ++ l) (escapes-joined xs ys)
-    ∙ sym (append_assoc (escaped x) (escapes xs) (escapes ys))
+pub escapes-joined : (by : ℕ → List ℕ) (xs ys : List ℕ)
+    → escapes_by by (xs ++ ys) ≡ escapes_by by xs ++ escapes_by by ys
+escapes-joined by [] ys = refl
+escapes-joined by (x ∷ xs) ys =
+    ap (λ (l : List ℕ). by x ++ l) (escapes-joined by xs ys)
+    ∙ sym (append_assoc (by x) (escapes_by by xs) (escapes_by by ys))
 
 bare-by : (x y z : Bool) (b : ℕ) → (x || (y || z)) ≡ false →
     (if x then 92 ∷ 34 ∷ [] else if y then 92 ∷ 92 ∷ [] else if z then 92 ∷ 48 ∷ [] else b ∷ []) ≡ b ∷ []
@@ -53,13 +54,29 @@ bare-by false false true b h = absurd (cc)
 bare-by false true z b h = absurd (cc)
 bare-by true y z b h = absurd (cc)
 
+bare-json : (x y z u v : Bool) (b : ℕ) → (x || (y || (z || (u || v)))) ≡ false →
+    (if x then 92 ∷ 34 ∷ [] else if y then 92 ∷ 92 ∷ [] else if z then 92 ∷ 116 ∷ []
+    else if u then 92 ∷ 110 ∷ [] else if v then 92 ∷ 114 ∷ [] else b ∷ []) ≡ b ∷ []
+bare-json false false false false false b h = refl
+bare-json false false false false true b h = absurd (cc)
+bare-json false false false true v b h = absurd (cc)
+bare-json false false true u v b h = absurd (cc)
+bare-json false true z u v b h = absurd (cc)
+bare-json true y z u v b h = absurd (cc)
+
+bare-one : (json : Bool) (b : ℕ) → is_escaped json b ≡ false → escaped_of json b ≡ b ∷ []
+bare-one false b h = bare-by (b == 34) (b == 92) (b == 0) b h
+bare-one true b h = bare-json (b == 34) (b == 92) (b == 9) (b == 10) (b == 13) b h
+
 -- bytes that are left as they are, and one more
-pub bare-more : (xs : List ℕ) (i : ℕ) → i < length xs → is_escaped (get_or xs i 0) ≡ false
-    → escapes (take i xs) ≡ take i xs → escapes (take (i + 1) xs) ≡ take (i + 1) xs
-bare-more xs i below bare h =
+pub bare-more : (json : Bool) (xs : List ℕ) (i : ℕ) → i < length xs → is_escaped json (get_or xs i 0) ≡ false
+    → escapes_by (escaped_of json) (take i xs) ≡ take i xs
+    → escapes_by (escaped_of json) (take (i + 1) xs) ≡ take (i + 1) xs
+bare-more json xs i below bare h =
     let x = get_or xs i 0 in
+    let by = escaped_of json in
     let more = take_more xs i 0 below in
-    ap escapes more
-    ∙ escapes-joined (take i xs) (x ∷ [])
-    ∙ ap₂ (λ (a b : List ℕ). a ++ b) h (append-nil (escaped x) ∙ bare-by (x == 34) (x == 92) (x == 0) x bare)
+    ap (escapes_by by) more
+    ∙ escapes-joined by (take i xs) (x ∷ [])
+    ∙ ap₂ (λ (a b : List ℕ). a ++ b) h (append-nil (by x) ∙ bare-one json x bare)
     ∙ sym more

@@ -41,37 +41,49 @@ abbrev pub struct_text : List ℕ → List (List ℕ) → List ℕ
 struct_text ws slots =
     codes "{\"words\":" ++ (array (map word_text ws) ++ (codes ",\"slots\":" ++ (array slots ++ codes "}")))
 
--- the numbers of a list, by their width: digits for bits and for bytes, else an array
+-- the numbers of a list other than of bytes, by their width: digits for bits, else an array
 abbrev pub numbers_text : NumberWidth → List ℕ → List ℕ
 numbers_text bit xs = quoted (digits_of (map is_set xs))
-numbers_text byte xs = quoted (encode_lower xs)
 numbers_text oct xs = array (map number_text xs)
 numbers_text _ xs = array (map decimal xs)
 
--- a value: null, or an object that is named after its kind
-abbrev mutual
-  pub json_of : Tree → List ℕ
-  json_of nil = codes "null"
-  json_of (node ws ss) = struct_text ws (each_json ss)
-  json_of (voids n) = member (codes "void") (decimal n)
-  json_of (numbers a xs) = member (numbers_name a) (numbers_text a xs)
-  json_of (links ts) = member (codes "pointers") (array (each_json ts))
-  json_of (rows bs) = member (codes "rows") (array (each_row bs))
-  json_of (cap k) = member (codes "capability") (decimal k)
+-- a list of bytes in digits
+abbrev pub digits_json : List ℕ → List ℕ
+digits_json xs = member (codes "bytes") (quoted (encode_lower xs))
 
-  -- that of each tree
-  pub each_json : Trees → List (List ℕ)
-  each_json no_trees = []
-  each_json (tree t ts) = json_of t ∷ each_json ts
+-- a value: null, or an object that is named after its kind; by how a list of bytes is written
+module _ (bytes_json : List ℕ → List ℕ) where
+  abbrev mutual
+    pub json_by : Tree → List ℕ
+    json_by nil = codes "null"
+    json_by (node ws ss) = struct_text ws (each_json_by ss)
+    json_by (voids n) = member (codes "void") (decimal n)
+    json_by (numbers byte xs) = bytes_json xs
+    json_by (numbers a xs) = member (numbers_name a) (numbers_text a xs)
+    json_by (links ts) = member (codes "pointers") (array (each_json_by ts))
+    json_by (rows bs) = member (codes "rows") (array (each_row_by bs))
+    json_by (cap k) = member (codes "capability") (decimal k)
 
-  -- that of each row, as of a struct
-  pub each_row : Bodies → List (List ℕ)
-  each_row no_bodies = []
-  each_row (body ws ss bs) = struct_text ws (each_json ss) ∷ each_row bs
+    -- that of each tree
+    pub each_json_by : Trees → List (List ℕ)
+    each_json_by no_trees = []
+    each_json_by (tree t ts) = json_by t ∷ each_json_by ts
 
--- a line
+    -- that of each row, as of a struct
+    pub each_row_by : Bodies → List (List ℕ)
+    each_row_by no_bodies = []
+    each_row_by (body ws ss bs) = struct_text ws (each_json_by ss) ∷ each_row_by bs
+
+-- with each list of bytes in digits
+abbrev pub json_of : Tree → List ℕ
+json_of = json_by digits_json
+
+-- a line, by how a list of bytes is written
+abbrev pub json_line_by : (List ℕ → List ℕ) → Tree → List ℕ
+json_line_by bytes_json t = json_by bytes_json t ++ 10 ∷ []
+
 abbrev pub json_line : Tree → List ℕ
-json_line t = json_of t ++ 10 ∷ []
+json_line = json_line_by digits_json
 
 no_slots : json_of (node [] no_trees) ≡ codes "{\"words\":[],\"slots\":[]}"
 no_slots = refl

@@ -1,5 +1,7 @@
 pub mod inner
 pub mod Json
+pub mod JsonTexts
+pub mod Laws
 pub mod Outgoing
 pub mod Part
 pub mod Quoting

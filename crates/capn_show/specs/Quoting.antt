@@ -21,9 +21,14 @@ is_text (b ∷ c ∷ bs) = is_printable b && is_text (c ∷ bs)
 abbrev pub escaped : ℕ → List ℕ
 escaped b = if b == 34 then 92 ∷ 34 ∷ [] else if b == 92 then 92 ∷ 92 ∷ [] else if b == 0 then 92 ∷ 48 ∷ [] else b ∷ []
 
+-- bytes, by how one of them is written
+module _ (escaped_as : ℕ → List ℕ) where
+  abbrev pub escapes_by : List ℕ → List ℕ
+  escapes_by [] = []
+  escapes_by (b ∷ bs) = escaped_as b ++ escapes_by bs
+
 abbrev pub escapes : List ℕ → List ℕ
-escapes [] = []
-escapes (b ∷ bs) = escaped b ++ escapes bs
+escapes = escapes_by escaped
 
 -- the lines of a list of bytes: digits below its first line
 abbrev pub plain_bytes : ℕ → List ℕ → List ℕ

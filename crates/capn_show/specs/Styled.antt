@@ -1,11 +1,13 @@
 -- The text of what is at a way of numbers from a value, in a style. (Own.)
 use Rattle.std.specs.Prelude.{◌≡◌, ℕ, List, [], ◌∷◌, ◌++◌, Option, Some, None, codes, refl}
+use Rattle.std.specs.Str.{chars, is_utf8}
 use Rattle.capn_value.specs.NumberWidth.{byte}
 use Rattle.capn_value.specs.Tree.{Tree, nil, node, numbers, no_trees, tree}
 use Rattle.capn_value.specs.Text.{line, named, shown}
 use Rattle.capn_show.specs.Part.{at_way, part_text, text_at}
 use Rattle.capn_show.specs.Quoting.{quoted_bytes, shown_by}
-use Rattle.capn_show.specs.Json.{json_line}
+use Rattle.capn_show.specs.Json.{json_line, json_line_by}
+use Rattle.capn_show.specs.JsonTexts.{text_or_digits}
 use Rattle.capn_show.specs.declared.style.Style.{Style}
 use Rattle.capn_show.specs.declared.style.Style.TheVariants as styles
 
@@ -16,6 +18,8 @@ part_in styles.Quoted None = line 0 (codes "none")
 part_in styles.Quoted (Some t) = shown_by quoted_bytes 0 t
 part_in styles.Json None = 10 ∷ []
 part_in styles.Json (Some t) = json_line t
+part_in styles.JsonText None = 10 ∷ []
+part_in styles.JsonText (Some t) = json_line_by text_or_digits t
 
 -- the text of what is at a way from a value, in a style
 abbrev pub styled : Style → List ℕ → Tree → List ℕ
@@ -43,3 +47,11 @@ null_in_json = refl
 
 nothing_in_json : styled styles.Json (1 ∷ []) with_text ≡ codes "\n"
 nothing_in_json = refl
+
+text_in_json : styled styles.JsonText (0 ∷ []) with_text ≡ codes "{\"text\":\"h\\\"\"}\n"
+unfolding is_utf8 chars lib.Utf8.encode
+text_in_json = refl
+
+no_text_in_json : styled styles.JsonText [] (numbers byte (255 ∷ [])) ≡ styled styles.Json [] (numbers byte (255 ∷ []))
+unfolding is_utf8 chars lib.Utf8.encode
+no_text_in_json = refl

@@ -1,6 +1,6 @@
 //! Lists of bytes: their digits, or what is a text between quotes.
 
-ghost use Rattle.std.specs.Prelude.{◌≡◌, ◌<◌, ◌≤◌, ◌+◌, ◌^◌, ◌||◌, ◌==◌, length, take, IfErr, OnOk};
+ghost use Rattle.std.specs.Prelude.{◌≡◌, ◌<◌, ◌+◌, ◌^◌, ◌||◌, ◌==◌, IfErr, OnOk};
 ghost use Rattle.capn_words.specs.Message.{IsMessage};
 ghost use Rattle.capn_words.specs.declared.pointer.Width.TheVariants as widths;
 ghost use Rattle.capn_target.specs.Shapes.{IsContent};
@@ -11,15 +11,13 @@ ghost use Rattle.capn_show.specs.inner.ReadyPlaces as places;
 ghost use Rattle.capn_show.specs.inner.ReadyPlaces.{NumbersShown};
 
 use crate::byte_digits::show_bytes;
+use crate::escapes::put_escapes;
 use crate::fault::Broken;
 use crate::lines::{indent, named_line, put_number};
 use crate::output::put;
 use capn_words::{Place, Space, Watched};
 use std::alloc::Allocator;
 use std::io::Write;
-
-/// The most bytes of a text that are added at once.
-const PIECE: usize = 4096;
 
 /// Whether a byte is from 0x20 to 0x7e.
 fn is_printable(byte: u8) -> bool
@@ -49,73 +47,6 @@ fn is_text(bytes: &[u8]) -> bool
         }
     }
     ends_text(bytes[last])
-}
-
-/// Whether a byte of a text is escaped between quotes.
-fn is_escaped(byte: u8) -> bool
-    ensures { result ≡ places.is_escaped byte }
-{
-    byte == b'"' || byte == b'\\' || byte == 0
-}
-
-/// A byte of a text as it is written between quotes.
-fn put_escaped<W: Write, A: Allocator>(
-    text: &mut Vec<u8, A>,
-    writer: &mut Watched<W>,
-    byte: u8,
-) -> Result<(), Broken>
-    ensures shown { OnOk result (Adds (outgoing W.contents writer.old text.old.items)
-        (outgoing W.contents writer.new text.new.items) (quoting.escaped byte)) }
-    ensures cut { IfErr result (λ e. BreaksOff (outgoing W.contents writer.old text.old.items)
-        (outgoing W.contents writer.new text.new.items) e (quoting.escaped byte)) }
-{
-    match byte {
-        b'"' => put(text, writer, b"\\\""),
-        b'\\' => put(text, writer, b"\\\\"),
-        0 => put(text, writer, b"\\0"),
-        _ => put(text, writer, &[byte]),
-    }
-}
-
-/// How many bytes from the first on are left as they are between quotes, at most those of a piece.
-fn bare_run(bytes: &[u8]) -> usize
-    ensures within { result ≤ length bytes.now }
-    ensures bare { quoting.escapes (take result bytes.now) ≡ take result bytes.now }
-{
-    for i in 0..bytes.len() {
-        if is_escaped(bytes[i]) {
-            return i;
-        }
-        if i == PIECE {
-            return i;
-        }
-    }
-    bytes.len()
-}
-
-/// The bytes of a text as they are written between quotes: those that are left as they are, at once, and the one after.
-fn put_escapes<W: Write, A: Allocator>(
-    text: &mut Vec<u8, A>,
-    writer: &mut Watched<W>,
-    bytes: &[u8],
-) -> Result<(), Broken>
-    ensures shown { OnOk result (Adds (outgoing W.contents writer.old text.old.items)
-        (outgoing W.contents writer.new text.new.items) (quoting.escapes bytes.now)) }
-    ensures cut { IfErr result (λ e. BreaksOff (outgoing W.contents writer.old text.old.items)
-        (outgoing W.contents writer.new text.new.items) e (quoting.escapes bytes.now)) }
-{
-    let mut done = 0;
-    while done < bytes.len() {
-        let rest = &bytes[done..];
-        let run = bare_run(rest);
-        put(text, writer, &rest[..run])?;
-        if run == rest.len() {
-            return Ok(());
-        }
-        put_escaped(text, writer, rest[run])?;
-        done += run + 1;
-    }
-    Ok(())
 }
 
 /// The beginning of the line of a text, up to its first quote.
@@ -149,7 +80,7 @@ fn show_quoted<W: Write, A: Allocator>(
         (outgoing W.contents writer.new text.new.items) e (quoting.quoted_line level bytes.now)) }
 {
     quoted_front(text, writer, level, bytes.len())?;
-    put_escapes(text, writer, bytes)?;
+    put_escapes(text, writer, false, bytes)?;
     put(text, writer, b"\"\n")
 }
 

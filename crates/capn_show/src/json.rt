@@ -7,6 +7,7 @@ ghost use Rattle.capn_target.specs.Shapes.{IsInMessage};
 ghost use Rattle.capn_show.specs.Outgoing.{Adds, BreaksOff, outgoing};
 ghost use Rattle.capn_show.specs.inner.ReadyPlaces.{IsReady, IsFound, IsBody, AreReady, AreRows};
 ghost use Rattle.capn_show.specs.inner.JsonPlaces.{IsInJson, IsFoundInJson, IsRowInJson, AreInJson, RowsInJson};
+ghost use Rattle.capn_show.specs.inner.JsonPlaces.{bytes_json_of};
 
 use crate::fault::Broken;
 use crate::json_items::separate;
@@ -20,7 +21,7 @@ use std::io::Write;
 
 /// The JSON of the value at a place.
 #[cycle(json)]
-pub fn json_slot<S: Space, W: Write, A: Allocator>(
+pub fn json_slot<S: Space, W: Write, A: Allocator, const QUOTED: bool>(
     text: &mut Vec<u8, A>,
     writer: &mut Watched<W>,
     space: &S,
@@ -30,14 +31,14 @@ pub fn json_slot<S: Space, W: Write, A: Allocator>(
     requires message { IsMessage (S.message space.now) }
     requires place { IsPlace (S.message space.now) at }
     requires ready { IsReady (S.message space.now) at depth }
-    ensures shown { OnOk result (IsInJson (S.message space.now) at (Adds
+    ensures shown { OnOk result (IsInJson (S.message space.now) (bytes_json_of QUOTED) at (Adds
         (outgoing W.contents writer.old text.old.items) (outgoing W.contents writer.new text.new.items))) }
-    ensures cut { IfErr result (λ e. IsInJson (S.message space.now) at (BreaksOff
+    ensures cut { IfErr result (λ e. IsInJson (S.message space.now) (bytes_json_of QUOTED) at (BreaksOff
         (outgoing W.contents writer.old text.old.items) (outgoing W.contents writer.new text.new.items) e)) }
 {
     views_show_values();
     match resolve(space, at) {
-        Ok(found) => json_found(text, writer, space, found, depth),
+        Ok(found) => json_found::<_, _, _, QUOTED>(text, writer, space, found, depth),
         // A value is here, so the pointer names something.
         Err(_) => unreachable!(),
     }
@@ -45,7 +46,7 @@ pub fn json_slot<S: Space, W: Write, A: Allocator>(
 
 /// The JSON of the value that a pointer names.
 #[cycle(json)]
-pub fn json_found<S: Space, W: Write, A: Allocator>(
+pub fn json_found<S: Space, W: Write, A: Allocator, const QUOTED: bool>(
     text: &mut Vec<u8, A>,
     writer: &mut Watched<W>,
     space: &S,
@@ -55,9 +56,9 @@ pub fn json_found<S: Space, W: Write, A: Allocator>(
     requires message { IsMessage (S.message space.now) }
     requires inside { IsInMessage (S.message space.now) found }
     requires ready { IsFound (S.message space.now) found depth }
-    ensures shown { OnOk result (IsFoundInJson (S.message space.now) found (Adds
+    ensures shown { OnOk result (IsFoundInJson (S.message space.now) (bytes_json_of QUOTED) found (Adds
         (outgoing W.contents writer.old text.old.items) (outgoing W.contents writer.new text.new.items))) }
-    ensures cut { IfErr result (λ e. IsFoundInJson (S.message space.now) found (BreaksOff
+    ensures cut { IfErr result (λ e. IsFoundInJson (S.message space.now) (bytes_json_of QUOTED) found (BreaksOff
         (outgoing W.contents writer.old text.old.items) (outgoing W.contents writer.new text.new.items) e)) }
 {
     match found {
@@ -75,14 +76,22 @@ pub fn json_found<S: Space, W: Write, A: Allocator>(
             };
             match shape {
                 Shape::Node { words, slots } => {
-                    json_row(text, writer, space, start, words, slots, depth - 1)
+                    json_row::<_, _, _, QUOTED>(text, writer, space, start, words, slots, depth - 1)
                 }
                 Shape::Many { width, count } => match width {
                     Width::Link => {
                         let head = b"{\"pointers\":[";
-                        json_slots(text, writer, head, space, start, count, depth - 1)
+                        json_slots::<_, _, _, QUOTED>(
+                            text,
+                            writer,
+                            head,
+                            space,
+                            start,
+                            count,
+                            depth - 1,
+                        )
                     }
-                    _ => json_list(text, writer, space, start, width, count),
+                    _ => json_list::<_, _, _, QUOTED>(text, writer, space, start, width, count),
                 },
                 Shape::Rows {
                     count,
@@ -94,7 +103,16 @@ pub fn json_found<S: Space, W: Write, A: Allocator>(
                         segment,
                         word: start.word + 1,
                     };
-                    json_rows(text, writer, space, first, count, words, slots, depth - 1)
+                    json_rows::<_, _, _, QUOTED>(
+                        text,
+                        writer,
+                        space,
+                        first,
+                        count,
+                        words,
+                        slots,
+                        depth - 1,
+                    )
                 }
             }
         }
@@ -103,7 +121,7 @@ pub fn json_found<S: Space, W: Write, A: Allocator>(
 
 /// The JSON of a struct whose content starts at a place: of one that a pointer names, or of a row.
 #[cycle(json)]
-pub fn json_row<S: Space, W: Write, A: Allocator>(
+pub fn json_row<S: Space, W: Write, A: Allocator, const QUOTED: bool>(
     text: &mut Vec<u8, A>,
     writer: &mut Watched<W>,
     space: &S,
@@ -115,9 +133,11 @@ pub fn json_row<S: Space, W: Write, A: Allocator>(
     requires message { IsMessage (S.message space.now) }
     requires content { IsContent (S.message space.now) start (words + slots) }
     requires ready { IsBody (S.message space.now) start.segment start.word words slots depth }
-    ensures shown { OnOk result (IsRowInJson (S.message space.now) start.segment start.word words slots (Adds
+    ensures shown { OnOk result (IsRowInJson (S.message space.now) (bytes_json_of QUOTED)
+        start.segment start.word words slots (Adds
         (outgoing W.contents writer.old text.old.items) (outgoing W.contents writer.new text.new.items))) }
-    ensures cut { IfErr result (λ e. IsRowInJson (S.message space.now) start.segment start.word words slots (BreaksOff
+    ensures cut { IfErr result (λ e. IsRowInJson (S.message space.now) (bytes_json_of QUOTED)
+        start.segment start.word words slots (BreaksOff
         (outgoing W.contents writer.old text.old.items) (outgoing W.contents writer.new text.new.items) e)) }
 {
     json_words(text, writer, space, start, words)?;
@@ -126,12 +146,12 @@ pub fn json_row<S: Space, W: Write, A: Allocator>(
         word: start.word + words as u32,
     };
     let head = b"],\"slots\":[";
-    json_slots(text, writer, head, space, first, slots as u32, depth)
+    json_slots::<_, _, _, QUOTED>(text, writer, head, space, first, slots as u32, depth)
 }
 
 /// An array of what is in slots, by what comes before its first item, and the end of its object.
 #[cycle(json)]
-fn json_slots<S: Space, W: Write, A: Allocator>(
+fn json_slots<S: Space, W: Write, A: Allocator, const QUOTED: bool>(
     text: &mut Vec<u8, A>,
     writer: &mut Watched<W>,
     head: &[u8],
@@ -143,9 +163,11 @@ fn json_slots<S: Space, W: Write, A: Allocator>(
     requires message { IsMessage (S.message space.now) }
     requires content { IsContent (S.message space.now) first count }
     requires ready { AreReady (S.message space.now) first.segment first.word count depth }
-    ensures shown { OnOk result (AreInJson (S.message space.now) first.segment first.word count head.now
+    ensures shown { OnOk result (AreInJson (S.message space.now) (bytes_json_of QUOTED)
+        first.segment first.word count head.now
         (Adds (outgoing W.contents writer.old text.old.items) (outgoing W.contents writer.new text.new.items))) }
-    ensures cut { IfErr result (λ e. AreInJson (S.message space.now) first.segment first.word count head.now
+    ensures cut { IfErr result (λ e. AreInJson (S.message space.now) (bytes_json_of QUOTED)
+        first.segment first.word count head.now
         (BreaksOff (outgoing W.contents writer.old text.old.items) (outgoing W.contents writer.new text.new.items) e)) }
 {
     put(text, writer, head)?;
@@ -155,14 +177,14 @@ fn json_slots<S: Space, W: Write, A: Allocator>(
             word: first.word + i,
         };
         separate(text, writer, i)?;
-        json_slot(text, writer, space, at, depth)?;
+        json_slot::<_, _, _, QUOTED>(text, writer, space, at, depth)?;
     }
     put(text, writer, b"]}")
 }
 
 /// The JSON of a list of structs whose first row starts at a place.
 #[cycle(json)]
-fn json_rows<S: Space, W: Write, A: Allocator>(
+fn json_rows<S: Space, W: Write, A: Allocator, const QUOTED: bool>(
     text: &mut Vec<u8, A>,
     writer: &mut Watched<W>,
     space: &S,
@@ -175,9 +197,11 @@ fn json_rows<S: Space, W: Write, A: Allocator>(
     requires message { IsMessage (S.message space.now) }
     requires content { IsContent (S.message space.now) first (count * (words + slots)) }
     requires ready { AreRows (S.message space.now) first.segment first.word count words slots depth }
-    ensures shown { OnOk result (RowsInJson (S.message space.now) first.segment first.word count words slots (Adds
+    ensures shown { OnOk result (RowsInJson (S.message space.now) (bytes_json_of QUOTED)
+        first.segment first.word count words slots (Adds
         (outgoing W.contents writer.old text.old.items) (outgoing W.contents writer.new text.new.items))) }
-    ensures cut { IfErr result (λ e. RowsInJson (S.message space.now) first.segment first.word count words slots
+    ensures cut { IfErr result (λ e. RowsInJson (S.message space.now) (bytes_json_of QUOTED)
+        first.segment first.word count words slots
         (BreaksOff (outgoing W.contents writer.old text.old.items) (outgoing W.contents writer.new text.new.items) e)) }
 {
     put(text, writer, b"{\"rows\":[")?;
@@ -188,7 +212,7 @@ fn json_rows<S: Space, W: Write, A: Allocator>(
             word: next,
         };
         separate(text, writer, row)?;
-        json_row(text, writer, space, start, words, slots, depth)?;
+        json_row::<_, _, _, QUOTED>(text, writer, space, start, words, slots, depth)?;
         next += words as u32 + slots as u32;
     }
     put(text, writer, b"]}")

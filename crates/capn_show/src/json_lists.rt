@@ -2,7 +2,6 @@
 
 ghost use Rattle.std.specs.Prelude.{ℕ, ◌∷◌, [], ◌++◌, codes, IfErr, OnOk};
 ghost use Rattle.std.specs.Fmt.{decimal};
-ghost use Rattle.hex.specs.Hex.{encode_lower};
 ghost use Rattle.capn_words.specs.Message.{IsMessage};
 ghost use Rattle.capn_words.specs.declared.pointer.Width.TheVariants as widths;
 ghost use Rattle.capn_value.specs.Text as form;
@@ -11,13 +10,13 @@ ghost use Rattle.capn_target.specs.declared.target.Shape.TheVariants as shapes;
 ghost use Rattle.capn_target.specs.Shapes.{IsContent, IsPlain};
 ghost use Rattle.capn_target.specs.Target.{content_words};
 ghost use Rattle.capn_show.specs.inner.ReadyPlaces.{HasNumbers, NumbersShown, BitsShown};
-ghost use Rattle.capn_show.specs.inner.JsonPlaces.{WordsInJson, IsFoundInJson, values_text};
+ghost use Rattle.capn_show.specs.inner.JsonPlaces.{WordsInJson, IsFoundInJson, bytes_json_of, values_text};
 ghost use Rattle.capn_show.specs.Outgoing.{Adds, BreaksOff, outgoing};
 
 use crate::bits::push_bits;
-use crate::byte_digits::push_bytes;
 use crate::fault::Broken;
 use crate::json_items::{is_quoted, put_value, put_word, separate};
+use crate::json_texts::json_byte_list;
 use crate::lines::put_number;
 use crate::numbers::number_at;
 use crate::output::put;
@@ -53,7 +52,7 @@ pub fn json_words<S: Space, W: Write, A: Allocator>(
 }
 
 /// A list of elements without pointers.
-pub fn json_list<S: Space, W: Write, A: Allocator>(
+pub fn json_list<S: Space, W: Write, A: Allocator, const QUOTED: bool>(
     text: &mut Vec<u8, A>,
     writer: &mut Watched<W>,
     space: &S,
@@ -65,17 +64,19 @@ pub fn json_list<S: Space, W: Write, A: Allocator>(
     requires content { IsContent (S.message space.now) start (content_words width count) }
     requires plain { IsPlain width }
     ensures shown { OnOk result ((pads : ℕ)
-        → IsFoundInJson (S.message space.now) (targets.Content start.segment start.word (shapes.Many width count) pads)
+        → IsFoundInJson (S.message space.now) (bytes_json_of QUOTED)
+        (targets.Content start.segment start.word (shapes.Many width count) pads)
         (Adds (outgoing W.contents writer.old text.old.items) (outgoing W.contents writer.new text.new.items))) }
     ensures cut { IfErr result (λ e. (pads : ℕ)
-        → IsFoundInJson (S.message space.now) (targets.Content start.segment start.word (shapes.Many width count) pads)
+        → IsFoundInJson (S.message space.now) (bytes_json_of QUOTED)
+        (targets.Content start.segment start.word (shapes.Many width count) pads)
         (BreaksOff (outgoing W.contents writer.old text.old.items) (outgoing W.contents writer.new
         text.new.items) e)) }
 {
     match width {
         Width::W0 => json_member(text, writer, b"{\"void\":", count),
         Width::W1 => json_bits(text, writer, space, start, count),
-        Width::W8 => json_bytes(text, writer, space, start, count),
+        Width::W8 => json_byte_list::<_, _, _, QUOTED>(text, writer, space, start, count),
         Width::W16 => json_numbers(text, writer, b"{\"u16\":[", space, start, width, count),
         Width::W32 => json_numbers(text, writer, b"{\"u32\":[", space, start, width, count),
         Width::W64 => json_numbers(text, writer, b"{\"u64\":[", space, start, width, count),
@@ -118,28 +119,6 @@ fn json_bits<S: Space, W: Write, A: Allocator>(
 {
     put(text, writer, b"{\"bits\":\"")?;
     push_bits(text, writer, space, start, count)?;
-    put(text, writer, b"\"}")
-}
-
-/// A list of bytes: two digits for each.
-fn json_bytes<S: Space, W: Write, A: Allocator>(
-    text: &mut Vec<u8, A>,
-    writer: &mut Watched<W>,
-    space: &S,
-    start: Place,
-    count: u32,
-) -> Result<(), Broken>
-    requires message { IsMessage (S.message space.now) }
-    requires content { IsContent (S.message space.now) start (content_words widths.W8 count) }
-    ensures shown { OnOk result (NumbersShown (S.message space.now) start.segment start.word widths.W8
-        count (λ xs. codes "{\"bytes\":\"" ++ (encode_lower xs ++ codes "\"}"))
-        (Adds (outgoing W.contents writer.old text.old.items) (outgoing W.contents writer.new text.new.items))) }
-    ensures cut { IfErr result (λ e. NumbersShown (S.message space.now) start.segment start.word widths.W8
-        count (λ xs. codes "{\"bytes\":\"" ++ (encode_lower xs ++ codes "\"}"))
-        (BreaksOff (outgoing W.contents writer.old text.old.items) (outgoing W.contents writer.new text.new.items) e)) }
-{
-    put(text, writer, b"{\"bytes\":\"")?;
-    push_bytes(text, writer, space, start, count)?;
     put(text, writer, b"\"}")
 }
 

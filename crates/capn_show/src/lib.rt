@@ -4,7 +4,7 @@
 //! it writes what `capn_value::show` writes of the value that `capn_walk::walk` answers: it goes from slot to slot as
 //! the walk did, and adds each line to a text that the caller keeps. So small texts of many messages make one write. A
 //! text of 65,536 bytes or more is written and emptied, so that it takes the same memory for every message.
-//! [`show_part`] does so for what is at a way of numbers from the root, in one of three styles.
+//! [`show_part`] does so for what is at a way of numbers from the root, in one of four styles.
 //!
 //! ```text
 //! let mut text = Vec::new(alloc);
@@ -20,10 +20,13 @@ mod bits;
 mod byte_digits;
 mod bytes;
 mod digits;
+mod escapes;
 mod fault;
 mod json;
 mod json_items;
 mod json_lists;
+mod json_texts;
+pub mod laws;
 mod lines;
 mod message;
 mod numbers;

@@ -5,8 +5,7 @@ ghost use Rattle.capn_words.specs.Message.{IsMessage};
 ghost use Rattle.capn_target.specs.Shapes.{IsInMessage};
 ghost use Rattle.capn_show.specs.Outgoing.{Adds, BreaksOff, outgoing};
 ghost use Rattle.capn_show.specs.Styled.{part_in};
-ghost use Rattle.capn_show.specs.declared.style.Style.TheVariants as styles;
-ghost use Rattle.capn_show.specs.inner.ReadyPlaces.{IsFound, IsThereShown};
+ghost use Rattle.capn_show.specs.inner.ReadyPlaces.{IsFound, IsThereShown, json_style};
 
 use crate::fault::Broken;
 use crate::json::json_found;
@@ -39,12 +38,13 @@ pub fn show_there<S: Space, W: Write, A: Allocator>(
     match style {
         Style::Lines => show_found::<_, _, _, false>(text, writer, space, found, 0, depth),
         Style::Quoted => show_found::<_, _, _, true>(text, writer, space, found, 0, depth),
-        Style::Json => show_json(text, writer, space, found, depth),
+        Style::Json => show_json::<_, _, _, false>(text, writer, space, found, depth),
+        Style::JsonText => show_json::<_, _, _, true>(text, writer, space, found, depth),
     }
 }
 
 /// The line of JSON of the value that a pointer names.
-fn show_json<S: Space, W: Write, A: Allocator>(
+fn show_json<S: Space, W: Write, A: Allocator, const QUOTED: bool>(
     text: &mut Vec<u8, A>,
     writer: &mut Watched<W>,
     space: &S,
@@ -54,12 +54,12 @@ fn show_json<S: Space, W: Write, A: Allocator>(
     requires message { IsMessage (S.message space.now) }
     requires inside { IsInMessage (S.message space.now) found }
     requires ready { IsFound (S.message space.now) found depth }
-    ensures shown { OnOk result (IsThereShown (S.message space.now) styles.Json found (Adds
+    ensures shown { OnOk result (IsThereShown (S.message space.now) (json_style QUOTED) found (Adds
         (outgoing W.contents writer.old text.old.items) (outgoing W.contents writer.new text.new.items))) }
-    ensures cut { IfErr result (λ e. IsThereShown (S.message space.now) styles.Json found (BreaksOff
+    ensures cut { IfErr result (λ e. IsThereShown (S.message space.now) (json_style QUOTED) found (BreaksOff
         (outgoing W.contents writer.old text.old.items) (outgoing W.contents writer.new text.new.items) e)) }
 {
-    json_found(text, writer, space, found, depth)?;
+    json_found::<_, _, _, QUOTED>(text, writer, space, found, depth)?;
     end_line(text, writer)
 }
 
@@ -76,6 +76,6 @@ pub fn show_nothing<W: Write, A: Allocator>(
 {
     match style {
         Style::Lines | Style::Quoted => plain_line(text, writer, 0, "none"),
-        Style::Json => end_line(text, writer),
+        Style::Json | Style::JsonText => end_line(text, writer),
     }
 }

@@ -135,8 +135,15 @@ fn messages_are_shown_in_a_style(rt: HostRuntime) {
         );
     }
     for words in [
-        &["capn", "show", "--text", "--json"][..],
-        &["capn", "show", "--json", "--at", "0", "--text"][..],
+        ["capn", "show", "--text", "--form=packed", "--json"],
+        ["capn", "show", "--json", "--form=packed", "--text"],
+    ] {
+        assert!(rt;
+            is_shown(rt.alloc(), &words, Style::JsonText, None),
+            "{words:?}"
+        );
+    }
+    for words in [
         &["capn", "show", "--text", "--text"][..],
         &["capn", "show", "--json=1"][..],
         &["capn", "check", "--json"][..],

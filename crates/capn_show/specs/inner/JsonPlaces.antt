@@ -9,7 +9,8 @@ use Rattle.capn_value.specs.Tree.{Tree, node, Trees, Bodies, count, count_rows}
 use Rattle.capn_target.specs.declared.target.Target.{Target}
 use Rattle.capn_walk.specs.ValueAt.{IsAt}
 use Rattle.capn_walk.specs.ShownValue.{Shows, ShowsStruct}
-use Rattle.capn_show.specs.Json.{with_commas, word_text, number_text, json_of, each_json, each_row}
+use Rattle.capn_show.specs.Json.{with_commas, word_text, number_text, digits_json, json_by, each_json_by, each_row_by}
+use Rattle.capn_show.specs.JsonTexts.{text_or_digits}
 use Rattle.capn_show.specs.inner.ReadyPlaces.{struct_at, AreDataWords, AreSlots, AreRowsAt}
 
 -- what comes before an item
@@ -39,29 +40,34 @@ values_text head width xs = items_text head (map (number_item (is_quoted width))
 abbrev pub words_front : List ℕ → List ℕ
 words_front ws = codes "{\"words\":[" ++ with_commas (map word_text ws)
 
+-- how a list of bytes is written, by whether a text is put between quotes
+abbrev pub bytes_json_of : Bool → List ℕ → List ℕ
+bytes_json_of false = digits_json
+bytes_json_of true = text_or_digits
+
 module _ (m : List (List ℕ)) where
-  -- what is said of the JSON of the value at a place
-  abbrev pub IsInJson : Place → (List ℕ → Type 0) → Type 0
-  IsInJson at Says = (v : Tree) → IsAt m at v → Says (json_of v)
+  -- what is said of the JSON of the value at a place, by how lists of bytes are written
+  abbrev pub IsInJson : (List ℕ → List ℕ) → Place → (List ℕ → Type 0) → Type 0
+  IsInJson by at Says = (v : Tree) → IsAt m at v → Says (json_by by v)
 
   -- of that of the value which a pointer names
-  abbrev pub IsFoundInJson : Target → (List ℕ → Type 0) → Type 0
-  IsFoundInJson found Says = (v : Tree) → Shows m found v → Says (json_of v)
+  abbrev pub IsFoundInJson : (List ℕ → List ℕ) → Target → (List ℕ → Type 0) → Type 0
+  IsFoundInJson by found Says = (v : Tree) → Shows m found v → Says (json_by by v)
 
   -- of that of a struct
-  abbrev pub IsRowInJson : ℕ → ℕ → ℕ → ℕ → (List ℕ → Type 0) → Type 0
-  IsRowInJson s w a b Says = (ws : List ℕ) (ss : Trees) → ShowsStruct m (struct_at s w a b) ws ss
-      → Says (json_of (node ws ss))
+  abbrev pub IsRowInJson : (List ℕ → List ℕ) → ℕ → ℕ → ℕ → ℕ → (List ℕ → Type 0) → Type 0
+  IsRowInJson by s w a b Says = (ws : List ℕ) (ss : Trees) → ShowsStruct m (struct_at s w a b) ws ss
+      → Says (json_by by (node ws ss))
 
   -- of those of slots
-  abbrev pub AreInJson : ℕ → ℕ → ℕ → List ℕ → (List ℕ → Type 0) → Type 0
-  AreInJson s w number head Says = (ts : Trees) → AreSlots m s w ts → count ts ≡ number
-      → Says (items_text head (each_json ts))
+  abbrev pub AreInJson : (List ℕ → List ℕ) → ℕ → ℕ → ℕ → List ℕ → (List ℕ → Type 0) → Type 0
+  AreInJson by s w number head Says = (ts : Trees) → AreSlots m s w ts → count ts ≡ number
+      → Says (items_text head (each_json_by by ts))
 
   -- of those of rows
-  abbrev pub RowsInJson : ℕ → ℕ → ℕ → ℕ → ℕ → (List ℕ → Type 0) → Type 0
-  RowsInJson s w number a b Says = (bs : Bodies) → AreRowsAt m s w a b bs → count_rows bs ≡ number
-      → Says (items_text (codes "{\"rows\":[") (each_row bs))
+  abbrev pub RowsInJson : (List ℕ → List ℕ) → ℕ → ℕ → ℕ → ℕ → ℕ → (List ℕ → Type 0) → Type 0
+  RowsInJson by s w number a b Says = (bs : Bodies) → AreRowsAt m s w a b bs → count_rows bs ≡ number
+      → Says (items_text (codes "{\"rows\":[") (each_row_by by bs))
 
   -- of those of data words
   abbrev pub WordsInJson : ℕ → ℕ → ℕ → (List ℕ → Type 0) → Type 0

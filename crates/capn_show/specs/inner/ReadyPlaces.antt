@@ -16,9 +16,11 @@ use Rattle.capn_walk.specs.ValueAt.{IsAt, words_from}
 use Rattle.capn_walk.specs.View.{number_in}
 use Rattle.capn_walk.specs.ShownValue.{Shows, ShowsStruct, words_of_row, slots_of_row}
 use Rattle.capn_walk.specs.Accepted.{root}
-use Rattle.capn_show.specs.Quoting.{plain_bytes, quoted_bytes, shown_by, shown_each_by, shown_rows_by}
+use Rattle.capn_show.specs.JsonTexts.{json_escaped}
+use Rattle.capn_show.specs.Quoting.{escaped, plain_bytes, quoted_bytes, shown_by, shown_each_by, shown_rows_by}
 use Rattle.capn_show.specs.Styled.{part_in, styled}
 use Rattle.capn_show.specs.declared.style.Style.{Style}
+use Rattle.capn_show.specs.declared.style.Style.TheVariants as styles
 use Rattle.capn_show.specs.declared.fault.ShowFault.{ShowFault}
 use Rattle.capn_show.specs.declared.fault.ShowFault.TheVariants as ends
 use Rattle.capn_show.specs.declared.fault.Broken.{Broken}
@@ -50,9 +52,20 @@ abbrev pub bytes_of : Bool → ℕ → List ℕ → List ℕ
 bytes_of false = plain_bytes
 bytes_of true = quoted_bytes
 
+-- how a byte of a text is written between quotes, by whether that is in JSON
+abbrev pub escaped_of : Bool → ℕ → List ℕ
+escaped_of false = escaped
+escaped_of true = json_escaped
+
 -- whether a byte of a text is escaped between quotes
-abbrev pub is_escaped : ℕ → Bool
-is_escaped b = b == 34 || (b == 92 || b == 0)
+abbrev pub is_escaped : Bool → ℕ → Bool
+is_escaped false b = b == 34 || (b == 92 || b == 0)
+is_escaped true b = b == 34 || (b == 92 || (b == 9 || (b == 10 || b == 13)))
+
+-- JSON, by whether lists of bytes that are texts are written so
+abbrev pub json_style : Bool → Style
+json_style false = styles.Json
+json_style true = styles.JsonText
 
 -- the beginning of the line of this number of bytes, up to the first quote of their text
 abbrev pub quoted_front : ℕ → ℕ → List ℕ

@@ -1,4 +1,4 @@
-use Rattle.std.proofs.Common.{◌≡◌, List, Bool, true, false, Option, IfSome, IsSome, codes, refl, sym, subst}
+use Rattle.std.proofs.Common.{◌≡◌, List, Bool, true, false, codes, sym, subst}
 use Rattle.clap.specs.Words.{Row, found_of, rows_of}
 use Rattle.capn_show.specs.declared.style.Style.{Style}
 use Rattle.capn_show.specs.declared.style.Style.TheVariants as styles
@@ -12,33 +12,21 @@ text_given : (rows : List Row) (style : Style) → StyleIs rows style → (given
 text_given rows styles.Lines is = (false, is.0)
 text_given rows styles.Quoted is = (true, is.0)
 text_given rows styles.Json is = (false, is.0)
+text_given rows styles.JsonText is = (true, is.0)
 
 json_given : (rows : List Row) (style : Style) → StyleIs rows style → (given : Bool) × FlagIs rows (codes "json") given
 json_given rows styles.Lines is = (false, is.1)
 json_given rows styles.Quoted is = (false, is.1)
 json_given rows styles.Json is = (true, is.1)
+json_given rows styles.JsonText is = (true, is.1)
 
 -- the style of these flags
 is_read : (rows : List Row) (text json : Bool) → FlagIs rows (codes "text") text → FlagIs rows (codes "json") json
-    → IfSome (style_for text json) (StyleIs rows)
-is_read rows true true t j = tt
+    → StyleIs rows (style_for text json)
+is_read rows true true t j = (t, j)
 is_read rows true false t j = (t, j)
 is_read rows false true t j = (t, j)
 is_read rows false false t j = (t, j)
-
--- both flags order no style
-not_both : (rows : List Row) (style : Style) → FlagIs rows (codes "text") true → FlagIs rows (codes "json") true
-    → StyleIs rows style → ⊥
-not_both rows styles.Lines t j is = let bad : false ≡ true = flag_one rows (codes "text") false true is.0 t in cc
-not_both rows styles.Quoted t j is = let bad : false ≡ true = flag_one rows (codes "json") false true is.1 j in cc
-not_both rows styles.Json t j is = let bad : false ≡ true = flag_one rows (codes "text") false true is.0 t in cc
-
-is_served : (rows : List Row) (text json : Bool) (style : Style) → FlagIs rows (codes "text") text
-    → FlagIs rows (codes "json") json → StyleIs rows style → IsSome (style_for text json)
-is_served rows true true style t j is = absurd (not_both rows style t j is)
-is_served rows true false style t j is = refl
-is_served rows false true style t j is = refl
-is_served rows false false style t j is = refl
 
 pub returns-in_err-text-clause-served : goal.returns-in_err-text-clause-served
 returns-in_err-text-clause-served c style is =
@@ -53,11 +41,5 @@ returns-in_err-json-clause-served c style is =
 pub returns-clause-read : goal.returns-clause-read
 returns-clause-read c =
     let rows = rows_of (found_of c.args.matches.now) in
-    subst (λ (o : Option Style). IfSome o (StyleIs rows)) (sym c.style_for.ensures)
+    subst (StyleIs rows) (sym c.style_for.ensures)
     (is_read rows c.in_ok-text.text c.in_ok-json.json c.in_ok-text.ensures.read c.in_ok-json.ensures.read)
-
-pub returns-clause-served : goal.returns-clause-served
-returns-clause-served c style is =
-    let rows = rows_of (found_of c.args.matches.now) in
-    subst (λ (o : Option Style). IsSome o) (sym c.style_for.ensures)
-    (is_served rows c.in_ok-text.text c.in_ok-json.json style c.in_ok-text.ensures.read c.in_ok-json.ensures.read is)

@@ -15,3 +15,9 @@ returns-in-Quoted c rows form limits style none =
 pub returns-in-Json : goal.returns-in-Json
 returns-in-Json c rows form limits style none =
     (refl, (form, limits, style, (none, λ e. let bad : styles.Json ≡ styles.Lines = sym c.in-Json.is ∙ e in cc)))
+
+pub returns-in-JsonText : goal.returns-in-JsonText
+returns-in-JsonText c rows form limits style none = (
+  refl,
+  (form, limits, style, (none, λ e. let bad : styles.JsonText ≡ styles.Lines = sym c.in-JsonText.is ∙ e in cc)),
+)

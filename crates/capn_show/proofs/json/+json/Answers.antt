@@ -9,17 +9,19 @@ use Rattle.capn_target.specs.Shapes.{IsContent, RowsFit, extent}
 use Rattle.capn_walk.specs.ShownValue.{ShowsStruct, words_of_row, slots_of_row}
 use Rattle.capn_walk.proofs.shared.RowWalks.{row-inside}
 use Rattle.capn_target.proofs.shared.Segments.{segment-room}
-use Rattle.capn_show.specs.Json.{with_commas, struct_text, json_of, each_json, each_row}
+use Rattle.capn_show.specs.Json.{with_commas, struct_text, json_by, each_json_by, each_row_by}
 use Rattle.capn_show.specs.Outgoing.{Adds, BreaksOff, outgoing}
 use Rattle.capn_show.specs.inner.ReadyPlaces.{IsBody, struct_at}
 use Rattle.capn_show.proofs.shared.Appended.{passed, same, both, then-broken, broken-before}
 use Rattle.capn_show.proofs.Steps.{no-fault, found-ready, slot-ready, row-ready, slots-ready}
 use Rattle.capn_show.proofs.FoundTexts.{inside, deep, node-ready, links-ready, rows-ready}
+use Rattle.capn_show.proofs.Chosen.{json_bits_of}
 use Rattle.capn_show.proofs.JsonItems.{item-more, items-end, cut-comma, cut-item, cut-end}
 use Rattle.capn_show.proofs.JsonTexts.{slot-at, slots-length, row-at, rows-length}
 use Rattle.capn_show.proofs.JsonValues.{slot-json, row-json, nil-json, cap-json, node-json, list-json, links-json}
 use Rattle.capn_show.proofs.JsonValues.{rows-json}
 use Rattle.std.specs.Prelude.{⊤}
+use mathlib.Core.List.{not-mem-nil}
 use Rattle.capn_show.proofs.json.+json.Goals as goal
 
 -- ---- a slot
@@ -28,8 +30,25 @@ pub json_slot-json_found-requires : goal.json_slot-json_found-requires
 json_slot-json_found-requires g t c κs live =
     let m = g.S.Space.message c.args.space.now in
     let e = sym c.resolve.ensures.exact ∙ c.in-Ok.is in
-    let ready = found-ready m c.views_show_values.ensures c.args.at c.in-Ok.found c.args.depth e c.requires.ready in
-    (omega arith, (live.0, (live.1.0, (live.1.1, (c.requires.message, (c.in-Ok.ensures.inside, ready))))))
+    let ready = found-ready m c.views_show_values.ensures c.args.at c.in-Ok.found c.args.depth e c.requires.ready in (
+      omega arith,
+      (
+        live.0,
+        (
+          live.1.0,
+          (
+            live.1.1,
+            (
+              λ a m. absurd (not-mem-nil m),
+              (
+                c.requires.message,
+                (c.in-Ok.ensures.inside, ready),
+              ),
+            ),
+          ),
+        ),
+      ),
+    )
 
 pub json_slot-unreachable-requires : goal.json_slot-unreachable-requires
 json_slot-unreachable-requires g t c =
@@ -41,7 +60,8 @@ json_slot-returns-clause-shown g t c =
     let old = outgoing g.W.Write.contents c.args.writer.now c.args.text.now.items in
     let new = outgoing g.W.Write.contents c.json_found.new.writer c.json_found.new.text.items in
     on_ok_weaker c.json_found.result
-    (slot-json (g.S.Space.message c.args.space.now) c.views_show_values.ensures c.args.at c.in-Ok.found (Adds old new)
+    (slot-json (json_bits_of g.row.QUOTED) (g.S.Space.message c.args.space.now) c.views_show_values.ensures c.args.at
+    c.in-Ok.found (Adds old new)
     (sym c.resolve.ensures.exact ∙ c.in-Ok.is))
     c.json_found.ensures.shown
 
@@ -50,7 +70,8 @@ json_slot-returns-clause-cut g t c =
     let old = outgoing g.W.Write.contents c.args.writer.now c.args.text.now.items in
     let new = outgoing g.W.Write.contents c.json_found.new.writer c.json_found.new.text.items in
     IfErr-weaker c.json_found.result _ _
-    (λ e. slot-json (g.S.Space.message c.args.space.now) c.views_show_values.ensures c.args.at c.in-Ok.found
+    (λ e. slot-json (json_bits_of g.row.QUOTED) (g.S.Space.message c.args.space.now) c.views_show_values.ensures
+    c.args.at c.in-Ok.found
     (BreaksOff old new e) (sym c.resolve.ensures.exact ∙ c.in-Ok.is))
     c.json_found.ensures.cut
 
@@ -70,8 +91,28 @@ json_slots-json_slot-requires g t c κs live =
     let within = c.requires.content.within in
     let lt = c.loop-i-test.true in
     let ready = slot-ready m c.args.first.segment c.args.first.word c.args.count c.args.depth c.loop-i.i lt
-    c.requires.ready in
-    (omega arith, (live.0, (live.1.0, (live.1.1, (c.requires.message, (omega arith, ready))))))
+    c.requires.ready in (
+      omega arith,
+      (
+        live.0,
+        (
+          live.1.0,
+          (
+            live.1.1,
+            (
+              λ a m. absurd (not-mem-nil m),
+              (
+                c.requires.message,
+                (
+                  omega arith,
+                  ready,
+                ),
+              ),
+            ),
+          ),
+        ),
+      ),
+    )
 
 pub json_slots-loop-i-init : goal.json_slots-loop-i-init
 json_slots-loop-i-init g t c ts h n =
@@ -87,9 +128,11 @@ json_slots-loop-i-preserved g t c ts h n =
     let i = c.loop-i.i in
     let lt = c.loop-i-test.true in
     let below : i < count ts = omega arith in
-    let all = slots-length ts in
-    item-more begun now [] (each_json ts) i (omega arith) (c.loop-i.invariant ts h n) parted new
-    (json_of (tree_at ts i)) (slot-at ts i below) c.in_ok-separate.ensures.shown
+    let all = slots-length (json_bits_of g.row.QUOTED) ts in
+    item-more begun now [] (each_json_by (json_bits_of g.row.QUOTED) ts) i (omega arith) (c.loop-i.invariant ts h n)
+    parted new
+    (json_by (json_bits_of g.row.QUOTED) (tree_at ts i)) (slot-at (json_bits_of g.row.QUOTED) ts i below)
+    c.in_ok-separate.ensures.shown
     (c.in_ok-json_slot.ensures.shown _ (h i below))
 
 pub json_slots-returns-clause-shown : goal.json_slots-returns-clause-shown
@@ -98,12 +141,14 @@ json_slots-returns-clause-shown g t c =
     (λ k ts h n. let old = outgoing g.W.Write.contents c.args.writer.now c.args.text.now.items in
     let begun = outgoing g.W.Write.contents c.put.new.writer c.put.new.text.items in
     let now = outgoing g.W.Write.contents c.loop-i.writer c.loop-i.text.items in
-    let so_far = both old begun now c.args.head.now (with_commas (take c.loop-i.i (each_json ts)))
+    let so_far = both old begun now c.args.head.now (with_commas (take c.loop-i.i (each_json_by (json_bits_of
+    g.row.QUOTED) ts)))
     c.in_ok-put.ensures.shown (c.loop-i.invariant ts h n) in
     let new = outgoing g.W.Write.contents c.put-2.new.writer c.put-2.new.text.items in
     let end = c.loop-i-test.false in
-    let all = slots-length ts in
-    items-end old now c.args.head.now (each_json ts) c.loop-i.i (omega arith) so_far new (codes "]}") k)
+    let all = slots-length (json_bits_of g.row.QUOTED) ts in
+    items-end old now c.args.head.now (each_json_by (json_bits_of g.row.QUOTED) ts) c.loop-i.i (omega arith) so_far
+    new (codes "]}") k)
     c.put-2.ensures.shown
 
 pub json_slots-returns-clause-cut : goal.json_slots-returns-clause-cut
@@ -112,12 +157,14 @@ json_slots-returns-clause-cut g t c =
     (λ e k ts h n. let old = outgoing g.W.Write.contents c.args.writer.now c.args.text.now.items in
     let begun = outgoing g.W.Write.contents c.put.new.writer c.put.new.text.items in
     let now = outgoing g.W.Write.contents c.loop-i.writer c.loop-i.text.items in
-    let so_far = both old begun now c.args.head.now (with_commas (take c.loop-i.i (each_json ts)))
+    let so_far = both old begun now c.args.head.now (with_commas (take c.loop-i.i (each_json_by (json_bits_of
+    g.row.QUOTED) ts)))
     c.in_ok-put.ensures.shown (c.loop-i.invariant ts h n) in
     let new = outgoing g.W.Write.contents c.put-2.new.writer c.put-2.new.text.items in
     let end = c.loop-i-test.false in
-    let all = slots-length ts in
-    cut-end old now c.args.head.now (each_json ts) c.loop-i.i (omega arith) so_far new e (codes "]}") k)
+    let all = slots-length (json_bits_of g.row.QUOTED) ts in
+    cut-end old now c.args.head.now (each_json_by (json_bits_of g.row.QUOTED) ts) c.loop-i.i (omega arith) so_far new
+    e (codes "]}") k)
     c.put-2.ensures.cut
 
 pub json_slots-returns-in_err-put-clause-cut : goal.json_slots-returns-in_err-put-clause-cut
@@ -125,7 +172,8 @@ json_slots-returns-in_err-put-clause-cut g t c =
     passed c.from_residual.result c.in_err-put.field-0.0 _ c.from_residual.ensures.1
     (λ ts h n. let old = outgoing g.W.Write.contents c.args.writer.now c.args.text.now.items in
     let begun = outgoing g.W.Write.contents c.put.new.writer c.put.new.text.items in
-    broken-before old begun _ c.args.head.now (with_commas (each_json ts) ++ codes "]}") c.in_err-put.ensures.cut)
+    broken-before old begun _ c.args.head.now (with_commas (each_json_by (json_bits_of g.row.QUOTED) ts) ++ codes
+    "]}") c.in_err-put.ensures.cut)
 
 pub json_slots-returns-in_err-separate-clause-cut : goal.json_slots-returns-in_err-separate-clause-cut
 json_slots-returns-in_err-separate-clause-cut g t c =
@@ -134,13 +182,15 @@ json_slots-returns-in_err-separate-clause-cut g t c =
     (λ ts h n. let old = outgoing g.W.Write.contents c.args.writer.now c.args.text.now.items in
     let begun = outgoing g.W.Write.contents c.put.new.writer c.put.new.text.items in
     let now = outgoing g.W.Write.contents c.loop-i.writer c.loop-i.text.items in
-    let so_far = both old begun now c.args.head.now (with_commas (take c.loop-i.i (each_json ts)))
+    let so_far = both old begun now c.args.head.now (with_commas (take c.loop-i.i (each_json_by (json_bits_of
+    g.row.QUOTED) ts)))
     c.in_ok-put.ensures.shown (c.loop-i.invariant ts h n) in
     let parted = outgoing g.W.Write.contents c.separate.new.writer c.separate.new.text.items in
     let i = c.loop-i.i in
     let lt = c.loop-i-test.true in
-    let all = slots-length ts in
-    cut-comma old now c.args.head.now (each_json ts) i (omega arith) so_far parted _ (codes "]}")
+    let all = slots-length (json_bits_of g.row.QUOTED) ts in
+    cut-comma old now c.args.head.now (each_json_by (json_bits_of g.row.QUOTED) ts) i (omega arith) so_far parted _
+    (codes "]}")
     c.in_err-separate.ensures.cut)
 
 pub json_slots-returns-in_err-json_slot-clause-cut : goal.json_slots-returns-in_err-json_slot-clause-cut
@@ -150,16 +200,18 @@ json_slots-returns-in_err-json_slot-clause-cut g t c =
     (λ ts h n. let old = outgoing g.W.Write.contents c.args.writer.now c.args.text.now.items in
     let begun = outgoing g.W.Write.contents c.put.new.writer c.put.new.text.items in
     let now = outgoing g.W.Write.contents c.loop-i.writer c.loop-i.text.items in
-    let so_far = both old begun now c.args.head.now (with_commas (take c.loop-i.i (each_json ts)))
+    let so_far = both old begun now c.args.head.now (with_commas (take c.loop-i.i (each_json_by (json_bits_of
+    g.row.QUOTED) ts)))
     c.in_ok-put.ensures.shown (c.loop-i.invariant ts h n) in
     let parted = outgoing g.W.Write.contents c.separate.new.writer c.separate.new.text.items in
     let new = outgoing g.W.Write.contents c.json_slot.new.writer c.json_slot.new.text.items in
     let i = c.loop-i.i in
     let lt = c.loop-i-test.true in
     let below : i < count ts = omega arith in
-    let all = slots-length ts in
-    cut-item old now c.args.head.now (each_json ts) i (omega arith) so_far parted new _
-    (json_of (tree_at ts i)) (codes "]}") (slot-at ts i below) c.in_ok-separate.ensures.shown
+    let all = slots-length (json_bits_of g.row.QUOTED) ts in
+    cut-item old now c.args.head.now (each_json_by (json_bits_of g.row.QUOTED) ts) i (omega arith) so_far parted new _
+    (json_by (json_bits_of g.row.QUOTED) (tree_at ts i)) (codes "]}") (slot-at (json_bits_of g.row.QUOTED) ts i below)
+    c.in_ok-separate.ensures.shown
     (c.in_err-json_slot.ensures.cut _ (h i below)))
 
 -- ---- a struct
@@ -178,8 +230,28 @@ json_row-json_slots-requires g t c κs live =
     let ready = slots-ready m c.args.start.segment c.args.start.word c.args.words c.args.slots c.args.depth
     c.requires.ready in
     let content : IsContent m (record { segment = c.args.start.segment; word = c.args.start.word + c.args.words })
-    c.args.slots = record { exists = c.requires.content.exists; within = omega arith } in
-    (omega arith, (live.0, (live.1.0, (live.1.1, (c.requires.message, (content, ready))))))
+    c.args.slots = record { exists = c.requires.content.exists; within = omega arith } in (
+      omega arith,
+      (
+        live.0,
+        (
+          live.1.0,
+          (
+            live.1.1,
+            (
+              λ a m. absurd (not-mem-nil m),
+              (
+                c.requires.message,
+                (
+                  content,
+                  ready,
+                ),
+              ),
+            ),
+          ),
+        ),
+      ),
+    )
 
 pub json_row-returns-clause-shown : goal.json_row-returns-clause-shown
 json_row-returns-clause-shown g t c =
@@ -187,7 +259,8 @@ json_row-returns-clause-shown g t c =
     let own = outgoing g.W.Write.contents c.json_words.new.writer c.json_words.new.text.items in
     let new = outgoing g.W.Write.contents c.json_slots.new.writer c.json_slots.new.text.items in
     on_ok_weaker c.json_slots.result
-    (row-json (g.S.Space.message c.args.space.now) c.args.start.segment c.args.start.word c.args.words c.args.slots
+    (row-json (json_bits_of g.row.QUOTED) (g.S.Space.message c.args.space.now) c.args.start.segment c.args.start.word
+    c.args.words c.args.slots
     (Adds old new) (Adds old own) (Adds own new) (both old own new) c.in_ok-json_words.ensures.shown)
     c.json_slots.ensures.shown
 
@@ -197,7 +270,8 @@ json_row-returns-clause-cut g t c =
     let own = outgoing g.W.Write.contents c.json_words.new.writer c.json_words.new.text.items in
     let new = outgoing g.W.Write.contents c.json_slots.new.writer c.json_slots.new.text.items in
     IfErr-weaker c.json_slots.result _ _
-    (λ e. row-json (g.S.Space.message c.args.space.now) c.args.start.segment c.args.start.word c.args.words
+    (λ e. row-json (json_bits_of g.row.QUOTED) (g.S.Space.message c.args.space.now) c.args.start.segment
+    c.args.start.word c.args.words
     c.args.slots
     (BreaksOff old new e) (Adds old own) (BreaksOff own new e) (then-broken old own new e)
     c.in_ok-json_words.ensures.shown)
@@ -208,7 +282,8 @@ json_row-returns-in_err-json_words-clause-cut g t c =
     let old = outgoing g.W.Write.contents c.args.writer.now c.args.text.now.items in
     let own = outgoing g.W.Write.contents c.json_words.new.writer c.json_words.new.text.items in
     passed c.from_residual.result c.in_err-json_words.field-0.0 _ c.from_residual.ensures.1
-    (row-json (g.S.Space.message c.args.space.now) c.args.start.segment c.args.start.word c.args.words c.args.slots
+    (row-json (json_bits_of g.row.QUOTED) (g.S.Space.message c.args.space.now) c.args.start.segment c.args.start.word
+    c.args.words c.args.slots
     (BreaksOff old own _) (BreaksOff old own _) (λ y. ⊤) (λ x y h k. broken-before old own _ x y h)
     c.in_err-json_words.ensures.cut (λ ts h n. tt))
 
@@ -257,8 +332,28 @@ json_found-json_row-requires g t c κs live =
       within = subst (λ (sh : Shape). x.start + extent sh ≤ length (segment_at m x.segment)) k.is i.0.within;
     } in
     let ready = node-ready m c.args.found x.segment x.start x.pads x.shape x.is c.args.depth c.requires.ready k.words
-    k.slots k.is in
-    (omega arith, (live.0, (live.1.0, (live.1.1, (c.requires.message, (content, ready))))))
+    k.slots k.is in (
+      omega arith,
+      (
+        live.0,
+        (
+          live.1.0,
+          (
+            live.1.1,
+            (
+              λ a m. absurd (not-mem-nil m),
+              (
+                c.requires.message,
+                (
+                  content,
+                  ready,
+                ),
+              ),
+            ),
+          ),
+        ),
+      ),
+    )
 
 pub json_found-json_slots-requires : goal.json_found-json_slots-requires
 json_found-json_slots-requires g t c κs live =
@@ -273,8 +368,28 @@ json_found-json_slots-requires g t c κs live =
       within = subst (λ (sh : Shape). x.start + extent sh ≤ length (segment_at m x.segment)) is i.0.within;
     } in
     let ready = links-ready m c.args.found x.segment x.start x.pads x.shape x.is c.args.depth c.requires.ready k.width
-    k.count k.is c.in-Link.is in
-    (omega arith, (live.0, (live.1.0, (live.1.1, (c.requires.message, (content, ready))))))
+    k.count k.is c.in-Link.is in (
+      omega arith,
+      (
+        live.0,
+        (
+          live.1.0,
+          (
+            live.1.1,
+            (
+              λ a m. absurd (not-mem-nil m),
+              (
+                c.requires.message,
+                (
+                  content,
+                  ready,
+                ),
+              ),
+            ),
+          ),
+        ),
+      ),
+    )
 
 pub json_found-json_rows-requires : goal.json_found-json_rows-requires
 json_found-json_rows-requires g t c κs live =
@@ -289,15 +404,35 @@ json_found-json_rows-requires g t c κs live =
     let content : IsContent m (record { segment = x.segment; word = x.start + 1 }) (k.count * (k.words + k.slots)) =
     record { exists = i.0.exists; within = room } in
     let ready = rows-ready m c.args.found x.segment x.start x.pads x.shape x.is c.args.depth c.requires.ready k.count
-    k.words k.slots k.span k.is in
-    (omega arith, (live.0, (live.1.0, (live.1.1, (c.requires.message, (content, ready))))))
+    k.words k.slots k.span k.is in (
+      omega arith,
+      (
+        live.0,
+        (
+          live.1.0,
+          (
+            live.1.1,
+            (
+              λ a m. absurd (not-mem-nil m),
+              (
+                c.requires.message,
+                (
+                  content,
+                  ready,
+                ),
+              ),
+            ),
+          ),
+        ),
+      ),
+    )
 
 pub json_found-returns-in-Nil-clause-shown : goal.json_found-returns-in-Nil-clause-shown
 json_found-returns-in-Nil-clause-shown g t c =
     let old = outgoing g.W.Write.contents c.args.writer.now c.args.text.now.items in
     let new = outgoing g.W.Write.contents c.put.new.writer c.put.new.text.items in
     on_ok_weaker c.put.result
-    (nil-json (g.S.Space.message c.args.space.now) c.args.found (Adds old new) c.in-Nil.is)
+    (nil-json (json_bits_of g.row.QUOTED) (g.S.Space.message c.args.space.now) c.args.found (Adds old new) c.in-Nil.is)
     c.put.ensures.shown
 
 pub json_found-returns-in-Nil-clause-cut : goal.json_found-returns-in-Nil-clause-cut
@@ -305,7 +440,8 @@ json_found-returns-in-Nil-clause-cut g t c =
     let old = outgoing g.W.Write.contents c.args.writer.now c.args.text.now.items in
     let new = outgoing g.W.Write.contents c.put.new.writer c.put.new.text.items in
     IfErr-weaker c.put.result _ _
-    (λ e. nil-json (g.S.Space.message c.args.space.now) c.args.found (BreaksOff old new e) c.in-Nil.is)
+    (λ e. nil-json (json_bits_of g.row.QUOTED) (g.S.Space.message c.args.space.now) c.args.found (BreaksOff old new e)
+    c.in-Nil.is)
     c.put.ensures.cut
 
 pub json_found-returns-in-Cap-clause-shown : goal.json_found-returns-in-Cap-clause-shown
@@ -313,7 +449,8 @@ json_found-returns-in-Cap-clause-shown g t c =
     let old = outgoing g.W.Write.contents c.args.writer.now c.args.text.now.items in
     let new = outgoing g.W.Write.contents c.json_member.new.writer c.json_member.new.text.items in
     on_ok_weaker c.json_member.result
-    (cap-json (g.S.Space.message c.args.space.now) c.args.found (Adds old new) c.in-Cap.index c.in-Cap.is)
+    (cap-json (json_bits_of g.row.QUOTED) (g.S.Space.message c.args.space.now) c.args.found (Adds old new)
+    c.in-Cap.index c.in-Cap.is)
     c.json_member.ensures.shown
 
 pub json_found-returns-in-Cap-clause-cut : goal.json_found-returns-in-Cap-clause-cut
@@ -321,7 +458,8 @@ json_found-returns-in-Cap-clause-cut g t c =
     let old = outgoing g.W.Write.contents c.args.writer.now c.args.text.now.items in
     let new = outgoing g.W.Write.contents c.json_member.new.writer c.json_member.new.text.items in
     IfErr-weaker c.json_member.result _ _
-    (λ e. cap-json (g.S.Space.message c.args.space.now) c.args.found (BreaksOff old new e) c.in-Cap.index c.in-Cap.is)
+    (λ e. cap-json (json_bits_of g.row.QUOTED) (g.S.Space.message c.args.space.now) c.args.found (BreaksOff old new e)
+    c.in-Cap.index c.in-Cap.is)
     c.json_member.ensures.cut
 
 pub json_found-returns-in-Node-clause-shown : goal.json_found-returns-in-Node-clause-shown
@@ -330,7 +468,8 @@ json_found-returns-in-Node-clause-shown g t c =
     let new = outgoing g.W.Write.contents c.json_row.new.writer c.json_row.new.text.items in
     let x = c.in-Content in
     on_ok_weaker c.json_row.result
-    (node-json (g.S.Space.message c.args.space.now) c.args.found (Adds old new) x.segment x.start x.pads x.shape x.is
+    (node-json (json_bits_of g.row.QUOTED) (g.S.Space.message c.args.space.now) c.args.found (Adds old new) x.segment
+    x.start x.pads x.shape x.is
     c.in-Node.words c.in-Node.slots c.in-Node.is)
     c.json_row.ensures.shown
 
@@ -340,7 +479,8 @@ json_found-returns-in-Node-clause-cut g t c =
     let new = outgoing g.W.Write.contents c.json_row.new.writer c.json_row.new.text.items in
     let x = c.in-Content in
     IfErr-weaker c.json_row.result _ _
-    (λ e. node-json (g.S.Space.message c.args.space.now) c.args.found (BreaksOff old new e) x.segment x.start x.pads
+    (λ e. node-json (json_bits_of g.row.QUOTED) (g.S.Space.message c.args.space.now) c.args.found (BreaksOff old new
+    e) x.segment x.start x.pads
     x.shape x.is
     c.in-Node.words c.in-Node.slots c.in-Node.is)
     c.json_row.ensures.cut
@@ -351,7 +491,8 @@ json_found-returns-in_default-clause-shown g t c =
     let new = outgoing g.W.Write.contents c.json_list.new.writer c.json_list.new.text.items in
     let x = c.in-Content in
     on_ok_weaker c.json_list.result
-    (list-json (g.S.Space.message c.args.space.now) c.args.found (Adds old new) x.segment x.start x.pads x.shape x.is
+    (list-json (json_bits_of g.row.QUOTED) (g.S.Space.message c.args.space.now) c.args.found (Adds old new) x.segment
+    x.start x.pads x.shape x.is
     c.in-Many.width c.in-Many.count c.in-Many.is)
     c.json_list.ensures.shown
 
@@ -361,7 +502,8 @@ json_found-returns-in_default-clause-cut g t c =
     let new = outgoing g.W.Write.contents c.json_list.new.writer c.json_list.new.text.items in
     let x = c.in-Content in
     IfErr-weaker c.json_list.result _ _
-    (λ e. list-json (g.S.Space.message c.args.space.now) c.args.found (BreaksOff old new e) x.segment x.start x.pads
+    (λ e. list-json (json_bits_of g.row.QUOTED) (g.S.Space.message c.args.space.now) c.args.found (BreaksOff old new
+    e) x.segment x.start x.pads
     x.shape x.is
     c.in-Many.width c.in-Many.count c.in-Many.is)
     c.json_list.ensures.cut
@@ -372,7 +514,8 @@ json_found-returns-in-Link-clause-shown g t c =
     let new = outgoing g.W.Write.contents c.json_slots.new.writer c.json_slots.new.text.items in
     let x = c.in-Content in
     on_ok_weaker c.json_slots.result
-    (links-json (g.S.Space.message c.args.space.now) c.args.found (Adds old new) x.segment x.start x.pads x.shape x.is
+    (links-json (json_bits_of g.row.QUOTED) (g.S.Space.message c.args.space.now) c.args.found (Adds old new) x.segment
+    x.start x.pads x.shape x.is
     c.in-Many.width c.in-Many.count c.in-Many.is c.in-Link.is)
     c.json_slots.ensures.shown
 
@@ -382,7 +525,8 @@ json_found-returns-in-Link-clause-cut g t c =
     let new = outgoing g.W.Write.contents c.json_slots.new.writer c.json_slots.new.text.items in
     let x = c.in-Content in
     IfErr-weaker c.json_slots.result _ _
-    (λ e. links-json (g.S.Space.message c.args.space.now) c.args.found (BreaksOff old new e) x.segment x.start x.pads
+    (λ e. links-json (json_bits_of g.row.QUOTED) (g.S.Space.message c.args.space.now) c.args.found (BreaksOff old new
+    e) x.segment x.start x.pads
     x.shape x.is
     c.in-Many.width c.in-Many.count c.in-Many.is c.in-Link.is)
     c.json_slots.ensures.cut
@@ -393,7 +537,8 @@ json_found-returns-in-Rows-clause-shown g t c =
     let new = outgoing g.W.Write.contents c.json_rows.new.writer c.json_rows.new.text.items in
     let x = c.in-Content in
     on_ok_weaker c.json_rows.result
-    (rows-json (g.S.Space.message c.args.space.now) c.args.found (Adds old new) x.segment x.start x.pads x.shape x.is
+    (rows-json (json_bits_of g.row.QUOTED) (g.S.Space.message c.args.space.now) c.args.found (Adds old new) x.segment
+    x.start x.pads x.shape x.is
     c.in-Rows.count c.in-Rows.words c.in-Rows.slots c.in-Rows.span c.in-Rows.is)
     c.json_rows.ensures.shown
 
@@ -403,7 +548,8 @@ json_found-returns-in-Rows-clause-cut g t c =
     let new = outgoing g.W.Write.contents c.json_rows.new.writer c.json_rows.new.text.items in
     let x = c.in-Content in
     IfErr-weaker c.json_rows.result _ _
-    (λ e. rows-json (g.S.Space.message c.args.space.now) c.args.found (BreaksOff old new e) x.segment x.start x.pads
+    (λ e. rows-json (json_bits_of g.row.QUOTED) (g.S.Space.message c.args.space.now) c.args.found (BreaksOff old new
+    e) x.segment x.start x.pads
     x.shape x.is
     c.in-Rows.count c.in-Rows.words c.in-Rows.slots c.in-Rows.span c.in-Rows.is)
     c.json_rows.ensures.cut
@@ -431,8 +577,28 @@ json_rows-json_row-requires g t c κs live =
     record { exists = c.requires.content.exists; within = within } in
     let ready = subst (λ (w : ℕ). IsBody m s w c.args.words c.args.slots c.args.depth) (sym next)
     (row-ready m s c.args.first.word c.args.count c.args.words c.args.slots c.args.depth c.loop-row.row
-    c.loop-row-test.true c.requires.ready) in
-    (omega arith, (live.0, (live.1.0, (live.1.1, (c.requires.message, (content, ready))))))
+    c.loop-row-test.true c.requires.ready) in (
+      omega arith,
+      (
+        live.0,
+        (
+          live.1.0,
+          (
+            live.1.1,
+            (
+              λ a m. absurd (not-mem-nil m),
+              (
+                c.requires.message,
+                (
+                  content,
+                  ready,
+                ),
+              ),
+            ),
+          ),
+        ),
+      ),
+    )
 
 pub json_rows-loop-row-init : goal.json_rows-loop-row-init
 json_rows-loop-row-init g t c = record {
@@ -457,9 +623,11 @@ json_rows-loop-row-preserved g t c =
     record {
       next = let d : (i + 1) * (a + b) ≡ i * (a + b) + (a + b) = omega arith in omega arith;
       rest = λ bs h n. let below : i < count_rows bs = omega arith in
-          let all = rows-length bs in
-          item-more begun now [] (each_row bs) i (omega arith) (c.loop-row.invariant.rest bs h n) parted new
-          (struct_text (words_of_row bs i) (each_json (slots_of_row bs i))) (row-at bs i below)
+          let all = rows-length (json_bits_of g.row.QUOTED) bs in
+          item-more begun now [] (each_row_by (json_bits_of g.row.QUOTED) bs) i (omega arith)
+          (c.loop-row.invariant.rest bs h n) parted new
+          (struct_text (words_of_row bs i) (each_json_by (json_bits_of g.row.QUOTED) (slots_of_row bs i))) (row-at
+          (json_bits_of g.row.QUOTED) bs i below)
           c.in_ok-separate.ensures.shown
           (c.in_ok-json_row.ensures.shown (words_of_row bs i) (slots_of_row bs i)
           (subst (λ (w : ℕ). ShowsStruct m (struct_at s w a b) (words_of_row bs i) (slots_of_row bs i)) (sym next)
@@ -472,12 +640,14 @@ json_rows-returns-clause-shown g t c =
     (λ k bs h n. let old = outgoing g.W.Write.contents c.args.writer.now c.args.text.now.items in
     let begun = outgoing g.W.Write.contents c.put.new.writer c.put.new.text.items in
     let now = outgoing g.W.Write.contents c.loop-row.writer c.loop-row.text.items in
-    let so_far = both old begun now (codes "{\"rows\":[") (with_commas (take c.loop-row.row (each_row bs)))
+    let so_far = both old begun now (codes "{\"rows\":[") (with_commas (take c.loop-row.row (each_row_by (json_bits_of
+    g.row.QUOTED) bs)))
     c.in_ok-put.ensures.shown (c.loop-row.invariant.rest bs h n) in
     let new = outgoing g.W.Write.contents c.put-2.new.writer c.put-2.new.text.items in
     let end = c.loop-row-test.false in
-    let all = rows-length bs in
-    items-end old now (codes "{\"rows\":[") (each_row bs) c.loop-row.row (omega arith) so_far new (codes "]}") k)
+    let all = rows-length (json_bits_of g.row.QUOTED) bs in
+    items-end old now (codes "{\"rows\":[") (each_row_by (json_bits_of g.row.QUOTED) bs) c.loop-row.row (omega arith)
+    so_far new (codes "]}") k)
     c.put-2.ensures.shown
 
 pub json_rows-returns-clause-cut : goal.json_rows-returns-clause-cut
@@ -486,12 +656,14 @@ json_rows-returns-clause-cut g t c =
     (λ e k bs h n. let old = outgoing g.W.Write.contents c.args.writer.now c.args.text.now.items in
     let begun = outgoing g.W.Write.contents c.put.new.writer c.put.new.text.items in
     let now = outgoing g.W.Write.contents c.loop-row.writer c.loop-row.text.items in
-    let so_far = both old begun now (codes "{\"rows\":[") (with_commas (take c.loop-row.row (each_row bs)))
+    let so_far = both old begun now (codes "{\"rows\":[") (with_commas (take c.loop-row.row (each_row_by (json_bits_of
+    g.row.QUOTED) bs)))
     c.in_ok-put.ensures.shown (c.loop-row.invariant.rest bs h n) in
     let new = outgoing g.W.Write.contents c.put-2.new.writer c.put-2.new.text.items in
     let end = c.loop-row-test.false in
-    let all = rows-length bs in
-    cut-end old now (codes "{\"rows\":[") (each_row bs) c.loop-row.row (omega arith) so_far new e (codes "]}") k)
+    let all = rows-length (json_bits_of g.row.QUOTED) bs in
+    cut-end old now (codes "{\"rows\":[") (each_row_by (json_bits_of g.row.QUOTED) bs) c.loop-row.row (omega arith)
+    so_far new e (codes "]}") k)
     c.put-2.ensures.cut
 
 pub json_rows-returns-in_err-put-clause-cut : goal.json_rows-returns-in_err-put-clause-cut
@@ -499,7 +671,8 @@ json_rows-returns-in_err-put-clause-cut g t c =
     passed c.from_residual.result c.in_err-put.field-0.0 _ c.from_residual.ensures.1
     (λ bs h n. let old = outgoing g.W.Write.contents c.args.writer.now c.args.text.now.items in
     let begun = outgoing g.W.Write.contents c.put.new.writer c.put.new.text.items in
-    broken-before old begun _ (codes "{\"rows\":[") (with_commas (each_row bs) ++ codes "]}")
+    broken-before old begun _ (codes "{\"rows\":[") (with_commas (each_row_by (json_bits_of g.row.QUOTED) bs) ++ codes
+    "]}")
     c.in_err-put.ensures.cut)
 
 pub json_rows-returns-in_err-separate-clause-cut : goal.json_rows-returns-in_err-separate-clause-cut
@@ -509,13 +682,15 @@ json_rows-returns-in_err-separate-clause-cut g t c =
     (λ bs h n. let old = outgoing g.W.Write.contents c.args.writer.now c.args.text.now.items in
     let begun = outgoing g.W.Write.contents c.put.new.writer c.put.new.text.items in
     let now = outgoing g.W.Write.contents c.loop-row.writer c.loop-row.text.items in
-    let so_far = both old begun now (codes "{\"rows\":[") (with_commas (take c.loop-row.row (each_row bs)))
+    let so_far = both old begun now (codes "{\"rows\":[") (with_commas (take c.loop-row.row (each_row_by (json_bits_of
+    g.row.QUOTED) bs)))
     c.in_ok-put.ensures.shown (c.loop-row.invariant.rest bs h n) in
     let parted = outgoing g.W.Write.contents c.separate.new.writer c.separate.new.text.items in
     let i = c.loop-row.row in
     let lt = c.loop-row-test.true in
-    let all = rows-length bs in
-    cut-comma old now (codes "{\"rows\":[") (each_row bs) i (omega arith) so_far parted _ (codes "]}")
+    let all = rows-length (json_bits_of g.row.QUOTED) bs in
+    cut-comma old now (codes "{\"rows\":[") (each_row_by (json_bits_of g.row.QUOTED) bs) i (omega arith) so_far parted
+    _ (codes "]}")
     c.in_err-separate.ensures.cut)
 
 pub json_rows-returns-in_err-json_row-clause-cut : goal.json_rows-returns-in_err-json_row-clause-cut
@@ -532,14 +707,17 @@ json_rows-returns-in_err-json_row-clause-cut g t c =
     let old = outgoing g.W.Write.contents c.args.writer.now c.args.text.now.items in
     let begun = outgoing g.W.Write.contents c.put.new.writer c.put.new.text.items in
     let now = outgoing g.W.Write.contents c.loop-row.writer c.loop-row.text.items in
-    let so_far = both old begun now (codes "{\"rows\":[") (with_commas (take c.loop-row.row (each_row bs)))
+    let so_far = both old begun now (codes "{\"rows\":[") (with_commas (take c.loop-row.row (each_row_by (json_bits_of
+    g.row.QUOTED) bs)))
     c.in_ok-put.ensures.shown (c.loop-row.invariant.rest bs h n) in
     let parted = outgoing g.W.Write.contents c.separate.new.writer c.separate.new.text.items in
     let new = outgoing g.W.Write.contents c.json_row.new.writer c.json_row.new.text.items in
     let below : i < count_rows bs = omega arith in
-    let all = rows-length bs in
-    cut-item old now (codes "{\"rows\":[") (each_row bs) i (omega arith) so_far parted new _
-    (struct_text (words_of_row bs i) (each_json (slots_of_row bs i))) (codes "]}") (row-at bs i below)
+    let all = rows-length (json_bits_of g.row.QUOTED) bs in
+    cut-item old now (codes "{\"rows\":[") (each_row_by (json_bits_of g.row.QUOTED) bs) i (omega arith) so_far parted
+    new _
+    (struct_text (words_of_row bs i) (each_json_by (json_bits_of g.row.QUOTED) (slots_of_row bs i))) (codes "]}")
+    (row-at (json_bits_of g.row.QUOTED) bs i below)
     c.in_ok-separate.ensures.shown
     (c.in_err-json_row.ensures.cut (words_of_row bs i) (slots_of_row bs i)
     (subst (λ (w : ℕ). ShowsStruct m (struct_at s w a b) (words_of_row bs i) (slots_of_row bs i)) (sym next)
