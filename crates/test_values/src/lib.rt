@@ -20,4 +20,6 @@ mod value_texts;
 #[cfg(test)]
 mod values;
 #[cfg(test)]
+mod ways;
+#[cfg(test)]
 mod words;

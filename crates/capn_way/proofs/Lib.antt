@@ -1,0 +1,5 @@
+pub mod Searches
+pub mod Steps
+pub mod Visiting
+pub mod Leading
+pub mod Stopping
