@@ -3,3 +3,4 @@ pub mod Steps
 pub mod Visiting
 pub mod Leading
 pub mod Stopping
+pub mod Unique

@@ -118,7 +118,7 @@ slots-places way s start (shapes.Rows n a b span) = rows-places way s (start + 1
 
 -- ---- their numbers
 
-none-split : {A : Type 0} (xs : List A) (x : A) (ys : List A) → [] ≡ xs ++ x ∷ ys → ⊥
+pub none-split : {A : Type 0} (xs : List A) (x : A) (ys : List A) → [] ≡ xs ++ x ∷ ys → ⊥
 none-split xs x ys e = let l = ap length e in let m = length-append xs (x ∷ ys) in omega arith
 
 length-numbered : (way : List ℕ) (s w i n : ℕ) → length (numbered way s w i n) ≡ n

@@ -5,6 +5,7 @@
 //!
 //! - [`way_of_refusal`] says whether a message is refused, why, and the way to the slot where its walk stopped.
 //! - [`way_of_visit`] says the way to the slot of a visit by its number.
+//! - Module [`laws`] has what holds of ways apart from any call: one way at most leads to the slot of a visit.
 //!
 //! ```text
 //! if let Some(refused) = way_of_refusal(alloc, &message, limits)? {
@@ -13,6 +14,7 @@
 //! ```
 #![tactic(auto)]
 
+pub mod laws;
 mod refusal;
 mod seek;
 mod visit;

@@ -6,6 +6,8 @@
 #[cfg(test)]
 mod depths;
 #[cfg(test)]
+mod explanations;
+#[cfg(test)]
 mod indexes;
 #[cfg(test)]
 mod layouts;
