@@ -6,6 +6,8 @@
 #[cfg(test)]
 mod depths;
 #[cfg(test)]
+mod explanations;
+#[cfg(test)]
 mod indexes;
 #[cfg(test)]
 mod layouts;
@@ -21,5 +23,7 @@ mod targets;
 mod value_texts;
 #[cfg(test)]
 mod values;
+#[cfg(test)]
+mod ways;
 #[cfg(test)]
 mod words;

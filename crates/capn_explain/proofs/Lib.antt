@@ -1,0 +1,2 @@
+pub mod WayParts
+pub mod WordDigits

@@ -1,0 +1,6 @@
+pub mod Searches
+pub mod Steps
+pub mod Visiting
+pub mod Leading
+pub mod Stopping
+pub mod Unique

@@ -1,0 +1,3 @@
+pub mod inner
+pub mod Ways
+pub mod Laws

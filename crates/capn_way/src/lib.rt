@@ -1,0 +1,23 @@
+//! The way to a slot of a message: the numbers that lead to it from the root.
+//!
+//! A number leads from a struct to a slot, from a list of pointers to an element, and from a list of structs to a row,
+//! whose slot the next number says. No number leads to the root.
+//!
+//! - [`way_of_refusal`] says whether a message is refused, why, and the way to the slot where its walk stopped.
+//! - [`way_of_visit`] says the way to the slot of a visit by its number.
+//! - Module [`laws`] has what holds of ways apart from any call: one way at most leads to the slot of a visit.
+//!
+//! ```text
+//! if let Some(refused) = way_of_refusal(alloc, &message, limits)? {
+//!     report(refused.stopped, &refused.way);
+//! }
+//! ```
+#![tactic(auto)]
+
+pub mod laws;
+mod refusal;
+mod seek;
+mod visit;
+
+pub use refusal::{Refused, way_of_refusal};
+pub use visit::{Visited, way_of_visit};

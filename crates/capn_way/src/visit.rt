@@ -1,0 +1,51 @@
+//! The way to the slot of a visit.
+
+ghost use Rattle.std.specs.Prelude.{IfOk, IfSome, IfNone};
+ghost use Rattle.capn_way.specs.Ways.{IsVisited, IsNotVisited};
+
+use crate::seek::{Sought, seek_slot};
+use capn_target::segment_length;
+use capn_walk::Limits;
+use capn_words::{Memory, Place, Space};
+use std::alloc::{Allocator, Global};
+
+/// Where the pointer to the root is.
+pub const ROOT: Place = Place {
+    segment: 0,
+    word: 0,
+};
+
+/// A slot that a walk visits, and the way to it.
+#[derive(Debug, Drop)]
+pub struct Visited<A: Allocator = Global> {
+    /// The numbers that lead to it from the root: of the root's slot none.
+    pub way: Vec<u32, A>,
+    /// Where it is.
+    pub place: Place,
+}
+
+/// The slot that the walk of a message visits after `number` others, and the way to it: `None` where there is no such
+/// visit.
+///
+/// It makes the visits up to that one again, and reads at most four words for each. It looks at no price and no budget,
+/// so let `number` be below the visits that a survey answered or refused with. Memory: the way, which has at most two
+/// numbers for each level of the depth limit.
+pub fn way_of_visit<S: Space, A: Allocator + Copy>(
+    alloc: A,
+    space: &S,
+    limits: Limits,
+    number: u32,
+) -> Result<Option<Visited<A>>, Memory>
+    ensures found { IfOk result (λ r. IfSome r
+        (λ v. IsVisited (S.message space.now) limits number v.way.items v.place)) }
+    ensures none { IfOk result (λ r. IfNone r (IsNotVisited (S.message space.now) limits number)) }
+{
+    if segment_length(space, ROOT.segment) == 0 {
+        return Ok(None);
+    }
+    let mut way = Vec::new(alloc);
+    match seek_slot(space, ROOT, limits.depth(), number, &mut way)? {
+        Sought::Found(place) => Ok(Some(Visited { way, place })),
+        Sought::Passed(_) => Ok(None),
+    }
+}
