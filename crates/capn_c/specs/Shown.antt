@@ -26,6 +26,7 @@ abbrev pub end_of : Style → List ℕ
 end_of styles.Lines = codes "end" ++ 10 ∷ []
 end_of styles.Quoted = codes "end" ++ 10 ∷ []
 end_of styles.Json = []
+end_of styles.JsonText = []
 
 -- the text of a message with this value: that of all of it, and what ends it
 abbrev pub message_text : Style → Tree → List ℕ

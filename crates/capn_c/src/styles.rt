@@ -25,6 +25,6 @@ pub fn end_of(style: Style) -> &'static [u8]
 {
     match style {
         Style::Lines | Style::Quoted => b"end\n",
-        Style::Json => b"",
+        Style::Json | Style::JsonText => b"",
     }
 }
