@@ -1,5 +1,7 @@
 //! Runs that pick messages which were made by hand.
 
+ghost use Rattle.capn_serve.specs.Pick.{AreAscending};
+
 use capn_canon::{Limits, Refusal};
 use capn_serve::{Pick, Position, Range, RunFault, StreamForm, run_only, run_pick};
 use capn_stream::FrameFault;
@@ -154,7 +156,9 @@ fn picks_a_long_message(rt: HostRuntime) -> Result<(), Fail> {
 }
 
 /// Picks the messages of ranges of a reader that fails if it is read again.
-fn picked_only(alloc: Global, form: StreamForm, ranges: &[Range], bytes: &[u8]) -> Outcome {
+fn picked_only(alloc: Global, form: StreamForm, ranges: &[Range], bytes: &[u8]) -> Outcome
+    requires { AreAscending ranges.now }
+{
     let mut reader = Watched::new(Once {
         bytes,
         is_over: false,
@@ -168,15 +172,10 @@ fn picked_only(alloc: Global, form: StreamForm, ranges: &[Range], bytes: &[u8]) 
     }
 }
 
-/// A range.
-fn range(from: u64, to: u64) -> Range {
-    Range { from, to }
-}
-
 /// The first and the third frame are written, the second is not, and nothing is read after the third.
 #[test]
 fn picks_ranges(rt: HostRuntime) -> Result<(), Fail> {
-    let ranges = [range(1, 1), range(3, 3)];
+    let ranges = [Range { from: 1, to: 1 }, Range { from: 3, to: 3 }];
     let two = picked_only(rt.alloc(), StreamForm::Stream, &ranges, &FRAMES);
     assert!(rt; two.ending == Ok(()) && two.text.len() == 24);
     assert!(rt; &two.text.as_slice()[..16] == &FRAMES[..16]);
@@ -187,7 +186,7 @@ fn picks_ranges(rt: HostRuntime) -> Result<(), Fail> {
 /// Ranges that touch are as good as one.
 #[test]
 fn picks_adjacent_ranges(rt: HostRuntime) -> Result<(), Fail> {
-    let ranges = [range(1, 2), range(3, 3)];
+    let ranges = [Range { from: 1, to: 2 }, Range { from: 3, to: 3 }];
     let all = picked_only(rt.alloc(), StreamForm::Stream, &ranges, &FRAMES);
     assert!(rt; all.ending == Ok(()) && all.text.as_slice() == &FRAMES[..40]);
     Ok(())
@@ -196,7 +195,12 @@ fn picks_adjacent_ranges(rt: HostRuntime) -> Result<(), Fail> {
 /// Of a packed stream too, and a group after the last message is not looked at.
 #[test]
 fn picks_packed_ranges(rt: HostRuntime) -> Result<(), Fail> {
-    let second = picked_only(rt.alloc(), StreamForm::Packed, &[range(2, 2)], &PACKED);
+    let second = picked_only(
+        rt.alloc(),
+        StreamForm::Packed,
+        &[Range { from: 2, to: 2 }],
+        &PACKED,
+    );
     assert!(rt; second.ending == Ok(()) && second.text.as_slice() == &FRAMES[16..32]);
     Ok(())
 }
@@ -204,7 +208,7 @@ fn picks_packed_ranges(rt: HostRuntime) -> Result<(), Fail> {
 /// A frame that is refused before the last range ends the run, and what was picked before it is written.
 #[test]
 fn ends_between_ranges(rt: HostRuntime) -> Result<(), Fail> {
-    let ranges = [range(2, 2), range(9, 12)];
+    let ranges = [Range { from: 2, to: 2 }, Range { from: 9, to: 12 }];
     let refused = picked_only(rt.alloc(), StreamForm::Stream, &ranges, &FRAMES);
     let at = Position {
         index: 3,
@@ -219,7 +223,14 @@ fn ends_between_ranges(rt: HostRuntime) -> Result<(), Fail> {
 /// Fewer messages than the ranges name are those that there are.
 #[test]
 fn picks_fewer_than_asked_for(rt: HostRuntime) -> Result<(), Fail> {
-    let ranges = [range(2, 2), range(3, 9), range(20, u64::MAX)];
+    let ranges = [
+        Range { from: 2, to: 2 },
+        Range { from: 3, to: 9 },
+        Range {
+            from: 20,
+            to: u64::MAX,
+        },
+    ];
     let mut reader = Watched::new(&FRAMES[..40]);
     let mut writer = Watched::new(Vec::new(rt.alloc()));
     let (alloc, limits) = (rt.alloc(), Limits::usual());

@@ -20,7 +20,8 @@ fn told(
     let limits = Limits::usual();
     let own = match own_canonical(&message, limits) {
         Some(own) => {
-            if own.bytes != &bytes.as_slice()[8..] {
+            let behind = bytes.as_slice().get(8..);
+            if behind != Some(own.bytes) {
                 return Err(Fail::new("other bytes"));
             }
             Some(own.paid)
