@@ -13,3 +13,5 @@ mod broken_streams;
 mod fault_lines;
 #[cfg(test)]
 mod orders;
+#[cfg(test)]
+mod picks;
