@@ -53,6 +53,7 @@ _capn() {
         'pick --message-words') words='' ;;
         'pick --from') words='' ;;
         'pick --to') words='' ;;
+        'pick --only') words='' ;;
         'unpack --message-words') words='' ;;
         'make --form') words='stream packed bare' ;;
         'show '*) words='--form --message-words --budget --depth --tariff --at --text --json --help' ;;
@@ -62,7 +63,7 @@ _capn() {
         'canonical '*) words='--form --message-words --budget --depth --tariff --framed --keep-going --help' ;;
         'hash '*) words='--form --message-words --budget --depth --tariff --help' ;;
         'uniq '*) words='--form --message-words --budget --depth --tariff --keep-going --count --help' ;;
-        'pick '*) words='--form --message-words --from --to --help' ;;
+        'pick '*) words='--form --message-words --from --to --only --help' ;;
         'pack '*) words='--streaming --help' ;;
         'unpack '*) words='--message-words --streaming --help' ;;
         'make '*) words='--form --help' ;;

@@ -70,6 +70,7 @@ complete -c capn -n '__fish_seen_subcommand_from pick' -l form -x -a 'stream pac
 complete -c capn -n '__fish_seen_subcommand_from pick' -l message-words -x -d 'The most words of a message, from 1 to 268435456'
 complete -c capn -n '__fish_seen_subcommand_from pick' -l from -x -d 'The number of the first message, from 1'
 complete -c capn -n '__fish_seen_subcommand_from pick' -l to -x -d 'The number of the last message'
+complete -c capn -n '__fish_seen_subcommand_from pick' -l only -x -d 'The numbers of the messages, and ranges of them, in ascending order, as `3,7,9-12`'
 complete -c capn -n '__fish_seen_subcommand_from pick' -l help -d 'Print help'
 complete -c capn -n '__fish_seen_subcommand_from pack' -l streaming -d 'Write while the input comes in, which may have up to 2^64 - 1 bytes, in at most 2 MiB of memory'
 complete -c capn -n '__fish_seen_subcommand_from pack' -l help -d 'Print help'

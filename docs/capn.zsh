@@ -98,6 +98,7 @@ _capn() {
                 '--message-words=[The most words of a message, from 1 to 268435456]:message-words:()' \
                 '--from=[The number of the first message, from 1]:from:()' \
                 '--to=[The number of the last message]:to:()' \
+                '--only=[The numbers of the messages, and ranges of them, in ascending order, as `3,7,9-12`]:only:()' \
                 '--help[Print help]' ;;
         pack)
             _arguments \

@@ -510,6 +510,15 @@ def pick(data, form="stream", message_words=8388608, first=1, last=2**64 - 1):
     return out, line_of(fault), 1
 
 
+def pick_only(data, ranges, form="stream", message_words=8388608):
+    """The same for `pick --only`, whose ranges ascend."""
+    found, fault = messages(data, form, message_words)
+    out = b"".join(frame for _, frame, _ in (one for first, last in ranges for one in found[first - 1:last]))
+    if fault is None or len(found) >= ranges[-1][1]:
+        return out, "", 0
+    return out, line_of(fault), 1
+
+
 # Packing and unpacking in pieces.
 
 

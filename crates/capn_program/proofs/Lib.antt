@@ -3,6 +3,7 @@ pub mod NamedOrders
 pub mod Shown
 pub mod Sources
 pub mod Ways
+pub mod RangeLists
 pub mod PartServed
 pub mod PartRuns
 pub mod OneShown

@@ -12,9 +12,12 @@ use Rattle.capn_archive.specs.declared.task.Task.{Task}
 use Rattle.capn_archive.specs.declared.task.Task.TheVariants as tasks
 use Rattle.capn_show.specs.declared.style.Style.{Style}
 use Rattle.capn_show.specs.declared.style.Style.TheVariants as styles
-use Rattle.capn_program.specs.Meaning.{AreOptions, FlagIs, IsTask, IsUsual, MeansOrder, StyleIs, WayIs}
+use Rattle.capn_program.specs.Meaning.{AreOptions, FlagIs, IsTask, IsUsual, MeansOrder, OnlyIs, PickIs, StyleIs}
+use Rattle.capn_program.specs.Meaning.{WayIs}
 use Rattle.capn_program.specs.Way.{way_of}
+use Rattle.capn_serve.specs.declared.pick.Pick.{Pick}
 use Rattle.capn_program.specs.declared.order.Flow.TheVariants as flows
+use Rattle.capn_program.specs.declared.order.Only.{Only}
 use Rattle.capn_program.specs.declared.order.Order.{Order}
 use Rattle.capn_program.specs.declared.order.Order.TheVariants as orders
 use Rattle.capn_program.proofs.OneOrder.{never_command, tell_of, tell_task, told}
@@ -32,6 +35,8 @@ list_means rows (orders.Uniq u) m =
     absurd (let bad : 335 ≡ 320 = told (codes "list", rows) (orders.Uniq u) m in omega arith)
 list_means rows (orders.Pick p) m =
     absurd (let bad : 335 ≡ 303 = told (codes "list", rows) (orders.Pick p) m in omega arith)
+list_means rows (orders.Only p) m =
+    absurd (let bad : 335 ≡ 303 = told (codes "list", rows) (orders.Only p) m in omega arith)
 list_means rows (orders.Flow flows.Pack) m =
     absurd (let bad : 335 ≡ 295 = told (codes "list", rows) (orders.Flow flows.Pack) m in omega arith)
 list_means rows (orders.Flow flows.Unpack) m =
@@ -75,6 +80,7 @@ canonical_means rows o m = go o m (told (codes "canonical", rows) o m)
     go (orders.Show s) m e = absurd (omega arith)
     go (orders.Uniq u) m e = absurd (omega arith)
     go (orders.Pick p) m e = absurd (omega arith)
+    go (orders.Only p) m e = absurd (omega arith)
     go (orders.Flow flows.Pack) m e = absurd (omega arith)
     go (orders.Flow flows.Unpack) m e = absurd (omega arith)
     go (orders.Make f) m e = absurd (omega arith)
@@ -111,6 +117,7 @@ survey_means name rows o m e = go o m e
     go (orders.Show s) m e = other e
     go (orders.Uniq u) m e = other e
     go (orders.Pick p) m e = other e
+    go (orders.Only p) m e = other e
     go (orders.Flow flows.Pack) m e = other e
     go (orders.Flow flows.Unpack) m e = other e
     go (orders.Make f) m e = other e
@@ -151,6 +158,7 @@ named name rows o m = go o m
     go (orders.Archive a) m = task a.task m.0
     go (orders.Uniq u) m = inr (inr (inr (inr (inr (inl m.0)))))
     go (orders.Pick p) m = inr (inr (inr (inr (inr (inr (inl m.0))))))
+    go (orders.Only p) m = inr (inr (inr (inr (inr (inr (inl m.0))))))
     go (orders.Flow flows.Pack) m = inr (inr (inr (inr (inr (inr (inr (inl m.0)))))))
     go (orders.Flow flows.Unpack) m = inr (inr (inr (inr (inr (inr (inr (inr (inl m.0))))))))
     go (orders.Make f) m = inr (inr (inr (inr (inr (inr (inr (inr (inr (inl m.0)))))))))
@@ -178,6 +186,7 @@ pack_means rows o m = go o m (told (codes "pack", rows) o m)
     go (orders.Show s) m e = absurd (omega arith)
     go (orders.Uniq u) m e = absurd (omega arith)
     go (orders.Pick p) m e = absurd (omega arith)
+    go (orders.Only p) m e = absurd (omega arith)
     go (orders.Make f) m e = absurd (omega arith)
     go (orders.Archive a) m e = absurd (task a.task e)
     go (orders.Flow flows.Pack) m e = (true, m.1)
@@ -208,6 +217,7 @@ unpack_means rows o m = go o m (told (codes "unpack", rows) o m)
     go (orders.Show s) m e = absurd (omega arith)
     go (orders.Uniq u) m e = absurd (omega arith)
     go (orders.Pick p) m e = absurd (omega arith)
+    go (orders.Only p) m e = absurd (omega arith)
     go (orders.Make f) m e = absurd (omega arith)
     go (orders.Archive a) m e = absurd (task a.task e)
     go (orders.Flow flows.Unpack) m e = inr (m.1, m.2)
@@ -265,7 +275,32 @@ show_means rows o m = go o m (told (codes "show", rows) o m)
     }
     go (orders.Uniq u) m e = absurd (omega arith)
     go (orders.Pick p) m e = absurd (omega arith)
+    go (orders.Only p) m e = absurd (omega arith)
     go (orders.Flow flows.Pack) m e = absurd (omega arith)
     go (orders.Flow flows.Unpack) m e = absurd (omega arith)
     go (orders.Make f) m e = absurd (omega arith)
     go (orders.Archive a) m e = absurd (task a.task e)
+
+-- what `pick` orders are the messages from one number to another, or those of a list
+abbrev pub PickMeans : List Row → Type 0
+PickMeans rows = ((pick : Pick) × PickIs rows pick) ⊎ ((only : Only) × OnlyIs rows only)
+
+pub pick_means : (rows : List Row) (o : Order) → MeansOrder (Some (codes "pick", rows)) o → PickMeans rows
+pick_means rows o m = go o m (told (codes "pick", rows) o m)
+  where
+    task : (t : Task) → 303 ≡ tell_task t → ⊥
+    task tasks.List e = omega arith
+    task tasks.Digests e = omega arith
+    task tasks.Limits e = omega arith
+    task tasks.Canonical e = omega arith
+
+    go : (o : Order) → MeansOrder (Some (codes "pick", rows)) o → 303 ≡ tell_of o → PickMeans rows
+    go (orders.Message c) m e = absurd (never_command c 303 refl (sym e))
+    go (orders.Show s) m e = absurd (omega arith)
+    go (orders.Archive a) m e = absurd (task a.task e)
+    go (orders.Uniq u) m e = absurd (omega arith)
+    go (orders.Pick p) m e = inl (p, m.1)
+    go (orders.Only p) m e = inr (p, m.1)
+    go (orders.Flow flows.Pack) m e = absurd (omega arith)
+    go (orders.Flow flows.Unpack) m e = absurd (omega arith)
+    go (orders.Make f) m e = absurd (omega arith)

@@ -19,10 +19,11 @@ use Rattle.capn_serve.specs.declared.pick.Pick.{Pick}
 use Rattle.capn_serve.specs.declared.pick.StreamForm.{StreamForm}
 use Rattle.capn_serve.specs.declared.pick.StreamForm.TheVariants as stream_forms
 use Rattle.capn_program.specs.Meaning.{AreOptions, AreSame, FlagIs, HasNoFlag, IsFlow, IsSameWay, IsTask}
-use Rattle.capn_program.specs.Meaning.{MeansOneOrder, MeansOrder, PickIs, ShowIs, StyleIs, UniqIs, WayIs, flag_text}
-use Rattle.capn_program.specs.Meaning.{form_of, usual_with}
+use Rattle.capn_program.specs.Meaning.{MeansOneOrder, MeansOrder, OnlyIs, PickIs, ShowIs, StyleIs, UniqIs, WayIs}
+use Rattle.capn_program.specs.Meaning.{flag_text, form_of, usual_with}
 use Rattle.capn_program.specs.declared.order.Flow.{Flow}
 use Rattle.capn_program.specs.declared.order.Flow.TheVariants as flows
+use Rattle.capn_program.specs.declared.order.Only.{Only}
 use Rattle.capn_program.specs.declared.order.Show.{Show}
 use Rattle.capn_program.specs.declared.order.Order.{Order}
 use Rattle.capn_program.specs.declared.order.Order.TheVariants as orders
@@ -75,6 +76,7 @@ tell_of (orders.Show s) = 326
 tell_of (orders.Archive a) = tell_task a.task
 tell_of (orders.Uniq u) = 320
 tell_of (orders.Pick k) = 303
+tell_of (orders.Only k) = 303
 tell_of (orders.Flow w) = tell_flow w
 tell_of (orders.Make f) = 311
 
@@ -103,6 +105,7 @@ told said (orders.Show s) m = ap tell m.0
 told said (orders.Archive a) m = told_task said.0 said.1 a.task m.0
 told said (orders.Uniq u) m = ap tell m.0
 told said (orders.Pick k) m = ap tell m.0
+told said (orders.Only k) m = ap tell m.0
 told said (orders.Flow w) m = told_flow said.0 said.1 w m
 told said (orders.Make f) m = ap tell m.0
 
@@ -223,12 +226,27 @@ stream_form_one stream_forms.Packed stream_forms.Stream e =
 stream_form_one stream_forms.Packed stream_forms.Packed e = refl
 
 pick_one : (rows : List Row) (p q : Pick) → PickIs rows p → PickIs rows q → p ≡ q
-pick_one rows p q (f, w, usual, a, b) (g, v, usually, c, d) =
+pick_one rows p q (f, w, usual, a, b, none) (g, v, usually, c, d, also) =
     pick_same p q (stream_form_one p.form q.form (form_one (form_of p.form) (form_of q.form) (sym f ∙ g)))
     (usual
     ∙ ap usual_with (number_one rows (codes "message-words") p.limits.message_words q.limits.message_words w.0 v.0)
     ∙ sym usually)
     (number_one rows (codes "from") p.from q.from a.0 c.0) (number_one rows (codes "to") p.to q.to b.0 d.0)
+
+-- two lists are picked alike
+only_one : (rows : List Row) (p q : Only) → OnlyIs rows p → OnlyIs rows q → AreSame (orders.Only p) (orders.Only q)
+only_one rows p q (f, w, usual, list) (g, v, usually, other) = (
+  stream_form_one p.form q.form (form_one (form_of p.form) (form_of q.form) (sym f ∙ g)),
+  usual
+      ∙ ap usual_with (number_one rows (codes "message-words") p.limits.message_words q.limits.message_words w.0 v.0)
+      ∙ sym usually,
+  ap (λ (o : Option Text). unwrap_or o (codes "")) (sym list.0 ∙ other.0),
+)
+
+-- a list is given or not
+listed : (rows : List Row) (p : Pick) (q : Only) → PickIs rows p → OnlyIs rows q → ⊥
+listed rows p q (f, w, usual, a, b, none) (g, v, usually, list) =
+    let bad : None ≡ Some q.list.now = sym none ∙ list.0 in absurd cc
 
 -- a style is known by its flags
 style_one : (rows : List Row) (s t : Style) → StyleIs rows s → StyleIs rows t → s ≡ t
@@ -338,6 +356,7 @@ same s (orders.Message c) (orders.Show t) e m n = absurd (shows s.1 c t e m.1 n.
 same s (orders.Message c) (orders.Archive b) e m n = absurd (apart s.0 s.1 c b.task e m.1 n.0)
 same s (orders.Message c) (orders.Uniq v) e m n = absurd (never_command c 320 refl e)
 same s (orders.Message c) (orders.Pick k) e m n = absurd (never_command c 303 refl e)
+same s (orders.Message c) (orders.Only k) e m n = absurd (never_command c 303 refl e)
 same s (orders.Message c) (orders.Flow w) e m n = absurd (streams s.0 s.1 c w e m.1 n)
 same s (orders.Message c) (orders.Make g) e m n = absurd (never_command c 311 refl e)
 same s (orders.Show r) (orders.Message d) e m n = absurd (shows s.1 d r (sym e) n.1 m.1)
@@ -345,6 +364,7 @@ same s (orders.Show r) (orders.Show t) e m n = show_one s.1 r t m.1 n.1
 same s (orders.Show r) (orders.Archive b) e m n = absurd (never_task b.task 326 refl (sym e))
 same s (orders.Show r) (orders.Uniq v) e m n = absurd (omega arith)
 same s (orders.Show r) (orders.Pick k) e m n = absurd (omega arith)
+same s (orders.Show r) (orders.Only k) e m n = absurd (omega arith)
 same s (orders.Show r) (orders.Flow w) e m n = absurd (never_flow w 326 refl (sym e))
 same s (orders.Show r) (orders.Make g) e m n = absurd (omega arith)
 same s (orders.Archive a) (orders.Message d) e m n = absurd (apart s.0 s.1 d a.task (sym e) n.1 m.0)
@@ -353,6 +373,7 @@ same s (orders.Archive a) (orders.Archive b) e m n =
     ap (λ (x : Archive). orders.Archive x) (archive_one s.0 s.1 a b e m.0 m.1 n.0 n.1)
 same s (orders.Archive a) (orders.Uniq v) e m n = absurd (never_task a.task 320 refl e)
 same s (orders.Archive a) (orders.Pick k) e m n = absurd (never_task a.task 303 refl e)
+same s (orders.Archive a) (orders.Only k) e m n = absurd (never_task a.task 303 refl e)
 same s (orders.Archive a) (orders.Flow w) e m n = absurd (stays a.task w e)
 same s (orders.Archive a) (orders.Make g) e m n = absurd (never_task a.task 311 refl e)
 same s (orders.Uniq u) (orders.Message d) e m n = absurd (never_command d 320 refl (sym e))
@@ -360,6 +381,7 @@ same s (orders.Uniq u) (orders.Show t) e m n = absurd (omega arith)
 same s (orders.Uniq u) (orders.Archive b) e m n = absurd (never_task b.task 320 refl (sym e))
 same s (orders.Uniq u) (orders.Uniq v) e m n = ap (λ (x : Uniq). orders.Uniq x) (uniq_one s.1 u v m.1 n.1)
 same s (orders.Uniq u) (orders.Pick k) e m n = absurd (omega arith)
+same s (orders.Uniq u) (orders.Only k) e m n = absurd (omega arith)
 same s (orders.Uniq u) (orders.Flow w) e m n = absurd (never_flow w 320 refl (sym e))
 same s (orders.Uniq u) (orders.Make g) e m n = absurd (omega arith)
 same s (orders.Pick k) (orders.Message d) e m n = absurd (never_command d 303 refl (sym e))
@@ -367,13 +389,23 @@ same s (orders.Pick k) (orders.Show t) e m n = absurd (omega arith)
 same s (orders.Pick k) (orders.Archive b) e m n = absurd (never_task b.task 303 refl (sym e))
 same s (orders.Pick k) (orders.Uniq v) e m n = absurd (omega arith)
 same s (orders.Pick k) (orders.Pick l) e m n = ap (λ (x : Pick). orders.Pick x) (pick_one s.1 k l m.1 n.1)
+same s (orders.Pick k) (orders.Only l) e m n = absurd (listed s.1 k l m.1 n.1)
 same s (orders.Pick k) (orders.Flow w) e m n = absurd (never_flow w 303 refl (sym e))
 same s (orders.Pick k) (orders.Make g) e m n = absurd (omega arith)
+same s (orders.Only k) (orders.Message d) e m n = absurd (never_command d 303 refl (sym e))
+same s (orders.Only k) (orders.Show t) e m n = absurd (omega arith)
+same s (orders.Only k) (orders.Archive b) e m n = absurd (never_task b.task 303 refl (sym e))
+same s (orders.Only k) (orders.Uniq v) e m n = absurd (omega arith)
+same s (orders.Only k) (orders.Pick l) e m n = absurd (listed s.1 l k n.1 m.1)
+same s (orders.Only k) (orders.Only l) e m n = only_one s.1 k l m.1 n.1
+same s (orders.Only k) (orders.Flow w) e m n = absurd (never_flow w 303 refl (sym e))
+same s (orders.Only k) (orders.Make g) e m n = absurd (omega arith)
 same s (orders.Flow v) (orders.Message d) e m n = absurd (streams s.0 s.1 d v (sym e) n.1 m)
 same s (orders.Flow v) (orders.Show t) e m n = absurd (never_flow v 326 refl e)
 same s (orders.Flow v) (orders.Archive b) e m n = absurd (stays b.task v (sym e))
 same s (orders.Flow v) (orders.Uniq u) e m n = absurd (never_flow v 320 refl e)
 same s (orders.Flow v) (orders.Pick k) e m n = absurd (never_flow v 303 refl e)
+same s (orders.Flow v) (orders.Only k) e m n = absurd (never_flow v 303 refl e)
 same s (orders.Flow v) (orders.Flow w) e m n = ap (λ (x : Flow). orders.Flow x) (flow_one v w e)
 same s (orders.Flow v) (orders.Make g) e m n = absurd (never_flow v 311 refl e)
 same s (orders.Make f) (orders.Message d) e m n = absurd (never_command d 311 refl (sym e))
@@ -381,6 +413,7 @@ same s (orders.Make f) (orders.Show t) e m n = absurd (omega arith)
 same s (orders.Make f) (orders.Archive b) e m n = absurd (never_task b.task 311 refl (sym e))
 same s (orders.Make f) (orders.Uniq v) e m n = absurd (omega arith)
 same s (orders.Make f) (orders.Pick k) e m n = absurd (omega arith)
+same s (orders.Make f) (orders.Only k) e m n = absurd (omega arith)
 same s (orders.Make f) (orders.Flow w) e m n = absurd (never_flow w 311 refl (sym e))
 same s (orders.Make f) (orders.Make g) e m n = ap (λ (x : Form). orders.Make x) (form_one f g (sym m.1 ∙ n.1))
 

@@ -88,13 +88,19 @@ most_number = 2 ^ 64 - 1
 abbrev pub place_rule : Text → Text → Rule
 place_rule name usual = record (usual_rule name usual) { parser = Some (parsers.Unsigned 1 most_number) }
 
--- `pick` takes a form, the words of a message, and the numbers of the first and of the last message
+-- the list of what is picked, which has no usual value
+abbrev pub only_rule : Rule
+only_rule = record (new_rule (codes "only")) { long = Some (codes "only"); value_names = 1 }
+
+-- `pick` takes a form, the words of a message, the numbers of the first and of the last message, and a list
 abbrev pub pick_line : App
 pick_line =
     with_rule
+    (with_rule
     (with_rule (with_rule (with_rule (new_app (codes "pick")) form_rule) words_rule)
     (place_rule (codes "from") (codes "1")))
-    (place_rule (codes "to") (codes "18446744073709551615"))
+    (place_rule (codes "to") (codes "18446744073709551615")))
+    only_rule
 
 -- the program with all commands over messages
 abbrev pub messages_line : App

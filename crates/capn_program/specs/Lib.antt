@@ -1,10 +1,12 @@
 pub mod CommandLine
 pub mod Way
+pub mod RangeList
 pub mod Meaning
 pub mod Usage
 pub mod ExitStatus
 pub mod FaultText
 pub mod PartRun
+pub mod OnlyRun
 pub mod Laws
 pub mod Program
 pub mod inner

@@ -24,9 +24,11 @@ use Rattle.capn_serve.specs.declared.pick.Pick.{Pick}
 use Rattle.capn_serve.specs.declared.pick.StreamForm.{StreamForm}
 use Rattle.capn_serve.specs.declared.pick.StreamForm.TheVariants as streams
 use Rattle.capn_program.specs.CommandLine.{most_number}
+use Rattle.capn_program.specs.RangeList.{ranges_in}
 use Rattle.capn_program.specs.Way.{way_of}
 use Rattle.capn_program.specs.declared.order.Flow.{Flow}
 use Rattle.capn_program.specs.declared.order.Flow.TheVariants as flows
+use Rattle.capn_program.specs.declared.order.Only.{Only}
 use Rattle.capn_program.specs.declared.order.Show.{Show}
 use Rattle.capn_program.specs.declared.order.Order.{Order}
 use Rattle.capn_program.specs.declared.order.Order.TheVariants as orders
@@ -63,13 +65,15 @@ form_of streams.Packed = forms.Packed
 abbrev pub usual_with : ℕ → Bounds
 usual_with words = record { message_words = words; budget = 8388608; depth = 64; tariff = tariffs.Strict }
 
--- the options of `pick` have these values, and the other limits are the usual ones; it takes no bare input
+-- the options of `pick` have these values, `--only` is not given, and the other limits are the usual ones; it takes no
+-- bare input
 abbrev pub PickIs : List Row → Pick → Type 0
 PickIs rows pick = FormIs rows (form_of pick.form)
     × NumberIn rows (codes "message-words") 1 most_message_words pick.limits.message_words
     × (pick.limits ≡ usual_with pick.limits.message_words)
     × NumberIn rows (codes "from") 1 most_number pick.from
     × NumberIn rows (codes "to") 1 most_number pick.to
+    × (first_of (codes "only") rows ≡ None)
 
 -- the subcommand of this name is for this task: `list` with or without `--digest`, `canonical` where `--framed` is
 -- given
@@ -86,6 +90,18 @@ source_of rows option = option_and_then (λ row. row.source) (find (λ row. byte
 -- the option is not given, and has its usual value
 abbrev pub IsUsual : List Row → Text → Type 0
 IsUsual rows option = source_of rows option ≡ Some sources.DefaultValue
+
+-- `--only` is given, its value is a list of ascending numbers and ranges, and neither `--from` nor `--to` is given
+abbrev pub ListIs : List Row → Text → Type 0
+ListIs rows list = (first_of (codes "only") rows ≡ Some list) × IsSome (ranges_in list)
+    × IsUsual rows (codes "from") × IsUsual rows (codes "to")
+
+-- the options of `pick` have these values, and `--only` is given
+abbrev pub OnlyIs : List Row → Only → Type 0
+OnlyIs rows only = FormIs rows (form_of only.form)
+    × NumberIn rows (codes "message-words") 1 most_message_words only.limits.message_words
+    × (only.limits ≡ usual_with only.limits.message_words)
+    × ListIs rows only.list.now
 
 -- the subcommand of this name lets bytes flow this way: `--streaming` is given, and `--message-words` is not
 abbrev pub IsFlow : Text → List Row → Flow → Type 0
@@ -129,6 +145,7 @@ MeansOrder (Some s) (orders.Show show) = (s.0 ≡ codes "show") × ShowIs s.1 sh
 MeansOrder (Some s) (orders.Archive archive) = IsTask s.0 s.1 archive.task × AreOptions s.1 archive
 MeansOrder (Some s) (orders.Uniq uniq) = (s.0 ≡ codes "uniq") × UniqIs s.1 uniq
 MeansOrder (Some s) (orders.Pick pick) = (s.0 ≡ codes "pick") × PickIs s.1 pick
+MeansOrder (Some s) (orders.Only only) = (s.0 ≡ codes "pick") × OnlyIs s.1 only
 MeansOrder (Some s) (orders.Flow flow) = IsFlow s.0 s.1 flow
 MeansOrder (Some s) (orders.Make form) = (s.0 ≡ codes "make") × FormIs s.1 form
 
@@ -139,10 +156,12 @@ IsSameWay None (Some way) = ⊥
 IsSameWay (Some way) None = ⊥
 IsSameWay (Some way) (Some other) = way.now ≡ other.now
 
--- two orders are the same: where messages or parts of them are shown, so are the texts of the ways
+-- two orders are the same: where messages or parts of them are shown, so are the texts of the ways, and where those of
+-- a list are picked, so are the texts of the lists
 abbrev pub AreSame : Order → Order → Type 0
 AreSame (orders.Show s) (orders.Show t) =
     (s.form ≡ t.form) × (s.limits ≡ t.limits) × (s.style ≡ t.style) × IsSameWay s.way t.way
+AreSame (orders.Only s) (orders.Only t) = (s.form ≡ t.form) × (s.limits ≡ t.limits) × (s.list.now ≡ t.list.now)
 AreSame o p = o ≡ p
 
 -- a meaning is that of one order at most

@@ -32,12 +32,14 @@ use Rattle.capn_make.specs.declared.fault.MakeFault.{MakeFault}
 use Rattle.capn_make.specs.declared.fault.MakeFault.TheVariants as make_faults
 use Rattle.capn_program.specs.CommandLine.{program_line}
 use Rattle.capn_program.specs.Meaning.{MeansOrder}
+use Rattle.capn_program.specs.OnlyRun.{OnlyPicked}
 use Rattle.capn_program.specs.PartRun.{PartsShown}
 use Rattle.capn_program.specs.Usage.{IsReason, version_line}
 use Rattle.capn_program.specs.ExitStatus.{archive_status, flow_status, make_status, pick_status}
 use Rattle.capn_program.specs.FaultText.{WritesArchiveEnding, WritesFlowEnding, WritesMakeEnding, WritesPickEnding}
 use Rattle.capn_program.specs.declared.order.Flow.{Flow}
 use Rattle.capn_program.specs.declared.order.Flow.TheVariants as flows
+use Rattle.capn_program.specs.declared.order.Only.{Only}
 use Rattle.capn_program.specs.declared.order.Show.{Show}
 use Rattle.capn_program.specs.declared.order.Order.{Order}
 use Rattle.capn_program.specs.declared.order.Order.TheVariants as orders
@@ -84,6 +86,10 @@ MakesTexts form = RunsFlushed make_faults.Io (Made form)
 abbrev pub PicksMessages : Pick → Course → Course → Result (Unit {0}) RunFault → Type 0
 PicksMessages pick = RunsFlushed run_faults.Io (Picks pick.limits.message_words pick pick.form)
 
+-- a run picked the messages of a list
+abbrev pub PicksOnly : Only → Course → Course → Result (Unit {0}) RunFault → Type 0
+PicksOnly only = RunsFlushed run_faults.Io (OnlyPicked only)
+
 -- bytes flowed this way
 abbrev pub Flowed : Flow → RunOver FlowFault
 Flowed flows.Pack = Runs packing
@@ -126,6 +132,10 @@ EndsUniq = EndsOrder (λ uniq. orders.Uniq uniq) LeavesDoublesOut WritesArchiveE
 -- the words order that messages are picked
 abbrev pub EndsPick : List Text → Course → Course → Course → ℕ → Type 0
 EndsPick = EndsOrder (λ pick. orders.Pick pick) PicksMessages WritesPickEnding pick_status
+
+-- the words order that the messages of a list are picked
+abbrev pub EndsOnly : List Text → Course → Course → Course → ℕ → Type 0
+EndsOnly = EndsOrder (λ only. orders.Only only) PicksOnly WritesPickEnding pick_status
 
 -- the words order that bytes flow
 abbrev pub EndsFlow : List Text → Course → Course → Course → ℕ → Type 0
@@ -176,5 +186,6 @@ Ends words input output errors status =
     ⊎ (EndsArchive words input output errors status
     ⊎ (EndsUniq words input output errors status
     ⊎ (EndsPick words input output errors status
+    ⊎ (EndsOnly words input output errors status
     ⊎ (EndsFlow words input output errors status
-    ⊎ (EndsMake words input output errors status ⊎ Unordered words input output errors status))))))
+    ⊎ (EndsMake words input output errors status ⊎ Unordered words input output errors status)))))))

@@ -2,20 +2,22 @@
 
 ghost use Rattle.std.specs.Prelude.{◌≡◌, ◌⊎◌, true, codes, map};
 ghost use Rattle.std.specs.Prelude.{IfErr, IfOk, IfSome, IsSome, Some};
-ghost use Rattle.clap.specs.Words.{found_of, kind_of, rows_of, subcommand_of, takes};
+ghost use Rattle.clap.specs.Words.{Text, found_of, kind_of, rows_of, subcommand_of, takes};
 ghost use Rattle.clap.specs.declared.error.ErrorKind.TheVariants as kinds;
 ghost use Rattle.capn_tool.specs.Usage.{error_of};
 ghost use Rattle.capn_archive.specs.declared.task.Archive.{Archive};
 ghost use Rattle.capn_archive.specs.declared.uniq.Uniq.{Uniq};
 ghost use Rattle.capn_serve.specs.declared.pick.Pick.{Pick};
 ghost use Rattle.capn_program.specs.CommandLine.{program_line};
-ghost use Rattle.capn_program.specs.Meaning.{AreOptions, MeansOrder, PickIs, UniqIs};
+ghost use Rattle.capn_program.specs.Meaning.{AreOptions, ListIs, MeansOrder, OnlyIs, PickIs, UniqIs};
 ghost use Rattle.capn_program.specs.Usage.{IsReason, Orders};
+ghost use Rattle.capn_program.specs.declared.order.Only.{Only};
 ghost use Rattle.capn_program.specs.declared.order.Order.{Order};
 
 use crate::option_help;
-use crate::option_values::{flag_of, is_usual, limits_with, number_in, stream_form_of};
-use crate::order::{Flow, Order};
+use crate::option_values::{flag_of, is_usual, limits_with, number_in, stream_form_of, text_in};
+use crate::order::{Flow, Only, Order};
+use crate::range_list::is_range_list;
 use crate::show_options::show_of;
 use crate::subcommands::{mistake, program_command};
 use capn_archive::{Archive, Task, Uniq};
@@ -70,7 +72,7 @@ fn uniq_of(matches: &ArgMatches) -> Option<Uniq>
     })
 }
 
-/// The run of `pick` that has these options, if they mean one.
+/// The run of `pick` that has these options, without `--only`, if they mean one.
 fn pick_of(matches: &ArgMatches) -> Option<Pick>
     ensures are { IfSome result (PickIs (rows_of (found_of matches.now))) }
     ensures served { (pick : Pick) → PickIs (rows_of (found_of matches.now)) pick → IsSome result }
@@ -79,12 +81,55 @@ fn pick_of(matches: &ArgMatches) -> Option<Pick>
     let words = number_in(matches, "message-words", 1, MOST_MESSAGE_WORDS as u64)?;
     let from = number_in(matches, "from", 1, u64::MAX)?;
     let to = number_in(matches, "to", 1, u64::MAX)?;
-    Some(Pick {
+    match text_in(matches, "only") {
+        Some(_) => None,
+        None => Some(Pick {
+            form,
+            limits: limits_with(words as u32),
+            from,
+            to,
+        }),
+    }
+}
+
+/// The list of `--only`, if it is one, and neither `--from` nor `--to` is given.
+fn list_of_only<'a>(matches: &ArgMatches<'a>) -> Option<&'a str>
+    ensures are { IfSome result (λ list. ListIs (rows_of (found_of matches.now)) list.now) }
+    ensures served { (list : Text) → ListIs (rows_of (found_of matches.now)) list → IsSome result }
+{
+    let list = text_in(matches, "only")?;
+    if is_range_list(list) && is_usual(matches, "from") && is_usual(matches, "to") {
+        return Some(list);
+    }
+    None
+}
+
+/// The run of `pick` that has these options, with `--only`, if they mean one.
+fn only_of<'a>(matches: &ArgMatches<'a>) -> Option<Only<'a>>
+    ensures are { IfSome result (OnlyIs (rows_of (found_of matches.now))) }
+    ensures served { (only : Only) → OnlyIs (rows_of (found_of matches.now)) only → IsSome result }
+{
+    let form = stream_form_of(matches)?;
+    let words = number_in(matches, "message-words", 1, MOST_MESSAGE_WORDS as u64)?;
+    let list = list_of_only(matches)?;
+    Some(Only {
         form,
         limits: limits_with(words as u32),
-        from,
-        to,
+        list,
     })
+}
+
+/// What `pick` orders with these options, if they mean something: with `--only` the messages of a list, and else those
+/// from one number to another.
+fn pick_order<'a>(matches: &ArgMatches<'a>) -> Option<Order<'a>>
+    ensures means { IfSome result (MeansOrder (Some (codes "pick", rows_of (found_of matches.now)))) }
+    ensures served { (order : Order) → MeansOrder (Some (codes "pick", rows_of (found_of matches.now))) order
+        → IsSome result }
+{
+    match only_of(matches) {
+        Some(only) => Some(Order::Only(only)),
+        None => Some(Order::Pick(pick_of(matches)?)),
+    }
 }
 
 /// What `canonical` orders with these options, if they mean something: with `--framed` a run over an archive, and
@@ -150,7 +195,7 @@ fn named_order<'a>(name: &str, matches: &ArgMatches<'a>) -> Option<Order<'a>>
         "limits" => Some(Order::Archive(archive_of(Task::Limits, matches)?)),
         "canonical" => canonical_of(matches),
         "uniq" => Some(Order::Uniq(uniq_of(matches)?)),
-        "pick" => Some(Order::Pick(pick_of(matches)?)),
+        "pick" => pick_order(matches),
         "pack" => pack_of(matches),
         "unpack" => unpack_of(matches),
         "make" => Some(Order::Make(parts::form_of(matches)?)),
@@ -163,12 +208,30 @@ fn named_order<'a>(name: &str, matches: &ArgMatches<'a>) -> Option<Order<'a>>
     }
 }
 
-/// The message for options of this command that mean nothing: for `pick`, what its `--form` takes; for `unpack`, which
-/// two don't go together; for the others, that on `--form`, or else on `--tariff`, or else on `--at` of `show`,
-/// and on `--keep-going` of `canonical`.
+/// The message for options of `pick` that mean nothing: what its `--form` takes, or else what `--only` takes, or else
+/// what goes without that.
+fn said_of_pick(matches: &ArgMatches) -> &'static str {
+    if stream_form_of(matches).is_none() {
+        return option_help::NO_FRAMED_FORM;
+    }
+    match text_in(matches, "only") {
+        Some(list) => {
+            if is_range_list(list) {
+                option_help::WITHOUT_FROM_AND_TO
+            } else {
+                option_help::NO_LIST
+            }
+        }
+        None => option_help::NO_FRAMED_FORM,
+    }
+}
+
+/// The message for options of this command that mean nothing: for `pick`, that of its own; for `unpack`, which two
+/// don't go together; for the others, that on `--form`, or else on `--tariff`, or else on `--at` of `show`, and on
+/// `--keep-going` of `canonical`.
 fn said_of(name: &str, matches: &ArgMatches) -> &'static str {
     if name == "pick" {
-        return option_help::NO_FRAMED_FORM;
+        return said_of_pick(matches);
     }
     if name == "unpack" {
         return option_help::WITHOUT_MESSAGE_WORDS;
@@ -207,9 +270,9 @@ fn meaningless(alloc: Global, matches: &ArgMatches) -> Usage
 /// What the words order, the first of them being the program's name: the subcommand's work, with the form, the limits,
 /// the tariff and the flags that its options have, given or usual. A request for help or for the version, a word, an
 /// option or a value that is not known, a number out of its range, a form or a tariff that the command does not take,
-/// a value of `--at` that is no way, `--keep-going` of `canonical` without `--framed`,
-/// `--message-words` of `unpack` with `--streaming`, and refused memory are answered as `Usage`, with the text for the
-/// user.
+/// a value of `--at` that is no way, one of `--only` that is no list, `--only` with `--from` or `--to`,
+/// `--keep-going` of `canonical` without `--framed`, `--message-words` of `unpack` with `--streaming`, and
+/// refused memory are answered as `Usage`, with the text for the user.
 pub fn order_of<'a, S: AsStr>(alloc: Global, words: &'a [S]) -> Result<Order<'a>, Usage>
     // An order that is given is what the words mean.
     ensures means { IfOk result (MeansOrder (subcommand_of program_line (map S.text words.now))) }

@@ -186,11 +186,11 @@ pub const PICK: Page = Page {
     usage: "capn pick [OPTIONS] < INPUT",
     about: "Writes some of the messages of a stream as they stand",
     more: "Messages are numbered from 1, as `list` numbers them. Those from `--from` to
-`--to` are written, each with its segment table, byte for byte; of a packed
-stream, unpacked. What a message holds is not looked at, nor what stands after
-the last one. If there are fewer messages, those that are there are written.
-Each message is answered as soon as it is complete, and the input may have any
-length.
+`--to`, or those of `--only`, are written, each with its segment table, byte for
+byte; of a packed stream, unpacked. What a message holds is not looked at, nor
+what stands after the last one. If there are fewer messages, those that are
+there are written. Each message is answered as soon as it is complete, and the
+input may have any length.
 
 Exit status:
   0  Done
@@ -202,8 +202,9 @@ Exit status:
 With 1 and 3 one line on standard error says why; the manual page explains it
 under DIAGNOSTICS.
 
-Example:
-  capn pick --from 3 --to 3 < messages > message",
+Examples:
+  capn pick --from 3 --to 3 < messages > message
+  capn pick --only 3,7,9-12 < messages > some",
 };
 
 /// `pack`, with `--streaming`.

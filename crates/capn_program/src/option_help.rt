@@ -53,6 +53,17 @@ pub const FROM: &str = "The number of the first message, from 1";
 pub const TO: &str = "The number of the last message; none is written if it
 is below `--from`";
 
+/// `--only`.
+pub const ONLY: &str = "The numbers of the messages, and ranges of them, in
+ascending order, as `3,7,9-12`; it goes without
+`--from` and `--to`";
+
+/// The message for a value that `--only` does not take.
+pub const NO_LIST: &str = "--only takes ascending numbers and ranges, as 3,7,9-12";
+
+/// The message for `--only` together with `--from` or `--to`.
+pub const WITHOUT_FROM_AND_TO: &str = "--only goes without --from and --to";
+
 /// The message for a value that `--form` of `pick` does not take.
 pub const NO_FRAMED_FORM: &str = "--form takes stream or packed";
 

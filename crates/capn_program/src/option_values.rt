@@ -1,7 +1,7 @@
 //! What single options of a command have, given or usual.
 
-ghost use Rattle.std.specs.Prelude.{◌≡◌, ◌≤◌, ◌↔◌, ◌<◌, ◌^◌, ℕ, Bool, IfSome, IsSome, IsTrue};
-ghost use Rattle.clap.specs.Words.{found_of, rows_of};
+ghost use Rattle.std.specs.Prelude.{◌≡◌, ◌≤◌, ◌↔◌, ◌<◌, ◌^◌, ℕ, Bool, None, Some, IfNone, IfSome, IsSome, IsTrue};
+ghost use Rattle.clap.specs.Words.{first_of, found_of, rows_of};
 ghost use Rattle.capn_words.specs.Message.{most_message_words};
 ghost use Rattle.capn_tool.specs.Meaning.{FormIs, NumberIs};
 ghost use Rattle.capn_serve.specs.declared.pick.StreamForm.{StreamForm};
@@ -20,6 +20,14 @@ pub(crate) fn flag_of(matches: &ArgMatches, id: &str) -> Option<bool>
 {
     let given = matches.get_one::<bool>(id)?;
     Some(given)
+}
+
+/// The text that the option of this name has, if it is given.
+pub(crate) fn text_in<'a>(matches: &ArgMatches<'a>, id: &str) -> Option<&'a str>
+    ensures given { IfSome result (λ text. first_of id.now (rows_of (found_of matches.now)) ≡ Some text.now) }
+    ensures none { IfNone result (first_of id.now (rows_of (found_of matches.now)) ≡ None) }
+{
+    matches.get_str(id)
 }
 
 /// Where the value of an option comes from.

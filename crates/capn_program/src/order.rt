@@ -1,7 +1,7 @@
 //! What the program can do.
 
 use capn_archive::{Archive, Uniq};
-use capn_serve::Pick;
+use capn_serve::{Pick, StreamForm};
 use capn_show::Style;
 use capn_tool::{Command, Form, Limits};
 
@@ -27,6 +27,17 @@ pub struct Show<'a> {
     pub way: Option<&'a str>,
 }
 
+/// Which messages of a stream are written as they stand: those of a list.
+#[derive(Clone, Copy, Debug, PartialEq, Eq)]
+pub struct Only<'a> {
+    /// How the input holds the messages.
+    pub form: StreamForm,
+    /// The limits of a message, of which its number of words alone counts.
+    pub limits: Limits,
+    /// The list: numbers and ranges in ascending order, parted by commas.
+    pub list: &'a str,
+}
+
 /// What a run of the program does with its input.
 #[derive(Clone, Copy, Debug, PartialEq, Eq)]
 pub enum Order<'a> {
@@ -38,8 +49,10 @@ pub enum Order<'a> {
     Archive(Archive),
     /// Writes the messages of an archive without duplicates, or counts them.
     Uniq(Uniq),
-    /// Writes some messages of a stream as they stand.
+    /// Writes the messages of a stream from one number to another, as they stand.
     Pick(Pick),
+    /// Writes the messages of a stream that are in a list, as they stand.
+    Only(Only<'a>),
     /// Packs or unpacks bytes while they come in, in bounded memory.
     Flow(Flow),
     /// Writes what is made of the texts of an input, in a form.

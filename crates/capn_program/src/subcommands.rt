@@ -8,7 +8,7 @@ ghost use Rattle.capn_program.specs.CommandLine.{archive_line, bytes_line, canon
 ghost use Rattle.capn_program.specs.CommandLine.{flag_rule};
 ghost use Rattle.capn_program.specs.CommandLine.{flagged_line, make_line, messages_line, packing_line, pick_line};
 ghost use Rattle.capn_program.specs.CommandLine.{place_rule, program_line, reading_line, surveying_line, top_line};
-ghost use Rattle.capn_program.specs.CommandLine.{show_line, unpacking_line, way_rule};
+ghost use Rattle.capn_program.specs.CommandLine.{only_rule, show_line, unpacking_line, way_rule};
 ghost use Rattle.capn_tool.specs.CommandLine.{words_rule};
 
 use crate::{help, option_help};
@@ -168,6 +168,17 @@ fn place_option<'a>(alloc: Global, name: &'a str, text: &'a str, usual: &'a str)
     option.value_parser(ValueParser::unsigned(1, u64::MAX))
 }
 
+/// `--only`, whose value is the list of what is picked.
+fn only_option<'a>(alloc: Global) -> Arg<'a>
+    ensures rule { rule_of result ≡ only_rule }
+    ensures local { result.global ≡ false }
+{
+    Arg::new(alloc, "only")
+        .long("only")
+        .value_name("LIST")
+        .help(option_help::ONLY)
+}
+
 /// `pick` and its options.
 fn pick_command<'a>(alloc: Global) -> Result<Command<'a>, AllocError>
     ensures { IfOk result (λ c. HasLine c pick_line) }
@@ -183,6 +194,7 @@ fn pick_command<'a>(alloc: Global) -> Result<Command<'a>, AllocError>
         words_option(alloc),
         place_option(alloc, "from", option_help::FROM, "1"),
         place_option(alloc, "to", option_help::TO, "18446744073709551615"),
+        only_option(alloc),
     ]?;
     parts::plain_command(alloc, "pick", help::PICK).args(options)
 }

@@ -6,7 +6,7 @@ ghost use Rattle.capn_program.specs.Way as spec;
 use std::alloc::{AllocError, Allocator};
 
 /// The number whose digits so far make this one, with one digit more, if it is a digit and the number stays below 2^64.
-fn with_digit(begun: Option<u64>, c: u8) -> Option<u64>
+pub(crate) fn with_digit(begun: Option<u64>, c: u8) -> Option<u64>
     ensures { result ≡ spec.with_digit begun c }
 {
     if c < b'0' || b'9' < c {

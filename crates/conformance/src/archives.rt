@@ -9,7 +9,8 @@ use capn_archive::{run_archive, run_uniq};
 use capn_flow::{FlowFault, pack_stream, unpack_stream};
 use capn_make::{MakeFault, make};
 use capn_program::{
-    ArchiveFault, Flow, Order, RunFault, archive_text, order_of, show_parts, status_of_archive,
+    ArchiveFault, Flow, Order, RunFault, archive_text, order_of, pick_only, show_parts,
+    status_of_archive,
 };
 use capn_serve::run_pick;
 use capn_words::Watched;
@@ -82,6 +83,13 @@ pub(crate) fn archive_answer(alloc: Global, heap: &Heap, words: &[&str]) -> Resu
         }
         Order::Pick(pick) => {
             let outcome = match run_pick(heap, pick, &mut reader, &mut writer) {
+                Ok(()) => Ok(()),
+                Err(fault) => Err(archive_fault_of(fault)),
+            };
+            archive_told(alloc, heap, outcome, writer.into_inner().as_slice())
+        }
+        Order::Only(only) => {
+            let outcome = match pick_only(heap, &only, &mut reader, &mut writer) {
                 Ok(()) => Ok(()),
                 Err(fault) => Err(archive_fault_of(fault)),
             };

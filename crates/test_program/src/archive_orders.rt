@@ -1,7 +1,9 @@
 //! What the words of the command line order of archives.
 
 use crate::orders::expect_usage;
-use capn_program::{Archive, Form, Limits, Order, Pick, StreamForm, Tariff, Task, Uniq, order_of};
+use capn_program::{
+    Archive, Form, Limits, Only, Order, Pick, StreamForm, Tariff, Task, Uniq, order_of,
+};
 use std::alloc::Global;
 use std::process::Abort;
 
@@ -28,6 +30,15 @@ fn is_pick(alloc: Global, words: &[&str], want: Pick) -> bool {
     let told = order_of(alloc, words);
     match &told {
         Ok(Order::Pick(pick)) => *pick == want,
+        _ => false,
+    }
+}
+
+/// Whether the words pick the messages of this list.
+fn is_only(alloc: Global, words: &[&str], want: Only) -> bool {
+    let told = order_of(alloc, words);
+    match &told {
+        Ok(Order::Only(only)) => *only == want,
         _ => false,
     }
 }
@@ -148,4 +159,73 @@ fn messages_are_picked_by_their_numbers(rt: HostRuntime) {
     ] {
         expect_usage(&rt, rt.alloc(), &["capn", "pick", option], 2);
     }
+}
+
+/// `--only` takes numbers and ranges that ascend.
+#[test]
+fn messages_are_picked_by_a_list(rt: HostRuntime) {
+    for list in [
+        "1",
+        "3,7,9-12",
+        "3-4,5",
+        "5-5",
+        "1-18446744073709551615",
+        "18446744073709551614-18446744073709551615",
+    ] {
+        let want = Only {
+            form: StreamForm::Packed,
+            limits: Limits::usual(),
+            list,
+        };
+        let words = ["capn", "pick", "--form=packed", "--only", list];
+        assert!(rt; is_only(rt.alloc(), &words, want), "{words:?}");
+    }
+    for list in [
+        "",
+        "0",
+        "01",
+        "+1",
+        "-1",
+        "1-",
+        "-",
+        "1-2-3",
+        "1--2",
+        "1,",
+        ",1",
+        "1,,2",
+        "1, 2",
+        "2,1",
+        "1,1",
+        "2-1",
+        "1-3,3-4",
+        "1-3,2",
+        "1,02",
+        "18446744073709551616",
+        "1..2",
+        "a",
+    ] {
+        let words = ["capn", "pick", "--only", list];
+        expect_usage(&rt, rt.alloc(), &words, 2);
+    }
+}
+
+/// `--only` goes without `--from` and `--to`, whatever these say, and with the other options.
+#[test]
+fn a_list_stands_alone(rt: HostRuntime) {
+    for other in [
+        "--from=1",
+        "--from=3",
+        "--to=5",
+        "--to=18446744073709551615",
+        "--form=bare",
+    ] {
+        expect_usage(&rt, rt.alloc(), &["capn", "pick", "--only=3", other], 2);
+    }
+    let want = Only {
+        form: StreamForm::Stream,
+        limits: Limits::new(7, 8_388_608, 64).unwrap_or(Limits::usual()),
+        list: "3",
+    };
+    let words = ["capn", "pick", "--message-words=7", "--only=3"];
+    assert!(rt; is_only(rt.alloc(), &words, want), "{words:?}");
 }

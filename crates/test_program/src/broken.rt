@@ -28,9 +28,11 @@ impl Read for Pieces<'_> {
 
 /// A writer that takes so many bytes, and then fails.
 #[derive(Drop)]
-struct Short {
-    bytes: Vec<u8>,
-    room: usize,
+pub(crate) struct Short {
+    /// What it took.
+    pub(crate) bytes: Vec<u8>,
+    /// The bytes that it still takes.
+    pub(crate) room: usize,
 }
 
 impl Write for Short {

@@ -1,16 +1,50 @@
 //! What is written where a run ends.
 
+use crate::broken::Short;
+use capn_endings::Line;
 use capn_program::{
     ArchiveFault, FlowFault, MakeFault, Passed, Position, Refusal, RunFault, Watched, archive_text,
     end_archive, end_flow, end_make, end_pick,
 };
+use std::io::{self, Write};
 use std::process::Abort;
+use test_allocator::Refusing;
 
 /// The last message that a run can have.
 const LAST: Position = Position {
     index: u64::MAX,
     offset: u64::MAX,
 };
+
+/// Messages that were passed over, as many as can be.
+const PASSED: Passed = Passed {
+    refused: u64::MAX,
+    messages: u64::MAX,
+    first: LAST,
+};
+
+/// The line of a run that passed them over.
+const PASSED_LINE: &str = "capn: 18446744073709551615 of 18446744073709551615 messages refused, \
+    the first is 18446744073709551616 at 18446744073709551615\n";
+
+/// A writer that counts the calls.
+#[derive(Drop)]
+struct Counted {
+    bytes: Vec<u8>,
+    calls: u64,
+}
+
+impl Write for Counted {
+    fn write(&mut self, buf: &[u8]) -> io::Result<usize> {
+        self.bytes.extend_from_slice(buf)?;
+        self.calls = self.calls.saturating_add(1);
+        Ok(buf.len())
+    }
+
+    fn flush(&mut self) -> io::Result<()> {
+        Ok(())
+    }
+}
 
 #[test]
 fn a_run_over_texts_ends_with_its_line(rt: HostRuntime) {
@@ -60,19 +94,9 @@ fn a_run_over_bytes_ends_with_its_line(rt: HostRuntime) {
 
 #[test]
 fn a_run_over_an_archive_ends_with_its_line(rt: HostRuntime) {
-    let passed = Passed {
-        refused: u64::MAX,
-        messages: u64::MAX,
-        first: LAST,
-    };
     for (outcome, status, line) in [
         (Ok(()), 0, ""),
-        (
-            Err(ArchiveFault::PassedOver(passed)),
-            1,
-            "capn: 18446744073709551615 of 18446744073709551615 messages refused, \
-            the first is 18446744073709551616 at 18446744073709551615\n",
-        ),
+        (Err(ArchiveFault::PassedOver(PASSED)), 1, PASSED_LINE),
     ] {
         let mut errors = Watched::new(Vec::new(rt.alloc()));
         assert!(rt;
@@ -129,4 +153,89 @@ fn lines_of_faults(rt: HostRuntime) {
         let text = archive_text(rt.alloc(), &fault).expect(&rt, "memory");
         assert!(rt; text.as_str() == want, "{want}");
     }
+}
+
+#[test]
+fn a_line_asks_for_no_memory(rt: HostRuntime) {
+    let short = Refusing::nth(rt.alloc(), 0);
+    short.refuse_each();
+    let mut errors = Watched::new(Vec::new(rt.alloc()));
+    assert!(rt; end_archive(&short, &Err(ArchiveFault::PassedOver(PASSED)), &mut errors) == 1);
+    assert!(rt; errors.into_inner().as_slice() == PASSED_LINE.as_bytes());
+    let mut errors = Watched::new(Vec::new(rt.alloc()));
+    let fault = RunFault::Refused(LAST, Refusal::Capability(u32::MAX));
+    let line =
+        b"capn: message 18446744073709551616 at 18446744073709551615: capability 4294967295\n";
+    assert!(rt; end_pick(&short, &Err(fault), &mut errors) == 1);
+    assert!(rt; errors.into_inner().as_slice() == line.as_slice());
+    let mut errors = Watched::new(Vec::new(rt.alloc()));
+    let line = b"capn: packed: Cut at 18446744073709551615\n";
+    assert!(rt; end_flow(&short, &Err(FlowFault::Cut(u64::MAX)), &mut errors) == 1);
+    assert!(rt; errors.into_inner().as_slice() == line.as_slice());
+    let mut errors = Watched::new(Vec::new(rt.alloc()));
+    let line = b"capn: line 18446744073709551615: another text\n";
+    assert!(rt; end_make(&short, &Err(MakeFault::Another(u64::MAX)), &mut errors) == 1);
+    assert!(rt; errors.into_inner().as_slice() == line.as_slice());
+    assert!(rt; short.count() == 0);
+}
+
+#[test]
+fn a_beginning_of_a_line_stays_where_the_errors_fail(rt: HostRuntime) {
+    let line = PASSED_LINE.as_bytes();
+    for room in 0..line.len() {
+        let mut errors = Watched::new(Short {
+            bytes: Vec::new(rt.alloc()),
+            room,
+        });
+        let status = end_archive(
+            rt.alloc(),
+            &Err(ArchiveFault::PassedOver(PASSED)),
+            &mut errors,
+        );
+        assert!(rt; status == 1 && errors.failed(), "{room}");
+        assert!(rt;
+            errors.into_inner().bytes.as_slice() == &line[..room],
+            "{room}"
+        );
+    }
+}
+
+#[test]
+fn a_line_is_one_write(rt: HostRuntime) {
+    let mut errors = Watched::new(Counted {
+        bytes: Vec::new(rt.alloc()),
+        calls: 0,
+    });
+    let status = end_archive(
+        rt.alloc(),
+        &Err(ArchiveFault::PassedOver(PASSED)),
+        &mut errors,
+    );
+    let counted = errors.into_inner();
+    assert!(rt; status == 1 && counted.calls == 1);
+    assert!(rt; counted.bytes.as_slice() == PASSED_LINE.as_bytes());
+}
+
+#[test]
+fn a_line_may_be_longer_than_what_is_held_back(rt: HostRuntime) {
+    let long = [b'-'; 300];
+    let mut errors = Watched::new(Counted {
+        bytes: Vec::new(rt.alloc()),
+        calls: 0,
+    });
+    let mut want = Vec::new(rt.alloc());
+    let mut line = Line::new();
+    for _ in 0..26 {
+        line.put(b"0123456789", &mut errors);
+        want.extend_from_slice(b"0123456789").expect(&rt, "memory");
+    }
+    line.put(&long, &mut errors);
+    want.extend_from_slice(&long).expect(&rt, "memory");
+    line.put_number(7, &mut errors);
+    want.push(b'7').expect(&rt, "memory");
+    line.send(&mut errors);
+    let said = errors.into_inner();
+    // The block, the part that it had no room for, the long part, and the end.
+    assert!(rt; said.calls == 4);
+    assert!(rt; said.bytes.as_slice() == want.as_slice());
 }

@@ -12,4 +12,8 @@ mod broken_streams;
 #[cfg(test)]
 mod fault_lines;
 #[cfg(test)]
+mod long_ways;
+#[cfg(test)]
 mod orders;
+#[cfg(test)]
+mod picks;

@@ -1,0 +1,29 @@
+//! Runs that pick the messages of a list.
+
+use capn_program::{Limits, Only, StreamForm, Watched, pick_only};
+use std::test::Fail;
+
+/// Frames of 16 bytes, with a null root; of 16 bytes, of two empty segments, with a byte of padding that is not zero;
+/// and of 8 bytes, of one empty segment.
+const FRAMES: [u8; 40] = [
+    0, 0, 0, 0, 1, 0, 0, 0, 0, 0, 0, 0, 0, 0, 0, 0, 1, 0, 0, 0, 0, 0, 0, 0, 0, 0, 0, 0, 9, 0, 0, 0,
+    0, 0, 0, 0, 0, 0, 0, 0,
+];
+
+/// The first frame and the third are written, and the second is not; the list asks for more than there are.
+#[test]
+fn picks_the_messages_of_a_list(rt: HostRuntime) -> Result<(), Fail> {
+    let only = Only {
+        form: StreamForm::Stream,
+        limits: Limits::usual(),
+        list: "1,3-9,12",
+    };
+    let mut reader = Watched::new(&FRAMES[..]);
+    let mut writer = Watched::new(Vec::new(rt.alloc()));
+    let ending = pick_only(rt.alloc(), &only, &mut reader, &mut writer);
+    let written = writer.into_inner();
+    assert!(rt; ending == Ok(()) && written.len() == 24);
+    assert!(rt; &written.as_slice()[..16] == &FRAMES[..16]);
+    assert!(rt; &written.as_slice()[16..] == &FRAMES[32..]);
+    Ok(())
+}
