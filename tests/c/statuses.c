@@ -162,10 +162,12 @@ static void called(void) {
     is("a struct with a zero word", capn_is_canonical(message + 8, 16, &usual, &report), CAPN_NOT_CANONICAL);
 }
 
-/* Without memory: a stream of 65 segments, a packed text, what is hashed, packed and unpacked, and an index; but the
- * canonical bytes of bare words and of two segments are written where they are to be. */
+/* Without memory: a stream of 65 segments, a packed text, and what is hashed, packed and unpacked; but the canonical
+ * bytes and the index of bare words and of two segments are written where they are to be, and canonical bytes are
+ * hashed where they lie. */
 static void without_memory(void) {
     const uint8_t many[272] = {64, 0, 0, 0, 1}, two[24] = {1, 0, 0, 0, 1}, packed[9] = {0x10, 1, 0, 0};
+    const uint8_t loose[16] = {0, 0, 0, 0, 1};
     capn_report report;
     uint8_t out[64];
     left = 0;
@@ -173,14 +175,16 @@ static void without_memory(void) {
     each_call("packed", CAPN_PACKED, packed, 4, &usual, CAPN_MEMORY);
     is("bare words", capn_canonical(CAPN_BARE, two + 8, 8, &usual, out, 64, &report), CAPN_OK);
     is("two segments", capn_canonical(CAPN_STREAM, two, 24, &usual, out, 64, &report), CAPN_OK);
-    is("no digest", capn_hash(CAPN_BARE, two + 8, 8, &usual, out, &report), CAPN_MEMORY);
+    is("no digest", capn_hash(CAPN_BARE, loose, 16, &usual, out, &report), CAPN_MEMORY);
+    is("a digest in place", capn_hash(CAPN_BARE, two + 8, 8, &usual, out, &report), CAPN_OK);
     is("no lines", capn_show(CAPN_BARE, two + 8, 8, &usual, 0, (char *)out, 64, &report), CAPN_MEMORY);
     is("no text", capn_pack(two, 24, out, 64, &report), CAPN_MEMORY);
     is("no words", capn_unpack(packed, 4, 9, out, 64, &report), CAPN_MEMORY);
     is("no groups", capn_unpack_some(packed, 4, out, 64, &report), CAPN_MEMORY);
     is("no table", capn_first(two, 24, &usual, &report), CAPN_MEMORY);
     capn_entry entry;
-    is("no entries", capn_index(CAPN_BARE, two + 8, 8, &usual, &entry, 1, &report), CAPN_MEMORY);
+    is("entries", capn_index(CAPN_BARE, two + 8, 8, &usual, &entry, 1, &report), CAPN_OK);
+    is("no starts", capn_index(CAPN_STREAM, many, 272, &usual, &entry, 1, &report), CAPN_MEMORY);
     left = -1;
 }
 
