@@ -7,10 +7,6 @@ use Rattle.capn_walk.specs.Limits.{Bounds}
 use Rattle.capn_layout.specs.Layout.{canon}
 use Rattle.capn_canon.specs.declared.length.CanonicalLength.{CanonicalLength}
 
--- the message is accepted with a value that has no capability
-abbrev pub HasBytes : List (List ℕ) → Bounds → Type 0
-HasBytes message limits = (v : Tree) × IsValueOf message limits v × (first_cap v ≡ None)
-
 -- the message is accepted with this value, which has no capability; the length is that of its canonical bytes, and the
 -- walk of the message pays and visits so much
 pub record IsCanonicalLength (message : List (List ℕ)) (limits : Bounds) (v : Tree) (c : CanonicalLength)
@@ -20,3 +16,9 @@ pub record IsCanonicalLength (message : List (List ℕ)) (limits : Bounds) (v : 
   pub long : c.length ≡ length (canon v)
   pub pays : c.paid ≡ paid message limits
   pub counts : c.visits ≡ number_of_visits message limits
+
+-- ---- read to here for the theorem
+
+-- the message is accepted with a value that has no capability
+abbrev pub HasBytes : List (List ℕ) → Bounds → Type 0
+HasBytes message limits = (v : Tree) × IsValueOf message limits v × (first_cap v ≡ None)

@@ -19,6 +19,33 @@ use Rattle.capn_layout.specs.Layout.{canon}
 use Rattle.capn_canon.specs.Denotes.{Denotes, Answers}
 use Rattle.capn_canon.specs.CanonicalLength.{IsCanonicalLength}
 
+-- ---- the theorem of `canonical_into`, of what it gives for a message, limits and a buffer
+
+-- For every message, limits and buffer, `canonical_into` answers if and only if the message denotes a value without
+-- capabilities within the limits, and the buffer has room for its canonical bytes.
+abbrev pub AnsweredInto : List (List ℕ) → Bounds → ℕ → Result CanonicalLength IntoRefusal → Type 0
+AnsweredInto message limits room r =
+    IsOk r ↔ ((v : Tree) × IsValueOf message limits v × (first_cap v ≡ None) × (length (canon v) ≤ room))
+
+-- What it writes is exactly these bytes, at the beginning of the buffer; what is after them is as it was.
+pub record WrittenInto (message : List (List ℕ)) (limits : Bounds) (old new : List ℕ) (c : CanonicalLength)
+    : Type 0 where
+  pub value : Tree
+  pub is : IsCanonicalLength message limits value c
+  pub room : length (canon value) ≤ length old
+  pub written : new ≡ canon value ++ drop (length (canon value)) old
+
+-- Else it refuses with the first of these: the walk of the message stops; its value has a capability, of which the
+-- first is named; its canonical bytes, whose length is given, have no room.
+abbrev pub RefusedInto : List (List ℕ) → Bounds → ℕ → IntoRefusal → Type 0
+RefusedInto message limits room (intos.Walk s) = IsWalkRefused message limits s.fault s.place s.paid s.visits
+RefusedInto message limits room (intos.Capability k) =
+    (v : Tree) × IsValueOf message limits v × (first_cap v ≡ Some k)
+RefusedInto message limits room (intos.NoRoom n) =
+    (v : Tree) × IsValueOf message limits v × (first_cap v ≡ None) × (n ≡ length (canon v)) × (room < n)
+
+-- ---- read to here for the theorem
+
 -- For any bytes, form and limits, unless it answers that memory ran out, `canonicalise` succeeds if and only if the
 -- bytes denote a value without capabilities within the limits.
 abbrev pub Answered : {A : Type 0} → Form → List ℕ → Bounds → Result (Canonical A) Refusal → Type 0
@@ -49,28 +76,3 @@ pub record OwnForm {A : Type 0} (form : Form) (bs : List ℕ) (limits : Bounds) 
 abbrev pub WithinBudget : {A : Type 0} → Bounds → Result (Canonical A) Refusal → Type 0
 WithinBudget limits r = MatchResult r (λ c. c.paid ≤ limits.budget)
     (λ e. (s : Stopped) → e ≡ refusals.Walk s → s.paid ≤ limits.budget)
-
--- ---- the theorem of `canonical_into`, of what it gives for a message, limits and a buffer
-
--- For every message, limits and buffer, `canonical_into` answers if and only if the message denotes a value without
--- capabilities within the limits, and the buffer has room for its canonical bytes.
-abbrev pub AnsweredInto : List (List ℕ) → Bounds → ℕ → Result CanonicalLength IntoRefusal → Type 0
-AnsweredInto message limits room r =
-    IsOk r ↔ ((v : Tree) × IsValueOf message limits v × (first_cap v ≡ None) × (length (canon v) ≤ room))
-
--- What it writes is exactly these bytes, at the beginning of the buffer; what is after them is as it was.
-pub record WrittenInto (message : List (List ℕ)) (limits : Bounds) (old new : List ℕ) (c : CanonicalLength)
-    : Type 0 where
-  pub value : Tree
-  pub is : IsCanonicalLength message limits value c
-  pub room : length (canon value) ≤ length old
-  pub written : new ≡ canon value ++ drop (length (canon value)) old
-
--- Else it refuses with the first of these: the walk of the message stops; its value has a capability, of which the
--- first is named; its canonical bytes, whose length is given, have no room.
-abbrev pub RefusedInto : List (List ℕ) → Bounds → ℕ → IntoRefusal → Type 0
-RefusedInto message limits room (intos.Walk s) = IsWalkRefused message limits s.fault s.place s.paid s.visits
-RefusedInto message limits room (intos.Capability k) =
-    (v : Tree) × IsValueOf message limits v × (first_cap v ≡ Some k)
-RefusedInto message limits room (intos.NoRoom n) =
-    (v : Tree) × IsValueOf message limits v × (first_cap v ≡ None) × (n ≡ length (canon v)) × (room < n)

@@ -38,15 +38,6 @@ content_words W64 n = n
 content_words Link n = n
 content_words Rows n = 1 + n
 
--- the bits of an element, and of a word of the rows of a composite list
-abbrev pub bits_of : Width → ℕ
-bits_of W0 = 0
-bits_of W1 = bits_in bit
-bits_of W8 = bits_in byte
-bits_of W16 = bits_in pair
-bits_of W32 = bits_in quad
-bits_of _ = 64
-
 -- where an offset leads from the word after a pointer, if not before word 0
 abbrev pub moved : ℕ → ℤ → Result ℕ Fault
 moved w (pos n) = Ok (w + 1 + n)
@@ -136,3 +127,14 @@ module _ (message : List (List ℕ)) where
   -- what the pointer at a place names
   unfoldable pub target : Place → Result Target Fault
   target at = named at.segment at.word (pointer_in at.segment at.word)
+
+-- ---- read to here for the theorem
+
+-- the bits of an element, and of a word of the rows of a composite list
+abbrev pub bits_of : Width → ℕ
+bits_of W0 = 0
+bits_of W1 = bits_in bit
+bits_of W8 = bits_in byte
+bits_of W16 = bits_in pair
+bits_of W32 = bits_in quad
+bits_of _ = 64

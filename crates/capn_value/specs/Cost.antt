@@ -7,6 +7,13 @@ use Rattle.capn_value.specs.NumberWidth.{per_word}
 use Rattle.capn_value.specs.Tree.{Tree, nil, node, voids, numbers, links, rows, cap, Trees}
 use Rattle.capn_value.specs.Tree.{no_trees, tree, Bodies, no_bodies, body, count, count_rows, row_words}
 
+-- what each content costs beside its size
+abbrev pub base : Tariff → ℕ
+base Strict = 1
+base Plain = 0
+
+-- ---- read to here for the theorem
+
 -- 0 for null and a capability, else 1 plus the greatest height of a slot, a slot of a row, or an element
 abbrev mutual
   pub height : Tree → ℕ
@@ -29,11 +36,6 @@ abbrev mutual
 -- what a composite list costs beside its pointer and its tag: its words, or one for each row where rows have none
 unfoldable pub rows_price : Bodies → ℕ
 rows_price bs = cond (row_words bs == 0) (count_rows bs) (row_words bs)
-
--- what each content costs beside its size
-abbrev pub base : Tariff → ℕ
-base Strict = 1
-base Plain = 0
 
 -- the greatest cost of a value that fits, by the plain tariff, and the greatest budget
 abbrev pub most_cost : ℕ

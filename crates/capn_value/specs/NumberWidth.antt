@@ -21,6 +21,8 @@ bits_in oct = 64
 abbrev pub per_word : NumberWidth → ℕ
 per_word w = 64 / bits_in w
 
+-- ---- read to here for the theorem
+
 -- whether a number is a bit that is set
 abbrev pub is_set : ℕ → Bool
 is_set n = n == 1

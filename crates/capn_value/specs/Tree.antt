@@ -29,6 +29,18 @@ abbrev pub count : Trees → ℕ
 count no_trees = 0
 count (tree t ts) = suc (count ts)
 
+-- how many rows there are
+abbrev pub count_rows : Bodies → ℕ
+count_rows no_bodies = 0
+count_rows (body ws ss bs) = suc (count_rows bs)
+
+-- whether it is null
+abbrev pub is_null : Tree → Bool
+is_null nil = true
+is_null _ = false
+
+-- ---- read to here for the theorem
+
 -- the tree at a place, null past the end
 abbrev pub tree_at : Trees → ℕ → Tree
 tree_at no_trees i = nil
@@ -41,20 +53,10 @@ front zero ts = no_trees
 front (suc n) no_trees = no_trees
 front (suc n) (tree t ts) = tree t (front n ts)
 
--- how many rows there are
-abbrev pub count_rows : Bodies → ℕ
-count_rows no_bodies = 0
-count_rows (body ws ss bs) = suc (count_rows bs)
-
 -- the words of all rows together, data words and slots
 abbrev pub row_words : Bodies → ℕ
 row_words no_bodies = 0
 row_words (body ws ss bs) = length ws + count ss + row_words bs
-
--- whether it is null
-abbrev pub is_null : Tree → Bool
-is_null nil = true
-is_null _ = false
 
 -- the first, then the second
 abbrev pub joined : Trees → Trees → Trees

@@ -27,6 +27,8 @@ abbrev pub kept_slots_of_rows : Bodies → ℕ
 kept_slots_of_rows no_bodies = 0
 kept_slots_of_rows (body ws ss bs) = max (kept_slots ss) (kept_slots_of_rows bs)
 
+-- ---- read to here for the theorem
+
 -- every body cut to its kept lengths, at every level
 abbrev mutual
   pub trimmed : Tree → Tree

@@ -99,6 +99,8 @@ IsWalkRefused message limits fault at paid visits =
     ((length (segment_at message 0) ≡ 0) × (fault ≡ faults.NoRoot) × (at ≡ root) × (paid ≡ 0) × (visits ≡ 0))
     ⊎ ((0 < length (segment_at message 0)) × IsStop limits.budget (visits_within message limits) fault at paid visits)
 
+-- ---- read to here for the theorem
+
 -- a walk pays at most the budget, and makes at most one visit more than it paid words
 pub record IsBounded (budget paid visits : ℕ) : Type 0 where
   pub within : paid ≤ budget

@@ -12,6 +12,8 @@ pub record Bounds : Type 0 where
   pub depth : ℕ
   pub tariff : Tariff
 
+-- ---- read to here for the theorem
+
 -- each of the numbers is in its range
 pub record AreLimits (words budget depth : ℕ) : Type 0 where
   pub some_words : 1 ≤ words

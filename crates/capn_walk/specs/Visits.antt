@@ -59,6 +59,8 @@ module _ (message : List (List ℕ)) (base : ℕ) where
   visits zero at = last_visit at (target message at)
   visits (suc d) at = visit (visits d) at (target message at)
 
+  -- ---- read to here for the theorem
+
   -- those of several slots, one after the other
   abbrev pub visits_of : ℕ → List Place → List Visit
   visits_of d ps = flat_map (visits d) ps

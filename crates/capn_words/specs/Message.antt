@@ -8,6 +8,20 @@ use Rattle.capn_words.specs.declared.bare.BareFault.{BareFault}
 use Rattle.capn_words.specs.declared.bare.BareFault.TheVariants.{NotWhole, TooLong}
 use Rattle.capn_words.specs.declared.space.Place.{Place}
 
+-- a word as its 8 bytes, the least significant first
+unfoldable pub word_bytes : ℕ → List ℕ
+word_bytes w = little_bytes 8 w
+
+-- the bytes of words, joined in order
+abbrev pub bytes : List ℕ → List ℕ
+bytes ws = flat_map word_bytes ws
+
+-- the words of a segment; none where there is no such segment
+abbrev pub segment_at : List (List ℕ) → ℕ → List ℕ
+segment_at message s = slice_index_or message s []
+
+-- ---- read to here for the theorem
+
 -- ---- the limits on the size of a message. (Own.)
 
 -- the most segments that a message has
@@ -32,14 +46,6 @@ AreBytes bs = (i : ℕ) → slice_index bs i < 256
 abbrev pub AreWords : List ℕ → Type 0
 AreWords ws = (k : ℕ) → slice_index ws k < 2 ^ 64
 
--- a word as its 8 bytes, the least significant first
-unfoldable pub word_bytes : ℕ → List ℕ
-word_bytes w = little_bytes 8 w
-
--- the bytes of words, joined in order
-abbrev pub bytes : List ℕ → List ℕ
-bytes ws = flat_map word_bytes ws
-
 -- the word whose bytes are the first 8
 unfoldable pub word_number : List ℕ → ℕ
 word_number bs = little_number 8 bs
@@ -62,10 +68,6 @@ ReadsBare bs (Err (NotWhole n)) = (n ≡ length bs) × (length bs % 8 ≢ 0)
 ReadsBare bs (Err (TooLong n)) = (8 * n ≡ length bs) × (most_words < n)
 
 -- ---- a message is a list of segments, and a segment is a list of words. (Page: messages.)
-
--- the words of a segment; none where there is no such segment
-abbrev pub segment_at : List (List ℕ) → ℕ → List ℕ
-segment_at message s = slice_index_or message s []
 
 -- how many words all segments have together
 abbrev pub total : List (List ℕ) → ℕ

@@ -52,15 +52,26 @@ width_code W64 = 5
 width_code Link = 6
 width_code Rows = 7
 
--- an offset has 30 bits with its sign: it is from -2^29 to 2^29 - 1
-abbrev pub FitsOffset : ℤ → Type 0
-FitsOffset (pos n) = n < 2 ^ 29
-FitsOffset (negsuc n) = n < 2 ^ 29
-
 -- the 30 bits of an offset: one below 0 is taken with 2^30 added
 abbrev pub offset_field : ℤ → ℕ
 offset_field (pos n) = n
 offset_field (negsuc n) = 2 ^ 30 - suc n
+
+-- the word of a pointer: its kind in bits 0 to 1, and its fields above
+abbrev pub word_of : Pointer → ℕ
+word_of Nil = 0
+word_of (Node o w s) = 4 * offset_field o + 2 ^ 32 * w + 2 ^ 48 * s
+word_of (Many o k c) = 1 + 4 * offset_field o + 2 ^ 32 * width_code k + 2 ^ 35 * c
+word_of (Far d w s) = 2 + 4 * from_bool d + 8 * w + 2 ^ 32 * s
+word_of (Cap i) = 3 + 2 ^ 32 * i
+word_of (Reserved n) = n
+
+-- ---- read to here for the theorem
+
+-- an offset has 30 bits with its sign: it is from -2^29 to 2^29 - 1
+abbrev pub FitsOffset : ℤ → Type 0
+FitsOffset (pos n) = n < 2 ^ 29
+FitsOffset (negsuc n) = n < 2 ^ 29
 
 -- each field is in the range of its bits; a struct pointer isn't all zeros, which is null;
 -- a reserved word has bits 0 to 1 equal to 3 and isn't a capability
@@ -71,15 +82,6 @@ FitsFields (Many o k c) = FitsOffset o × (c < 2 ^ 29)
 FitsFields (Far d w s) = (w < 2 ^ 29) × (s < 2 ^ 32)
 FitsFields (Cap i) = i < 2 ^ 32
 FitsFields (Reserved n) = (n < 2 ^ 64) × (n % 4 ≡ 3) × (0 < n / 4 % 2 ^ 30)
-
--- the word of a pointer: its kind in bits 0 to 1, and its fields above
-abbrev pub word_of : Pointer → ℕ
-word_of Nil = 0
-word_of (Node o w s) = 4 * offset_field o + 2 ^ 32 * w + 2 ^ 48 * s
-word_of (Many o k c) = 1 + 4 * offset_field o + 2 ^ 32 * width_code k + 2 ^ 35 * c
-word_of (Far d w s) = 2 + 4 * from_bool d + 8 * w + 2 ^ 32 * s
-word_of (Cap i) = 3 + 2 ^ 32 * i
-word_of (Reserved n) = n
 
 -- a pointer is what a word says: its fields fit, and the word is their sum
 abbrev pub Fields : ℕ → Pointer → Type 0
