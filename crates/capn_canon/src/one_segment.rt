@@ -13,12 +13,6 @@ use crate::canonical_survey::survey_canonical;
 use capn_walk::Limits;
 use capn_words::{Bare, Place, Space};
 
-/// Where the pointer to the root is.
-const ROOT: Place = Place {
-    segment: 0,
-    word: 0,
-};
-
 /// Canonical bytes that lie in the message itself, and the words that its walk pays. (Own.)
 #[derive(Clone, Copy)]
 pub struct OwnCanonical<'a> {
@@ -37,7 +31,7 @@ fn only_bytes<S: Space>(space: &S) -> Option<&[u8]>
     if space.segments() != 1 {
         return None;
     }
-    Some(space.bytes(ROOT, 8 * words as usize))
+    Some(space.bytes(Place::ROOT, 8 * words as usize))
 }
 
 /// A message of one segment as its bytes alone, which are faster to read; `None` if it has more.

@@ -16,12 +16,6 @@ use capn_value::Memory;
 use capn_words::{Place, Space};
 use std::alloc::Allocator;
 
-/// Where the pointer to the root is.
-const ROOT: Place = Place {
-    segment: 0,
-    word: 0,
-};
-
 /// How many words the canonical bytes of the value at the root of a message that was surveyed are: the value is at most
 /// `depth` objects deep and has no capability.
 ///
@@ -30,7 +24,14 @@ pub fn surveyed_length<S: Space>(space: &S, depth: u32) -> u32
     requires { IsReady (HasSlot (S.message space.now)) 0 0 depth 1 }
     ensures { (v : Value) → IsAt (S.message space.now) root v → 8 * result ≡ length (canon v) }
 {
-    1 + size_of_slot(MessageSlots { space, start: ROOT }, 0, depth)
+    1 + size_of_slot(
+        MessageSlots {
+            space,
+            start: Place::ROOT,
+        },
+        0,
+        depth,
+    )
 }
 
 /// Writes the canonical bytes of the value at the root of a message that was surveyed to the beginning of `out`, and
@@ -46,7 +47,14 @@ pub fn surveyed_layout_into<S: Space>(space: &S, depth: u32, out: &mut [u8]) -> 
         → (result ≡ length (canon v)) × (out.new ≡ canon v ++ drop (length (canon v)) out.old) }
 {
     let most = out.len().min(4_294_967_296);
-    let words = lay_root(MessageSlots { space, start: ROOT }, depth, &mut out[..most]);
+    let words = lay_root(
+        MessageSlots {
+            space,
+            start: Place::ROOT,
+        },
+        depth,
+        &mut out[..most],
+    );
     8 * words
 }
 

@@ -13,12 +13,6 @@ use capn_words::{Place, Space, Watched};
 use std::alloc::Allocator;
 use std::io::Write;
 
-/// Where the pointer to the root is.
-pub(crate) const ROOT: Place = Place {
-    segment: 0,
-    word: 0,
-};
-
 /// Adds the text of the value that a message denotes within limits.
 ///
 /// The message is surveyed first, and nothing is added of one that is refused. The text is added to one that is kept;
@@ -42,7 +36,7 @@ pub fn show_message<S: Space, W: Write, A: Allocator, B: Allocator + Copy>(
     values();
     let _bounds = space.segments();
     survey(alloc, space, limits)?;
-    match show_slot::<_, _, _, false>(text, writer, space, ROOT, 0, limits.depth()) {
+    match show_slot::<_, _, _, false>(text, writer, space, Place::ROOT, 0, limits.depth()) {
         Ok(()) => Ok(()),
         Err(broken) => Err(fault_of(broken)),
     }

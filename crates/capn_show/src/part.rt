@@ -14,7 +14,6 @@ ghost use Rattle.capn_show.specs.Styled.{styled};
 ghost use Rattle.capn_show.specs.Written.{IsWritten, IsUnwritten};
 
 use crate::fault::{Broken, ShowFault, fault_of};
-use crate::message::ROOT;
 use crate::style::Style;
 use crate::styled::{show_nothing, show_there};
 use capn_walk::laws::{values, views_show_values};
@@ -73,7 +72,7 @@ fn write_part<S: Space, W: Write, A: Allocator>(
     ensures cut { IfErr result (λ e. IsPartShown (S.message space.now) style way.now (BreaksOff
         (outgoing W.contents writer.old text.old.items) (outgoing W.contents writer.new text.new.items) e)) }
 {
-    let found = named(space, ROOT);
+    let found = named(space, Place::ROOT);
     match follow(space, found, way) {
         Some(part) => show_there(text, writer, space, style, part, depth),
         None => show_nothing(text, writer, style),

@@ -11,7 +11,7 @@ use crate::entry_form::{EntryForm, Plain};
 use crate::index_visits::index_found;
 use crate::limits::Limits;
 use crate::message_survey::survey;
-use crate::message_walk::{ROOT, root_target};
+use crate::message_walk::root_target;
 use crate::walk_answer::{Stopped, out_of_memory};
 use capn_target::counted::{CountedSpace, Reads, count_reads, segment_length};
 use capn_target::{Fault, Target};
@@ -123,10 +123,10 @@ pub fn index_into_counted<S: Space, L: Ledger, F: EntryForm>(
 {
     space.bounds();
     let target = root_target(space, reads)?;
-    let size = segment_length(space, ROOT.segment, reads);
+    let size = segment_length(space, Place::ROOT.segment, reads);
     let told = index_found(
         space,
-        ROOT,
+        Place::ROOT,
         size,
         Ok(target),
         limits.depth(),
@@ -167,7 +167,7 @@ pub fn index<S: Space, A: Allocator + Copy>(
 {
     let told = survey(alloc, space, limits)?;
     let Ok(mut entries) = vec![in alloc; Entry::nil(); told.visits as usize] else {
-        return Err(out_of_memory(ROOT));
+        return Err(out_of_memory(Place::ROOT));
     };
     match index_into(space, limits, &mut entries) {
         Ok(told) => Ok(Index {

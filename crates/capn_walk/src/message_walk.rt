@@ -23,12 +23,6 @@ use std::alloc::Allocator;
 use std::marker::Brand;
 use std::sync::ledger::{Blank, Ledger};
 
-/// Where the pointer to the root is.
-pub const ROOT: Place = Place {
-    segment: 0,
-    word: 0,
-};
-
 /// What a message denotes, read from its root within limits, and what that paid.
 ///
 /// Slots are visited in preorder, each as often as a pointer leads to it, and each visit pays its price
@@ -160,7 +154,7 @@ pub fn walk_counted<S: Space, A: Allocator + Copy, L: Ledger>(
     let found = walk_target(
         alloc,
         space,
-        ROOT,
+        Place::ROOT,
         target,
         limits.depth(),
         limits.budget(),
@@ -191,21 +185,21 @@ pub fn root_target<S: Space, L: Ledger>(
     ensures reads { OnOk result (reads.new ≤ reads.old + 9) }
     ensures few { IfErr result (λ s. reads.new ≤ reads.old + 8 * s.visits + 1) }
 {
-    if counted::segment_length(space, ROOT.segment, reads) == 0 {
+    if counted::segment_length(space, Place::ROOT.segment, reads) == 0 {
         return Err(Stopped {
             visits: 0,
-            ..stop(Fault::NoRoot, ROOT)
+            ..stop(Fault::NoRoot, Place::ROOT)
         });
     }
-    match counted::resolve(space, ROOT, reads) {
+    match counted::resolve(space, Place::ROOT, reads) {
         Ok(target) => {
             if may_be_root(target) {
                 Ok(target)
             } else {
-                Err(stop(Fault::RootKind, ROOT))
+                Err(stop(Fault::RootKind, Place::ROOT))
             }
         }
-        Err(fault) => Err(stop(fault, ROOT)),
+        Err(fault) => Err(stop(fault, Place::ROOT)),
     }
 }
 

@@ -11,7 +11,6 @@ ghost use Rattle.capn_walk.specs.inner.SlotsLeft.{places_of, owed, Lies};
 ghost use Rattle.capn_walk.specs.inner.Reach.{reach, reach_of};
 ghost use Rattle.capn_target.specs.declared.target.Fault.TheVariants.{Memory};
 
-use crate::message_walk::ROOT;
 use crate::slots_left::{SlotsLeft, Waiting};
 use crate::step::levels;
 use crate::survey_answer::{Measured, Surveyed};
@@ -50,9 +49,9 @@ pub fn survey_root<S: Space, A: Allocator + Copy, L: Ledger, const DEEP: bool>(
     ensures reads { MatchResult result (λ m. reads.new + 10 ≤ reads.old + 14 * m.survey.visits)
         (λ s. reads.new + 10 ≤ reads.old + 14 * s.visits) }
 {
-    let visited = match visit_found(space, ROOT, Ok(target), depth, budget, base) {
+    let visited = match visit_found(space, Place::ROOT, Ok(target), depth, budget, base) {
         Ok(visited) => visited,
-        Err(fault) => return Err(stopped(fault, ROOT, 0, 1)),
+        Err(fault) => return Err(stopped(fault, Place::ROOT, 0, 1)),
     };
     if visited.below.is_done() {
         let survey = Surveyed {

@@ -12,7 +12,7 @@ ghost use Rattle.capn_walk.specs.declared.kind.Kind.TheVariants as kinds;
 
 use crate::digits::{digit, per_word};
 use crate::kind::{Kind, kind_of};
-use crate::message_walk::{ROOT, may_be_root};
+use crate::message_walk::may_be_root;
 use crate::meter::Meter;
 use crate::sizes::{len_of, slots_in, words_in};
 use crate::step::{capability_of, price_within};
@@ -54,10 +54,10 @@ impl<'s, S: Space> View<'s, S> {
         ensures kept { OnErr result (meter.new ≡ meter.old) }
     {
         let _bounds = space.segments();
-        if segment_length(space, ROOT.segment) == 0 {
+        if segment_length(space, Place::ROOT.segment) == 0 {
             return Err(Fault::NoRoot);
         }
-        let target = match resolve(space, ROOT) {
+        let target = match resolve(space, Place::ROOT) {
             Ok(target) => target,
             Err(fault) => return Err(fault),
         };

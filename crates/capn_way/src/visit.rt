@@ -9,12 +9,6 @@ use capn_walk::Limits;
 use capn_words::{Memory, Place, Space};
 use std::alloc::{Allocator, Global};
 
-/// Where the pointer to the root is.
-pub const ROOT: Place = Place {
-    segment: 0,
-    word: 0,
-};
-
 /// A slot that a walk visits, and the way to it.
 #[derive(Debug, Drop)]
 pub struct Visited<A: Allocator = Global> {
@@ -40,11 +34,11 @@ pub fn way_of_visit<S: Space, A: Allocator + Copy>(
         (λ v. IsVisited (S.message space.now) limits number v.way.items v.place)) }
     ensures none { IfOk result (λ r. IfNone r (IsNotVisited (S.message space.now) limits number)) }
 {
-    if segment_length(space, ROOT.segment) == 0 {
+    if segment_length(space, Place::ROOT.segment) == 0 {
         return Ok(None);
     }
     let mut way = Vec::new(alloc);
-    match seek_slot(space, ROOT, limits.depth(), number, &mut way)? {
+    match seek_slot(space, Place::ROOT, limits.depth(), number, &mut way)? {
         Sought::Found(place) => Ok(Some(Visited { way, place })),
         Sought::Passed(_) => Ok(None),
     }

@@ -14,6 +14,14 @@ pub struct Place {
     pub word: u32,
 }
 
+impl Place {
+    /// Where the pointer to the root is: the first word of the first segment. (Page: messages.)
+    pub const ROOT: Place = Place {
+        segment: 0,
+        word: 0,
+    };
+}
+
 /// A message whose words and bytes can be read in place. No call takes memory. (Page: messages.)
 ///
 /// A function over any `Space` that needs the bounds of the message calls `segments`: it then knows them
