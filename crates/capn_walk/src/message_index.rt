@@ -15,7 +15,7 @@ use crate::message_walk::root_target;
 use crate::walk_answer::{Stopped, out_of_memory};
 use capn_target::counted::{CountedSpace, Reads, count_reads, segment_length};
 use capn_target::{Fault, Target};
-use capn_words::Space;
+use capn_words::{Place, Space};
 use std::alloc::Allocator;
 use std::marker::Brand;
 use std::sync::ledger::{Blank, Ledger};
