@@ -1,8 +1,13 @@
 //! The text of a slot.
 
+ghost use Rattle.std.specs.Prelude.{◌≡◌, ◌<◌, ◌+◌, ◌*◌, ◌^◌};
+ghost use Rattle.capn_words.specs.Message.{IsPlace, total};
+ghost use Rattle.capn_explain.specs.Slot.{placed};
+
+use crate::byte_of_place::place_byte;
 use crate::pointer_text::PointerText;
 use crate::word_text::WordText;
-use capn_words::Place;
+use capn_words::{Place, Space};
 use std::fmt;
 
 /// A slot, displayed in one line without its end: the byte and the place of its word, the word's bytes, and what it
@@ -15,6 +20,25 @@ pub struct SlotText {
     pub place: Place,
     /// Its word.
     pub word: u64,
+}
+
+impl SlotText {
+    /// The slot at a place of a message, which has to be in range.
+    ///
+    /// `offset` is where the message's table begins in its stream, in bytes, and `table` how many words that takes: none
+    /// of a bare segment.
+    #[tactic(auto, using(crate::proofs::PlaceWithin::before_end, crate::proofs::PlaceWithin::has_segment))]
+    pub fn at<S: Space>(space: &S, offset: u64, table: u32, at: Place) -> SlotText
+        requires place { IsPlace (S.message space.now) at }
+        requires fits { offset + 8 * (table + total (S.message space.now)) < 2 ^ 64 }
+        ensures { result ≡ placed (S.message space.now) offset table at }
+    {
+        SlotText {
+            byte: place_byte(space, offset, table, at),
+            place: at,
+            word: space.word(at),
+        }
+    }
 }
 
 impl fmt::Display for SlotText {
