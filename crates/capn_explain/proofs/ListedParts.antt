@@ -6,7 +6,8 @@ use Rattle.std.specs.Fmt.{decimal}
 use Rattle.capn_explain.specs.MessageTexts.{behind_commas, listed}
 
 -- the first number, and the others
-pub listed-first : (ns : List ℕ) → (length ns ≡ 0 → ⊥) → decimal (get_or ns 0 0) ++ behind_commas (drop 1 ns) ≡ listed ns
+pub listed-first : (ns : List ℕ) → (length ns ≡ 0 → ⊥)
+    → decimal (get_or ns 0 0) ++ behind_commas (drop 1 ns) ≡ listed ns
 listed-first [] h = absurd (h refl)
 listed-first (n ∷ ns) h = refl
 

@@ -1,6 +1,6 @@
 -- The lines of a message that is explained.
-use Rattle.std.specs.Prelude.{◌≡◌, ℕ, ◌+◌, nat_lt, min, List, [], ◌∷◌, ◌++◌, take, length, Option, Some, None, codes, refl}
-use Rattle.std.specs.Prelude.{if◌then◌else◌}
+use Rattle.std.specs.Prelude.{◌≡◌, ℕ, ◌+◌, nat_lt, min, List, [], ◌∷◌, ◌++◌, take, length, Option, Some, None, codes}
+use Rattle.std.specs.Prelude.{refl, if◌then◌else◌}
 use Rattle.std.specs.Fmt.{decimal, digits}
 use Rattle.hex.specs.Hex.{encode_lower, encode_with}
 use Rattle.capn_words.specs.Message.{segment_at, total}

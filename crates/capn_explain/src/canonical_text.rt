@@ -10,19 +10,20 @@ use std::fmt;
 pub enum CanonicalText<'a> {
     /// It is.
     Yes,
-    /// It has so many segments, more than one.
+    /// It has more than one segment: how many.
     Segments(u32),
     /// It has a capability: its index, and the way to it.
     Capability(u32, &'a [u32]),
-    /// A word differs from the canonical one that is a pointer: its byte, both words, and the way to the pointer's slot.
-    Pointer(u64, u64, u64, &'a [u32]),
-    /// A word differs from the canonical one that is a tag: its byte, both words, and the way to the list's slot.
-    Tag(u64, u64, u64, &'a [u32]),
-    /// A word differs from the canonical one that is the last of a list: its byte, both words, and the way to the list's
+    /// A word differs from the canonical one that is a pointer: its byte, both words, and the way to the pointer's
     /// slot.
-    LastWord(u64, u64, u64, &'a [u32]),
+    Pointer(u128, u64, u64, &'a [u32]),
+    /// A word differs from the canonical one that is a tag: its byte, both words, and the way to the list's slot.
+    Tag(u128, u64, u64, &'a [u32]),
+    /// A word differs from the canonical one that is the last of a list: its byte, both words, and the way to the
+    /// list's slot.
+    LastWord(u128, u64, u64, &'a [u32]),
     /// A word stands where the canonical bytes have ended: its byte, and the word.
-    After(u64, u64),
+    After(u128, u64),
 }
 
 /// A word, displayed as its bytes and as what it says as a pointer.

@@ -6,11 +6,12 @@ use std::fmt;
 #[derive(Clone, Copy, Debug, PartialEq, Eq)]
 pub enum HolderText {
     /// A struct: its words, its slots, and the byte at which it begins.
-    Struct(u16, u16, u64),
+    Struct(u16, u16, u128),
     /// A list of pointers: how many there are, and the byte at which the first is.
-    Pointers(u32, u64),
-    /// A row of a list of structs: its number, counted from 0, how many rows there are, and the byte at which it begins.
-    Row(u32, u32, u64),
+    Pointers(u32, u128),
+    /// A row of a list of structs: its number, counted from 0, how many rows there are, and the byte at which it
+    /// begins.
+    Row(u32, u32, u128),
 }
 
 impl fmt::Display for HolderText {
