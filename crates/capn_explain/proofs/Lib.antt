@@ -1,2 +1,4 @@
+pub mod ListedParts
+pub mod PlaceWithin
 pub mod WayParts
 pub mod WordDigits

@@ -32,7 +32,10 @@ digits-ascii : IsAscii lower_digits
 unfolding all_small
 digits-ascii = ascii lower_digits refl
 
--- they are text
+-- the digits of bytes are text
+pub are-digits : (bs : List ℕ) → IsUtf8 (encode_lower bs)
+are-digits bs = IsUtf8-from_ascii (encode_lower bs) (IsAscii-encode_with lower_digits bs digits-ascii)
+
+-- those of a word
 pub are-text : (word : ℕ) → IsUtf8 (encode_lower (to_le_bytes w64 word))
-are-text word = IsUtf8-from_ascii (encode_lower (to_le_bytes w64 word))
-    (IsAscii-encode_with lower_digits (to_le_bytes w64 word) digits-ascii)
+are-text word = are-digits (to_le_bytes w64 word)

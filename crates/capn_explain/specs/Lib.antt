@@ -1,2 +1,5 @@
 pub mod Texts
 pub mod PlaceByte
+pub mod Slot
+pub mod SlotTexts
+pub mod MessageTexts

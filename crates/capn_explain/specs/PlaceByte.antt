@@ -3,7 +3,7 @@ use Rattle.std.specs.Prelude.{◌≡◌, ℕ, ◌+◌, ◌*◌, List, [], ◌∷
 use Rattle.capn_words.specs.Message.{total}
 use Rattle.capn_words.specs.declared.space.Place.{Place}
 
--- of a message whose table begins at an offset and takes so many words: after these words, and after the segments
+-- of a message whose table begins at an offset and takes a number of words: after these words, and after the segments
 -- before its own, which come one after the other
 abbrev pub place_byte : ℕ → ℕ → List (List ℕ) → Place → ℕ
 place_byte offset table message at = offset + 8 * (table + total (take at.segment message) + at.word)

@@ -24,7 +24,7 @@ elements_text W64 = codes "u64"
 elements_text Link = codes "pointers"
 elements_text Rows = codes "structs"
 
--- so many words and slots
+-- a number of words and a number of slots
 abbrev pub sizes_text : ℕ → ℕ → List ℕ
 sizes_text words slots = decimal words ++ (codes " words and " ++ (decimal slots ++ codes " slots"))
 

@@ -6,17 +6,44 @@
 //! - [`SlotText`] displays a slot: the byte and the place of its word, its bytes, and what they say.
 //! - [`WayText`] displays the way from the root to a slot.
 //! - [`place_byte`] answers the byte of a stream at which a word of a message lies.
+//! - [`examine`] answers what there is to say of the slot at which the walk of a message was refused: the words that
+//!   lead to its content, where that lies, and the limit that the refusal is about.
+//! - [`RefusedLines`], [`FrameLines`] and [`AcceptedLines`] display all lines that explain a message, and [`CountText`]
+//!   the line where there is none to explain. Their parts are [`MessageHead`], [`SegmentsText`], [`SlotLines`],
+//!   [`HolderText`], [`FrameKey`] and [`CanonicalText`].
 #![tactic(auto)]
 
 mod byte_of_place;
+mod canonical_text;
+mod count_text;
+mod examination;
+mod examined;
+mod examined_text;
+mod frame_text;
+mod holder_text;
+mod message_text;
+mod pads;
 mod pointer_text;
+mod price;
+mod segments_text;
 mod slot_text;
 mod tag_text;
+mod tags;
+mod telling;
 mod way_text;
 mod word_text;
 
 pub use byte_of_place::place_byte;
+pub use canonical_text::CanonicalText;
+pub use count_text::CountText;
+pub use examination::examine;
+pub use examined::{Examined, Limit, Pad, RowWords, Stretch};
+pub use examined_text::SlotLines;
+pub use frame_text::FrameKey;
+pub use holder_text::HolderText;
+pub use message_text::{AcceptedLines, FrameLines, MessageHead, RefusedLines};
 pub use pointer_text::PointerText;
+pub use segments_text::SegmentsText;
 pub use slot_text::SlotText;
 pub use tag_text::TagText;
 pub use way_text::WayText;

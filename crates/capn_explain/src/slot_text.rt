@@ -1,20 +1,46 @@
 //! The text of a slot.
 
+ghost use Rattle.std.specs.Prelude.{◌≡◌};
+ghost use Rattle.capn_words.specs.Message.{IsPlace};
+ghost use Rattle.capn_explain.specs.Slot.{placed};
+
+use crate::byte_of_place::place_byte;
 use crate::pointer_text::PointerText;
 use crate::word_text::WordText;
-use capn_words::Place;
+use capn_words::{Place, Space};
 use std::fmt;
 
 /// A slot, displayed in one line without its end: the byte and the place of its word, the word's bytes, and what it
 /// says as a pointer.
 #[derive(Clone, Copy, Debug, PartialEq, Eq)]
 pub struct SlotText {
-    /// The byte at which its word begins.
-    pub byte: u64,
+    /// The byte of the stream at which its word begins.
+    pub byte: u128,
     /// Where it is.
     pub place: Place,
     /// Its word.
     pub word: u64,
+}
+
+impl SlotText {
+    /// The slot at a place of a message, which has to be in range.
+    ///
+    /// `offset` is where the message's table begins in its stream, in bytes, and `table` how many words that takes:
+    /// none of a bare segment.
+    #[tactic(auto, using(crate::proofs::PlaceWithin::before_end, crate::proofs::PlaceWithin::has_segment))]
+    pub fn at<S: Space>(space: &S, offset: u64, table: u32, at: Place) -> SlotText
+        requires { IsPlace (S.message space.now) at }
+        ensures { result ≡ placed (S.message space.now) offset table at }
+    {
+        let _bounds = space.segments();
+        // The sum may pass 64 bits.
+        let within = place_byte(space, 0, table, at);
+        SlotText {
+            byte: u128::from(offset) + u128::from(within),
+            place: at,
+            word: space.word(at),
+        }
+    }
 }
 
 impl fmt::Display for SlotText {
