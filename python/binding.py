@@ -19,7 +19,7 @@ if not ARCHIVE.is_file():
 DECLARED = """
     enum { CAPN_STREAM, CAPN_PACKED, CAPN_BARE, ... };
     enum { CAPN_STRICT, CAPN_PLAIN, ... };
-    enum { CAPN_STYLE_LINES, CAPN_STYLE_TEXT, CAPN_STYLE_JSON, ... };
+    enum { CAPN_STYLE_LINES, CAPN_STYLE_TEXT, CAPN_STYLE_JSON, CAPN_STYLE_JSON_TEXT, ... };
 
     typedef struct { uint32_t message_words, budget, depth, tariff; } capn_limits;
     typedef struct {

@@ -133,7 +133,7 @@ pub(crate) fn show(
             capn_sys::capn_show(number, bytes, size, limits, style, at, room, report)
         })
     }?;
-    Ok(String::from_utf8(out).expect("the text is ASCII"))
+    Ok(String::from_utf8(out).expect("the text is UTF-8"))
 }
 
 pub(crate) fn pack(words: &[u8], out: &mut Vec<u8>) -> Result<capn_report, Error> {

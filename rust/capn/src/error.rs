@@ -15,7 +15,7 @@ pub enum Error {
     Limits,
     /// The call does not take the form.
     Form,
-    /// The style is none of the three.
+    /// The style is none of the four.
     Style,
     /// The input is refused.
     Refused {
