@@ -142,6 +142,7 @@ impl Error {
     }
 
     /// A stream that ends inside of a frame.
+    #[cfg(feature = "std")]
     pub(crate) fn frame_cut() -> Self {
         Error::Refused {
             kind: Kind::FrameCut,
