@@ -53,9 +53,10 @@ enum capn_tariff {
 
 /* How the text of a message is written. */
 enum capn_style {
-    CAPN_STYLE_LINES = 0, /* lines, with the digits of each list of bytes: as `capn show` writes it */
-    CAPN_STYLE_TEXT = 1,  /* the same, but a list of printable bytes stands between quotes: as `capn show --text` */
-    CAPN_STYLE_JSON = 2   /* one line of JSON: as `capn show --json` */
+    CAPN_STYLE_LINES = 0,    /* lines, with the digits of each list of bytes: as `capn show` writes it */
+    CAPN_STYLE_TEXT = 1,     /* the same, but a list of printable bytes stands between quotes: as `capn show --text` */
+    CAPN_STYLE_JSON = 2,     /* one line of JSON: as `capn show --json` */
+    CAPN_STYLE_JSON_TEXT = 3 /* the same, but a text in UTF-8 with its zero is a text: as `capn show --json --text` */
 };
 
 /* How much a call takes on. The root object has depth 1; walks pay words. */
@@ -145,7 +146,7 @@ enum capn_status_code {
     CAPN_BAD_LIMITS = 3,    /* a limit is out of its range */
     CAPN_BAD_TARIFF = 4,    /* the tariff is none of the two */
     CAPN_NOT_CANONICAL = 5, /* of capn_is_canonical alone: the bytes are accepted, and are not canonical */
-    CAPN_BAD_STYLE = 6,     /* of capn_show alone: the style is none of the three */
+    CAPN_BAD_STYLE = 6,     /* of capn_show alone: the style is none of the four */
     CAPN_MEMORY = 8,        /* memory was refused */
 
     /* refusals of what was passed */

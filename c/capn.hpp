@@ -234,8 +234,14 @@ inline capn_figures survey(bytes message, form written = form::stream, const lim
     return figures;
 }
 
-/* How the text of a message is written: lines, the same with printable bytes between quotes, or one line of JSON. */
-enum class style : std::uint32_t { lines = CAPN_STYLE_LINES, text = CAPN_STYLE_TEXT, json = CAPN_STYLE_JSON };
+/* How the text of a message is written: lines, the same with printable bytes between quotes, one line of JSON, or the
+ * same with each text as a text, in UTF-8. */
+enum class style : std::uint32_t {
+    lines = CAPN_STYLE_LINES,
+    text = CAPN_STYLE_TEXT,
+    json = CAPN_STYLE_JSON,
+    json_text = CAPN_STYLE_JSON_TEXT
+};
 
 /* The text of one message: what `capn show` writes of it in a style. */
 inline std::string show(bytes message, form written = form::stream, const limits &most = {},

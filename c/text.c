@@ -17,7 +17,7 @@ const char *capn_status_text(capn_status status) {
     case CAPN_BAD_LIMITS: return "a limit is out of its range";
     case CAPN_BAD_TARIFF: return "the tariff is none of the two";
     case CAPN_NOT_CANONICAL: return "the bytes are not canonical";
-    case CAPN_BAD_STYLE: return "the style is none of the three";
+    case CAPN_BAD_STYLE: return "the style is none of the four";
     case CAPN_MEMORY: return "memory was refused";
     case CAPN_NOT_WHOLE: return "the bytes are not whole words";
     case CAPN_BARE_TOO_LONG: return "more words than a bare message may have";

@@ -91,6 +91,7 @@ func TestLongAnswer(t *testing.T) {
 
 func TestShow(t *testing.T) {
 	list := bytesOf([][]uint64{{1 | 26<<32, 0x6968}})[0]
+	letter := bytesOf([][]uint64{{1 | 26<<32, 0xa4c3}})[0]
 	long := append(bytesOf([][]uint64{{1 | 2<<32 | 8000<<35}})[0], make([]byte, 8000)...)
 	// A text that is longer than the room that is tried first.
 	bits := append(bytesOf([][]uint64{{1 | 1<<32 | 64000<<35}})[0], make([]byte, 8000)...)
@@ -111,6 +112,10 @@ func TestShow(t *testing.T) {
 		{list, Bare, Lines, "bytes 3\n  686900\nend\n"},
 		{list, Bare, Text, "bytes 3 \"hi\\0\"\nend\n"},
 		{list, Bare, JSON, "{\"bytes\":\"686900\"}\n"},
+		{list, Bare, JSONText, "{\"text\":\"hi\"}\n"},
+		{letter, Bare, JSONText, "{\"text\":\"ä\"}\n"},
+		{letter, Bare, Text, "bytes 3\n  c3a400\nend\n"},
+		{long, Bare, JSONText, "{\"bytes\":\"" + strings.Repeat("00", 8000) + "\"}\n"},
 		{bits, Bare, Lines, "bits 64000\n  " + strings.Repeat("0", 64000) + "\nend\n"},
 		{long, Bare, JSON, "{\"bytes\":\"" + strings.Repeat("00", 8000) + "\"}\n"},
 	} {
@@ -118,7 +123,7 @@ func TestShow(t *testing.T) {
 			t.Errorf("%q, %v, not %q", text, err, one.text)
 		}
 	}
-	if _, err := Show(small, Stream, nil, Style(3)); err != ErrStyle {
+	if _, err := Show(small, Stream, nil, Style(4)); err != ErrStyle {
 		t.Error(err)
 	}
 	if text, err := Show(small, Stream, &Limits{9, 2, 9, Strict}, Lines); !errors.Is(err, ErrOverBudget) || text != "" {

@@ -31,9 +31,10 @@ const (
 type Style uint32
 
 const (
-	Lines Style = iota // lines, with the digits of each list of bytes: as `capn show` writes it
-	Text               // the same, but a list of printable bytes stands between quotes: as `capn show --text`
-	JSON               // one line of JSON: as `capn show --json`
+	Lines    Style = iota // lines, with the digits of each list of bytes: as `capn show` writes it
+	Text                  // the same, but a list of printable bytes stands between quotes: as `capn show --text`
+	JSON                  // one line of JSON: as `capn show --json`
+	JSONText              // the same, but a text in UTF-8 with its zero is a text: as `capn show --json --text`
 )
 
 // Limits are how much a call takes on. The root object has depth 1; walks pay words.

@@ -18,8 +18,8 @@ var ErrForm = errors.New("capn: the form is none of the three")
 // ErrLimits says that a limit is out of its range, or that the tariff is none of the two.
 var ErrLimits = errors.New("capn: a limit is out of its range")
 
-// ErrStyle says that a style is none of the three.
-var ErrStyle = errors.New("capn: the style is none of the three")
+// ErrStyle says that a style is none of the four.
+var ErrStyle = errors.New("capn: the style is none of the four")
 
 // Kind is what is wrong with a message that is refused. It is an error that errors.Is compares others with.
 type Kind uint32

@@ -19,7 +19,7 @@ if not ARCHIVE.is_file():
 DECLARED = """
     enum { CAPN_STREAM, CAPN_PACKED, CAPN_BARE, ... };
     enum { CAPN_STRICT, CAPN_PLAIN, ... };
-    enum { CAPN_STYLE_LINES, CAPN_STYLE_TEXT, CAPN_STYLE_JSON, ... };
+    enum { CAPN_STYLE_LINES, CAPN_STYLE_TEXT, CAPN_STYLE_JSON, CAPN_STYLE_JSON_TEXT, ... };
 
     typedef struct { uint32_t message_words, budget, depth, tariff; } capn_limits;
     typedef struct {
@@ -102,18 +102,31 @@ DECLARED = """
         uint8_t out[...];
     } capn_raw;
     size_t capn_read_one(int file, capn_raw *raw);
-    ptrdiff_t capn_peek(int file, uint8_t *out, size_t most);
     capn_status capn_look_at_packed(const uint8_t *text, size_t size, const capn_limits *limits, uint8_t *out,
                                     size_t room, uint32_t most, capn_look *look, capn_report *report);
     typedef struct {
         capn_limits limits;
         uint8_t *out;
-        size_t room, length;
+        size_t room, length, take, got;
         capn_status status;
         capn_report report;
+        uint64_t number, offset, taken;
         ...;
     } capn_packed_one;
+    size_t capn_look_on(const uint8_t *text, size_t size, capn_packed_one *one);
     size_t capn_look_at_one(const uint8_t *text, size_t size, capn_packed_one *one);
+    void capn_not_taken(capn_packed_one *one);
+    typedef struct {
+        capn_packed_one one;
+        size_t have;
+        uint8_t seen[...];
+        uint8_t came[...];
+        ...;
+    } capn_pipe;
+    void capn_pipe_begin(capn_pipe *pipe, const capn_limits *limits, uint8_t *out, size_t room);
+    void capn_pipe_end(capn_pipe *pipe);
+    size_t capn_peek(int file, capn_pipe *pipe);
+    size_t capn_read_packed(int file, capn_pipe *pipe);
 """
 
 binding = FFI()

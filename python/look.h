@@ -5,6 +5,7 @@
 #include <errno.h>
 #include <fcntl.h>
 #include <stddef.h>
+#include <string.h>
 #include <unistd.h>
 
 enum { CAPN_LOOK_MOST = 128 };
@@ -64,21 +65,77 @@ static capn_status capn_look_at_packed(const uint8_t *text, size_t size, const c
     return CAPN_OK;
 }
 
-/* The first message of a packed text: where it is unpacked to, and what was found of it. */
+/* The first message of a packed text: where it is unpacked to, and what was found of it; and how many messages were
+ * found so, and how many bytes they have, unpacked and packed. */
 typedef struct {
     capn_limits limits;
     uint8_t *out;
-    size_t room, length; /* of the message, in the unpacked bytes */
+    size_t room, length, take; /* of the message, in the unpacked bytes and in the packed ones */
+    size_t got;                /* how many bytes were unpacked of one that is cut, from `take` packed ones */
     capn_status status;
     capn_report report;
-    capn_look look;
+    uint64_t number, offset, taken;
+    int is_counted;   /* whether the last look found a message */
+    uint8_t table[8]; /* the last one of one segment, and how many bytes its frame has */
+    size_t size;
 } capn_packed_one;
 
-/* The same of one message; the answer is how many packed bytes it has, or 0. */
+/* The same of one message, which is counted; the answer is how many packed bytes it has, or 0. If it is cut, this goes
+ * on with a text that begins with the one before, and unpacks nothing twice. */
+static size_t capn_look_on(const uint8_t *text, size_t size, capn_packed_one *one) {
+    capn_report *const report = &one->report;
+    one->is_counted = 0;
+    for (;;) {
+        one->status = capn_unpack_some(text + one->take, size - one->take, one->out + one->got,
+                                       one->length - one->got, report);
+        if (one->status != CAPN_OK && one->status != CAPN_PACKED_CUT && one->status != CAPN_PACKED_TOO_LONG) return 0;
+        one->take += report->at;
+        one->got += report->length;
+        if (one->got < one->length) {
+            if (one->status == CAPN_OK) one->status = CAPN_PACKED_CUT;
+            return 0;
+        }
+        /* What a frame of one segment needs is in its table, which is often that of the message before. */
+        if (one->size > 8 && memcmp(one->out, one->table, 8) == 0) {
+            if (one->got == one->size) break;
+            one->length = one->size;
+            continue;
+        }
+        one->status = capn_first(one->out, one->got, &one->limits, report);
+        if (one->status == CAPN_OK) break;
+        if (one->status != CAPN_FRAME_CUT) return 0;
+        one->length = report->length;
+        if (one->length > one->room) {
+            one->status = CAPN_PACKED_TOO_LONG;
+            return 0;
+        }
+        if (one->got == 8 && memcmp(one->out, "\0\0\0\0", 4) == 0) {
+            memcpy(one->table, one->out, 8);
+            one->size = one->length;
+        }
+    }
+    one->status = CAPN_OK;
+    one->is_counted = 1;
+    one->number++;
+    one->offset += one->length;
+    one->taken += one->take;
+    return one->take;
+}
+
+/* The same of a text at whose start the message begins. */
 static size_t capn_look_at_one(const uint8_t *text, size_t size, capn_packed_one *one) {
-    one->status = capn_look_at_packed(text, size, &one->limits, one->out, one->room, 1, &one->look, &one->report);
-    one->length = one->look.end;
-    return one->look.take;
+    one->got = one->take = 0;
+    one->length = 8;
+    return capn_look_on(text, size, one);
+}
+
+/* Counts the message no more that the last look found, if it found one. */
+static void capn_not_taken(capn_packed_one *one) {
+    if (!one->is_counted) return;
+    one->is_counted = 0;
+    one->number--;
+    one->offset -= one->length;
+    one->taken -= one->take;
 }
 
 /* A file that the system has, as a pipe is: the limits, and the message that was read last or has begun. */
@@ -115,16 +172,74 @@ static size_t capn_read_one(int file, capn_raw *raw) {
     return 0;
 }
 
-/* What a pipe has, at most so many bytes, which stay in it: they are put into a second pipe too, and read from that.
- * The answer is how many they are, 0 if there are none now, and less than 0 if the system can't. */
-static ptrdiff_t capn_peek(int file, uint8_t *out, size_t most) {
+/* A pipe of packed messages: a second one, by which it is looked into, how many bytes are looked at, and those that
+ * were read and are not as they were seen. */
+typedef struct {
+    capn_packed_one one;
     int second[2];
-    ssize_t seen;
-    if (pipe2(second, O_CLOEXEC) != 0) return -1;
-    seen = tee(file, second[1], most, SPLICE_F_NONBLOCK);
-    if (seen < 0 && (errno == EAGAIN || errno == EINTR)) seen = 0;
-    if (seen > 0) seen = read(second[0], out, (size_t)seen);
-    close(second[0]);
-    close(second[1]);
-    return seen;
+    size_t most, have;
+    uint8_t seen[32768], came[32768];
+} capn_pipe;
+
+static void capn_pipe_begin(capn_pipe *pipe, const capn_limits *limits, uint8_t *out, size_t room) {
+    memset(pipe, 0, offsetof(capn_pipe, seen));
+    pipe->one.limits = *limits;
+    pipe->one.out = out;
+    pipe->one.room = room;
+    pipe->second[0] = pipe->second[1] = -1;
+    pipe->most = 512;
+}
+
+static void capn_pipe_end(capn_pipe *pipe) {
+    if (pipe->second[0] < 0) return;
+    close(pipe->second[0]);
+    close(pipe->second[1]);
+    pipe->second[0] = pipe->second[1] = -1;
+}
+
+/* What a pipe has, at most so many bytes, which stay in it: they are put into the second pipe too, and all read from
+ * that. The answer is how many they are, or 0, if there are none, or the system can't. */
+static size_t capn_look_into(int file, capn_pipe *pipe, size_t most, unsigned how) {
+    size_t have = 0;
+    if (pipe->second[0] < 0 && pipe2(pipe->second, O_CLOEXEC) != 0) return 0;
+    const ssize_t seen = tee(file, pipe->second[1], most, how);
+    while (seen > 0 && have < (size_t)seen) {
+        const ssize_t more = read(pipe->second[0], pipe->seen + have, (size_t)seen - have);
+        if (more > 0) have += (size_t)more;
+        else if (more == 0 || errno != EINTR) {
+            capn_pipe_end(pipe);
+            return 0;
+        }
+    }
+    return have;
+}
+
+/* The same of bytes that are there now. */
+static size_t capn_peek(int file, capn_pipe *pipe) {
+    return capn_look_into(file, pipe, sizeof pipe->seen, SPLICE_F_NONBLOCK);
+}
+
+/* Reads the next message off a pipe, if all of it is there and it ends where a group does, by three of the system's
+ * calls; where there is nothing, it waits. The answer is the length of the message, or 0: then it has to be read
+ * otherwise, and nothing of it was read but what `came` has. */
+static size_t capn_read_packed(int file, capn_pipe *pipe) {
+    size_t seen, taken;
+    for (unsigned how = 0;; how = SPLICE_F_NONBLOCK) {
+        seen = capn_look_into(file, pipe, pipe->most, how);
+        if (!seen) return 0;
+        taken = capn_look_at_one(pipe->seen, seen, &pipe->one);
+        if (taken) break;
+        if (pipe->one.status != CAPN_PACKED_CUT || seen < pipe->most || seen == sizeof pipe->seen) return 0;
+        pipe->most = pipe->most < sizeof pipe->seen / 4 ? 4 * pipe->most : sizeof pipe->seen;
+    }
+    const ssize_t came = read(file, pipe->came, taken);
+    if (came == (ssize_t)taken && memcmp(pipe->came, pipe->seen, taken) == 0) {
+        /* The next one may be as long, and a little more. */
+        pipe->most = taken + taken / 8 < 512 ? 512 : taken + taken / 8;
+        if (pipe->most > sizeof pipe->seen) pipe->most = sizeof pipe->seen;
+        return pipe->one.length;
+    }
+    capn_not_taken(&pipe->one);
+    pipe->have = came > 0 ? (size_t)came : 0;
+    return 0;
 }

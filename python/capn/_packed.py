@@ -1,17 +1,21 @@
 """The messages of a packed file, read as they come in."""
 from __future__ import annotations
 
+from io import FileIO
 from typing import Any, Callable
 
+from ._calls import _room
 from ._capn import ffi, lib
 from ._reader import Messages
 from ._refusal import Refusal, failure
 from ._splitter import FRAME_CUT, HEAD, MEMORY, OK, PACKED_CUT, PACKED_TOO_LONG, PIECE, Splitter, group
 
-__all__ = ["Packed"]
+__all__ = ["Packed", "Piped"]
 
-_first, _unpack_some, _look_at_one = lib.capn_first, lib.capn_unpack_some, lib.capn_look_at_one
-_one_type = ffi.typeof("capn_packed_one *")
+_first, _unpack_some = lib.capn_first, lib.capn_unpack_some
+_look_at_one, _look_on = lib.capn_look_at_one, lib.capn_look_on
+_not_taken, _read_packed, _peek_at = lib.capn_not_taken, lib.capn_read_packed, lib.capn_peek
+_one_type, _pipe_type = ffi.typeof("capn_packed_one *"), ffi.typeof("capn_pipe *")
 
 
 class Packed(Messages):
@@ -20,68 +24,98 @@ class Packed(Messages):
 
     __slots__ = ("_peek", "_ready", "_one", "_out", "_words", "_has_begun")
 
-    def __init__(self, read: Callable[[int], Any], peek: Callable[[int], Any] | None, splitter: Splitter) -> None:
+    def __init__(
+        self, read: Callable[[int], Any], peek: Callable[[int], Any] | None, splitter: Splitter, one: Any = None
+    ) -> None:
         super().__init__(read, splitter)
         # Where words are unpacked to, and what has the bytes of it all.
         self._peek, self._out = peek, splitter._out
         self._words = ffi.buffer(splitter._out)
-        self._one = ffi.new(_one_type, {"limits": self._bounds[0], "out": self._out, "room": PIECE})
+        self._one = one or ffi.new(_one_type, {"limits": self._bounds[0], "out": self._out, "room": PIECE})
         # Messages that a group ended all at once.
         self._ready: list[bytes] = []
         # Whether it may be within a message, or can't be looked into.
         self._has_begun = peek is None
+
+    @property
+    def number(self) -> int:
+        return self._number + self._one.number  # type: ignore[no-any-return]
+
+    @property
+    def offset(self) -> int:
+        return self._offset + self._one.offset  # type: ignore[no-any-return]
+
+    def _count(self) -> None:
+        """Counts here what was taken by a look at all of it."""
+        one = self._one
+        self._number += one.number
+        self._offset += one.offset
+        self._taken += one.taken
+        one.number = one.offset = one.taken = 0
 
     def _is_between(self) -> bool:
         splitter = self._splitter
         return not (self._held or self._ready or splitter._held or splitter._text or self._over is not None)
 
     def __next__(self) -> bytes:
-        peek = self._peek
-        if self._has_begun or peek is None:
+        if self._has_begun:
             return self._any()
         # As most messages are: short, all of it can be seen, and it ends where a group does.
-        seen = peek(1)
-        if type(seen) is bytes and seen:
-            one = self._one
-            taken = _look_at_one(seen, len(seen), one)
+        seen = self._peek(1)  # type: ignore[misc]
+        if seen.__class__ is bytes and seen:
+            one, size = self._one, len(seen)
+            try:
+                taken = _look_at_one(seen, size, one)
+                if taken:
+                    piece = self._read(taken)
+                    if piece and len(piece) == taken:
+                        return self._words[0:one.length]  # type: ignore[no-any-return]
+            except BaseException:
+                _not_taken(one)
+                raise
             if taken:
-                piece = self._read(taken)
-                if piece and len(piece) == taken:
-                    need = one.length
-                    self._taken += taken
-                    self._number += 1
-                    self._offset += need
-                    return self._words[0:need]  # type: ignore[no-any-return]
+                _not_taken(one)
                 self._has_begun = True
                 self._came(piece)
-            elif one.status == PACKED_CUT and one.report.length <= PIECE:
+            elif one.status == PACKED_CUT:
                 self._has_begun = True
-                self._came(self._read(len(seen)))
-                return self._crossing(peek)
+                return self._crossing(seen)
             elif one.status == MEMORY:
                 raise failure(MEMORY, one.report)
         return self._any()
 
-    def _crossing(self, peek: Callable[[int], Any]) -> bytes:
-        """The next message, of which a part is held: by a look at what comes next, if that has the rest of it."""
-        held, one, seen = len(self._held), self._one, peek(1)
-        if seen:
+    def _crossing(self, seen: bytes) -> bytes:
+        """The next message, of which all that was seen is a part: by looks at what comes next, if those have the
+        rest of it."""
+        one, peek, taken = self._one, self._peek, 0
+        while not taken and one.status == PACKED_CUT:
+            piece = self._read(len(seen))
+            self._came(piece)
+            if piece != seen:
+                break
+            seen = peek(1)  # type: ignore[misc]
+            if not seen:
+                break
             text = bytes(self._held) + seen
-            taken = _look_at_one(text, len(text), one)
-            if taken > held:
-                piece = self._read(taken - held)
-                if piece and len(piece) == taken - held:
-                    need = one.length
-                    self._held = b""
-                    self._has_begun = False
-                    self._taken += taken
-                    self._number += 1
-                    self._offset += need
-                    return self._words[0:need]  # type: ignore[no-any-return]
-                self._came(piece)
+            try:
+                taken = _look_on(text, len(text), one)
+            finally:
+                _not_taken(one)
+        if taken:
+            piece = self._read(taken - len(self._held))
+            if piece and len(piece) == taken - len(self._held):
+                self._held = b""
+                self._has_begun = False
+                need = one.length
+                self._taken += taken
+                self._number += 1
+                self._offset += need
+                return self._words[0:need]  # type: ignore[no-any-return]
+            self._came(piece)
         return self._any()
 
     def _any(self) -> bytes:
+        self._count()
         self._has_begun = True
         frame = self._whole()
         self._has_begun = self._peek is None or not self._is_between()
@@ -204,3 +238,32 @@ class Packed(Messages):
             self._gives(piece, at, words)
         else:
             self._gives(piece)
+
+
+class Piped(Packed):
+    """The same of a pipe that nothing buffers. A message that is there is looked at and read by one call."""
+
+    __slots__ = ("_number_of", "_pipe")
+
+    def __init__(self, file: FileIO, splitter: Splitter) -> None:
+        pipe = self._pipe = ffi.gc(_room(_pipe_type), lib.capn_pipe_end)
+        lib.capn_pipe_begin(pipe, splitter._bounds, splitter._out, PIECE)
+        seen, number_of = ffi.buffer(pipe.seen), file.fileno
+
+        def look(least: int) -> bytes:
+            return seen[0:_peek_at(number_of(), pipe)]  # type: ignore[no-any-return]
+
+        super().__init__(file.read, look, splitter, ffi.addressof(pipe, "one"))
+        # The number that the system gave to the file; it raises an exception if the file is closed.
+        self._number_of = number_of
+
+    def __next__(self) -> bytes:
+        if not self._has_begun:
+            count = _read_packed(self._number_of(), self._pipe)
+            if count:
+                return self._words[0:count]  # type: ignore[no-any-return]
+            pipe = self._pipe
+            if pipe.have:
+                # The pipe gave something else than was seen in it, since others read it.
+                self._held, pipe.have = ffi.buffer(pipe.came)[0:pipe.have], 0
+        return self._any()

@@ -50,6 +50,9 @@ class Messages(Iterator[bytes]):
         """Where the next one begins, in the unpacked bytes."""
         return self._offset
 
+    def _count(self) -> None:
+        """Counts here what was counted elsewhere."""
+
     def _is_between(self) -> bool:
         """Whether the file stands between two messages, and has not been refused."""
         return not self._held and self._over is None

@@ -6,9 +6,8 @@ from os import fstat, pread
 from stat import S_ISFIFO
 from typing import Any, Callable
 
-from ._calls import _room, _room_type
 from ._capn import ffi, lib
-from ._packed import Packed
+from ._packed import Packed, Piped
 from ._reader import Messages, Raw
 from ._refusal import failure
 from ._splitter import HEAD, MEMORY, ONE, PIECE, Splitter
@@ -92,6 +91,7 @@ class Seen(Messages):
         try:
             return self._long() or next(rest)
         finally:
+            rest._count()
             self._number, self._offset, self._taken = rest._number, rest._offset, rest._taken
 
     def _close(self) -> None:
@@ -180,10 +180,6 @@ def reader(file: Any, splitter: Splitter) -> Messages:
             file.seek(-len(found), 1)
         return found
 
-    def of_pipe(least: int) -> bytes:
-        count = lib.capn_peek(file.fileno(), room, _FEW)
-        return bytes(ffi.buffer(room, max(count, 0)))
-
     look = peek if callable(peek) else seen
     raw = file.raw if is_wound and kind is BufferedReader else file
     if is_wound and type(raw) is FileIO:
@@ -194,8 +190,7 @@ def reader(file: Any, splitter: Splitter) -> Messages:
     if is_wound and (type(raw) is BytesIO or callable(peek) and (splitter._packed or kind in _BUFFERED)):
         return Seen(file, wound_back if type(raw) is BytesIO else peeked, look, _NEVER, splitter)
     if splitter._packed and kind is FileIO and S_ISFIFO(fstat(file.fileno()).st_mode):
-        room = _room(_room_type, _FEW)
-        return Packed(read, of_pipe, splitter)
+        return Piped(file, splitter)
     if splitter._packed:
         return Packed(read, look if is_wound or callable(peek) else None, splitter)
     return Raw(file, splitter) if kind is FileIO and not is_wound else Messages(read, splitter)

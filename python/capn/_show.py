@@ -10,6 +10,15 @@ from ._limits import Limits
 from ._message import Message, Object, Row, read
 
 _ESCAPED = {ord('"'): '\\"', ord("\\"): "\\\\", 0: "\\0"}
+_JSON_ESCAPED = {ord('"'): '\\"', ord("\\"): "\\\\", 9: "\\t", 10: "\\n", 13: "\\r"}
+# What is no text in JSON: control characters, but tab, newline and carriage return.
+_CONTROLS = frozenset(map(chr, (*range(0x20), *range(0x7F, 0xA0)))) - {*"\t\n\r"}
+_STYLES = {
+    (False, False): lib.CAPN_STYLE_LINES,
+    (True, False): lib.CAPN_STYLE_TEXT,
+    (False, True): lib.CAPN_STYLE_JSON,
+    (True, True): lib.CAPN_STYLE_JSON_TEXT,
+}
 
 
 def show(
@@ -22,13 +31,11 @@ def show(
     at: Iterable[int] = (),
 ) -> str:
     """What `capn show` writes of one message that was read, of an object of it, or of bytes within limits. With `text`
-    a list of bytes that is a text is shown as one, as by `--text`; with `json` it is a line of JSON, as by `--json`;
-    `at` says which part is shown, by a way of numbers, as `--at` does.
+    a list of bytes that is a text is shown as one, as by `--text`; with `json` it is a line of JSON, as by `--json`,
+    and with both a line with texts; `at` says which part is shown, by a way of numbers, as `--at` does.
 
     The text of a whole message is that of the library. The text of a part, or of an object, is the package's own, in
     Python, and tested."""
-    if text and json:
-        raise ValueError("json goes without text")
     way = tuple(at)
     found: Any = message
     if isinstance(message, (Object, Row)):
@@ -37,15 +44,14 @@ def show(
     elif way:
         found = (message if isinstance(message, Message) else read(message, form, limits)).at(*way)
     else:
-        return _whole(message, form, limits, text, json)
+        return _whole(message, form, limits, _STYLES[bool(text), bool(json)])
     if json:
-        return "".join(_json(found)) + "\n"
+        return "".join(_json(found, text)) + "\n"
     return "".join(_lines(found, text)) + "end\n"
 
 
-def _whole(message: Message | Buffer, form: Form, limits: Limits, is_text: bool, is_json: bool) -> str:
+def _whole(message: Message | Buffer, form: Form, limits: Limits, style: int) -> str:
     """The text of a message by the library."""
-    style = lib.CAPN_STYLE_JSON if is_json else lib.CAPN_STYLE_TEXT if is_text else lib.CAPN_STYLE_LINES
     if isinstance(message, Message):
         number, given, bounds = message._whole()
     else:
@@ -57,7 +63,7 @@ def _whole(message: Message | Buffer, form: Form, limits: Limits, is_text: bool,
         return status
 
     # Mostly enough. If it isn't, the call reports the length, but makes the text for nothing.
-    return _filled(call, (16 if number == lib.CAPN_PACKED else 4) * size + 256).decode("ascii")
+    return _filled(call, (16 if number == lib.CAPN_PACKED else 4) * size + 256).decode("utf-8")
 
 
 def _lines(found: Any, is_text: bool) -> Iterator[str]:
@@ -108,7 +114,18 @@ def _quoted(view: memoryview) -> str | None:
     return view.tobytes().decode("ascii").translate(_ESCAPED)
 
 
-def _json(found: Any) -> Iterator[str]:
+def _text_of(view: memoryview) -> str | None:
+    """The text that bytes are in JSON: UTF-8 without control characters, and a zero after it. None of others."""
+    if not view or view[-1]:
+        return None
+    try:
+        text = str(view[:-1], "utf-8")
+    except UnicodeDecodeError:
+        return None
+    return None if _CONTROLS.intersection(text) else text.translate(_JSON_ESCAPED)
+
+
+def _json(found: Any, is_text: bool) -> Iterator[str]:
     if found is None:
         return
     # What is left to write at each level: an iterator of it, and what ends it.
@@ -135,6 +152,8 @@ def _json(found: Any) -> Iterator[str]:
             yield f'{{"{kind}":['
             left.append((iter(one), "]}"))
             between = ""
+        elif kind == "bytes" and is_text and (text := _text_of(one.view)) is not None:
+            yield f'{{"text":"{text}"}}'
         else:
             yield f'{{"{kind}":{_inside(one, kind)}}}'
 

@@ -68,6 +68,7 @@ static void answers() {
     want("show as lines", shown(capn::style::lines) == "bytes 3\n  686900\nend\n");
     want("show as text", shown(capn::style::text) == "bytes 3 \"hi\\0\"\nend\n");
     want("show as JSON", shown(capn::style::json) == "{\"bytes\":\"686900\"}\n");
+    want("show as JSON with texts", shown(capn::style::json_text) == "{\"text\":\"hi\"}\n");
     /* Longer than the room that is tried first. */
     const std::string bits = words({1 | 1ull << 32 | 64000ull << 35}) + std::string(8000, '\xff');
     want("a longer text", capn::show(bits, capn::form::bare).size() == 64018);
@@ -94,8 +95,8 @@ static void refusals() {
     }
     want("no text", thrown<capn::refusal>([] { capn::show(hostile); }) == "TooDeep at 0:0, paid 128, visits 65");
     want("no style", thrown<std::invalid_argument>([] {
-                         capn::show(one, capn::form::stream, {}, static_cast<capn::style>(3));
-                     }) == "the style is none of the three");
+                         capn::show(one, capn::form::stream, {}, static_cast<capn::style>(4));
+                     }) == "the style is none of the four");
     want("limits", thrown<std::invalid_argument>([] { capn::check(one, capn::form::stream, {1, 1, 0}); })
                        == "a limit is out of its range");
     want("a low budget", thrown<capn::refusal>([] { capn::check(one, capn::form::stream, {99, 2, 9}); })

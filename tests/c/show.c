@@ -93,9 +93,9 @@ static void refuse_each(const struct input *in, capn_status wanted) {
 static void agrees(uint32_t form, const uint8_t *bytes, size_t size, const capn_limits *limits) {
     capn_report checked, report;
     const capn_status status = capn_check(form, bytes, size, limits, &checked);
-    for (uint32_t style = 0; style <= 4; style++) {
+    for (uint32_t style = 0; style <= 5; style++) {
         const struct input in = {form, bytes, size, *limits, style};
-        const int is_bad = style > CAPN_STYLE_JSON && (status == CAPN_OK || status >= CAPN_MEMORY);
+        const int is_bad = style > CAPN_STYLE_JSON_TEXT && (status == CAPN_OK || status >= CAPN_MEMORY);
         capn_status told;
         size_t length = 0;
         char *text = text_of(&in, &length, &told, &report);
@@ -103,7 +103,7 @@ static void agrees(uint32_t form, const uint8_t *bytes, size_t size, const capn_
         capn_report same = report;
         same.length = 0;
         if (!is_bad) want("the report", memcmp(&same, &checked, sizeof same) != 0, 0);
-        if (text && style == CAPN_STYLE_JSON) want("one line", memchr(text, '\n', length) == text + length - 1, 1);
+        if (text && style >= CAPN_STYLE_JSON) want("one line", memchr(text, '\n', length) == text + length - 1, 1);
         if (text) shown++;
         else refused++;
         free(text);
@@ -120,8 +120,8 @@ static void answer(char *line) {
     struct input in = {CAPN_STREAM, of_digits(word[count - 1], &size), size, CAPN_USUAL_LIMITS, CAPN_STYLE_LINES};
     for (int i = 3; i + 1 < count; i++) {
         const char *value = word[i + 1];
-        if (!strcmp(word[i], "--text")) in.style = CAPN_STYLE_TEXT;
-        if (!strcmp(word[i], "--json")) in.style = CAPN_STYLE_JSON;
+        if (!strcmp(word[i], "--text")) in.style |= CAPN_STYLE_TEXT;
+        if (!strcmp(word[i], "--json")) in.style |= CAPN_STYLE_JSON;
         if (!strcmp(word[i], "--budget")) in.limits.budget = (uint32_t)strtoul(value, NULL, 10);
         if (!strcmp(word[i], "--form")) in.form = *value == 'p' ? CAPN_PACKED : *value == 'b' ? CAPN_BARE : CAPN_STREAM;
     }

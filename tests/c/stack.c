@@ -44,6 +44,7 @@ static void *run(void *status) {
     case 14: *told = capn_show(CAPN_PACKED, text, packed_size, &limits, 0, (char *)out, ROOM, &report); break;
     case 15: *told = capn_show(CAPN_BARE, in, size, &limits, 1, (char *)out, ROOM, &report); break;
     case 16: *told = capn_show(CAPN_BARE, in, size, &limits, 2, (char *)out, ROOM, &report); break;
+    case 17: *told = capn_show(CAPN_BARE, in, size, &limits, 3, (char *)out, ROOM, &report); break;
     default: *told = capn_unpack(text, packed_size, 1u << 20, out, ROOM, &report); break;
     }
     return NULL;
@@ -76,7 +77,7 @@ int main(void) {
             capn_report report;
             if (capn_pack(framed, size + 8, text, ROOM, &report) != CAPN_OK) return 1;
             packed_size = report.length;
-            for (call = 0; call < 18; call++) {
+            for (call = 0; call < 19; call++) {
                 char *stack = aligned_alloc(4096, ROOM);
                 if (!stack) return 2;
                 memset(stack, 0x5a, ROOM);
@@ -93,7 +94,7 @@ int main(void) {
                     printf("stack: call %d at depth %u: status %u\n", call, depth, status);
                     return 4;
                 }
-                const int shows = call >= 14 && call <= 16;
+                const int shows = call >= 14 && call <= 17;
                 if (used > most[shows][d]) most[shows][d] = used;
                 free(stack);
             }

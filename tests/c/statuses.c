@@ -152,9 +152,9 @@ static void called(void) {
     is("no words allowed", capn_is_canonical(message, 24, &none, &report), CAPN_BAD_LIMITS);
     each_call("tariff 2", CAPN_STREAM, message, 24, &third, CAPN_BAD_TARIFF);
     is("tariff 2", capn_is_canonical(message, 24, &third, &report), CAPN_BAD_TARIFF);
-    is("style 3", capn_show(CAPN_STREAM, message, 24, &usual, 3, NULL, 0, &report), CAPN_BAD_STYLE);
-    is("style 3 and tariff 2", capn_show(CAPN_STREAM, message, 24, &third, 3, NULL, 0, &report), CAPN_BAD_TARIFF);
-    is("style 3 of no bytes", capn_show(CAPN_STREAM, NULL, 0, &usual, 3, NULL, 0, &report), CAPN_BAD_STYLE);
+    is("style 4", capn_show(CAPN_STREAM, message, 24, &usual, 4, NULL, 0, &report), CAPN_BAD_STYLE);
+    is("style 4 and tariff 2", capn_show(CAPN_STREAM, message, 24, &third, 4, NULL, 0, &report), CAPN_BAD_TARIFF);
+    is("style 4 of no bytes", capn_show(CAPN_STREAM, NULL, 0, &usual, 4, NULL, 0, &report), CAPN_BAD_STYLE);
     is("room for 7 bytes", capn_canonical(CAPN_STREAM, message, 24, &usual, out, 7, &report), CAPN_NO_ROOM);
     want("its length", report.length, 8);
     is("room for no text", capn_pack(message, 24, out, 1, &report), CAPN_NO_ROOM);

@@ -61,11 +61,17 @@ def streamed(**options):
     return shortest(read, None, calls=1, runs=30) / count
 
 
-def piped(buffering, packed):
-    """What reads a pipe that has many messages, for each of them."""
-    message, count, least = longer(), 500, float("inf")
+def of_words(count):
+    """A message whose segment has so many words: a struct of small numbers and texts in turn."""
+    segment = [count - 1 << 32, *((at, int.from_bytes(b"abcdefg\0", "little"))[at % 2] for at in range(count - 1))]
+    return b"".join(word.to_bytes(8, "little") for word in [count << 32, *segment])
+
+
+def piped(message, buffering, packed, runs=600):
+    """What reads a pipe that has 100 KB of messages, for each of them."""
+    count, least = 100_000 // len(message), float("inf")
     data = (capn.pack(message) if packed else message) * count
-    for _ in range(30):
+    for _ in range(runs):
         read, write = os.pipe()
         fcntl.fcntl(write, fcntl.F_SETPIPE_SZ, 1 << 20)
         os.write(write, data)
@@ -86,10 +92,16 @@ def main():
         print(f"{call.__name__}, {len(message)} bytes: {shortest(call, message, 200, 100):.0f} ns")
     for options in {}, {"packed": True}, {"read_ahead": True}, {"packed": True, "read_ahead": True}:
         print(f"messages, {' '.join(options) or 'no option'}: {streamed(**options):.0f} ns a message")
+    pipes()
+
+
+def pipes():
     for buffering, name in (-1, "buffered"), (0, "without a buffer"):
         for packed in False, True:
-            kind = "packed, " if packed else ""
-            print(f"messages of a pipe, {kind}{name}: {piped(buffering, packed):.0f} ns a message")
+            for words in 10, 100, 1000:
+                kind = "packed, " if packed else ""
+                took = piped(of_words(words), buffering, packed)
+                print(f"messages of a pipe, {words} words, {kind}{name}: {took:.0f} ns a message")
 
 
 if __name__ == "__main__":

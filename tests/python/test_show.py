@@ -10,8 +10,6 @@ from test_reading import archives, model
 from test_stored import STORED, digits
 
 RUN = re.compile(r"(?:run|archive) [0-9]+ show (.*)")
-# The program takes both, and the library has no style for that.
-BOTH = {"--text", "--json"}
 NAMES = {"--budget": "budget", "--depth": "depth", "--message-words": "message_words", "--tariff": "tariff"}
 
 
@@ -49,7 +47,7 @@ class Shown(unittest.TestCase):
             found = RUN.fullmatch(case)
             words = found[1].split() if found else []
             # One has a message as its last word, and is a stored run of it.
-            if not found or not stored.startswith("status ") or stored.startswith("status 2") or BOTH <= {*words}:
+            if not found or not stored.startswith("status ") or stored.startswith("status 2"):
                 continue
             with self.subTest(case=case):
                 out, error, status = ran(words[:-1], b"" if words[-1] == "-" else bytes.fromhex(words[-1]))
@@ -62,8 +60,6 @@ class Shown(unittest.TestCase):
         source, accepted = random.Random(7), 0
         for _ in range(3000):
             line, data, wanted = archives.shown(source)
-            if BOTH <= {*line}:
-                continue
             with self.subTest(line=line, data=data.hex()):
                 self.assertEqual(ran(line[1:], data), wanted)
                 accepted += wanted[2] == 0
@@ -74,8 +70,6 @@ class Shown(unittest.TestCase):
         source = random.Random(8)
         for _ in range(300):
             line, data, _ = archives.shown(source)
-            if BOTH <= {*line}:
-                continue
             wrote = subprocess.run([PROGRAM, *line], input=data, capture_output=True, check=False)
             with self.subTest(line=line, data=data.hex()):
                 self.assertEqual(ran(line[1:], data), (wrote.stdout, wrote.stderr.decode(), wrote.returncode))
@@ -93,14 +87,30 @@ class Shown(unittest.TestCase):
                     capn.show(data, limits=limits)
                 self.assertEqual(caught.exception.args, refusal.args)
                 continue
-            for options in {}, {"text": True}, {"json": True}:
+            for options in {}, {"text": True}, {"json": True}, {"text": True, "json": True}:
                 with self.subTest(data=data.hex(), **options):
                     text = capn.show(message.root, **options)
                     self.assertEqual(capn.show(data, limits=limits, **options), text)
                     self.assertEqual(capn.show(message, **options), text)
                     self.assertEqual(capn.show(capn.pack(data), "packed", limits, **options), text)
                     shown += 1
-        self.assertGreater(shown, 1500)
+        self.assertGreater(shown, 2000)
+
+    def test_texts_in_json(self):
+        # Of whole messages by the library, of parts by the package, and by the model.
+        source, texts = random.Random(10), 0
+        some = ["", "a", "ä", "€", "😀", '"', "\\", "\t", "\n", "\r", "\0", "\x07", "\x7f", "\x80", "\x9f", "\xa0"]
+        for _ in range(2000):
+            data = "".join(source.choices(source.choice([some, some[:10]]), k=source.randint(0, 4))).encode()
+            data += source.choice([b"\0"] * 4 + [b"", b"\0\0", b"\xc3\0", b"\xed\xa0\x80\0", b"\xc0\x80\0"])
+            pointer = 1 | 2 << 32 | len(data) << 35
+            words = pointer.to_bytes(8, "little") + data + bytes(-len(data) % 8)
+            with self.subTest(data=data.hex()):
+                wanted = model.styled(("bytes", list(data)), "both")
+                self.assertEqual(capn.show(words, "bare", text=True, json=True), wanted)
+                self.assertEqual(capn.show(capn.read(words, "bare").root, text=True, json=True), wanted)
+                texts += "text" in wanted
+        self.assertGreater(texts, 400)
 
     def test_a_closed_message(self):
         message = capn.read(bytes(8), "bare")
@@ -128,7 +138,10 @@ class Shown(unittest.TestCase):
             self.assertEqual(capn.show(one, *form, at=[0]), "bytes 3\n  616200\nend\n")
         self.assertEqual(capn.show(message.root, text=True), f"{plain}{with_text}end\n")
         self.assertEqual(capn.show(message.root.slots[0], json=True), '{"bytes":"616200"}\n')
-        self.assertRaises(ValueError, capn.show, message, text=True, json=True)
+        self.assertEqual(capn.show(message.root.slots[0], text=True, json=True), '{"text":"ab"}\n')
+        self.assertEqual(capn.show(message, at=[0], text=1, json=1), '{"text":"ab"}\n')
+        whole = '{"words":["0000000000000005"],"slots":[{"text":"ab"}]}\n'
+        self.assertEqual(capn.show(message, text=1, json=1), whole)
         self.assertRaises(ValueError, capn.show, message.root, at=[0])
         self.assertRaises(ValueError, capn.show, message, at=[-1])
         self.assertRaises(TypeError, capn.show, "text")

@@ -527,6 +527,27 @@ class AfterAnException(unittest.TestCase):
             self.assertRaises(ValueError, next, found)
             self.assertEqual((found.number, found.offset), (1, len(SMALL)))
 
+    def test_no_descriptor_is_left(self):
+        before = len(os.listdir("/proc/self/fd"))
+        for file, other, packed, sent in self.pipes():
+            other.write(sent(SMALL) * 2)
+            found = capn.messages(file, packed=packed)
+            self.assertEqual((next(found), found.number, found.offset), (SMALL, 1, len(SMALL)))
+            del found
+        self.assertEqual(len(os.listdir("/proc/self/fd")), before)
+
+    def test_a_pipe_has_messages_of_each_length(self):
+        source = random.Random(72)
+        lengths = [*range(40), *(8 * source.randint(1, 1 << source.randint(1, 13)) for _ in range(300))]
+        parts = [stream(source.randbytes(length // 8 * 8)) for length in lengths]
+        for file, other, packed, sent in self.pipes():
+            thread = threading.Thread(target=lambda: [other.write(sent(part)) for part in parts], daemon=True)
+            thread.start()
+            found = capn.messages(file, packed=packed)
+            for number, part in enumerate(parts):
+                self.assertEqual((next(found), found.number), (part, number + 1))
+            thread.join(SECONDS)
+
     def test_a_pipe_is_read_by_a_child_too(self):
         for file, other, packed, sent in self.pipes():
             if isinstance(file, io.BufferedReader):

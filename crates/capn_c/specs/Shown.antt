@@ -1,7 +1,9 @@
 -- The text of a message in a style, as it is ordered and answered. (Own.)
 use Rattle.std.specs.Prelude.{◌≡◌, ◌⊎◌, ℕ, zero, suc, ◌≤◌, List, [], ◌∷◌, ◌++◌, codes, refl}
+use Rattle.std.specs.Str.{chars, is_utf8}
+use Rattle.capn_value.specs.NumberWidth.{byte}
 use Rattle.capn_value.specs.Text.{line}
-use Rattle.capn_value.specs.Tree.{Tree, nil}
+use Rattle.capn_value.specs.Tree.{Tree, nil, numbers}
 use Rattle.capn_walk.specs.Accepted.{IsValueOf}
 use Rattle.capn_walk.specs.Limits.{Bounds}
 use Rattle.capn_show.specs.Styled.{styled}
@@ -15,11 +17,12 @@ use Rattle.capn_canon.specs.declared.form.Form.{Form}
 abbrev pub style_named : ℕ → Style
 style_named zero = styles.Lines
 style_named (suc zero) = styles.Quoted
-style_named (suc (suc n)) = styles.Json
+style_named (suc (suc zero)) = styles.Json
+style_named (suc (suc (suc n))) = styles.JsonText
 
 -- a number names a style
 abbrev pub IsStyle : ℕ → Type 0
-IsStyle n = n ≤ 2
+IsStyle n = n ≤ 3
 
 -- what ends the text of a message: the line `end`, but nothing in JSON, where the text is one line
 abbrev pub end_of : Style → List ℕ
@@ -53,3 +56,7 @@ null_in_lines = refl
 
 null_in_json : message_text styles.Json nil ≡ codes "null\n"
 null_in_json = refl
+
+text_in_json : message_text (style_named 3) (numbers byte (104 ∷ 34 ∷ 0 ∷ [])) ≡ codes "{\"text\":\"h\\\"\"}\n"
+unfolding is_utf8 chars lib.Utf8.encode
+text_in_json = refl

@@ -94,7 +94,8 @@ fn show_styled(
     }
 }
 
-/// The text of a message in a style, into a buffer: lines, lines with texts between quotes, or a line of JSON.
+/// The text of a message in a style, into a buffer: lines, lines with texts between quotes, a line of JSON, or such a
+/// line with texts as texts.
 ///
 /// 0: the text is at the start of the buffer. 1: the buffer has no room for it, and is as it was; `length` is what it
 /// needs, exactly. In both, `paid` and `visits` are those of the walk. 2, 3, 4 and 6: the form, a limit, the tariff or

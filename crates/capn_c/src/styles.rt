@@ -15,6 +15,7 @@ pub fn style_of(number: u32) -> Option<Style>
         0 => Some(Style::Lines),
         1 => Some(Style::Quoted),
         2 => Some(Style::Json),
+        3 => Some(Style::JsonText),
         _ => None,
     }
 }

@@ -133,7 +133,7 @@ pub(crate) fn show(
             capn_sys::capn_show(number, bytes, size, limits, style, at, room, report)
         })
     }?;
-    Ok(String::from_utf8(out).expect("the text is ASCII"))
+    Ok(String::from_utf8(out).expect("the text is UTF-8"))
 }
 
 pub(crate) fn pack(words: &[u8], out: &mut Vec<u8>) -> Result<capn_report, Error> {
@@ -159,12 +159,14 @@ pub(crate) fn unpack(
     }
 }
 
-/// The first frame of a stream: its length, or how many bytes it needs at least.
+/// Of the first frame of a stream: whether it is whole, or how many bytes it needs at least.
+#[cfg(feature = "std")]
 pub(crate) enum First {
-    Whole(usize),
+    Whole,
     Needs(usize),
 }
 
+#[cfg(feature = "std")]
 #[inline(always)]
 pub(crate) fn first(stream: &[u8], limits: &capn_limits) -> Result<First, Error> {
     const FRAME_EMPTY: capn_status = 48;
@@ -175,10 +177,31 @@ pub(crate) fn first(stream: &[u8], limits: &capn_limits) -> Result<First, Error>
     // A call sets each field of its report, whatever it answers.
     let report: &capn_report = unsafe { report.assume_init_ref() };
     match status {
-        OK => Ok(First::Whole(report.length as usize)),
+        OK => Ok(First::Whole),
         FRAME_EMPTY | FRAME_CUT => Ok(First::Needs(report.length as usize)),
         status => Err(Error::of(status, report)),
     }
+}
+
+/// The first frame of a stream, or why there is none. What is not an answer is told elsewhere, so that a message takes
+/// hardly longer than the call.
+#[inline(always)]
+pub(crate) fn whole<'a>(stream: &'a [u8], limits: &capn_limits) -> Result<&'a [u8], Error> {
+    let mut report = MaybeUninit::uninit();
+    let (bytes, size) = (stream.as_ptr(), stream.len());
+    let status = unsafe { capn_sys::capn_first(bytes, size, limits, report.as_mut_ptr()) };
+    // A call sets each field of its report, whatever it answers.
+    let report: &capn_report = unsafe { report.assume_init_ref() };
+    if status == OK {
+        Ok(&stream[..report.length as usize])
+    } else {
+        Err(refused(status, report))
+    }
+}
+
+#[cold]
+fn refused(status: capn_status, report: &capn_report) -> Error {
+    Error::of(status, report)
 }
 
 pub(crate) fn index(

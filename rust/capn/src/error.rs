@@ -15,7 +15,7 @@ pub enum Error {
     Limits,
     /// The call does not take the form.
     Form,
-    /// The style is none of the three.
+    /// The style is none of the four.
     Style,
     /// The input is refused.
     Refused {
@@ -142,6 +142,7 @@ impl Error {
     }
 
     /// A stream that ends inside of a frame.
+    #[cfg(feature = "std")]
     pub(crate) fn frame_cut() -> Self {
         Error::Refused {
             kind: Kind::FrameCut,

@@ -22,6 +22,8 @@ pub enum Style {
     Text,
     /// One line of JSON, as `capn show --json` writes it.
     Json,
+    /// The same, but a text in UTF-8 with its zero is a text, as `capn show --json --text` writes it.
+    JsonText,
 }
 
 /// How a walk counts what it pays.

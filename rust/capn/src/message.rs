@@ -175,6 +175,7 @@ pub fn survey(message: &[u8], form: Form, limits: &Limits) -> Result<Figures, Er
 /// assert_eq!(shown(Style::Lines)?, "bytes 3\n  686900\nend\n");
 /// assert_eq!(shown(Style::Text)?, "bytes 3 \"hi\\0\"\nend\n");
 /// assert_eq!(shown(Style::Json)?, "{\"bytes\":\"686900\"}\n");
+/// assert_eq!(shown(Style::JsonText)?, "{\"text\":\"hi\"}\n");
 /// # Ok::<(), capn::Error>(())
 /// ```
 pub fn show(message: &[u8], form: Form, limits: &Limits, style: Style) -> Result<String, Error> {

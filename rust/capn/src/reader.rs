@@ -75,7 +75,7 @@ impl<R: Read> Reader<R> {
         }
         loop {
             let need = match call::first(&self.held[..self.have], &self.limits) {
-                Ok(First::Whole(_)) => {
+                Ok(First::Whole) => {
                     self.number += 1;
                     self.is_whole = true;
                     return Ok(Some(&self.held[..self.have]));

@@ -3,8 +3,7 @@ use core::iter::FusedIterator;
 
 use capn_sys::capn_limits;
 
-use crate::call::{self, First};
-use crate::{Error, Limits};
+use crate::{call, Error, Limits};
 
 /// Each message of a stream, in order, as its bytes. Each call on one of them takes it as a
 /// [`Form::Stream`](crate::Form).
@@ -64,12 +63,11 @@ impl<'a> Iterator for Messages<'a> {
         self.offset = self.next;
         // A copy, so that nothing else of the iterator has to be in memory during the call.
         let limits = self.limits;
-        match call::first(rest, &limits) {
-            Ok(First::Whole(length)) => {
-                self.next += length;
-                Some(Ok(&rest[..length]))
+        match call::whole(rest, &limits) {
+            Ok(message) => {
+                self.next += message.len();
+                Some(Ok(message))
             }
-            Ok(First::Needs(_)) => Some(Err(self.ended(Error::frame_cut()))),
             Err(error) => Some(Err(self.ended(error))),
         }
     }

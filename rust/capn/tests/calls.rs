@@ -72,9 +72,27 @@ fn a_message_is_shown() {
         shown(&long, Form::Bare, Style::Json),
         format!("{{\"bytes\":\"{}\"}}\n", "61".repeat(8000))
     );
+    assert_eq!(
+        shown(&long, Form::Bare, Style::JsonText),
+        format!("{{\"bytes\":\"{}\"}}\n", "61".repeat(8000))
+    );
+    *long.last_mut().unwrap() = 0;
+    assert_eq!(
+        shown(&long, Form::Bare, Style::JsonText),
+        format!("{{\"text\":\"{}\"}}\n", "a".repeat(7999))
+    );
+    let letter = words(&[1 | 26 << 32, 0xa4c3]);
+    assert_eq!(
+        shown(&letter, Form::Bare, Style::JsonText),
+        "{\"text\":\"ä\"}\n"
+    );
+    assert_eq!(
+        shown(&letter, Form::Bare, Style::Text),
+        "bytes 3\n  c3a400\nend\n"
+    );
     let refused = capn::show(&hostile(), Form::Stream, &USUAL, Style::Text).unwrap_err();
     assert_eq!(refused.kind(), Some(Kind::TooDeep));
-    assert_eq!(Error::Style.to_string(), "the style is none of the three");
+    assert_eq!(Error::Style.to_string(), "the style is none of the four");
 }
 
 /// An object that three pointers lead to is written three times: the answer is longer than the message.
