@@ -54,8 +54,8 @@ pub struct Spot {
 
 /// The object that holds the slot to which a way leads from the root.
 ///
-/// `None` where the way is empty, since nothing holds the root's slot, and where it leads to no slot. It follows the way
-/// from the root, and reads at most four words for each step. It takes no memory, and looks at no limits.
+/// `None` where the way is empty, since nothing holds the root's slot, and where it leads to no slot. It follows the
+/// way from the root, and reads at most four words for each step. It takes no memory, and looks at no limits.
 pub fn holder_of<S: Space>(space: &S, way: &[u32]) -> Option<Holder>
     // What is answered holds the slot to which the way leads.
     ensures some { IfSome result (λ holder. (to : Place) × IsHolder (S.message space.now) way.now to holder) }
