@@ -33,11 +33,11 @@ module _ (m : List (List ℕ)) (base : ℕ) where
     pub is : way ≡ here.way ++ onward
     pub leads : Leads m base d here.place onward to number
 
-  stays : (d : ℕ) (at to : Place) (n : ℕ) → to ≡ at → n ≡ 0 → Leads m base d at [] to n
+  pub stays : (d : ℕ) (at to : Place) (n : ℕ) → to ≡ at → n ≡ 0 → Leads m base d at [] to n
   stays zero at to n e z = (e, z)
   stays (suc d) at to n e z = (e, z)
 
-  goes : (d : ℕ) (at : Place) (way : List ℕ) (to : Place) (n : ℕ) → 0 < length way
+  pub goes : (d : ℕ) (at : Place) (way : List ℕ) (to : Place) (n : ℕ) → 0 < length way
       → Descends m base d (Leads m base d) at way to n → Leads m base (suc d) at way to n
   goes d at [] to n h g = absurd (omega arith)
   goes d at (i ∷ way) to n h g = g

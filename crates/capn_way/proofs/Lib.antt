@@ -4,3 +4,5 @@ pub mod Visiting
 pub mod Leading
 pub mod Stopping
 pub mod Unique
+pub mod Holding
+pub mod Followed

@@ -25,7 +25,7 @@ met_at way place = record { way = way; place = place }
 
 -- ---- the numbers of a slot are one
 
-row-parts : (b row slot r s : ℕ) → slot < b → s < b → row * b + slot ≡ r * b + s → (row ≡ r) × (slot ≡ s)
+pub row-parts : (b row slot r s : ℕ) → slot < b → s < b → row * b + slot ≡ r * b + s → (row ≡ r) × (slot ≡ s)
 row-parts b row slot r s h k e =
     let q : row ≡ r = sym (div-mul-add row b slot h) ∙ ap (λ (n : ℕ). n / b) e ∙ div-mul-add r b s k in
     let f : r * b + slot ≡ r * b + s = rw q at e in

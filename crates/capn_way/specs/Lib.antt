@@ -1,3 +1,4 @@
 pub mod inner
 pub mod Ways
+pub mod Holders
 pub mod Laws

@@ -1,8 +1,13 @@
-//! A law of the definitions, which a function that does nothing has as its contract.
+//! Laws of the definitions: each is the contract of a function that does nothing.
 
-ghost use Rattle.capn_way.specs.Laws.{WaysAreOne};
+ghost use Rattle.capn_way.specs.Laws.{WaysAreOne, HoldersAreOne};
 
 /// One way at most leads to the slot of the visit before which the walk of a message makes so many.
 pub fn ways()
     ensures { WaysAreOne }
+{}
+
+/// One object, and no other, holds the slot of a visit, except the root's.
+pub fn holders()
+    ensures { HoldersAreOne }
 {}

@@ -5,7 +5,9 @@
 //!
 //! - [`way_of_refusal`] says whether a message is refused, why, and the way to the slot where its walk stopped.
 //! - [`way_of_visit`] says the way to the slot of a visit by its number.
-//! - Module [`laws`] has what holds of ways apart from any call: one way at most leads to the slot of a visit.
+//! - [`holder_of`] says which object holds the slot to which a way leads.
+//! - Module [`laws`] has what holds of ways apart from any call: one way at most leads to the slot of a visit, and one
+//!   object holds it.
 //!
 //! ```text
 //! if let Some(refused) = way_of_refusal(alloc, &message, limits)? {
@@ -14,10 +16,12 @@
 //! ```
 #![tactic(auto)]
 
+mod holder;
 pub mod laws;
 mod refusal;
 mod seek;
 mod visit;
 
+pub use holder::{Holder, holder_of};
 pub use refusal::{Refused, way_of_refusal};
 pub use visit::{Visited, way_of_visit};
