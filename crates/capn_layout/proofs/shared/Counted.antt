@@ -1,10 +1,10 @@
 -- What a layout reads of a message is bounded by the cost of its value, under either tariff.
-use Rattle.std.proofs.Common.{◌≡◌, ℕ, zero, suc, ◌+◌, ◌-◌, ◌*◌, ◌<◌, ◌≤◌, ◌==◌, List, length, max, cond, ap, ◌∙◌, arith}
+use Rattle.std.proofs.Common.{◌≡◌, ℕ, zero, suc, ◌+◌, ◌-◌, ◌*◌, ◌<◌, ◌≤◌, ◌==◌, List, length, max, cond, ap, arith}
 use Rattle.std.proofs.lemmas.Bool.Decides.{nat_tests}
 use Rattle.capn_words.specs.Message.{IsMessage, segment_at}
 use Rattle.capn_words.specs.declared.space.Place.{Place}
 use Rattle.capn_value.specs.Tree.{Tree, nil, node, voids, numbers, links, rows, cap, Trees}
-use Rattle.capn_value.specs.Tree.{no_trees, tree, Bodies, no_bodies, body, count, count_rows, row_words}
+use Rattle.capn_value.specs.Tree.{no_trees, tree, Bodies, no_bodies, body, count_rows, row_words}
 use Rattle.capn_value.specs.Cost.{cost, costs, costs_in_rows, rows_price}
 use Rattle.capn_walk.specs.ValueAt.{IsAt, AreAt, RowsAt}
 use Rattle.capn_walk.proofs.shared.Numbers.{numbers-sized}
