@@ -1,6 +1,6 @@
 //! The length of canonical bytes.
 
-ghost use Rattle.std.specs.Prelude.{◌≡◌, ◌↔◌, ◌+◌, ◌*◌, ◌≤◌, None, length, IsOk, IfOk, IfErr, MatchResult};
+ghost use Rattle.std.specs.Prelude.{◌≡◌, ◌↔◌, ◌+◌, ◌*◌, ◌<◌, ◌≤◌, None, length, IsOk, IfOk, IfErr, MatchResult};
 ghost use Rattle.capn_value.specs.Tree.{Tree as Value};
 ghost use Rattle.capn_value.specs.FirstCap.{first_cap};
 ghost use Rattle.capn_walk.specs.Accepted.{IsValueOf, IsBounded, paid as price};
@@ -12,9 +12,12 @@ ghost use Rattle.capn_canon.specs.inner.Outcomes.{IsBeyond, IsLengthTold};
 use crate::message_refusal::MessageRefusal;
 use crate::one_segment::alone;
 use crate::value_survey::survey_value;
-use capn_layout::surveyed_length;
+use capn_layout::surveyed_length_counted;
+use capn_target::counted::{CountedSpace, Reads, count_reads};
 use capn_walk::Limits;
-use capn_words::Space;
+use capn_words::{Bare, Space};
+use std::marker::Brand;
+use std::sync::ledger::{Blank, Ledger};
 
 /// The length of the canonical bytes of a message, and what its walk pays and visits.
 #[derive(Clone, Copy, Debug, PartialEq, Eq)]
@@ -29,43 +32,66 @@ pub struct CanonicalLength {
 
 /// The length of the canonical bytes of a message that was surveyed, if it is above `room`. They are counted only if
 /// `room` is less than was paid for.
-pub(crate) fn length_beyond<S: Space>(
-    space: &S,
+pub(crate) fn length_beyond<S: Space, L: Ledger>(
+    space: &CountedSpace<'_, S, L>,
     limits: Limits,
     paid: u32,
     room: usize,
+    reads: &mut Reads<L>,
 ) -> Option<usize>
-    requires value { (v : Value) × IsValueOf (S.message space.now) limits v }
-    requires pays { paid ≡ price (S.message space.now) limits }
-    ensures { (v : Value) → IsValueOf (S.message space.now) limits v → IsBeyond (length (canon v)) room result }
+    requires value { (v : Value) × IsValueOf space.now limits v }
+    requires pays { paid ≡ price space.now limits }
+    ensures beyond { (v : Value) → IsValueOf space.now limits v → IsBeyond (length (canon v)) room result }
+    ensures reads { reads.new ≤ reads.old + 20 * paid + 11 }
 {
-    let _segments = space.segments();
+    space.bounds();
     let _budget = limits.budget();
     let depth = limits.depth();
     if (paid as usize) < room / 8 {
         return None;
     }
-    let length = 8 * surveyed_length(space, depth) as usize;
+    let length = 8 * surveyed_length_counted(space, depth, reads) as usize;
     if length <= room {
         return None;
     }
     Some(length)
 }
 
-/// The length of the canonical bytes of a message, read as it is.
-fn length_of<S: Space>(space: &S, limits: Limits) -> Result<CanonicalLength, MessageRefusal>
-    ensures { IsLengthTold (S.message space.now) limits result }
+/// The length of the canonical bytes of a message, read by calls that count.
+fn length_of<S: Space, L: Ledger>(
+    space: &CountedSpace<'_, S, L>,
+    limits: Limits,
+    reads: &mut Reads<L>,
+) -> Result<CanonicalLength, MessageRefusal>
+    ensures told { IsLengthTold space.now limits result }
+    ensures reads { IfOk result (λ c. reads.new ≤ reads.old + 34 * (c.paid + 1)) }
+    ensures work { reads.new ≤ reads.old + 34 * (limits.budget + 1) }
 {
-    let _segments = space.segments();
+    space.bounds();
     let _budget = limits.budget();
     let depth = limits.depth();
-    let surveyed = survey_value(space, limits)?;
-    let length = 8 * surveyed_length(space, depth) as usize;
+    let surveyed = survey_value(space, limits, reads)?;
+    let length = 8 * surveyed_length_counted(space, depth, reads) as usize;
     Ok(CanonicalLength {
         length,
         paid: surveyed.paid,
         visits: surveyed.visits,
     })
+}
+
+/// The same, with a new ledger.
+fn length_with_ledger<S: Space, L: Ledger>(
+    space: &S,
+    limits: Limits,
+    blank: Blank,
+) -> Result<CanonicalLength, MessageRefusal>
+    requires name { blank.name ≡ L.name }
+    requires parts { blank.parts ≡ L.parts }
+    requires one { 0 < blank.parts }
+    ensures { IsLengthTold (S.message space.now) limits result }
+{
+    let (space, mut reads) = count_reads::<S, L>(space, blank);
+    length_of(&space, limits, &mut reads)
 }
 
 /// The same. If the message has one segment, it is read as its bytes alone, which is faster.
@@ -76,8 +102,8 @@ fn length_by_segments<S: Space>(
     ensures { IsLengthTold (S.message space.now) limits result }
 {
     match alone(space) {
-        Some(bare) => length_of(&bare, limits),
-        None => length_of(space, limits),
+        Some(bare) => length_with_ledger::<Bare<'_>, Brand>(&bare, limits, Blank::new(1)),
+        None => length_with_ledger::<S, Brand>(space, limits, Blank::new(1)),
     }
 }
 
@@ -105,4 +131,36 @@ pub fn canonical_length<S: Space>(
     let _budget = limits.budget();
     let _depth = limits.depth();
     length_by_segments(space, limits)
+}
+
+/// What [`canonical_length`] answers, by calls that count what they read, as for
+/// [`survey_counted`](capn_walk::survey_counted). With the reads it counts the turns of its loops.
+///
+/// It reads and turns at most 34 times for each word that it pays, and 34 times more: 14 times in the walk, 20 times
+/// where it measures. It does so at most that often for the whole budget where it refuses. So the budget alone bounds
+/// its work, whatever the message says. It takes no memory but the stack.
+pub fn canonical_length_counted<S: Space, L: Ledger>(
+    space: &CountedSpace<'_, S, L>,
+    limits: Limits,
+    reads: &mut Reads<L>,
+) -> Result<CanonicalLength, MessageRefusal>
+    // There is an answer if and only if the message denotes a value without capabilities within the limits:
+    ensures answered { IsOk result ↔ HasBytes space.now limits }
+    // the length of the canonical bytes of that value, and what the walk of the message pays and visits.
+    ensures found { IfOk result (λ c. (v : Value) × IsCanonicalLength space.now limits v c) }
+    // What each refusal means.
+    ensures refused { IfErr result (λ e. HasNoBytes space.now limits e) }
+    // No walk pays beyond its budget.
+    ensures bounded { MatchResult result (λ c. IsBounded limits.budget c.paid c.visits)
+        (λ e. IsMessagePaidWithin limits.budget e) }
+    ensures short { IfOk result (λ c. c.length ≤ 8 * (c.paid + 1)) }
+    // Both passes read the message and turn at most 34 times for each word paid, and 34 times more.
+    ensures reads { IfOk result (λ c. reads.new ≤ reads.old + 34 * (c.paid + 1)) }
+    // So the budget bounds them, whatever the message says and whatever is answered.
+    ensures work { reads.new ≤ reads.old + 34 * (limits.budget + 1) }
+{
+    space.bounds();
+    let _budget = limits.budget();
+    let _depth = limits.depth();
+    length_of(space, limits, reads)
 }

@@ -10,6 +10,8 @@
 //!   how deep they are.
 //! - [`survey_bare_counted`], [`survey_canonical_counted`] and [`measure_canonical_counted`] do the same to a message
 //!   of one segment whose reads are counted: the budget bounds how often they read it.
+//! - [`canonical_of_counted`], [`canonical_into_counted`] and [`canonical_length_counted`] do the same as the calls
+//!   without this word to a message whose reads are counted: what they pay bounds how often all their passes read it.
 //! - [`own_canonical`] answers the bytes of a message where they are its canonical bytes already, so that nothing is
 //!   copied; [`measure`] reports what its walk pays and visits, how deep it is, and whether it is canonical.
 //! - [`survey_bytes`] and [`survey`] report what the walk of a message pays and visits, and write nothing.
@@ -68,13 +70,13 @@ mod value_survey;
 mod written_bytes;
 
 pub use bare_verdict::{is_canonical, survey_bare, survey_bare_counted};
-pub use canonical::{Canonical, canonical_of};
+pub use canonical::{Canonical, canonical_of, canonical_of_counted};
 pub use canonical_input::canonicalise;
 pub use canonical_survey::{
     measure_canonical, measure_canonical_counted, survey_canonical, survey_canonical_counted,
 };
 pub use form::Form;
-pub use length::{CanonicalLength, canonical_length};
+pub use length::{CanonicalLength, canonical_length, canonical_length_counted};
 pub use message_measure::measure;
 pub use message_refusal::{IntoRefusal, MessageRefusal};
 pub use message_survey::survey;
@@ -82,7 +84,7 @@ pub use one_segment::{OwnCanonical, own_canonical};
 pub use refusal::Refusal;
 pub use survey_input::survey_bytes;
 pub use surveyed_bare::{MeasuredBare, SurveyedBare};
-pub use written_bytes::canonical_into;
+pub use written_bytes::{canonical_into, canonical_into_counted};
 
 // The layout of trees.
 pub use capn_layout::{LayoutFault, Patch, layout};

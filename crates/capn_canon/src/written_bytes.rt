@@ -1,6 +1,6 @@
 //! Canonical bytes, written into a buffer that is there.
 
-ghost use Rattle.std.specs.Prelude.{◌≡◌, ◌+◌, ◌*◌, ◌≤◌, length, take, drop, IfOk, IfErr, OnErr, MatchResult};
+ghost use Rattle.std.specs.Prelude.{◌≡◌, ◌+◌, ◌*◌, ◌<◌, ◌≤◌, length, take, drop, IfOk, IfErr, OnErr, MatchResult};
 ghost use Rattle.capn_value.specs.Tree.{Tree as Value};
 ghost use Rattle.capn_walk.specs.Accepted.{IsValueOf, IsBounded};
 ghost use Rattle.capn_canon.specs.Denotes.{AnswersMessage};
@@ -13,31 +13,53 @@ use crate::length::{CanonicalLength, length_beyond};
 use crate::message_refusal::IntoRefusal;
 use crate::one_segment::alone;
 use crate::value_survey::survey_value;
-use capn_layout::surveyed_layout_into;
+use capn_layout::surveyed_layout_into_counted;
+use capn_target::counted::{CountedSpace, Reads, count_reads};
 use capn_walk::Limits;
-use capn_words::Space;
+use capn_words::{Bare, Space};
+use std::marker::Brand;
+use std::sync::ledger::{Blank, Ledger};
 
-/// Writes the canonical bytes of a message, read as it is.
-fn write_message<S: Space>(
-    space: &S,
+/// Writes the canonical bytes of a message, read by calls that count.
+fn write_message<S: Space, L: Ledger>(
+    space: &CountedSpace<'_, S, L>,
     limits: Limits,
     out: &mut [u8],
+    reads: &mut Reads<L>,
 ) -> Result<CanonicalLength, IntoRefusal>
-    ensures { IsInto (S.message space.now) limits out.old out.new result }
+    ensures into { IsInto space.now limits out.old out.new result }
+    ensures reads { IfOk result (λ c. reads.new ≤ reads.old + 54 * (c.paid + 1)) }
+    ensures work { reads.new ≤ reads.old + 54 * (limits.budget + 1) }
 {
-    let _segments = space.segments();
+    space.bounds();
     let _budget = limits.budget();
     let depth = limits.depth();
-    let surveyed = survey_value(space, limits)?;
-    if let Some(needed) = length_beyond(space, limits, surveyed.paid, out.len()) {
+    let surveyed = survey_value(space, limits, reads)?;
+    if let Some(needed) = length_beyond(space, limits, surveyed.paid, out.len(), reads) {
         return Err(IntoRefusal::NoRoom { needed });
     }
-    let length = surveyed_layout_into(space, depth, out);
+    let length = surveyed_layout_into_counted(space, depth, out, reads);
     Ok(CanonicalLength {
         length,
         paid: surveyed.paid,
         visits: surveyed.visits,
     })
+}
+
+/// The same, with a new ledger.
+fn write_with_ledger<S: Space, L: Ledger>(
+    space: &S,
+    limits: Limits,
+    out: &mut [u8],
+    blank: Blank,
+) -> Result<CanonicalLength, IntoRefusal>
+    requires name { blank.name ≡ L.name }
+    requires parts { blank.parts ≡ L.parts }
+    requires one { 0 < blank.parts }
+    ensures { IsInto (S.message space.now) limits out.old out.new result }
+{
+    let (space, mut reads) = count_reads::<S, L>(space, blank);
+    write_message(&space, limits, out, &mut reads)
 }
 
 /// The same. If the message has one segment, it is read as its bytes alone, which is faster.
@@ -49,8 +71,8 @@ fn write_by_segments<S: Space>(
     ensures { IsInto (S.message space.now) limits out.old out.new result }
 {
     match alone(space) {
-        Some(bare) => write_message(&bare, limits, out),
-        None => write_message(space, limits, out),
+        Some(bare) => write_with_ledger::<Bare<'_>, Brand>(&bare, limits, out, Blank::new(1)),
+        None => write_with_ledger::<S, Brand>(space, limits, out, Blank::new(1)),
     }
 }
 
@@ -103,4 +125,56 @@ pub fn canonical_into<S: Space>(
     let _budget = limits.budget();
     let _depth = limits.depth();
     write_by_segments(space, limits, out)
+}
+
+/// What [`canonical_into`] writes and answers, by calls that count what they read, as for
+/// [`canonical_length_counted`](crate::canonical_length_counted). With the reads it counts the turns of its loops.
+///
+/// It reads and turns at most 54 times for each word that it pays, and 54 times more: 14 times in the walk, 20 times
+/// where it measures, if it does, and 20 times where it writes. It does so at most that often for the whole budget
+/// where it refuses. So the budget alone bounds its work, whatever the message says. It takes no memory but the stack.
+pub fn canonical_into_counted<S: Space, L: Ledger>(
+    space: &CountedSpace<'_, S, L>,
+    limits: Limits,
+    out: &mut [u8],
+    reads: &mut Reads<L>,
+) -> Result<CanonicalLength, IntoRefusal>
+    // The theorem. There is an answer if and only if the message denotes a value without capabilities within the
+    // limits, and its canonical bytes have room;
+    ensures answered { AnsweredInto space.now limits (length out.old) result }
+    // they are written to the beginning, with what was there after them;
+    ensures written { IfOk result (λ c. WrittenInto space.now limits out.old out.new c) }
+    // else the first refusal in order,
+    ensures refused { IfErr result (λ e. RefusedInto space.now limits (length out.old) e) }
+    // which leaves all as it was.
+    ensures unchanged { OnErr result (out.new ≡ out.old) }
+    // No walk pays beyond its budget.
+    ensures bounded { MatchResult result (λ c. IsBounded limits.budget c.paid c.visits)
+        (λ e. IsIntoPaidWithin limits.budget e) }
+    // What is written, as the other calls answer it.
+    ensures found { IfOk result (λ c. AnswersMessage space.now limits (take c.length out.new) c.paid) }
+    ensures past { IfOk result (λ c. drop c.length out.new ≡ drop c.length out.old) }
+    ensures inside { IfOk result (λ c. c.length ≤ length out.new) }
+    ensures short { IfOk result (λ c. c.length ≤ 8 * (c.paid + 1)) }
+    // Read bare under the same limits, the bytes denote the trimmed value, which is the same value,
+    ensures reads_back { IfOk result (λ c. (v : Value) → IsValueOf space.now limits v
+        → ReadsBack (take c.length out.new) limits v) }
+    // and pay exactly its cost;
+    ensures pays { IfOk result (λ c. (v : Value) → IsValueOf space.now limits v
+        → PaysItsCost (take c.length out.new) limits v) }
+    // its canonical bytes are these again;
+    ensures own { IfOk result (λ c. (v : Value) → IsValueOf space.now limits v
+        → IsItsOwnForm (take c.length out.new) v) }
+    // and a second value has these canonical bytes if and only if it is the same value.
+    ensures exactly { IfOk result (λ c. (v : Value) → IsValueOf space.now limits v
+        → IsFormExactlyOf (take c.length out.new) v) }
+    // All passes read the message and turn at most 54 times for each word paid, and 54 times more.
+    ensures reads { IfOk result (λ c. reads.new ≤ reads.old + 54 * (c.paid + 1)) }
+    // So the budget bounds them, whatever the message says and whatever is answered.
+    ensures work { reads.new ≤ reads.old + 54 * (limits.budget + 1) }
+{
+    space.bounds();
+    let _budget = limits.budget();
+    let _depth = limits.depth();
+    write_message(space, limits, out, reads)
 }

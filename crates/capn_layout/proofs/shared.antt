@@ -11,4 +11,5 @@ pub mod Shaped
 pub mod Nulls
 pub mod EachRow
 pub mod Copied
+pub mod Counted
 pub mod FirstBits

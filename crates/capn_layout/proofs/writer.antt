@@ -12,5 +12,6 @@ pub mod Blocks
 pub mod Opened
 pub mod Stepwise
 pub mod Sized
+pub mod Weighed
 pub mod TreeItems
 pub mod MessageItems

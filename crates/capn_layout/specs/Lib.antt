@@ -9,3 +9,4 @@ pub mod FirstBits
 pub mod RowWords
 pub mod MessageSlots
 pub mod Ready
+pub mod Weight

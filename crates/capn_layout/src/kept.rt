@@ -1,29 +1,40 @@
 //! Kept lengths, found in the message itself.
 
-ghost use Rattle.std.specs.Prelude.{◌≡◌, ℕ, ◌+◌, ◌*◌, ◌≤◌, max, take};
+ghost use Rattle.std.specs.Prelude.{◌≡◌, ℕ, ◌+◌, ◌*◌, ◌<◌, ◌≤◌, max, take};
 ghost use Rattle.capn_layout.specs.RowWords.{kept_each};
 ghost use Rattle.capn_words.specs.Message.{IsMessage};
 ghost use Rattle.capn_value.specs.Trim.{kept_words};
 ghost use Rattle.capn_walk.specs.ValueAt.{words_from};
 ghost use Rattle.capn_target.specs.Shapes.{IsContent};
 
+use capn_target::counted::{CountedSpace, Reads, count_reads};
 use capn_words::{Place, Space};
+use std::marker::Brand;
+use std::sync::ledger::{Blank, Ledger};
 
 /// How many of `count` words are left when the zeros at their end are cut, but no fewer than `least`.
 #[inline(always)]
-pub fn kept_above<S: Space>(space: &S, at: Place, count: u32, least: u32) -> u32
-    requires message { IsMessage (S.message space.now) }
-    requires content { IsContent (S.message space.now) at count }
+pub fn kept_above<S: Space, L: Ledger>(
+    space: &CountedSpace<'_, S, L>,
+    at: Place,
+    count: u32,
+    least: u32,
+    reads: &mut Reads<L>,
+) -> u32
+    requires message { IsMessage space.now }
+    requires content { IsContent space.now at count }
     requires least { least ≤ count }
-    ensures { result ≡ max least (kept_words (take count (words_from (S.message space.now) at.segment at.word))) }
+    ensures kept { result ≡ max least (kept_words (take count (words_from space.now at.segment at.word))) }
+    ensures reads { reads.new + 2 * least ≤ reads.old + 2 * count }
 {
     let mut kept = count;
     while kept > least {
+        reads.tick();
         let last = Place {
             segment: at.segment,
             word: at.word + (kept - 1),
         };
-        if space.word(last) != 0 {
+        if space.word(last, reads) != 0 {
             return kept;
         }
         kept -= 1;
@@ -46,9 +57,51 @@ pub fn kept_in_rows<S: Space>(
     requires part { inset + size ≤ step }
     ensures { result ≡ kept_each (S.message space.now) start.segment (start.word + inset) size step count }
 {
+    kept_with_ledger::<S, Brand>(space, start, count, step, inset, size, Blank::new(1))
+}
+
+/// The same, with a new ledger.
+fn kept_with_ledger<S: Space, L: Ledger>(
+    space: &S,
+    start: Place,
+    count: u32,
+    step: u32,
+    inset: u32,
+    size: u32,
+    blank: Blank,
+) -> u32
+    requires name { blank.name ≡ L.name }
+    requires parts { blank.parts ≡ L.parts }
+    requires one { 0 < blank.parts }
+    requires message { IsMessage (S.message space.now) }
+    requires content { IsContent (S.message space.now) start (count * step) }
+    requires part { inset + size ≤ step }
+    ensures { result ≡ kept_each (S.message space.now) start.segment (start.word + inset) size step count }
+{
+    let (space, mut reads) = count_reads::<S, L>(space, blank);
+    kept_each_counted(space, start, count, step, inset, size, &mut reads)
+}
+
+/// What [`kept_in_rows`] answers, where each read is counted, and each row.
+pub fn kept_each_counted<S: Space, L: Ledger>(
+    space: CountedSpace<'_, S, L>,
+    start: Place,
+    count: u32,
+    step: u32,
+    inset: u32,
+    size: u32,
+    reads: &mut Reads<L>,
+) -> u32
+    requires message { IsMessage space }
+    requires content { IsContent space start (count * step) }
+    requires part { inset + size ≤ step }
+    ensures kept { result ≡ kept_each space.entry start.segment (start.word + inset) size step count }
+    ensures reads { reads.new ≤ reads.old + count + 2 * (count * size) }
+{
     let mut kept = 0;
     let mut next = start.word;
     for row in 0..count {
+        reads.tick();
         if kept == size {
             return kept;
         }
@@ -56,7 +109,7 @@ pub fn kept_in_rows<S: Space>(
             segment: start.segment,
             word: next + inset,
         };
-        kept = kept_above(space, at, size, kept);
+        kept = kept_above(&space, at, size, kept, reads);
         next += step;
     }
     kept

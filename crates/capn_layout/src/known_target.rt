@@ -5,8 +5,10 @@ ghost use Rattle.capn_words.specs.Message.{IsMessage, IsPlace};
 ghost use Rattle.capn_target.specs.Target as spec;
 ghost use Rattle.capn_target.specs.declared.target.Target.{Target as Targets};
 
-use capn_walk::{Shape, Target, resolve};
+use capn_target::counted::{CountedSpace, Reads, resolve};
+use capn_walk::{Shape, Target};
 use capn_words::{Place, Pointer, Space, Width, split};
+use std::sync::ledger::Ledger;
 
 /// Where an offset leads from the word after a pointer.
 #[inline(always)]
@@ -21,13 +23,18 @@ fn start_of(word: u32, offset: i32) -> u32
 /// What the pointer at a place names. It is known to name something, so nothing is tested again. A call has its answer
 /// in a place of its own: then only that one comes through memory.
 #[inline(always)]
-pub fn target_at<S: Space>(space: &S, at: Place) -> Target
-    requires message { IsMessage (S.message space.now) }
-    requires place { IsPlace (S.message space.now) at }
-    requires found { (t : Targets) × (spec.target (S.message space.now) at ≡ Ok t) }
-    ensures { spec.target (S.message space.now) at ≡ Ok result }
+pub fn target_at<S: Space, L: Ledger>(
+    space: &CountedSpace<'_, S, L>,
+    at: Place,
+    reads: &mut Reads<L>,
+) -> Target
+    requires message { IsMessage space.now }
+    requires place { IsPlace space.now at }
+    requires found { (t : Targets) × (spec.target space.now at ≡ Ok t) }
+    ensures found { spec.target space.now at ≡ Ok result }
+    ensures reads { reads.new ≤ reads.old + 9 }
 {
-    match split(space.word(at)) {
+    match split(space.word(at, reads)) {
         Pointer::Nil => Target::Nil,
         Pointer::Node {
             offset,
@@ -45,7 +52,7 @@ pub fn target_at<S: Space>(space: &S, at: Place) -> Target
             count,
         } => match width {
             Width::Rows => {
-                let target = resolved(space, at);
+                let target = resolved(space.again(), at, reads);
                 target
             }
             _ => Target::Content {
@@ -56,7 +63,7 @@ pub fn target_at<S: Space>(space: &S, at: Place) -> Target
             },
         },
         _ => {
-            let target = resolved(space, at);
+            let target = resolved(space.again(), at, reads);
             target
         }
     }
@@ -64,12 +71,17 @@ pub fn target_at<S: Space>(space: &S, at: Place) -> Target
 
 /// The same with all tests.
 #[inline(never)]
-fn resolved<S: Space>(space: &S, at: Place) -> Target
-    requires place { IsPlace (S.message space.now) at }
-    requires found { (t : Targets) × (spec.target (S.message space.now) at ≡ Ok t) }
-    ensures { spec.target (S.message space.now) at ≡ Ok result }
+fn resolved<S: Space, L: Ledger>(
+    space: CountedSpace<'_, S, L>,
+    at: Place,
+    reads: &mut Reads<L>,
+) -> Target
+    requires place { IsPlace space at }
+    requires found { (t : Targets) × (spec.target space at ≡ Ok t) }
+    ensures found { spec.target space.entry at ≡ Ok result }
+    ensures reads { reads.new ≤ reads.old + 8 }
 {
-    match resolve(space, at) {
+    match resolve(&space, at, reads) {
         Ok(target) => target,
         Err(_) => unreachable!(),
     }

@@ -1,7 +1,8 @@
 //! The canonical layout of a message's value, read where it is.
 
-ghost use Rattle.std.specs.Prelude.{◌≡◌, ◌+◌, ◌*◌, ◌≤◌, ◌++◌, length, drop, IfOk};
+ghost use Rattle.std.specs.Prelude.{◌≡◌, ℕ, ◌+◌, ◌*◌, ◌<◌, ◌≤◌, ◌++◌, length, drop, IfOk};
 ghost use Rattle.capn_value.specs.Tree.{Tree as Value};
+ghost use Rattle.capn_value.specs.Cost.{cost};
 ghost use Rattle.capn_walk.specs.Accepted.{root};
 ghost use Rattle.capn_walk.specs.ValueAt.{IsAt};
 ghost use Rattle.capn_layout.specs.Layout.{canon};
@@ -12,9 +13,12 @@ use crate::message_slots::MessageSlots;
 use crate::object_layout::lay_root;
 use crate::object_size::size_of_slot;
 use crate::zero_bytes::zeros;
+use capn_target::counted::{CountedSpace, Reads, count_reads};
 use capn_value::Memory;
 use capn_words::{Place, Space};
 use std::alloc::Allocator;
+use std::marker::Brand;
+use std::sync::ledger::{Blank, Ledger};
 
 /// How many words the canonical bytes of the value at the root of a message that was surveyed are: the value is at most
 /// `depth` objects deep and has no capability.
@@ -24,14 +28,42 @@ pub fn surveyed_length<S: Space>(space: &S, depth: u32) -> u32
     requires { IsReady (HasSlot (S.message space.now)) 0 0 depth 1 }
     ensures { (v : Value) → IsAt (S.message space.now) root v → 8 * result ≡ length (canon v) }
 {
-    1 + size_of_slot(
-        MessageSlots {
-            space,
-            start: Place::ROOT,
-        },
-        0,
-        depth,
-    )
+    length_with_ledger::<S, Brand>(space, depth, Blank::new(1))
+}
+
+/// The same, with a new ledger.
+fn length_with_ledger<S: Space, L: Ledger>(space: &S, depth: u32, blank: Blank) -> u32
+    requires name { blank.name ≡ L.name }
+    requires parts { blank.parts ≡ L.parts }
+    requires one { 0 < blank.parts }
+    requires ready { IsReady (HasSlot (S.message space.now)) 0 0 depth 1 }
+    ensures { (v : Value) → IsAt (S.message space.now) root v → 8 * result ≡ length (canon v) }
+{
+    let (space, mut reads) = count_reads::<S, L>(space, blank);
+    surveyed_length_counted(&space, depth, &mut reads)
+}
+
+/// What [`surveyed_length`] answers, by calls that count what they read, as for
+/// [`survey_counted`](capn_walk::survey_counted). With the reads it counts the turns of its loops.
+///
+/// It reads and turns at most twenty times for each word that the value costs, under either tariff, and eleven times
+/// more. A walk pays at least that cost. It takes no memory.
+pub fn surveyed_length_counted<S: Space, L: Ledger>(
+    space: &CountedSpace<'_, S, L>,
+    depth: u32,
+    reads: &mut Reads<L>,
+) -> u32
+    requires { IsReady (HasSlot space.now) 0 0 depth 1 }
+    ensures length { (v : Value) → IsAt space.now root v → 8 * result ≡ length (canon v) }
+    // At most twenty reads of the message and turns of a loop for each word of the cost, and eleven more.
+    ensures reads { (v : Value) → IsAt space.now root v → (base : ℕ)
+        → reads.new ≤ reads.old + 20 * cost base v + 11 }
+{
+    let source = MessageSlots {
+        space: space.again(),
+        start: Place::ROOT,
+    };
+    1 + size_of_slot(&source, 0, depth, reads)
 }
 
 /// Writes the canonical bytes of the value at the root of a message that was surveyed to the beginning of `out`, and
@@ -46,41 +78,85 @@ pub fn surveyed_layout_into<S: Space>(space: &S, depth: u32, out: &mut [u8]) -> 
     ensures { (v : Value) → IsAt (S.message space.now) root v
         → (result ≡ length (canon v)) × (out.new ≡ canon v ++ drop (length (canon v)) out.old) }
 {
+    layout_into_with_ledger::<S, Brand>(space, depth, out, Blank::new(1))
+}
+
+/// The same, with a new ledger.
+fn layout_into_with_ledger<S: Space, L: Ledger>(
+    space: &S,
+    depth: u32,
+    out: &mut [u8],
+    blank: Blank,
+) -> usize
+    requires name { blank.name ≡ L.name }
+    requires parts { blank.parts ≡ L.parts }
+    requires one { 0 < blank.parts }
+    requires ready { IsReady (HasSlot (S.message space.now)) 0 0 depth 1 }
+    requires fits { (v : Value) → IsAt (S.message space.now) root v → length (canon v) ≤ length out.old }
+    ensures { (v : Value) → IsAt (S.message space.now) root v
+        → (result ≡ length (canon v)) × (out.new ≡ canon v ++ drop (length (canon v)) out.old) }
+{
+    let (space, mut reads) = count_reads::<S, L>(space, blank);
+    surveyed_layout_into_counted(&space, depth, out, &mut reads)
+}
+
+/// What [`surveyed_layout_into`] writes and answers, by calls that count what they read, as for
+/// [`surveyed_length_counted`] and with its bound. It takes no memory but the stack.
+pub fn surveyed_layout_into_counted<S: Space, L: Ledger>(
+    space: &CountedSpace<'_, S, L>,
+    depth: u32,
+    out: &mut [u8],
+    reads: &mut Reads<L>,
+) -> usize
+    requires ready { IsReady (HasSlot space.now) 0 0 depth 1 }
+    requires fits { (v : Value) → IsAt space.now root v → length (canon v) ≤ length out.old }
+    ensures written { (v : Value) → IsAt space.now root v
+        → (result ≡ length (canon v)) × (out.new ≡ canon v ++ drop (length (canon v)) out.old) }
+    // At most twenty reads of the message and turns of a loop for each word of the cost, and eleven more.
+    ensures reads { (v : Value) → IsAt space.now root v → (base : ℕ)
+        → reads.new ≤ reads.old + 20 * cost base v + 11 }
+{
+    let source = MessageSlots {
+        space: space.again(),
+        start: Place::ROOT,
+    };
     let most = out.len().min(4_294_967_296);
-    let words = lay_root(
-        MessageSlots {
-            space,
-            start: Place::ROOT,
-        },
-        depth,
-        &mut out[..most],
-    );
+    let words = lay_root(&source, depth, &mut out[..most], reads);
     8 * words
 }
 
 /// How many bytes are enough for the canonical bytes of a message that was surveyed: what was paid, if that is no more
-/// than twice the message, and else as many as they are.
-fn room_for<S: Space>(space: &S, depth: u32, paid: u32) -> usize
-    requires ready { IsReady (HasSlot (S.message space.now)) 0 0 depth 1 }
-    requires paid { (v : Value) → IsAt (S.message space.now) root v → length (canon v) ≤ 8 * (paid + 1) }
-    ensures { (v : Value) → IsAt (S.message space.now) root v → length (canon v) ≤ result }
+/// than twice the message, and else as many as they are. Of the message the first segments are taken, as many as words
+/// were paid.
+fn room_for<S: Space, L: Ledger>(
+    space: &CountedSpace<'_, S, L>,
+    depth: u32,
+    paid: u32,
+    reads: &mut Reads<L>,
+) -> usize
+    requires ready { IsReady (HasSlot space.now) 0 0 depth 1 }
+    requires paid { (v : Value) → IsAt space.now root v → length (canon v) ≤ 8 * (paid + 1) }
+    ensures room { (v : Value) → IsAt space.now root v → length (canon v) ≤ result }
+    ensures reads { (v : Value) → IsAt space.now root v → (base : ℕ)
+        → reads.new ≤ reads.old + 2 * paid + 20 * cost base v + 12 }
 {
     let mut words = 0u32;
-    for segment in 0..space.segments() {
-        words = words.saturating_add(space.words(segment).unwrap_or(0));
+    for segment in 0..space.segments(reads).min(paid) {
+        reads.tick();
+        words = words.saturating_add(space.words(segment, reads).unwrap_or(0));
     }
     if paid / 2 < words {
         return 8 * (paid as usize + 1);
     }
-    8 * surveyed_length(space, depth) as usize
+    8 * surveyed_length_counted(space, depth, reads) as usize
 }
 
 /// The canonical bytes of the value at the root of a message that was surveyed: it is at most `depth` objects deep, has
 /// no capability, and its walk paid `paid` words.
 ///
 /// It reads the message where it is and tests nothing again. The memory is asked for at once: as many words as were
-/// paid and one more, if that is no more than twice the message; else the bytes are counted first. `Memory` comes only
-/// where that was refused. (Page: canonicalization.)
+/// paid and one more, if that is no more than twice the message (its first `paid` segments); else the bytes are counted
+/// first. `Memory` comes only where that was refused. (Page: canonicalization.)
 pub fn surveyed_layout<S: Space, A: Allocator>(
     alloc: A,
     space: &S,
@@ -91,9 +167,49 @@ pub fn surveyed_layout<S: Space, A: Allocator>(
     requires paid { (v : Value) → IsAt (S.message space.now) root v → length (canon v) ≤ 8 * (paid + 1) }
     ensures { IfOk result (λ bytes. (v : Value) → IsAt (S.message space.now) root v → bytes.items ≡ canon v) }
 {
-    let room = room_for(space, depth, paid);
+    layout_with_ledger::<S, A, Brand>(alloc, space, depth, paid, Blank::new(1))
+}
+
+/// The same, with a new ledger.
+fn layout_with_ledger<S: Space, A: Allocator, L: Ledger>(
+    alloc: A,
+    space: &S,
+    depth: u32,
+    paid: u32,
+    blank: Blank,
+) -> Result<Vec<u8, A>, Memory>
+    requires name { blank.name ≡ L.name }
+    requires parts { blank.parts ≡ L.parts }
+    requires one { 0 < blank.parts }
+    requires ready { IsReady (HasSlot (S.message space.now)) 0 0 depth 1 }
+    requires paid { (v : Value) → IsAt (S.message space.now) root v → length (canon v) ≤ 8 * (paid + 1) }
+    ensures { IfOk result (λ bytes. (v : Value) → IsAt (S.message space.now) root v → bytes.items ≡ canon v) }
+{
+    let (space, mut reads) = count_reads::<S, L>(space, blank);
+    surveyed_layout_counted(alloc, &space, depth, paid, &mut reads)
+}
+
+/// What [`surveyed_layout`] answers, by calls that count what they read, as for [`surveyed_length_counted`].
+///
+/// It reads and turns at most twice for each word that was paid, forty times for each word that the value costs, and
+/// 23 times more.
+pub fn surveyed_layout_counted<S: Space, A: Allocator, L: Ledger>(
+    alloc: A,
+    space: &CountedSpace<'_, S, L>,
+    depth: u32,
+    paid: u32,
+    reads: &mut Reads<L>,
+) -> Result<Vec<u8, A>, Memory>
+    requires ready { IsReady (HasSlot space.now) 0 0 depth 1 }
+    requires paid { (v : Value) → IsAt space.now root v → length (canon v) ≤ 8 * (paid + 1) }
+    ensures laid { IfOk result (λ bytes. (v : Value) → IsAt space.now root v → bytes.items ≡ canon v) }
+    // At most twice for each word paid, forty times for each word of the cost, and 23 times more, whatever is answered.
+    ensures reads { (v : Value) → IsAt space.now root v → (base : ℕ)
+        → reads.new ≤ reads.old + 2 * paid + 40 * cost base v + 23 }
+{
+    let room = room_for(space, depth, paid, reads);
     let mut bytes = zeros(alloc, room)?;
-    let size = surveyed_layout_into(space, depth, bytes.as_mut_slice());
+    let size = surveyed_layout_into_counted(space, depth, bytes.as_mut_slice(), reads);
     bytes.truncate(size);
     Ok(bytes)
 }

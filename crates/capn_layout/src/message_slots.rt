@@ -10,57 +10,83 @@ ghost use Rattle.capn_walk.proofs.shared.Unique.{unique};
 ghost use Rattle.capn_layout.specs.MessageSlots.{HasSlot, PacksBits, AreRows};
 ghost use Rattle.capn_layout.specs.inner.Source.{IsItem};
 
-use crate::kept::{kept_above, kept_in_rows};
+use crate::kept::{kept_above, kept_each_counted};
 use crate::known_target::target_at;
 use crate::number_list_words::{append_bits, bits_of};
 use crate::source::{Item, Source};
 use crate::struct_list_words::push_rows;
+use capn_target::counted::{CountedSpace, Reads};
 use capn_walk::{Shape, Target};
 use capn_words::{Place, Space, Width};
+use std::sync::ledger::Ledger;
 
 /// Slots of a message from a place on, one after the other.
-#[derive_where(Clone, Copy)]
-pub struct MessageSlots<'a, S> {
-    pub space: &'a S,
+#[derive(Drop)]
+pub struct MessageSlots<'a, S: Space, L: Ledger> {
+    pub space: CountedSpace<'a, S, L>,
     pub start: Place,
 }
 
 /// The first bits of the words from a place on.
-#[derive_where(Clone, Copy)]
-pub struct MessageBits<'a, S> {
-    pub space: &'a S,
+#[derive(Drop)]
+pub struct MessageBits<'a, S: Space, L: Ledger> {
+    pub space: CountedSpace<'a, S, L>,
     pub start: Place,
     pub bits: u64,
 }
 
 /// Rows of a message, one after the other.
-#[derive_where(Clone, Copy)]
-pub struct MessageRows<'a, S> {
-    pub space: &'a S,
+#[derive(Drop)]
+pub struct MessageRows<'a, S: Space, L: Ledger> {
+    pub space: CountedSpace<'a, S, L>,
     pub start: Place,
     pub count: u32,
     pub words: u32,
     pub slots: u32,
 }
 
-impl<'a, S: Space> Source for MessageSlots<'a, S> {
-    type Numbers = MessageBits<'a, S>;
+impl<'a, S: Space, L: Ledger> Source for MessageSlots<'a, S, L> {
+    type Numbers = MessageBits<'a, S, L>;
 
-    type Rows = MessageRows<'a, S>;
+    type Rows = MessageRows<'a, S, L>;
 
-    ghost has = { λ s k v. HasSlot (S.message s.space.now) s.start.segment (s.start.word + k) v };
+    type Reads = Reads<L>;
 
-    ghost packs = { λ x ws. PacksBits (S.message x.space.now) x.start x.bits ws };
+    ghost has = { λ s k v. HasSlot s.space s.start.segment (s.start.word + k) v };
 
-    ghost are = { λ x bs. AreRows (S.message x.space.now) x.start x.count x.words x.slots bs };
+    ghost packs = { λ x ws. PacksBits x.space x.start x.bits ws };
+
+    ghost are = { λ x bs. AreRows x.space x.start x.count x.words x.slots bs };
+
+    ghost spent = { λ r. r };
 
     #[inline(always)]
-    fn item(self, slot: u32) -> Item<MessageBits<'a, S>, MessageRows<'a, S>> {
+    fn tick(reads: &mut Reads<L>) {
+        reads.tick();
+    }
+
+    #[inline(always)]
+    fn again(rows: &MessageRows<'a, S, L>) -> MessageRows<'a, S, L> {
+        MessageRows {
+            space: rows.space.again(),
+            start: rows.start,
+            count: rows.count,
+            words: rows.words,
+            slots: rows.slots,
+        }
+    }
+
+    #[inline(always)]
+    fn item(
+        &self,
+        slot: u32,
+        reads: &mut Reads<L>,
+    ) -> Item<MessageBits<'a, S, L>, MessageRows<'a, S, L>> {
         let at = Place {
             segment: self.start.segment,
             word: self.start.word + slot,
         };
-        match target_at(self.space, at) {
+        match target_at(&self.space, at, reads) {
             Target::Nil => Item::Nil,
             Target::Cap(index) => Item::Cap(index),
             Target::Content {
@@ -73,63 +99,92 @@ impl<'a, S: Space> Source for MessageSlots<'a, S> {
                     segment,
                     word: start,
                 };
-                item_at(self.space, start, shape)
+                item_at(&self.space, start, shape)
             }
         }
     }
 
     #[inline(always)]
-    fn append_numbers(numbers: MessageBits<'a, S>, out: &mut [u8], len: usize) -> usize {
-        append_bits(numbers.space, numbers.start, numbers.bits, out, len)
+    fn append_numbers(
+        numbers: &MessageBits<'a, S, L>,
+        out: &mut [u8],
+        len: usize,
+        reads: &mut Reads<L>,
+    ) -> usize {
+        append_bits(&numbers.space, numbers.start, numbers.bits, out, len, reads)
     }
 
     #[inline(always)]
-    fn count_words(numbers: MessageBits<'a, S>) -> u32 {
+    fn count_words(numbers: &MessageBits<'a, S, L>) -> u32 {
         numbers.bits.div_ceil(64) as u32
     }
 
     #[inline(always)]
-    fn kept_words(rows: MessageRows<'a, S>) -> u32 {
+    fn kept_words(rows: &MessageRows<'a, S, L>, reads: &mut Reads<L>) -> u32 {
         if rows.count == 1 {
-            return kept_above(rows.space, rows.start, rows.words, 0);
+            return kept_above(&rows.space, rows.start, rows.words, 0, reads);
         }
         let step = rows.words + rows.slots;
-        kept_in_rows(rows.space, rows.start, rows.count, step, 0, rows.words)
+        kept_each_counted(
+            rows.space.again(),
+            rows.start,
+            rows.count,
+            step,
+            0,
+            rows.words,
+            reads,
+        )
     }
 
     #[inline(always)]
-    fn kept_slots(rows: MessageRows<'a, S>) -> u32 {
+    fn kept_slots(rows: &MessageRows<'a, S, L>, reads: &mut Reads<L>) -> u32 {
         if rows.count == 1 {
             let below = Place {
                 segment: rows.start.segment,
                 word: rows.start.word + rows.words,
             };
-            return kept_above(rows.space, below, rows.slots, 0);
+            return kept_above(&rows.space, below, rows.slots, 0, reads);
         }
         let step = rows.words + rows.slots;
-        kept_in_rows(
-            rows.space, rows.start, rows.count, step, rows.words, rows.slots,
+        kept_each_counted(
+            rows.space.again(),
+            rows.start,
+            rows.count,
+            step,
+            rows.words,
+            rows.slots,
+            reads,
         )
     }
 
     #[inline(always)]
     fn append_rows(
-        rows: MessageRows<'a, S>,
+        rows: &MessageRows<'a, S, L>,
         words: u32,
         slots: u32,
         out: &mut [u8],
         len: usize,
+        reads: &mut Reads<L>,
     ) -> usize {
         push_rows(
-            rows.space, rows.start, rows.count, rows.words, rows.slots, words, slots, out, len,
+            &rows.space,
+            rows.start,
+            rows.count,
+            rows.words,
+            rows.slots,
+            words,
+            slots,
+            out,
+            len,
+            reads,
         )
     }
 
     #[inline(always)]
-    fn slots(rows: MessageRows<'a, S>, row: u32) -> MessageSlots<'a, S> {
+    fn slots(rows: &MessageRows<'a, S, L>, row: u32) -> MessageSlots<'a, S, L> {
         let before = row * (rows.words + rows.slots) + rows.words;
         MessageSlots {
-            space: rows.space,
+            space: rows.space.again(),
             start: Place {
                 segment: rows.start.segment,
                 word: rows.start.word + before,
@@ -137,29 +192,29 @@ impl<'a, S: Space> Source for MessageSlots<'a, S> {
         }
     }
 
-    ghost one = { λ s k v w hv hw. unique (S.message s.space.now) v w
+    ghost one = { λ s k v w hv hw. unique s.space v w
         (record { segment = s.start.segment; word = s.start.word + k }) hv.at hw.at };
 }
 
 /// What an object of a shape is.
 #[inline(always)]
-fn item_at<'a, S: Space>(
-    space: &'a S,
+fn item_at<'a, S: Space, L: Ledger>(
+    space: &CountedSpace<'a, S, L>,
     start: Place,
     shape: Shape,
-) -> Item<MessageBits<'a, S>, MessageRows<'a, S>>
-    requires message { IsMessage (S.message space.now) }
-    requires content { IsContent (S.message space.now) start (extent shape) }
+) -> Item<MessageBits<'a, S, L>, MessageRows<'a, S, L>>
+    requires message { IsMessage space.now }
+    requires content { IsContent space.now start (extent shape) }
     requires rows { RowsFit shape }
     requires room { HasRoom shape }
-    requires some { (v : Value) × IsInside (S.message space.now) shape start.segment start.word v }
-    ensures { (v : Value) → IsInside (S.message space.now) shape start.segment start.word v
-        → IsItem (λ x ws. PacksBits (S.message x.space.now) x.start x.bits ws)
-        (λ x bs. AreRows (S.message x.space.now) x.start x.count x.words x.slots bs) result v }
+    requires some { (v : Value) × IsInside space.now shape start.segment start.word v }
+    ensures { (v : Value) → IsInside space.now shape start.segment start.word v
+        → IsItem (λ x ws. PacksBits x.space x.start x.bits ws)
+        (λ x bs. AreRows x.space x.start x.count x.words x.slots bs) result v }
 {
     match shape {
         Shape::Node { words, slots } => Item::Struct(MessageRows {
-            space,
+            space: space.again(),
             start,
             count: 1,
             words: words as u32,
@@ -168,7 +223,7 @@ fn item_at<'a, S: Space>(
         Shape::Many { width, count } => match width {
             Width::Link => Item::Links(
                 MessageRows {
-                    space,
+                    space: space.again(),
                     start,
                     count: 1,
                     words: 0,
@@ -178,7 +233,7 @@ fn item_at<'a, S: Space>(
             ),
             _ => Item::Numbers(
                 MessageBits {
-                    space,
+                    space: space.again(),
                     start,
                     bits: bits_of(width) * count as u64,
                 },
@@ -193,7 +248,7 @@ fn item_at<'a, S: Space>(
             span: _,
         } => Item::Rows(
             MessageRows {
-                space,
+                space: space.again(),
                 start: Place {
                     segment: start.segment,
                     word: start.word + 1,

@@ -9,7 +9,9 @@ ghost use Rattle.capn_layout.specs.FirstBits.{element_bits, first_bits};
 ghost use Rattle.capn_layout.specs.inner.Draft.{Appends};
 
 use crate::draft::{extend, push};
+use capn_target::counted::{CountedSpace, Reads};
 use capn_words::{Place, Space, Width};
+use std::sync::ledger::Ledger;
 
 /// The bits of an element.
 pub fn bits_of(width: Width) -> u64
@@ -28,23 +30,25 @@ pub fn bits_of(width: Width) -> u64
 }
 
 /// Appends the first bits of the words from a place on; the bits past them are 0.
-pub fn append_bits<S: Space>(
-    space: &S,
+pub fn append_bits<S: Space, L: Ledger>(
+    space: &CountedSpace<'_, S, L>,
     start: Place,
     bits: u64,
     out: &mut [u8],
     len: usize,
+    reads: &mut Reads<L>,
 ) -> usize
-    requires message { IsMessage (S.message space.now) }
-    requires content { IsContent (S.message space.now) start (words_for bits) }
+    requires message { IsMessage space.now }
+    requires content { IsContent space.now start (words_for bits) }
     requires few { bits < 2 ^ 36 }
     requires room { 8 * (len + words_for bits) ≤ length out.old }
-    ensures { Appends len result (first_bits bits (words_from (S.message space.now) start.segment start.word))
+    ensures appends { Appends len result (first_bits bits (words_from space.now start.segment start.word))
         out.old out.new }
+    ensures reads { reads.new ≤ reads.old + words_for bits }
 {
     let full = (bits / 64) as u32;
     let rest = bits % 64;
-    let end = extend(out, len, space.bytes(start, 8 * full as usize));
+    let end = extend(out, len, space.bytes(start, 8 * full as usize, reads));
     if rest == 0 {
         return end;
     }
@@ -52,5 +56,5 @@ pub fn append_bits<S: Space>(
         segment: start.segment,
         word: start.word + full,
     };
-    push(out, end, space.word(last) % (1 << rest))
+    push(out, end, space.word(last, reads) % (1 << rest))
 }

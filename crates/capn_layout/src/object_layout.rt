@@ -2,9 +2,13 @@
 
 ghost use Rattle.std.specs.Prelude.{◌≡◌, ℕ, ◌+◌, ◌*◌, ◌/◌, ◌^◌, ◌<◌, ◌≤◌, ◌++◌, List, length, drop, IfOk};
 ghost use Rattle.capn_words.specs.Message.{words_in};
-ghost use Rattle.capn_value.specs.Tree.{Tree as Value};
+ghost use Rattle.capn_value.specs.Tree.{Tree as Value, Trees, Bodies, tree_at, count as count_of};
+ghost use Rattle.capn_value.specs.Tree.{count_rows, row_words};
 ghost use Rattle.capn_layout.specs.Layout.{canon};
 ghost use Rattle.capn_layout.specs.Ready.{IsReady, IsReadyIn, AreReady, RowsReady, IsLaid, AreLaid, RowsLaid};
+ghost use Rattle.capn_layout.specs.LayoutSteps.{past};
+ghost use Rattle.capn_layout.specs.Sound.{AreWide, SoundRows};
+ghost use Rattle.capn_layout.specs.Weight.{weight, weights, weights_in_rows};
 ghost use Rattle.capn_layout.specs.inner.Draft.{IsKept};
 
 use crate::draft::{push, put};
@@ -23,46 +27,50 @@ pub fn canonical_bytes<S: Source, A: Allocator>(
     alloc: A,
     source: S,
     depth: u32,
+    reads: &mut S::Reads,
 ) -> Result<Vec<u8, A>, Memory>
     requires { IsReady S.has source 0 depth 1 }
     ensures { IfOk result (λ bytes. (v : Value) → S.has source 0 v → bytes.items ≡ canon v) }
 {
-    let size = 8 * (1 + size_of_slot(source, 0, depth) as usize);
+    let size = 8 * (1 + size_of_slot(&source, 0, depth, reads) as usize);
     let mut bytes = zeros(alloc, size)?;
-    lay_root(source, depth, bytes.as_mut_slice());
+    lay_root(&source, depth, bytes.as_mut_slice(), reads);
     Ok(bytes)
 }
 
 /// Writes the canonical bytes of the value in the first slot, the pointer to it and then its content, and answers how
 /// many words they are. What is after them stays as it was.
-pub fn lay_root<S: Source>(source: S, depth: u32, out: &mut [u8]) -> usize
-    requires ready { IsReadyIn S.has source 0 depth 1 (length out.old / 8) }
+pub fn lay_root<S: Source>(source: &S, depth: u32, out: &mut [u8], reads: &mut S::Reads) -> usize
+    requires ready { IsReadyIn S.has source.now 0 depth 1 (length out.old / 8) }
     requires short { length out.old ≤ 2 ^ 32 }
-    ensures { (v : Value) → S.has source 0 v
+    ensures laid { (v : Value) → S.has source.now 0 v
         → (8 * result ≡ length (canon v)) × (out.new ≡ canon v ++ drop (length (canon v)) out.old) }
+    ensures reads { (v : Value) → S.has source.now 0 v → S.spent reads.new ≤ S.spent reads.old + 11 + 20 * weight v }
 {
     let len = push(out, 0, 0);
-    lay_slot(source, 0, 0, depth, out, len)
+    lay_slot(source, 0, 0, depth, out, len, reads)
 }
 
 /// Puts the pointer to the value in a slot, and appends its content with all below it, at most `depth` objects deep.
 #[cycle(objects)]
 #[inline(always)]
 fn lay_slot<S: Source>(
-    source: S,
+    source: &S,
     slot: u32,
     from: usize,
     depth: u32,
     out: &mut [u8],
     len: usize,
+    reads: &mut S::Reads,
 ) -> usize
-    requires ready { IsReadyIn S.has source slot depth (length (words_in len out.old)) (length out.old / 8) }
+    requires ready { IsReadyIn S.has source.now slot depth (length (words_in len out.old)) (length out.old / 8) }
     requires inside { from < len }
     requires short { length out.old ≤ 2 ^ 32 }
-    ensures laid { IsLaid S.has source slot from (words_in len out.old) (words_in result out.new) }
+    ensures laid { IsLaid S.has source.now slot from (words_in len out.old) (words_in result out.new) }
     ensures kept { IsKept result out.old out.new }
+    ensures reads { (v : Value) → S.has source.now slot v → S.spent reads.new ≤ S.spent reads.old + 11 + 20 * weight v }
 {
-    match source.item(slot) {
+    match source.item(slot, reads) {
         Item::Nil => {
             put(out, from, 0);
             len
@@ -74,20 +82,36 @@ fn lay_slot<S: Source>(
         Item::Numbers(numbers, width, count) => {
             let word = list_pointer(from, len, width, count as usize);
             put(out, from, word);
-            S::append_numbers(numbers, out, len)
+            S::append_numbers(&numbers, out, len, reads)
         }
         Item::Struct(row) => {
-            let own = open_struct::<S>(row, from, out, len);
+            let own = open_struct::<S>(&row, from, out, len, reads);
             let first = own.first + own.words as usize;
-            lay_slots(S::slots(row, 0), own.slots, first, depth - 1, out, own.end)
+            lay_slots(
+                S::slots(&row, 0),
+                own.slots,
+                first,
+                depth - 1,
+                out,
+                own.end,
+                reads,
+            )
         }
         Item::Links(row, count) => {
-            let own = open_links::<S>(row, count, from, out, len);
+            let own = open_links::<S>(&row, count, from, out, len, reads);
             let first = own.first + own.words as usize;
-            lay_slots(S::slots(row, 0), own.slots, first, depth - 1, out, own.end)
+            lay_slots(
+                S::slots(&row, 0),
+                own.slots,
+                first,
+                depth - 1,
+                out,
+                own.end,
+                reads,
+            )
         }
         Item::Rows(rows, count) => {
-            let own = open_rows::<S>(rows, count, from, out, len);
+            let own = open_rows::<S>(S::again(&rows), count, from, out, len, reads);
             lay_rows::<S>(
                 rows,
                 count,
@@ -97,6 +121,7 @@ fn lay_slot<S: Source>(
                 depth - 1,
                 out,
                 own.end,
+                reads,
             )
         }
     }
@@ -113,16 +138,20 @@ fn lay_slots<S: Source>(
     depth: u32,
     out: &mut [u8],
     len: usize,
+    reads: &mut S::Reads,
 ) -> usize
     requires ready { AreReady S.has source 0 count depth (length (words_in len out.old)) (length out.old / 8) }
     requires inside { first + count ≤ len }
     requires short { length out.old ≤ 2 ^ 32 }
     ensures laid { AreLaid S.has source count first (words_in len out.old) (words_in result out.new) }
     ensures kept { IsKept result out.old out.new }
+    ensures reads { (ts : Trees) → count ≤ count_of ts → ((k : ℕ) → k < count → S.has source k (tree_at ts k))
+        → S.spent reads.new + 20 * weights (past count ts) ≤ S.spent reads.old + 12 * count + 20 * weights ts }
 {
     let mut end = len;
     for slot in 0..count {
-        end = lay_slot(source, slot, first + slot as usize, depth, out, end);
+        S::tick(reads);
+        end = lay_slot(&source, slot, first + slot as usize, depth, out, end, reads);
     }
     end
 }
@@ -140,6 +169,7 @@ fn lay_rows<S: Source>(
     depth: u32,
     out: &mut [u8],
     len: usize,
+    reads: &mut S::Reads,
 ) -> usize
     requires ready { RowsReady S.are rows 0 count words slots depth (length (words_in len out.old))
         (length out.old / 8) }
@@ -147,6 +177,8 @@ fn lay_rows<S: Source>(
     requires short { length out.old ≤ 2 ^ 32 }
     ensures laid { RowsLaid S.are rows count words slots first (words_in len out.old) (words_in result out.new) }
     ensures kept { IsKept result out.old out.new }
+    ensures reads { (bs : Bodies) → S.are rows bs → count_rows bs ≡ count → AreWide words slots bs → SoundRows bs
+        → S.spent reads.new ≤ S.spent reads.old + count + 12 * row_words bs + 20 * weights_in_rows bs }
 {
     if slots == 0 {
         return len;
@@ -154,8 +186,9 @@ fn lay_rows<S: Source>(
     let mut next = first;
     let mut end = len;
     for row in 0..count {
+        S::tick(reads);
         let from = next + words as usize;
-        end = lay_slots(S::slots(rows, row), slots, from, depth, out, end);
+        end = lay_slots(S::slots(&rows, row), slots, from, depth, out, end, reads);
         next = from + slots as usize;
     }
     end

@@ -1,7 +1,7 @@
 //! The own words of an object, whose slots are still to be written over.
 
 ghost use Rattle.std.specs.Prelude.{◌^◌, ◌+◌, ◌*◌, ◌<◌, ◌≤◌, length};
-ghost use Rattle.capn_value.specs.Tree.{Tree, Bodies};
+ghost use Rattle.capn_value.specs.Tree.{Tree, Bodies, count_rows, row_words};
 ghost use Rattle.capn_words.specs.Message.{words_in};
 ghost use Rattle.capn_layout.specs.Ready.{IsOpened};
 ghost use Rattle.capn_layout.specs.Layout.{size};
@@ -25,21 +25,29 @@ pub struct Opened {
 
 /// Puts the pointer to a struct, and appends what is kept of it.
 #[inline(always)]
-pub fn open_struct<S: Source>(row: S::Rows, from: usize, out: &mut [u8], len: usize) -> Opened
-    requires some { (v : Tree) × (bs : Bodies) × IsStruct v bs × S.are row bs × Sound v
+pub fn open_struct<S: Source>(
+    row: &S::Rows,
+    from: usize,
+    out: &mut [u8],
+    len: usize,
+    reads: &mut S::Reads,
+) -> Opened
+    requires some { (v : Tree) × (bs : Bodies) × IsStruct v bs × S.are row.now bs × Sound v
         × (8 * (len + size v) ≤ length out.old) }
     requires order { from < len }
     requires short { length out.old ≤ 2 ^ 32 }
-    ensures opened { (v : Tree) (bs : Bodies) → IsStruct v bs → S.are row bs → Sound v
+    ensures opened { (v : Tree) (bs : Bodies) → IsStruct v bs → S.are row.now bs → Sound v
         → IsOpened v bs from (words_in len out.old) (words_in result.end out.new) result.first result.words
         result.slots }
     ensures kept { IsKept result.end out.old out.new }
+    ensures reads { (bs : Bodies) → S.are row.now bs
+        → S.spent reads.new ≤ S.spent reads.old + 2 * count_rows bs + 5 * row_words bs }
 {
-    let words = S::kept_words(row);
-    let slots = S::kept_slots(row);
+    let words = S::kept_words(row, reads);
+    let slots = S::kept_slots(row, reads);
     let word = struct_pointer(from, len, words as usize, slots as usize);
     put(out, from, word);
-    let end = S::append_rows(row, words, slots, out, len);
+    let end = S::append_rows(row, words, slots, out, len, reads);
     Opened {
         first: len,
         end,
@@ -51,24 +59,26 @@ pub fn open_struct<S: Source>(row: S::Rows, from: usize, out: &mut [u8], len: us
 /// Puts the pointer to a list of pointers, and appends words in place of its slots.
 #[inline(always)]
 pub fn open_links<S: Source>(
-    row: S::Rows,
+    row: &S::Rows,
     count: u32,
     from: usize,
     out: &mut [u8],
     len: usize,
+    reads: &mut S::Reads,
 ) -> Opened
-    requires some { (v : Tree) × (bs : Bodies) × AreLinks count v bs × S.are row bs × Sound v
+    requires some { (v : Tree) × (bs : Bodies) × AreLinks count v bs × S.are row.now bs × Sound v
         × (8 * (len + size v) ≤ length out.old) }
     requires order { from < len }
     requires short { length out.old ≤ 2 ^ 32 }
-    ensures opened { (v : Tree) (bs : Bodies) → AreLinks count v bs → S.are row bs → Sound v
+    ensures opened { (v : Tree) (bs : Bodies) → AreLinks count v bs → S.are row.now bs → Sound v
         → IsOpened v bs from (words_in len out.old) (words_in result.end out.new) result.first result.words
         result.slots }
     ensures kept { IsKept result.end out.old out.new }
+    ensures reads { (bs : Bodies) → S.are row.now bs → S.spent reads.new ≤ S.spent reads.old + row_words bs }
 {
     let word = list_pointer(from, len, Width::Link, count as usize);
     put(out, from, word);
-    let end = S::append_rows(row, 0, count, out, len);
+    let end = S::append_rows(row, 0, count, out, len, reads);
     Opened {
         first: len,
         end,
@@ -86,6 +96,7 @@ pub fn open_rows<S: Source>(
     from: usize,
     out: &mut [u8],
     len: usize,
+    reads: &mut S::Reads,
 ) -> Opened
     requires some { (v : Tree) × (bs : Bodies) × AreStructs count v bs × S.are rows bs × Sound v
         × (8 * (len + size v) ≤ length out.old) }
@@ -95,15 +106,17 @@ pub fn open_rows<S: Source>(
         → IsOpened v bs from (words_in len out.old) (words_in result.end out.new) result.first result.words
         result.slots }
     ensures kept { IsKept result.end out.old out.new }
+    ensures reads { (bs : Bodies) → S.are rows bs
+        → S.spent reads.new ≤ S.spent reads.old + 2 * count_rows bs + 5 * row_words bs }
 {
-    let words = S::kept_words(rows);
-    let slots = S::kept_slots(rows);
+    let words = S::kept_words(&rows, reads);
+    let slots = S::kept_slots(&rows, reads);
     let size = count as usize * (words as usize + slots as usize);
     let word = list_pointer(from, len, Width::Rows, size);
     put(out, from, word);
     let tag = tag_word(count as usize, words as usize, slots as usize);
     let first = push(out, len, tag);
-    let end = S::append_rows(rows, words, slots, out, first);
+    let end = S::append_rows(&rows, words, slots, out, first, reads);
     Opened {
         first,
         end,

@@ -1,7 +1,7 @@
 //! What is laid out: slots with their values, of a tree or of a message.
 
 ghost use Rattle.std.specs.Prelude.{◌≡◌, ℕ, ◌+◌, ◌*◌, ◌^◌, ◌<◌, ◌≤◌, List, length};
-ghost use Rattle.capn_value.specs.Tree.{Tree, Bodies, count, count_rows, tree_at};
+ghost use Rattle.capn_value.specs.Tree.{Tree, Bodies, count, count_rows, row_words, tree_at};
 ghost use Rattle.capn_value.specs.Trim.{kept_words_of_rows, kept_slots_of_rows};
 ghost use Rattle.capn_layout.specs.LayoutSteps.{AreRowsOver, slots_at};
 ghost use Rattle.capn_words.specs.Message.{words_in};
@@ -12,7 +12,7 @@ ghost use Rattle.capn_layout.specs.Sound.{AreWide};
 use capn_words::Width;
 
 /// What a slot holds.
-#[derive(Clone, Copy)]
+#[derive(Drop)]
 pub enum Item<N, R> {
     /// Null.
     Nil,
@@ -30,12 +30,15 @@ pub enum Item<N, R> {
 
 /// Slots one after the other, each with its value.
 ///
-/// There are two: the slots of a [`Value`](capn_value::Value), and words of a message that was surveyed.
-pub trait Source: Copy {
+/// There are two: the slots of a [`Value`](capn_value::Value), and words of a message that was surveyed. Those of a
+/// message count what they read. With the reads the turns of loops are counted.
+pub trait Source: Drop {
     /// Where the numbers of a list are.
-    type Numbers: Copy;
+    type Numbers: Drop;
     /// Where rows of equal sizes are, each with its words and its slots.
-    type Rows: Copy;
+    type Rows: Drop;
+    /// How often the message was read. It takes no bytes.
+    type Reads;
 
     /// A slot has a value.
     ghost has: { Self → ℕ → Tree → Type 0 };
@@ -46,43 +49,73 @@ pub trait Source: Copy {
     /// Rows have words, and slots with values.
     ghost are: { Self.Rows → Bodies → Type 0 };
 
+    /// How many reads and turns were counted.
+    ghost spent: { Self.Reads → ℕ };
+
+    /// One turn of a loop more.
+    fn tick(reads: &mut Self::Reads)
+        ensures { spent reads.new ≤ spent reads.old + 1 };
+
+    /// The same rows, for a function that takes them by value.
+    fn again(rows: &Self::Rows) -> Self::Rows
+        ensures { result ≡ rows.now };
+
     /// What a slot holds.
-    fn item(self, slot: u32) -> Item<Self::Numbers, Self::Rows>
-        requires { (v : Tree) × has self slot v }
-        ensures { (v : Tree) → has self slot v → IsItem packs are result v };
+    fn item(&self, slot: u32, reads: &mut Self::Reads) -> Item<Self::Numbers, Self::Rows>
+        requires { (v : Tree) × has self.now slot v }
+        ensures is { (v : Tree) → has self.now slot v → IsItem packs are result v }
+        ensures reads { spent reads.new ≤ spent reads.old + 9 };
 
     /// Appends the words in which numbers are packed; bits past the last number are 0.
-    fn append_numbers(numbers: Self::Numbers, out: &mut [u8], len: usize) -> usize
-        requires { (ws : List ℕ) × packs numbers ws × (8 * (len + length ws) ≤ length out.old) }
-        ensures { (ws : List ℕ) → packs numbers ws → Appends len result ws out.old out.new };
+    fn append_numbers(
+        numbers: &Self::Numbers,
+        out: &mut [u8],
+        len: usize,
+        reads: &mut Self::Reads,
+    ) -> usize
+        requires { (ws : List ℕ) × packs numbers.now ws × (8 * (len + length ws) ≤ length out.old) }
+        ensures appends { (ws : List ℕ) → packs numbers.now ws → Appends len result ws out.old out.new }
+        ensures reads { (ws : List ℕ) → packs numbers.now ws → spent reads.new ≤ spent reads.old + length ws };
 
     /// In how many words numbers are packed.
-    fn count_words(numbers: Self::Numbers) -> u32
-        requires { (ws : List ℕ) × packs numbers ws × (length ws ≤ 2 ^ 29) }
-        ensures { (ws : List ℕ) → packs numbers ws → result ≡ length ws };
+    fn count_words(numbers: &Self::Numbers) -> u32
+        requires { (ws : List ℕ) × packs numbers.now ws × (length ws ≤ 2 ^ 29) }
+        ensures { (ws : List ℕ) → packs numbers.now ws → result ≡ length ws };
 
     /// How many words are kept of each row, when all rows are cut alike.
-    fn kept_words(rows: Self::Rows) -> u32
-        requires { (bs : Bodies) × are rows bs }
-        ensures { (bs : Bodies) → are rows bs → result ≡ kept_words_of_rows bs };
+    fn kept_words(rows: &Self::Rows, reads: &mut Self::Reads) -> u32
+        requires { (bs : Bodies) × are rows.now bs }
+        ensures kept { (bs : Bodies) → are rows.now bs → result ≡ kept_words_of_rows bs }
+        ensures reads { (bs : Bodies) → are rows.now bs
+            → spent reads.new ≤ spent reads.old + count_rows bs + 2 * row_words bs };
 
     /// How many slots are kept of each row, when all rows are cut alike.
-    fn kept_slots(rows: Self::Rows) -> u32
-        requires { (bs : Bodies) × are rows bs }
-        ensures { (bs : Bodies) → are rows bs → result ≡ kept_slots_of_rows bs };
+    fn kept_slots(rows: &Self::Rows, reads: &mut Self::Reads) -> u32
+        requires { (bs : Bodies) × are rows.now bs }
+        ensures kept { (bs : Bodies) → are rows.now bs → result ≡ kept_slots_of_rows bs }
+        ensures reads { (bs : Bodies) → are rows.now bs
+            → spent reads.new ≤ spent reads.old + count_rows bs + 2 * row_words bs };
 
     /// Appends the first words of each row, each followed by any words in place of its first slots.
-    fn append_rows(rows: Self::Rows, words: u32, slots: u32, out: &mut [u8], len: usize) -> usize
-        requires { (bs : Bodies) × are rows bs × AreWide words slots bs × (words < 2 ^ 16) × (slots < 2 ^ 29)
+    fn append_rows(
+        rows: &Self::Rows,
+        words: u32,
+        slots: u32,
+        out: &mut [u8],
+        len: usize,
+        reads: &mut Self::Reads,
+    ) -> usize
+        requires { (bs : Bodies) × are rows.now bs × AreWide words slots bs × (words < 2 ^ 16) × (slots < 2 ^ 29)
             × (8 * (len + count_rows bs * (words + slots)) ≤ length out.old) }
-        ensures grown { (bs : Bodies) → are rows bs → AreWide words slots bs
+        ensures grown { (bs : Bodies) → are rows.now bs → AreWide words slots bs
             → IsGrown words slots bs (words_in len out.old) (words_in result out.new) }
-        ensures kept { IsKept result out.old out.new };
+        ensures kept { IsKept result out.old out.new }
+        ensures reads { (bs : Bodies) → are rows.now bs → spent reads.new ≤ spent reads.old + row_words bs };
 
     /// The slots of a row.
-    fn slots(rows: Self::Rows, row: u32) -> Self
-        requires { (bs : Bodies) × are rows bs × (row < count_rows bs) }
-        ensures { (bs : Bodies) → are rows bs → (k : ℕ) → k < count (slots_at bs row)
+    fn slots(rows: &Self::Rows, row: u32) -> Self
+        requires { (bs : Bodies) × are rows.now bs × (row < count_rows bs) }
+        ensures { (bs : Bodies) → are rows.now bs → (k : ℕ) → k < count (slots_at bs row)
             → has result k (tree_at (slots_at bs row) k) };
 
     /// A slot has one value.

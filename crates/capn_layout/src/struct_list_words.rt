@@ -8,44 +8,48 @@ ghost use Rattle.capn_layout.specs.RowWords.{row_cells};
 ghost use Rattle.capn_layout.specs.inner.Draft.{Appends};
 
 use crate::draft::extend;
+use capn_target::counted::{CountedSpace, Reads};
 use capn_words::{Place, Space};
+use std::sync::ledger::Ledger;
 
 /// Appends the first words of two parts of a row, the second of which comes after the whole of the first. They are
 /// one piece if the first is kept whole.
 #[inline(always)]
-fn push_parts<S: Space>(
-    space: &S,
+fn push_parts<S: Space, L: Ledger>(
+    space: &CountedSpace<'_, S, L>,
     start: Place,
     size: u32,
     words: u32,
     slots: u32,
     out: &mut [u8],
     len: usize,
+    reads: &mut Reads<L>,
 ) -> usize
-    requires message { IsMessage (S.message space.now) }
-    requires content { IsContent (S.message space.now) start (size + slots) }
+    requires message { IsMessage space.now }
+    requires content { IsContent space.now start (size + slots) }
     requires part { words ≤ size }
     requires room { 8 * (len + (words + slots)) ≤ length out.old }
-    ensures { Appends len result (take words (words_from (S.message space.now) start.segment start.word)
-        ++ take slots (words_from (S.message space.now) start.segment (start.word + size))) out.old out.new }
+    ensures appends { Appends len result (take words (words_from space.now start.segment start.word)
+        ++ take slots (words_from space.now start.segment (start.word + size))) out.old out.new }
+    ensures reads { reads.new ≤ reads.old + words + slots }
 {
     if words == size {
         let all = words + slots;
-        return extend(out, len, space.bytes(start, 8 * all as usize));
+        return extend(out, len, space.bytes(start, 8 * all as usize, reads));
     }
     let below = Place {
         segment: start.segment,
         word: start.word + size,
     };
-    let end = extend(out, len, space.bytes(start, 8 * words as usize));
-    extend(out, end, space.bytes(below, 8 * slots as usize))
+    let end = extend(out, len, space.bytes(start, 8 * words as usize, reads));
+    extend(out, end, space.bytes(below, 8 * slots as usize, reads))
 }
 
 /// Appends `kept` of the `words` words and `below` of the `slots` slots of each of `count` rows, as they stand. Rows
 /// that are kept whole are one piece.
 #[inline(always)]
-pub fn push_rows<S: Space>(
-    space: &S,
+pub fn push_rows<S: Space, L: Ledger>(
+    space: &CountedSpace<'_, S, L>,
     start: Place,
     count: u32,
     words: u32,
@@ -54,21 +58,23 @@ pub fn push_rows<S: Space>(
     below: u32,
     out: &mut [u8],
     len: usize,
+    reads: &mut Reads<L>,
 ) -> usize
-    requires message { IsMessage (S.message space.now) }
-    requires content { IsContent (S.message space.now) start (count * (words + slots)) }
+    requires message { IsMessage space.now }
+    requires content { IsContent space.now start (count * (words + slots)) }
     requires narrow { words + slots < 2 ^ 30 }
     requires part { 0 < count → (kept ≤ words) × (below ≤ slots) }
     requires short { kept + below < 2 ^ 30 }
     requires room { 8 * (len + count * (kept + below)) ≤ length out.old }
-    ensures { Appends len result
-        (row_cells (S.message space.now) start.segment start.word (words + slots) words kept below count)
+    ensures appends { Appends len result
+        (row_cells space.now start.segment start.word (words + slots) words kept below count)
         out.old out.new }
+    ensures reads { reads.new ≤ reads.old + count * (words + slots) }
 {
     let step = words + slots;
     if kept + below == step {
         let size = count * step;
-        return extend(out, len, space.bytes(start, 8 * size as usize));
+        return extend(out, len, space.bytes(start, 8 * size as usize, reads));
     }
     let mut next = start.word;
     let mut end = len;
@@ -77,7 +83,8 @@ pub fn push_rows<S: Space>(
             segment: start.segment,
             word: next,
         };
-        end = push_parts(space, at, words, kept, below, out, end);
+        reads.tick();
+        end = push_parts(space, at, words, kept, below, out, end, reads);
         next += step;
     }
     end

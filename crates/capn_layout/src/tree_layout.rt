@@ -63,7 +63,7 @@ pub fn layout<A: Allocator + Copy, B: Allocator>(
     if let Some(index) = first_cap(value) {
         return Err(LayoutFault::Capability(index));
     }
-    match canonical_bytes(alloc, TreeSlots::Root(value), MOST_HEIGHT) {
+    match canonical_bytes(alloc, TreeSlots::Root(value), MOST_HEIGHT, &mut ()) {
         Ok(bytes) => Ok(bytes),
         Err(Memory) => Err(LayoutFault::Memory),
     }

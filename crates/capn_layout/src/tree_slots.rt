@@ -48,21 +48,37 @@ impl<'a, B: Allocator> Source for TreeSlots<'a, B> {
 
     type Rows = TreeRows<'a, B>;
 
+    type Reads = ();
+
     ghost has = { λ s k v. HasValue (values_of s) k v };
 
     ghost packs = { λ x ws. PacksNumbers x ws };
 
     ghost are = { λ x bs. AreBodies x bs };
 
-    fn item(self, slot: u32) -> Item<TreeNumbers<'a>, TreeRows<'a, B>> {
-        match self {
+    // No message is read.
+    ghost spent = { λ _. 0 };
+
+    fn tick(_reads: &mut ()) {}
+
+    fn again(rows: &TreeRows<'a, B>) -> TreeRows<'a, B> {
+        *rows
+    }
+
+    fn item(&self, slot: u32, _reads: &mut ()) -> Item<TreeNumbers<'a>, TreeRows<'a, B>> {
+        match *self {
             TreeSlots::Root(value) => item_of(value),
             TreeSlots::Slots(values) => item_of(&values[slot as usize]),
         }
     }
 
-    fn append_numbers(numbers: TreeNumbers<'a>, out: &mut [u8], len: usize) -> usize {
-        match numbers {
+    fn append_numbers(
+        numbers: &TreeNumbers<'a>,
+        out: &mut [u8],
+        len: usize,
+        _reads: &mut (),
+    ) -> usize {
+        match *numbers {
             TreeNumbers::Voids => len,
             TreeNumbers::Bits(xs) => extend_bits(out, len, xs),
             TreeNumbers::Bytes(xs) => extend_bytes(out, len, xs),
@@ -72,8 +88,8 @@ impl<'a, B: Allocator> Source for TreeSlots<'a, B> {
         }
     }
 
-    fn count_words(numbers: TreeNumbers<'a>) -> u32 {
-        match numbers {
+    fn count_words(numbers: &TreeNumbers<'a>) -> u32 {
+        match *numbers {
             TreeNumbers::Voids => 0,
             TreeNumbers::Bits(xs) => xs.len().div_ceil(64) as u32,
             TreeNumbers::Bytes(xs) => xs.len().div_ceil(8) as u32,
@@ -83,16 +99,16 @@ impl<'a, B: Allocator> Source for TreeSlots<'a, B> {
         }
     }
 
-    fn kept_words(rows: TreeRows<'a, B>) -> u32 {
-        match rows {
+    fn kept_words(rows: &TreeRows<'a, B>, _reads: &mut ()) -> u32 {
+        match *rows {
             TreeRows::Bodies(bodies) => kept_words_of_rows(bodies) as u32,
             TreeRows::Body(body) => kept_words(body.words.as_slice()) as u32,
             TreeRows::Slots(_) => 0,
         }
     }
 
-    fn kept_slots(rows: TreeRows<'a, B>) -> u32 {
-        match rows {
+    fn kept_slots(rows: &TreeRows<'a, B>, _reads: &mut ()) -> u32 {
+        match *rows {
             TreeRows::Bodies(bodies) => kept_slots_of_rows(bodies) as u32,
             TreeRows::Body(body) => kept_slots(body.slots.as_slice()) as u32,
             TreeRows::Slots(slots) => kept_slots(slots) as u32,
@@ -100,13 +116,14 @@ impl<'a, B: Allocator> Source for TreeSlots<'a, B> {
     }
 
     fn append_rows(
-        rows: TreeRows<'a, B>,
+        rows: &TreeRows<'a, B>,
         words: u32,
         slots: u32,
         out: &mut [u8],
         len: usize,
+        _reads: &mut (),
     ) -> usize {
-        match rows {
+        match *rows {
             TreeRows::Bodies(bodies) => {
                 push_bodies(bodies, words as usize, slots as usize, out, len)
             }
@@ -115,8 +132,8 @@ impl<'a, B: Allocator> Source for TreeSlots<'a, B> {
         }
     }
 
-    fn slots(rows: TreeRows<'a, B>, row: u32) -> TreeSlots<'a, B> {
-        match rows {
+    fn slots(rows: &TreeRows<'a, B>, row: u32) -> TreeSlots<'a, B> {
+        match *rows {
             TreeRows::Bodies(bodies) => TreeSlots::Slots(bodies[row as usize].slots.as_slice()),
             TreeRows::Body(body) => TreeSlots::Slots(body.slots.as_slice()),
             TreeRows::Slots(slots) => TreeSlots::Slots(slots),

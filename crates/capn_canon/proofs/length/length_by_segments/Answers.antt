@@ -4,5 +4,5 @@ use Rattle.capn_canon.proofs.length.length_by_segments.Goals as goal
 
 pub returns-in-Some : goal.returns-in-Some
 returns-in-Some g c =
-    subst (λ (x : List (List ℕ)). IsLengthTold x c.args.limits c.length_of.result) (sym c.in-Some.ensures.one)
-    c.length_of.ensures
+    subst (λ (x : List (List ℕ)). IsLengthTold x c.args.limits c.length_with_ledger.result) (sym c.in-Some.ensures.one)
+    c.length_with_ledger.ensures

@@ -9,6 +9,7 @@ use Rattle.capn_layout.specs.Ready.{AreReady, RowsReady}
 use Rattle.capn_layout.specs.inner.Source.{IsItem}
 use Rattle.capn_layout.proofs.writer.Blocks.{opened-room, opened-first, one-ready, one-laid, one-grown, all-ready}
 use Rattle.capn_layout.proofs.writer.Blocks.{all-inside, all-laid, all-grown, struct-one, links-one}
+use Rattle.capn_layout.proofs.shared.Counted.{size-weight}
 use Rattle.capn_layout.proofs.shared.LayLengths.{length-lay}
 use Rattle.capn_layout.proofs.writer.Drafted.{kept-then, appends-length}
 use Rattle.capn_layout.proofs.writer.Stepwise.{next-ready, then-ready, then-rest, slots-end, grown}
@@ -16,6 +17,9 @@ use Rattle.capn_layout.proofs.writer.Stepwise.{row-ready, row-then-inside, row-t
 use Rattle.capn_layout.proofs.writer.Stepwise.{rows-empty, grown-row}
 use Rattle.capn_layout.proofs.writer.Stepwise.{laid-plain}
 use Rattle.capn_layout.proofs.writer.Stepwise.{laid-nil, laid-cap, one-more}
+use Rattle.capn_layout.specs.Weight.{weight}
+use Rattle.capn_layout.proofs.writer.Weighed.{struct-weighs, links-weigh, rows-weigh, one-weighed}
+use Rattle.capn_layout.proofs.writer.Weighed.{slot-weighed, slots-weighed, row-weighed}
 use Rattle.capn_layout.proofs.object_layout.+objects.Goals as goal
 
 -- ---- a slot
@@ -44,7 +48,7 @@ lay_slot-put-requires-in-Numbers g t c =
 pub lay_slot-returns-in-Nil-clause-laid : goal.lay_slot-returns-in-Nil-clause-laid
 lay_slot-returns-in-Nil-clause-laid g t c v h =
     let e = subst (λ (x : Item g.row.S-Numbers.Denot g.row.S-Rows.Denot). IsItem g.S.Source.packs g.S.Source.are x v)
-    c.in-Nil.is (c.item.ensures v h) in
+    c.in-Nil.is (c.item.ensures.is v h) in
     let l = length-words_in c.args.len c.args.out.now in
     let r = c.requires.ready.room in
     laid-nil v c.args.from (words_in c.args.len c.args.out.now) (words_in c.args.len c.put.new.out) e
@@ -53,7 +57,7 @@ lay_slot-returns-in-Nil-clause-laid g t c v h =
 pub lay_slot-returns-in-Cap-clause-laid : goal.lay_slot-returns-in-Cap-clause-laid
 lay_slot-returns-in-Cap-clause-laid g t c v h =
     let e = subst (λ (x : Item g.row.S-Numbers.Denot g.row.S-Rows.Denot). IsItem g.S.Source.packs g.S.Source.are x v)
-    c.in-Cap.is (c.item.ensures v h) in
+    c.in-Cap.is (c.item.ensures.is v h) in
     let l = length-words_in c.args.len c.args.out.now in
     let r = c.requires.ready.room in
     laid-cap v c.in-Cap.index c.join.result c.args.from (words_in c.args.len c.args.out.now)
@@ -71,7 +75,7 @@ pub lay_slot-append_numbers-requires : goal.lay_slot-append_numbers-requires
 lay_slot-append_numbers-requires g t c =
     let v = c.requires.ready.value in
     let x = subst (λ (x : Item g.row.S-Numbers.Denot g.row.S-Rows.Denot). IsItem g.S.Source.packs g.S.Source.are x v)
-    c.in-Numbers.is (c.item.ensures v c.requires.ready.is) in
+    c.in-Numbers.is (c.item.ensures.is v c.requires.ready.is) in
     let l = length-words_in c.args.len c.args.out.now in
     let r = c.requires.ready.room in
     let k = (c.put-in-Numbers.ensures c.args.len c.requires.inside (omega arith)).kept.same in
@@ -82,7 +86,7 @@ lay_slot-append_numbers-requires g t c =
 pub lay_slot-returns-in-Numbers-clause-laid : goal.lay_slot-returns-in-Numbers-clause-laid
 lay_slot-returns-in-Numbers-clause-laid g t c v h =
     let x = subst (λ (y : Item g.row.S-Numbers.Denot g.row.S-Rows.Denot). IsItem g.S.Source.packs g.S.Source.are y v)
-    c.in-Numbers.is (c.item.ensures v h) in
+    c.in-Numbers.is (c.item.ensures.is v h) in
     let p = words_in c.args.len c.args.out.now in
     let l = length-words_in c.args.len c.args.out.now in
     let r = c.requires.ready.room in
@@ -92,16 +96,16 @@ lay_slot-returns-in-Numbers-clause-laid g t c v h =
     ∙ sym (c.list_pointer-word.ensures
     ∙ ap (λ (to : ℕ). list_to c.args.from to c.in-Numbers.width c.in-Numbers.count) (sym l)))
     x.2.content (c.put-in-Numbers.ensures c.args.len c.requires.inside (omega arith)).words
-    (c.append_numbers.ensures x.0 x.1).words
+    (c.append_numbers.ensures.appends x.0 x.1).words
 
 pub lay_slot-returns-in-Numbers-clause-kept : goal.lay_slot-returns-in-Numbers-clause-kept
 lay_slot-returns-in-Numbers-clause-kept g t c =
     let v = c.requires.ready.value in
     let x = subst (λ (x : Item g.row.S-Numbers.Denot g.row.S-Rows.Denot). IsItem g.S.Source.packs g.S.Source.are x v)
-    c.in-Numbers.is (c.item.ensures v c.requires.ready.is) in
+    c.in-Numbers.is (c.item.ensures.is v c.requires.ready.is) in
     let l = length-words_in c.args.len c.args.out.now in
     let r = c.requires.ready.room in
-    let a = c.append_numbers.ensures x.0 x.1 in
+    let a = c.append_numbers.ensures.appends x.0 x.1 in
     let n = appends-length c.args.len c.append_numbers.result x.0 c.put-in-Numbers.new.out c.append_numbers.new.out a in
     kept-then c.args.len c.append_numbers.result c.args.out.now c.put-in-Numbers.new.out c.append_numbers.new.out
     (omega arith) (c.put-in-Numbers.ensures c.args.len c.requires.inside (omega arith)).kept a.kept
@@ -112,7 +116,7 @@ pub lay_slot-open_struct-own-requires-clause-some : goal.lay_slot-open_struct-ow
 lay_slot-open_struct-own-requires-clause-some g t c =
     let v = c.requires.ready.value in
     let x = subst (λ (x : Item g.row.S-Numbers.Denot g.row.S-Rows.Denot). IsItem g.S.Source.packs g.S.Source.are x v)
-    c.in-Struct.is (c.item.ensures v c.requires.ready.is) in
+    c.in-Struct.is (c.item.ensures.is v c.requires.ready.is) in
     let l = length-words_in c.args.len c.args.out.now in
     let r = c.requires.ready.room in
     (v, x.0, x.1, x.2, c.requires.ready.sound, omega arith)
@@ -121,7 +125,7 @@ pub lay_slot-overflow_add-first : goal.lay_slot-overflow_add-first
 lay_slot-overflow_add-first g t c =
     let v = c.requires.ready.value in
     let x = subst (λ (x : Item g.row.S-Numbers.Denot g.row.S-Rows.Denot). IsItem g.S.Source.packs g.S.Source.are x v)
-    c.in-Struct.is (c.item.ensures v c.requires.ready.is) in
+    c.in-Struct.is (c.item.ensures.is v c.requires.ready.is) in
     let r = c.open_struct-own.result in
     let p = words_in c.args.len c.args.out.now in
     let q = words_in r.end c.open_struct-own.new.out in
@@ -138,7 +142,7 @@ pub lay_slot-lay_slots-requires : goal.lay_slot-lay_slots-requires
 lay_slot-lay_slots-requires g t c κs live =
     let v = c.requires.ready.value in
     let x = subst (λ (x : Item g.row.S-Numbers.Denot g.row.S-Rows.Denot). IsItem g.S.Source.packs g.S.Source.are x v)
-    c.in-Struct.is (c.item.ensures v c.requires.ready.is) in
+    c.in-Struct.is (c.item.ensures.is v c.requires.ready.is) in
     let r = c.open_struct-own.result in
     let p = words_in c.args.len c.args.out.now in
     let q = words_in r.end c.open_struct-own.new.out in
@@ -157,20 +161,20 @@ lay_slot-lay_slots-requires g t c κs live =
     c.requires.ready.room c.requires.ready.low one in
     let l = length-words_in r.end c.open_struct-own.new.out in
     let s = c.requires.short in
-    (omega arith, (live.0, (live.1.0, (live.1.1, (ready, (omega arith, omega arith))))))
+    (omega arith, (live.0, (live.1.0, (live.1.1.0, (live.1.1.1, (ready, (omega arith, omega arith)))))))
 
 pub lay_slot-returns-in-Struct-clause-laid : goal.lay_slot-returns-in-Struct-clause-laid
 lay_slot-returns-in-Struct-clause-laid g t c w h =
     let v = c.requires.ready.value in
     let x = subst (λ (x : Item g.row.S-Numbers.Denot g.row.S-Rows.Denot). IsItem g.S.Source.packs g.S.Source.are x v)
-    c.in-Struct.is (c.item.ensures v c.requires.ready.is) in
+    c.in-Struct.is (c.item.ensures.is v c.requires.ready.is) in
     let r = c.open_struct-own.result in
     let p = words_in c.args.len c.args.out.now in
     let q = words_in r.end c.open_struct-own.new.out in
     let o = c.open_struct-own.ensures.opened v x.0 x.1 x.2 c.requires.ready.sound in
     let one = struct-one v x.0 x.1 in
     let are = c.slots.ensures x.0 x.2 in
-    let e = g.met.S.Source.one c.args.source c.args.slot w v h c.requires.ready.is in
+    let e = g.met.S.Source.one c.args.source.now c.args.slot w v h c.requires.ready.is in
     one-laid v x.0 c.args.from p q r.first r.words r.slots c.args.depth o
     c.requires.ready.room c.requires.ready.low
     g.S.Source.has c.slots.result one are (words_in c.lay_slots.result c.lay_slots.new.out) c.lay_slots.ensures.laid
@@ -180,7 +184,7 @@ pub lay_slot-returns-in-Struct-clause-kept : goal.lay_slot-returns-in-Struct-cla
 lay_slot-returns-in-Struct-clause-kept g t c =
     let v = c.requires.ready.value in
     let x = subst (λ (x : Item g.row.S-Numbers.Denot g.row.S-Rows.Denot). IsItem g.S.Source.packs g.S.Source.are x v)
-    c.in-Struct.is (c.item.ensures v c.requires.ready.is) in
+    c.in-Struct.is (c.item.ensures.is v c.requires.ready.is) in
     let r = c.open_struct-own.result in
     let p = words_in c.args.len c.args.out.now in
     let q = words_in r.end c.open_struct-own.new.out in
@@ -201,7 +205,7 @@ pub lay_slot-open_links-own-requires-clause-some : goal.lay_slot-open_links-own-
 lay_slot-open_links-own-requires-clause-some g t c =
     let v = c.requires.ready.value in
     let x = subst (λ (x : Item g.row.S-Numbers.Denot g.row.S-Rows.Denot). IsItem g.S.Source.packs g.S.Source.are x v)
-    c.in-Links.is (c.item.ensures v c.requires.ready.is) in
+    c.in-Links.is (c.item.ensures.is v c.requires.ready.is) in
     let l = length-words_in c.args.len c.args.out.now in
     let r = c.requires.ready.room in
     (v, x.0, x.1, x.2, c.requires.ready.sound, omega arith)
@@ -210,7 +214,7 @@ pub lay_slot-overflow_add-first-in-Links : goal.lay_slot-overflow_add-first-in-L
 lay_slot-overflow_add-first-in-Links g t c =
     let v = c.requires.ready.value in
     let x = subst (λ (x : Item g.row.S-Numbers.Denot g.row.S-Rows.Denot). IsItem g.S.Source.packs g.S.Source.are x v)
-    c.in-Links.is (c.item.ensures v c.requires.ready.is) in
+    c.in-Links.is (c.item.ensures.is v c.requires.ready.is) in
     let r = c.open_links-own.result in
     let p = words_in c.args.len c.args.out.now in
     let q = words_in r.end c.open_links-own.new.out in
@@ -227,7 +231,7 @@ pub lay_slot-lay_slots-requires-in-Links : goal.lay_slot-lay_slots-requires-in-L
 lay_slot-lay_slots-requires-in-Links g t c κs live =
     let v = c.requires.ready.value in
     let x = subst (λ (x : Item g.row.S-Numbers.Denot g.row.S-Rows.Denot). IsItem g.S.Source.packs g.S.Source.are x v)
-    c.in-Links.is (c.item.ensures v c.requires.ready.is) in
+    c.in-Links.is (c.item.ensures.is v c.requires.ready.is) in
     let r = c.open_links-own.result in
     let p = words_in c.args.len c.args.out.now in
     let q = words_in r.end c.open_links-own.new.out in
@@ -246,20 +250,20 @@ lay_slot-lay_slots-requires-in-Links g t c κs live =
     c.requires.ready.room c.requires.ready.low one in
     let l = length-words_in r.end c.open_links-own.new.out in
     let s = c.requires.short in
-    (omega arith, (live.0, (live.1.0, (live.1.1, (ready, (omega arith, omega arith))))))
+    (omega arith, (live.0, (live.1.0, (live.1.1.0, (live.1.1.1, (ready, (omega arith, omega arith)))))))
 
 pub lay_slot-returns-in-Links-clause-laid : goal.lay_slot-returns-in-Links-clause-laid
 lay_slot-returns-in-Links-clause-laid g t c w h =
     let v = c.requires.ready.value in
     let x = subst (λ (x : Item g.row.S-Numbers.Denot g.row.S-Rows.Denot). IsItem g.S.Source.packs g.S.Source.are x v)
-    c.in-Links.is (c.item.ensures v c.requires.ready.is) in
+    c.in-Links.is (c.item.ensures.is v c.requires.ready.is) in
     let r = c.open_links-own.result in
     let p = words_in c.args.len c.args.out.now in
     let q = words_in r.end c.open_links-own.new.out in
     let o = c.open_links-own.ensures.opened v x.0 x.1 x.2 c.requires.ready.sound in
     let one = links-one c.in-Links.count v x.0 x.1 in
     let are = c.slots-in-Links.ensures x.0 x.2 in
-    let e = g.met.S.Source.one c.args.source c.args.slot w v h c.requires.ready.is in
+    let e = g.met.S.Source.one c.args.source.now c.args.slot w v h c.requires.ready.is in
     one-laid v x.0 c.args.from p q r.first r.words r.slots c.args.depth o
     c.requires.ready.room c.requires.ready.low
     g.S.Source.has c.slots-in-Links.result one are (words_in c.lay_slots-in-Links.result
@@ -270,7 +274,7 @@ pub lay_slot-returns-in-Links-clause-kept : goal.lay_slot-returns-in-Links-claus
 lay_slot-returns-in-Links-clause-kept g t c =
     let v = c.requires.ready.value in
     let x = subst (λ (x : Item g.row.S-Numbers.Denot g.row.S-Rows.Denot). IsItem g.S.Source.packs g.S.Source.are x v)
-    c.in-Links.is (c.item.ensures v c.requires.ready.is) in
+    c.in-Links.is (c.item.ensures.is v c.requires.ready.is) in
     let r = c.open_links-own.result in
     let p = words_in c.args.len c.args.out.now in
     let q = words_in r.end c.open_links-own.new.out in
@@ -293,20 +297,20 @@ pub lay_slot-open_rows-own-requires-clause-some : goal.lay_slot-open_rows-own-re
 lay_slot-open_rows-own-requires-clause-some g t c =
     let v = c.requires.ready.value in
     let x = subst (λ (x : Item g.row.S-Numbers.Denot g.row.S-Rows.Denot). IsItem g.S.Source.packs g.S.Source.are x v)
-    c.in-Rows.is (c.item.ensures v c.requires.ready.is) in
+    c.in-Rows.is (c.item.ensures.is v c.requires.ready.is) in
     let l = length-words_in c.args.len c.args.out.now in
     let r = c.requires.ready.room in
-    (v, x.0, x.1, x.2, c.requires.ready.sound, omega arith)
+    (v, x.0, x.1, rw c.again.ensures x.2, c.requires.ready.sound, omega arith)
 
 pub lay_slot-lay_rows-requires : goal.lay_slot-lay_rows-requires
 lay_slot-lay_rows-requires g t c κs live =
     let v = c.requires.ready.value in
     let x = subst (λ (x : Item g.row.S-Numbers.Denot g.row.S-Rows.Denot). IsItem g.S.Source.packs g.S.Source.are x v)
-    c.in-Rows.is (c.item.ensures v c.requires.ready.is) in
+    c.in-Rows.is (c.item.ensures.is v c.requires.ready.is) in
     let r = c.open_rows-own.result in
     let p = words_in c.args.len c.args.out.now in
     let q = words_in r.end c.open_rows-own.new.out in
-    let o = c.open_rows-own.ensures.opened v x.0 x.1 x.2 c.requires.ready.sound in
+    let o = c.open_rows-own.ensures.opened v x.0 x.1 (rw c.again.ensures x.2) c.requires.ready.sound in
     let low = o.block.low in
     let high = c.requires.ready.low in
     let same = c.open_rows-own.ensures.kept.same in
@@ -321,18 +325,18 @@ lay_slot-lay_rows-requires g t c κs live =
     g.S.Source.are c.in-Rows.rows c.in-Rows.count x.1.1 x.2 in
     let l = length-words_in r.end c.open_rows-own.new.out in
     let s = c.requires.short in
-    (omega arith, (live.0, (live.1.0, (live.1.1, (ready, (omega arith, omega arith))))))
+    (omega arith, (live.0, (live.1.0, (live.1.1.0, (live.1.1.1, (ready, (omega arith, omega arith)))))))
 
 pub lay_slot-returns-in-Rows-clause-laid : goal.lay_slot-returns-in-Rows-clause-laid
 lay_slot-returns-in-Rows-clause-laid g t c w h =
     let v = c.requires.ready.value in
     let x = subst (λ (x : Item g.row.S-Numbers.Denot g.row.S-Rows.Denot). IsItem g.S.Source.packs g.S.Source.are x v)
-    c.in-Rows.is (c.item.ensures v c.requires.ready.is) in
+    c.in-Rows.is (c.item.ensures.is v c.requires.ready.is) in
     let r = c.open_rows-own.result in
     let p = words_in c.args.len c.args.out.now in
     let q = words_in r.end c.open_rows-own.new.out in
-    let o = c.open_rows-own.ensures.opened v x.0 x.1 x.2 c.requires.ready.sound in
-    let e = g.met.S.Source.one c.args.source c.args.slot w v h c.requires.ready.is in
+    let o = c.open_rows-own.ensures.opened v x.0 x.1 (rw c.again.ensures x.2) c.requires.ready.sound in
+    let e = g.met.S.Source.one c.args.source.now c.args.slot w v h c.requires.ready.is in
     all-laid v x.0 c.args.from p q r.first r.words r.slots c.args.depth o
     c.requires.ready.room c.requires.ready.low
     g.S.Source.are c.in-Rows.rows c.in-Rows.count x.1.1 x.2 (words_in c.lay_rows.result c.lay_rows.new.out)
@@ -343,11 +347,11 @@ pub lay_slot-returns-in-Rows-clause-kept : goal.lay_slot-returns-in-Rows-clause-
 lay_slot-returns-in-Rows-clause-kept g t c =
     let v = c.requires.ready.value in
     let x = subst (λ (x : Item g.row.S-Numbers.Denot g.row.S-Rows.Denot). IsItem g.S.Source.packs g.S.Source.are x v)
-    c.in-Rows.is (c.item.ensures v c.requires.ready.is) in
+    c.in-Rows.is (c.item.ensures.is v c.requires.ready.is) in
     let r = c.open_rows-own.result in
     let p = words_in c.args.len c.args.out.now in
     let q = words_in r.end c.open_rows-own.new.out in
-    let o = c.open_rows-own.ensures.opened v x.0 x.1 x.2 c.requires.ready.sound in
+    let o = c.open_rows-own.ensures.opened v x.0 x.1 (rw c.again.ensures x.2) c.requires.ready.sound in
     let grown = all-grown v x.0 c.args.from p q r.first r.words r.slots c.args.depth o
     c.requires.ready.room c.requires.ready.low
     g.S.Source.are c.in-Rows.rows c.in-Rows.count x.1.1 x.2 (words_in c.lay_rows.result c.lay_rows.new.out)
@@ -368,7 +372,7 @@ lay_slots-lay_slot-end-requires g t c κs live =
     let s = c.requires.short in
     let ready = next-ready g.S.Source.has c.args.source c.args.count c.args.depth i lt
     (length (words_in c.loop-slot.end c.loop-slot.out)) c.loop-slot.invariant.ready in
-    (omega arith, (live.0, (live.1.0, (live.1.1, (ready, (omega arith, omega arith))))))
+    (omega arith, (live.0, (live.1.0, (live.1.1.0, (live.1.1.1, (ready, (omega arith, omega arith)))))))
 
 pub lay_slots-loop-slot-preserved : goal.lay_slots-loop-slot-preserved
 lay_slots-loop-slot-preserved g t c =
@@ -393,6 +397,9 @@ lay_slots-loop-slot-preserved g t c =
           (then-ready g.S.Source.has c.args.source n d i lt c.args.first p q v.ready h);
       same = kept-then c.loop-slot.end c.lay_slot-end.result c.args.out.now c.loop-slot.out c.lay_slot-end.new.out
           (omega arith) v.same kept;
+      reads = slot-weighed g.S.Source.has c.args.source n i (g.S.Source.spent c.args.reads.now)
+          (g.S.Source.spent c.loop-slot.reads) (g.S.Source.spent c.tick.new.reads)
+          (g.S.Source.spent c.lay_slot-end.new.reads) lt v.reads c.tick.ensures c.lay_slot-end.ensures.reads;
     }
 
 pub lay_slots-returns-clause-laid : goal.lay_slots-returns-clause-laid
@@ -437,7 +444,7 @@ lay_rows-lay_slots-end-requires g t c κs live =
     c.args.slots c.args.depth c.loop-row.row c.loop-row-test.true c.slots.ensures
     (length (words_in c.loop-row.end c.loop-row.out))
     c.loop-row.invariant.ready in
-    (omega arith, (live.0, (live.1.0, (live.1.1, (ready, (omega arith, omega arith))))))
+    (omega arith, (live.0, (live.1.0, (live.1.1.0, (live.1.1.1, (ready, (omega arith, omega arith)))))))
 
 pub lay_rows-loop-row-preserved : goal.lay_rows-loop-row-preserved
 lay_rows-loop-row-preserved g t c =
@@ -468,6 +475,10 @@ lay_rows-loop-row-preserved g t c =
           c.slots.ensures c.loop-row.next p q v.ready h);
       same = kept-then c.loop-row.end c.lay_slots-end.result c.args.out.now c.loop-row.out c.lay_slots-end.new.out
           (omega arith) v.same kept;
+      reads = λ bs is e w s. row-weighed g.S.Source.has g.S.Source.are c.args.rows c.slots.result a b i
+          (g.S.Source.spent c.args.reads.now) (g.S.Source.spent c.loop-row.reads) (g.S.Source.spent c.tick.new.reads)
+          (g.S.Source.spent c.lay_slots-end.new.reads) c.slots.ensures c.tick.ensures c.lay_slots-end.ensures.reads bs
+          is (omega arith) w s (v.reads bs is e w s);
     }
 
 pub lay_rows-returns-clause-laid : goal.lay_rows-returns-clause-laid
@@ -476,3 +487,79 @@ lay_rows-returns-clause-laid g t c bs is e w s =
     (words_in c.loop-row.end c.loop-row.out)
     (let f = c.loop-row-test.false in omega arith))
     ∙ c.loop-row.invariant.rest bs is e w s
+
+-- ---- what is read
+
+pub lay_slot-returns-in-Numbers-clause-reads : goal.lay_slot-returns-in-Numbers-clause-reads
+lay_slot-returns-in-Numbers-clause-reads g t c w h =
+    let v = c.requires.ready.value in
+    let x = subst (λ (x : Item g.row.S-Numbers.Denot g.row.S-Rows.Denot). IsItem g.S.Source.packs g.S.Source.are x v)
+    c.in-Numbers.is (c.item.ensures.is v c.requires.ready.is) in
+    let same = ap weight (g.met.S.Source.one c.args.source.now c.args.slot w v h c.requires.ready.is) in
+    let i = c.item.ensures.reads in
+    let n = length-lay v 0 c.requires.ready.sound in
+    let e = ap length (x.2.content 0) in
+    let r = c.append_numbers.ensures.reads x.0 x.1 in
+    let s = size-weight v c.requires.ready.sound in
+    omega arith
+
+pub lay_slot-returns-in-Struct-clause-reads : goal.lay_slot-returns-in-Struct-clause-reads
+lay_slot-returns-in-Struct-clause-reads g t c w h =
+    let v = c.requires.ready.value in
+    let x = subst (λ (x : Item g.row.S-Numbers.Denot g.row.S-Rows.Denot). IsItem g.S.Source.packs g.S.Source.are x v)
+    c.in-Struct.is (c.item.ensures.is v c.requires.ready.is) in
+    let same = ap weight (g.met.S.Source.one c.args.source.now c.args.slot w v h c.requires.ready.is) in
+    let i = c.item.ensures.reads in
+    let r = c.open_struct-own.result in
+    let o = (c.open_struct-own.ensures.opened v x.0 x.1 x.2 c.requires.ready.sound).block in
+    let one = struct-one v x.0 x.1 in
+    let n = one-weighed g.S.Source.has c.slots.result x.0 r.words r.slots (g.S.Source.spent c.open_struct-own.new.reads)
+    (g.S.Source.spent c.lay_slots.new.reads) one o.wide o.sound (c.slots.ensures x.0 x.2) c.lay_slots.ensures.reads in
+    let k = c.open_struct-own.ensures.reads x.0 x.2 in
+    let all = struct-weighs v x.0 x.1 in
+    omega arith
+
+pub lay_slot-returns-in-Links-clause-reads : goal.lay_slot-returns-in-Links-clause-reads
+lay_slot-returns-in-Links-clause-reads g t c w h =
+    let v = c.requires.ready.value in
+    let x = subst (λ (x : Item g.row.S-Numbers.Denot g.row.S-Rows.Denot). IsItem g.S.Source.packs g.S.Source.are x v)
+    c.in-Links.is (c.item.ensures.is v c.requires.ready.is) in
+    let same = ap weight (g.met.S.Source.one c.args.source.now c.args.slot w v h c.requires.ready.is) in
+    let i = c.item.ensures.reads in
+    let r = c.open_links-own.result in
+    let o = (c.open_links-own.ensures.opened v x.0 x.1 x.2 c.requires.ready.sound).block in
+    let one = links-one c.in-Links.count v x.0 x.1 in
+    let n = one-weighed g.S.Source.has c.slots-in-Links.result x.0 r.words r.slots
+    (g.S.Source.spent c.open_links-own.new.reads) (g.S.Source.spent c.lay_slots-in-Links.new.reads) one o.wide o.sound
+    (c.slots-in-Links.ensures x.0 x.2) c.lay_slots-in-Links.ensures.reads in
+    let k = c.open_links-own.ensures.reads x.0 x.2 in
+    let all = links-weigh c.in-Links.count v x.0 x.1 in
+    let weighs = all.0 in
+    omega arith
+
+pub lay_slot-returns-in-Rows-clause-reads : goal.lay_slot-returns-in-Rows-clause-reads
+lay_slot-returns-in-Rows-clause-reads g t c w h =
+    let v = c.requires.ready.value in
+    let x = subst (λ (x : Item g.row.S-Numbers.Denot g.row.S-Rows.Denot). IsItem g.S.Source.packs g.S.Source.are x v)
+    c.in-Rows.is (c.item.ensures.is v c.requires.ready.is) in
+    let same = ap weight (g.met.S.Source.one c.args.source.now c.args.slot w v h c.requires.ready.is) in
+    let i = c.item.ensures.reads in
+    let o = (c.open_rows-own.ensures.opened v x.0 x.1 (rw c.again.ensures x.2) c.requires.ready.sound).block in
+    let n = c.lay_rows.ensures.reads x.0 x.2 x.1.1 o.wide o.sound in
+    let k = c.open_rows-own.ensures.reads x.0 (rw c.again.ensures x.2) in
+    let all = rows-weigh c.in-Rows.count v x.0 x.1 in
+    let e = x.1.1 in
+    let rows = all.0 in
+    let words = all.1 in
+    omega arith
+
+pub lay_slots-returns-clause-reads : goal.lay_slots-returns-clause-reads
+lay_slots-returns-clause-reads g t c ts m are =
+    slots-weighed c.args.count c.loop-slot.slot (g.S.Source.spent c.args.reads.now)
+    (g.S.Source.spent c.loop-slot.reads) ts c.loop-slot.auto.slot-end c.loop-slot-test.false
+    (c.loop-slot.invariant.reads ts m are)
+
+pub lay_rows-returns-clause-reads : goal.lay_rows-returns-clause-reads
+lay_rows-returns-clause-reads g t c bs is e w s =
+    let r = c.loop-row.invariant.reads bs is e w s in
+    omega arith

@@ -1,11 +1,12 @@
 use Rattle.std.proofs.Common.{◌≡◌, ◌+◌, ◌-◌, ◌*◌, ◌/◌, ◌≤◌, length}
-use Rattle.capn_value.specs.Tree.{Trees, Bodies, tree_at, count, count_rows}
+use Rattle.capn_value.specs.Tree.{Trees, Bodies, tree_at, count, count_rows, row_words}
 use Rattle.std.proofs.Common.{ℕ, ◌<◌}
 use Rattle.capn_words.specs.Message.{words_in}
 use Rattle.capn_layout.specs.inner.Draft.{IsKept}
 use Rattle.capn_layout.specs.LayoutSteps.{laid_slots, laid_rows, past, rows_past}
 use Rattle.capn_layout.specs.Ready.{AreReady, RowsReady}
 use Rattle.capn_layout.specs.Sound.{AreWide, SoundRows}
+use Rattle.capn_layout.specs.Weight.{weights, weights_in_rows}
 use Rattle.capn_layout.proofs.object_layout.+objects.Given as goal
 
 abbrev pub decreases-lay_slot : goal.decreases-lay_slot
@@ -25,6 +26,9 @@ invariant-lay_slots-loop-slot g l = record {
   inside : l.first + l.count ≤ l.end;
   ready : AreReady g.S.Source.has l.source l.slot l.count l.depth (length (words_in l.end l.out)) (length l.out / 8);
   same : IsKept l.end l.initial.out l.out;
+  reads : (ts : Trees) → l.count ≤ count ts → ((k : ℕ) → k < l.count → g.S.Source.has l.source k (tree_at ts k))
+      → g.S.Source.spent l.reads + 20 * weights (past l.slot ts)
+      ≤ g.S.Source.spent l.fn.reads + 12 * l.slot + 20 * weights ts;
 }
 
 abbrev pub invariant-lay_rows-loop-row : goal.invariant-lay_rows-loop-row
@@ -36,4 +40,8 @@ invariant-lay_rows-loop-row g l = record {
   ready : RowsReady g.S.Source.are l.rows l.row l.count l.words l.slots l.depth (length (words_in l.end l.out))
       (length l.out / 8);
   same : IsKept l.end l.initial.out l.out;
+  reads : (bs : Bodies) → g.S.Source.are l.rows bs → count_rows bs ≡ l.count → AreWide l.words l.slots bs
+      → SoundRows bs
+      → g.S.Source.spent l.reads + 12 * row_words (rows_past l.row bs) + 20 * weights_in_rows (rows_past l.row bs)
+      ≤ g.S.Source.spent l.fn.reads + l.row + 12 * row_words bs + 20 * weights_in_rows bs;
 }

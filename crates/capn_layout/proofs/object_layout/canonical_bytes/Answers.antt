@@ -13,12 +13,12 @@ size_of_slot-requires g c =
 pub returns : goal.returns
 returns g c v h =
     let r = c.requires in
-    let laid = c.lay_root.ensures v h in
-    let own = c.lay_root.ensures r.value r.is in
+    let laid = c.lay_root.ensures.laid v h in
+    let own = c.lay_root.ensures.laid r.value r.is in
     let a = laid.0 in
     let b = own.0 in
     let l = length-canon r.value r.sound in
-    let n = c.size_of_slot.ensures r.value r.is in
+    let n = c.size_of_slot.ensures.size r.value r.is in
     let room = r.room in
     let len = c.in_ok-bytes.ensures in
     let items = c.in_ok-bytes.bytes.items in

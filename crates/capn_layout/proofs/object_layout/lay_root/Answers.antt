@@ -18,8 +18,9 @@ lay_slot-requires-clause-ready g c =
     let n : length (words_in c.push-len.result c.push-len.new.out) ≡ 1 =
     length-words_in c.push-len.result c.push-len.new.out ∙ appends-length 0 c.push-len.result (0 ∷ []) c.args.out.now
     c.push-len.new.out e ∙ omega arith in
-    subst (λ (j : ℕ). IsReadyIn g.S.Source.has c.args.source 0 c.args.depth j (length c.push-len.new.out / 8)) (sym n)
-    (subst (λ (k : ℕ). IsReadyIn g.S.Source.has c.args.source 0 c.args.depth 1 (k / 8)) (sym e.kept.same)
+    subst (λ (j : ℕ). IsReadyIn g.S.Source.has c.args.source.now 0 c.args.depth j (length c.push-len.new.out / 8))
+    (sym n)
+    (subst (λ (k : ℕ). IsReadyIn g.S.Source.has c.args.source.now 0 c.args.depth 1 (k / 8)) (sym e.kept.same)
     c.requires.ready)
 
 pub lay_slot-requires-clause-inside : goal.lay_slot-requires-clause-inside
@@ -33,14 +34,14 @@ lay_slot-requires-clause-short g c =
     let s = c.requires.short in
     omega arith
 
-pub returns : goal.returns
-returns g c v h =
+pub returns-clause-laid : goal.returns-clause-laid
+returns-clause-laid g c v h =
     let out = c.args.out.now in
     let q = c.lay_slot.new.out in
     let n = c.lay_slot.result in
     let p = words_in c.push-len.result c.push-len.new.out in
     let begun : p ≡ [] ++ (0 ∷ []) = c.push-len.ensures.words ∙ ap (λ (x : List ℕ). x ++ (0 ∷ [])) (words-none out) in
-    let all : (w : Tree) → g.S.Source.has c.args.source 0 w → words_in n q ≡ words w =
+    let all : (w : Tree) → g.S.Source.has c.args.source.now 0 w → words_in n q ≡ words w =
     λ w is. laid-words w p (words_in n q) begun (c.lay_slot.ensures.laid w is) in
     let r = c.requires.ready in
     let long = ap length (all r.value r.is) ∙ length_words r.value r.sound in

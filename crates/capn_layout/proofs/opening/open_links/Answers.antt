@@ -53,3 +53,6 @@ returns-clause-kept g c =
     (grown-end 0 c.args.count x.1 c.args.len c.append_rows-end.result c.put.new.out c.append_rows-end.new.out
     (c.append_rows-end.ensures.grown x.1 x.3 (links-wide c.args.count x.0 x.1 x.2 x.4)))
     (c.put.ensures c.args.len c.requires.order (omega arith)).kept c.append_rows-end.ensures.kept
+
+pub returns-clause-reads : goal.returns-clause-reads
+returns-clause-reads g c bs is = c.append_rows-end.ensures.reads bs is

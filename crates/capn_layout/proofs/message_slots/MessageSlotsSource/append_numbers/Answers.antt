@@ -16,12 +16,20 @@ pub append_bits-requires-clause-room : goal.append_bits-requires-clause-room
 append_bits-requires-clause-room g c =
     let h = c.requires.1 in
     let r = c.requires.2 in
-    let x = c.args.numbers in
-    let l = length-first-bits (g.S.Space.message x.space.now) x.start.segment x.start.word x.bits h.content.within in
+    let x = c.args.numbers.now in
+    let l = length-first-bits x.space x.start.segment x.start.word x.bits h.content.within in
     let e = ap length h.is in
     omega arith
 
-pub returns : goal.returns
-returns g c ws h =
+pub returns-clause-appends : goal.returns-clause-appends
+returns-clause-appends g c ws h =
     subst (λ (x : List ℕ). Appends c.args.len c.append_bits.result x c.args.out.now c.append_bits.new.out) (sym h.is)
-    c.append_bits.ensures
+    c.append_bits.ensures.appends
+
+pub returns-clause-reads : goal.returns-clause-reads
+returns-clause-reads g c ws h =
+    let x = c.args.numbers.now in
+    let l = length-first-bits x.space x.start.segment x.start.word x.bits h.content.within in
+    let e = ap length h.is in
+    let r = c.append_bits.ensures.reads in
+    omega arith

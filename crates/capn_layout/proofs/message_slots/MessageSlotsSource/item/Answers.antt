@@ -9,9 +9,9 @@ use Rattle.capn_layout.proofs.message_slots.MessageSlotsSource.item.Goals as goa
 
 pub overflow_add-at : goal.overflow_add-at
 overflow_add-at g c =
-    let m = g.S.Space.message c.args.self.space.now in
+    let m = c.args.self.now.space in
     let h = c.requires.1 in
-    let all = segment-room m c.args.self.start.segment h.message h.exists in
+    let all = segment-room m c.args.self.now.start.segment h.message h.exists in
     let p = h.place in
     omega arith
 
@@ -23,34 +23,35 @@ target_at-requires-clause-place g c = c.requires.1.place
 
 pub target_at-requires-clause-found : goal.target_at-requires-clause-found
 target_at-requires-clause-found g c =
-    found (g.S.Space.message c.args.self.space.now) (record {
-      segment = c.args.self.start.segment;
-      word = c.args.self.start.word + c.args.slot;
+    found c.args.self.now.space (record {
+      segment = c.args.self.now.start.segment;
+      word = c.args.self.now.start.word + c.args.slot;
     }) c.requires.0 c.requires.1.at
 
-pub returns-in-Nil : goal.returns-in-Nil
-returns-in-Nil g c v h =
-    null-of (g.S.Space.message c.args.self.space.now) (record {
-      segment = c.args.self.start.segment;
-      word = c.args.self.start.word + c.args.slot;
-    }) v (c.target_at.ensures ∙ ap Ok c.in-Nil.is) h.at
+pub returns-in-Nil-clause-is : goal.returns-in-Nil-clause-is
+returns-in-Nil-clause-is g c v h =
+    null-of c.args.self.now.space (record {
+      segment = c.args.self.now.start.segment;
+      word = c.args.self.now.start.word + c.args.slot;
+    }) v (c.target_at.ensures.found ∙ ap Ok c.in-Nil.is) h.at
 
-pub returns-in-Cap : goal.returns-in-Cap
-returns-in-Cap g c v h =
-    cap-at (g.S.Space.message c.args.self.space.now) (record {
-      segment = c.args.self.start.segment;
-      word = c.args.self.start.word + c.args.slot;
-    }) v c.in-Cap.index (c.target_at.ensures ∙ ap Ok c.in-Cap.is) h.at
+pub returns-in-Cap-clause-is : goal.returns-in-Cap-clause-is
+returns-in-Cap-clause-is g c v h =
+    cap-at c.args.self.now.space (record {
+      segment = c.args.self.now.start.segment;
+      word = c.args.self.now.start.word + c.args.slot;
+    }) v c.in-Cap.index (c.target_at.ensures.found ∙ ap Ok c.in-Cap.is) h.at
 
 pub item_at-requires-clause-message : goal.item_at-requires-clause-message
 item_at-requires-clause-message g c = c.requires.1.message
 
 pub item_at-requires-clause-content : goal.item_at-requires-clause-content
 item_at-requires-clause-content g c =
-    let m = g.S.Space.message c.args.self.space.now in
-    let at : Place = record { segment = c.args.self.start.segment; word = c.args.self.start.word + c.args.slot } in
+    let m = c.args.self.now.space in
+    let at : Place =
+      record { segment = c.args.self.now.start.segment; word = c.args.self.now.start.word + c.args.slot } in
     let x = c.in-Content in
-    let e = c.target_at.ensures ∙ ap Ok x.is in
+    let e = c.target_at.ensures.found ∙ ap Ok x.is in
     record {
       exists = present m at x.segment x.start x.pads x.shape c.requires.1.place e;
       within = (inside m at x.segment x.start x.pads x.shape e).0;
@@ -59,33 +60,33 @@ item_at-requires-clause-content g c =
 pub item_at-requires-clause-rows : goal.item_at-requires-clause-rows
 item_at-requires-clause-rows g c =
     let x = c.in-Content in
-    (inside (g.S.Space.message c.args.self.space.now) (record {
-      segment = c.args.self.start.segment;
-      word = c.args.self.start.word + c.args.slot;
-    }) x.segment x.start x.pads x.shape (c.target_at.ensures ∙ ap Ok x.is)).1
+    (inside c.args.self.now.space (record {
+      segment = c.args.self.now.start.segment;
+      word = c.args.self.now.start.word + c.args.slot;
+    }) x.segment x.start x.pads x.shape (c.target_at.ensures.found ∙ ap Ok x.is)).1
 
 pub item_at-requires-clause-room : goal.item_at-requires-clause-room
 item_at-requires-clause-room g c =
     let x = c.in-Content in
-    room-of (g.S.Space.message c.args.self.space.now) (record {
-      segment = c.args.self.start.segment;
-      word = c.args.self.start.word + c.args.slot;
-    }) x.segment x.start x.pads x.shape (c.target_at.ensures ∙ ap Ok x.is)
+    room-of c.args.self.now.space (record {
+      segment = c.args.self.now.start.segment;
+      word = c.args.self.now.start.word + c.args.slot;
+    }) x.segment x.start x.pads x.shape (c.target_at.ensures.found ∙ ap Ok x.is)
 
 pub item_at-requires-clause-some : goal.item_at-requires-clause-some
 item_at-requires-clause-some g c =
     let x = c.in-Content in (
       c.requires.0,
-      inside-of (g.S.Space.message c.args.self.space.now) (record {
-        segment = c.args.self.start.segment;
-        word = c.args.self.start.word + c.args.slot;
-      }) x.segment x.start x.pads x.shape (c.target_at.ensures ∙ ap Ok x.is) c.requires.0 c.requires.1.at,
+      inside-of c.args.self.now.space (record {
+        segment = c.args.self.now.start.segment;
+        word = c.args.self.now.start.word + c.args.slot;
+      }) x.segment x.start x.pads x.shape (c.target_at.ensures.found ∙ ap Ok x.is) c.requires.0 c.requires.1.at,
     )
 
-pub returns-in-Content : goal.returns-in-Content
-returns-in-Content g c v h =
+pub returns-in-Content-clause-is : goal.returns-in-Content-clause-is
+returns-in-Content-clause-is g c v h =
     let x = c.in-Content in
-    c.item_at.ensures v (inside-of (g.S.Space.message c.args.self.space.now) (record {
-      segment = c.args.self.start.segment;
-      word = c.args.self.start.word + c.args.slot;
-    }) x.segment x.start x.pads x.shape (c.target_at.ensures ∙ ap Ok x.is) v h.at)
+    c.item_at.ensures v (inside-of c.args.self.now.space (record {
+      segment = c.args.self.now.start.segment;
+      word = c.args.self.now.start.word + c.args.slot;
+    }) x.segment x.start x.pads x.shape (c.target_at.ensures.found ∙ ap Ok x.is) v h.at)

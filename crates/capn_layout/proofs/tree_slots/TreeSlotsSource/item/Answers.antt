@@ -11,8 +11,8 @@ item_of-requires g c =
     let h = subst (λ s. HasValue (values_of s) c.args.slot c.requires.0) c.in-Root.is c.requires.1 in
     subst Sound (root-is c.in-Root.value.now c.args.slot c.requires.0 h) h.sound
 
-pub returns-in-Root : goal.returns-in-Root
-returns-in-Root g c v x =
+pub returns-in-Root-clause-is : goal.returns-in-Root-clause-is
+returns-in-Root-clause-is g c v x =
     let h = subst (λ s. HasValue (values_of s) c.args.slot v) c.in-Root.is x in
     subst (λ (t : Tree). IsItem PacksNumbers AreBodies c.item_of.result t)
     (sym (root-is c.in-Root.value.now c.args.slot v h))
@@ -36,8 +36,8 @@ item_of-requires-in-Slots g c =
     subst Sound (slot-is c.in-Slots.values.now c.args.slot c.requires.0 c.index-values-slot.result
     c.index-values-slot.is h) h.sound
 
-pub returns-in-Slots : goal.returns-in-Slots
-returns-in-Slots g c v x =
+pub returns-in-Slots-clause-is : goal.returns-in-Slots-clause-is
+returns-in-Slots-clause-is g c v x =
     let h = subst (λ s. HasValue (values_of s) c.args.slot v) c.in-Slots.is x in
     subst (λ (t : Tree). IsItem PacksNumbers AreBodies c.item_of-in-Slots.result t)
     (sym (slot-is c.in-Slots.values.now c.args.slot v c.index-values-slot.result c.index-values-slot.is h))

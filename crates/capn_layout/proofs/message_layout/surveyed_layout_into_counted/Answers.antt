@@ -2,7 +2,8 @@ use Rattle.std.proofs.Common.{ℕ, ◌++◌, List, length, take, drop, ap, sym, 
 use Rattle.std.proofs.lemmas.List.{length-take-le, take-append-drop, drop-append-le}
 use Rattle.capn_layout.specs.Layout.{canon}
 use Rattle.capn_layout.proofs.shared.Room.{length-canon}
-use Rattle.capn_layout.proofs.message_layout.surveyed_layout_into.Goals as goal
+use Rattle.capn_layout.proofs.shared.Counted.{weight-cost, at-slot}
+use Rattle.capn_layout.proofs.message_layout.surveyed_layout_into_counted.Goals as goal
 
 pub lay_root-words-requires-clause-ready : goal.lay_root-words-requires-clause-ready
 lay_root-words-requires-clause-ready g c =
@@ -12,19 +13,19 @@ lay_root-words-requires-clause-ready g c =
     let e = c.min-most.ensures in
     let t = length-take-le c.min-most.result c.args.out.now (omega arith) in
     let room = r.room in
-    record { value = r.value; is = r.is; sound = r.sound; low = r.low; room = omega arith }
+    record { value = r.value; is = rw c.again.ensures (r.is); sound = r.sound; low = r.low; room = omega arith }
 
-pub returns : goal.returns
-returns g c v is =
+pub returns-clause-written : goal.returns-clause-written
+returns-clause-written g c v is =
     let h = c.requires.ready.is in
     let r = c.requires.ready in
     let m = c.min-most.result in
     let out = c.args.out.now in
     let e = c.min-most.ensures in
     let t = length-take-le m out (omega arith) in
-    let laid = c.lay_root-words.ensures v
-    (record { message = h.message; exists = h.exists; place = h.place; at = is }) in
-    let own = c.lay_root-words.ensures r.value r.is in
+    let laid = c.lay_root-words.ensures.laid v
+    (rw c.again.ensures (at-slot c.args.space.now 0 0 v h.message h.exists h.place is)) in
+    let own = c.lay_root-words.ensures.laid r.value (rw c.again.ensures (r.is)) in
     let a = laid.0 in
     let b = own.0 in
     let l = length-canon r.value r.sound in
@@ -37,3 +38,11 @@ returns g c v is =
           ∙ ap (λ (x : List ℕ). canon v ++ x)
           (sym (drop-append-le n (take m out) (drop m out) (omega arith)) ∙ ap (drop n) (take-append-drop m out)),
     )
+
+pub returns-clause-reads : goal.returns-clause-reads
+returns-clause-reads g c v is base =
+    let h = c.requires.ready.is in
+    let w = weight-cost c.args.space.now base v (record { segment = 0; word = 0 }) is in
+    let r = c.lay_root-words.ensures.reads v
+    (rw c.again.ensures (at-slot c.args.space.now 0 0 v h.message h.exists h.place is)) in
+    omega arith

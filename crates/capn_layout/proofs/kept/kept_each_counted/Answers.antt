@@ -3,20 +3,22 @@ use Rattle.capn_walk.specs.ValueAt.{words_from}
 use Rattle.capn_walk.proofs.shared.RowWalks.{row-inside}
 use Rattle.capn_target.proofs.shared.Segments.{segment-room}
 use Rattle.capn_layout.proofs.shared.Cut.{part-le}
+use Rattle.capn_layout.proofs.shared.Counted.{times-le}
 use Rattle.capn_layout.proofs.shared.EachRow.{kept-begins, kept-more, kept-full, kept-ends}
-use Rattle.capn_layout.proofs.kept.kept_in_rows.Goals as goal
+use Rattle.capn_layout.proofs.kept.kept_each_counted.Goals as goal
 
 pub loop-row-init : goal.loop-row-init
 loop-row-init g c = record {
   next = omega arith;
   low = omega arith;
-  rest = kept-begins (g.S.Space.message c.args.space.now) c.args.start.segment (c.args.start.word + c.args.inset)
+  reads = omega arith;
+  rest = kept-begins c.args.space c.args.start.segment (c.args.start.word + c.args.inset)
       c.args.size c.args.step c.args.count;
 }
 
 pub overflow_add-at : goal.overflow_add-at
 overflow_add-at g c =
-    let m = g.S.Space.message c.args.space.now in
+    let m = c.args.space in
     let room = row-inside c.args.start.word c.args.count c.loop-row.row c.args.step c.loop-row.next _
     c.loop-row-test.true c.loop-row.invariant.next c.requires.content.within in
     let all = segment-room m c.args.start.segment c.requires.message c.requires.content.exists in
@@ -32,7 +34,7 @@ kept_above-kept-requires-clause-content g c =
 
 pub overflow_add-next : goal.overflow_add-next
 overflow_add-next g c =
-    let m = g.S.Space.message c.args.space.now in
+    let m = c.args.space in
     let room = row-inside c.args.start.word c.args.count c.loop-row.row c.args.step c.loop-row.next _
     c.loop-row-test.true c.loop-row.invariant.next c.requires.content.within in
     let all = segment-room m c.args.start.segment c.requires.message c.requires.content.exists in
@@ -40,25 +42,43 @@ overflow_add-next g c =
 
 pub loop-row-preserved : goal.loop-row-preserved
 loop-row-preserved g c =
-    let m = g.S.Space.message c.args.space.now in
+    let m = c.args.space in
     let k = part-le c.args.size (words_from m c.args.start.segment (c.loop-row.next + c.args.inset)) in
-    let e = c.kept_above-kept.ensures in
+    let e = c.kept_above-kept.ensures.kept in
     let l = c.loop-row.invariant.low in
     let n = c.loop-row.invariant.next in
     record {
       next = let d : (c.loop-row.row + 1) * c.args.step ≡ c.loop-row.row * c.args.step + c.args.step = omega arith in
           omega arith;
       low = omega arith;
+      reads =
+          let d : (c.loop-row.row + 1) * c.args.size ≡ c.loop-row.row * c.args.size + c.args.size = omega arith in
+          let r = c.loop-row.invariant.reads in
+          let k = c.kept_above-kept.ensures.reads in
+          omega arith;
       rest = kept-more m c.args.start.segment c.loop-row.next c.args.inset c.args.size c.args.step c.args.count
           c.loop-row.row c.loop-row.kept c.kept_above-kept.result c.loop-row-test.true e ∙ c.loop-row.invariant.rest;
     }
 
-pub returns-then-kept-size : goal.returns-then-kept-size
-returns-then-kept-size g c =
-    kept-full (g.S.Space.message c.args.space.now) c.args.start.segment (c.loop-row.next + c.args.inset) c.args.size
+pub returns-then-kept-size-clause-kept : goal.returns-then-kept-size-clause-kept
+returns-then-kept-size-clause-kept g c =
+    kept-full c.args.space c.args.start.segment (c.loop-row.next + c.args.inset) c.args.size
     c.args.step (c.args.count - c.loop-row.row) c.loop-row.kept _ c.if-kept-size.true c.loop-row.invariant.rest
 
-pub returns : goal.returns
-returns g c =
-    kept-ends (g.S.Space.message c.args.space.now) c.args.start.segment (c.loop-row.next + c.args.inset) c.args.size
+pub returns-clause-kept : goal.returns-clause-kept
+returns-clause-kept g c =
+    kept-ends c.args.space c.args.start.segment (c.loop-row.next + c.args.inset) c.args.size
     c.args.step c.args.count c.loop-row.row c.loop-row.kept _ c.loop-row-test.false c.loop-row.invariant.rest
+
+pub returns-then-kept-size-clause-reads : goal.returns-then-kept-size-clause-reads
+returns-then-kept-size-clause-reads g c =
+    let k = times-le c.loop-row.row c.args.count c.args.size (let lt = c.loop-row-test.true in omega arith) in
+    let r = c.loop-row.invariant.reads in
+    let lt = c.loop-row-test.true in
+    omega arith
+
+pub returns-clause-reads : goal.returns-clause-reads
+returns-clause-reads g c =
+    let k = times-le c.loop-row.row c.args.count c.args.size (omega arith) in
+    let r = c.loop-row.invariant.reads in
+    omega arith
