@@ -5,5 +5,6 @@ use Rattle.capn_layout.proofs.message_slots.MessageSlotsSource.slots.Goals as go
 pub returns : goal.returns
 returns g c bs h k lt =
     rw c.again.ensures (slots-of-row c.args.rows.now.space c.args.rows.now.start c.args.rows.now.count
-    c.args.rows.now.words c.args.rows.now.slots bs c.args.row k h (let e = h.number in let f = c.requires.1.number in let l = c.requires.2 in
+    c.args.rows.now.words c.args.rows.now.slots bs c.args.row k h
+    (let e = h.number in let f = c.requires.1.number in let l = c.requires.2 in
     omega arith) lt)
