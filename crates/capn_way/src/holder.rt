@@ -9,7 +9,6 @@ ghost use Rattle.capn_way.specs.Holders.{IsHolder, IsHolderOrRoot};
 ghost use Rattle.capn_target.specs.Target.{target};
 ghost use Rattle.capn_way.specs.inner.Followed as spec;
 
-use crate::visit::ROOT;
 use capn_target::{Shape, Target, resolve, segment_length};
 use capn_words::{Place, Space, Width};
 
@@ -74,12 +73,12 @@ pub fn holder_of<S: Space>(space: &S, way: &[u32]) -> Option<Holder>
 fn held<S: Space>(space: &S, way: &[u32]) -> Option<Holder>
     ensures { result ≡ spec.holder_at (spec.follow (S.message space.now) (length way.now) spec.start way.now) }
 {
-    if segment_length(space, ROOT.segment) == 0 {
+    if segment_length(space, Place::ROOT.segment) == 0 {
         return None;
     }
     let root = Spot {
         holder: None,
-        place: ROOT,
+        place: Place::ROOT,
     };
     match followed(space, root, way) {
         Some(spot) => spot.holder,
