@@ -1,4 +1,4 @@
-//! Whether the operations agree with one another on a little of each shape.
+//! Agreement of the operations on a little of each shape.
 
 use crate::calls::{
     canonical, digest, message, packed, paid, received, test, unpacked, walked, words_of,

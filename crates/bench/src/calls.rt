@@ -1,4 +1,4 @@
-//! The calls that are measured, and those that make what they take.
+//! The measured calls, and the calls for their inputs.
 
 use anyhow::{Result, anyhow};
 use capn_canon::{Form, canonical_of, is_canonical};

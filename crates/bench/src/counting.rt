@@ -1,4 +1,4 @@
-//! Runs for a tool that counts instructions.
+//! Runs for an instruction counter.
 
 use crate::operations::{Input, Operation};
 use crate::shapes::{Shape, framed};

@@ -1,4 +1,5 @@
-//! Measures the libraries on messages of eight shapes, which a fixed generator makes.
+//! Measurements of the libraries on messages of eight shapes.
+//! A fixed generator makes the messages.
 //!
 //! - Without a word: the digest of a little of each shape, and whether the operations agree on it.
 //! - `times`: the shortest times of each operation on each shape at four sizes, in nanoseconds a byte.

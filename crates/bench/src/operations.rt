@@ -1,4 +1,4 @@
-//! What is measured.
+//! The measured operations, and their inputs.
 
 use crate::calls::{
     canonical, checked, copied, first_byte, indexed, longer, packed, paid, received, roomed,

@@ -1,4 +1,5 @@
-//! Messages of eight shapes, and a stream of small ones, the same in every run.
+//! Messages of eight shapes, and a stream of small ones.
+//! They are the same in every run.
 
 mod draft;
 mod flat;

@@ -1,4 +1,4 @@
-//! The program `capn`: one command, from standard input to standard output.
+//! The entry point of the program `capn`.
 //!
 //! What it does is said at `capn_program::program`. This file hands it the words of the command line, standard input,
 //! standard output and standard error, and ends with its status: 0 done, 1 refused, 2 a mistake on the command line, 3

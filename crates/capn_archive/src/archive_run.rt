@@ -1,4 +1,4 @@
-//! A run over an archive, from its first byte to its last.
+//! A whole run over an archive.
 
 ghost use Rattle.std.specs.Prelude.{◌≡◌, false};
 ghost use Rattle.capn_words.specs.Watched.{inner_of, has_failed};

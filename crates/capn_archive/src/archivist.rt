@@ -1,4 +1,4 @@
-//! The service of an archive: what is done with each message, and what is kept of it.
+//! The archivist: the service of all tasks over an archive.
 
 ghost use Rattle.std.specs.Prelude.{◌≡◌, ℕ, List, false};
 ghost use Rattle.capn_words.specs.Watched.{inner_of, has_failed};

@@ -1,4 +1,4 @@
-//! What is written after the last message of an archive, and how a run ends.
+//! Closing lines and outcome of a run over an archive.
 
 ghost use Rattle.std.specs.Prelude.{◌≡◌, false};
 ghost use Rattle.capn_words.specs.Watched.{inner_of, has_failed};

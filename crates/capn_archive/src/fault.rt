@@ -1,4 +1,4 @@
-//! Why a run over an archive does not end as done.
+//! Faults of a run over an archive.
 
 use capn_canon::Refusal;
 use capn_endings::{Ending, Line};

@@ -1,4 +1,4 @@
-//! What is found of a message that is accepted.
+//! Findings about an accepted message.
 
 ghost use Rattle.capn_canon.specs.Refusal.{IsUnaccepted};
 ghost use Rattle.capn_archive.specs.Findings.{AreFindings};

@@ -1,4 +1,4 @@
-//! Where a message is, and how large.
+//! The place and the size of a message.
 
 ghost use Rattle.std.specs.Prelude.{◌≡◌};
 ghost use Rattle.capn_archive.specs.Findings as spec;

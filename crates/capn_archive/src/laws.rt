@@ -1,4 +1,4 @@
-//! The laws of runs over an archive, as functions that do nothing.
+//! The laws of runs over an archive, as empty functions.
 
 ghost use Rattle.capn_archive.specs.Laws.{OneArchive, OneUniq};
 

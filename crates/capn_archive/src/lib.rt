@@ -1,4 +1,5 @@
-//! What the program's commands do with an archive: a stream of messages, or a bare input.
+//! The program's commands over an archive.
+//! An archive is a stream of messages, or a bare input.
 //!
 //! [`run_archive`] carries an order out, an [`Archive`]: by its service, the [`Archivist`], it lists messages, says
 //! what limits they need, or writes their canonical bytes as frames. [`run_uniq`] carries out a [`Uniq`] by a

@@ -1,4 +1,4 @@
-//! A line that is written from its end to its beginning.
+//! A line, written from its end to its beginning.
 
 ghost use Rattle.std.specs.Prelude.{◌≡◌, ◌+◌, ◌≤◌, [], ◌++◌, length};
 ghost use Rattle.std.specs.Fmt.{decimal};

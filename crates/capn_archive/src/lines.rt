@@ -1,4 +1,4 @@
-//! The lines that are written of messages.
+//! The lines of messages, accepted or passed over.
 
 ghost use Rattle.std.specs.Prelude.{◌≡◌, ◌++◌, codes, IfOk, IfErr, string_bytes};
 ghost use Rattle.capn_canon.specs.Display.{refusal_text};

@@ -1,4 +1,4 @@
-//! The limits that the messages of an archive need.
+//! The limits needed for the messages of an archive.
 
 ghost use Rattle.std.specs.Prelude.{◌≡◌, ◌<◌, ◌^◌, IfOk, IfErr, string_bytes};
 ghost use Rattle.capn_archive.specs.Lines as spec;

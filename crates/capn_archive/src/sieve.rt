@@ -1,4 +1,4 @@
-//! The service that leaves duplicates out.
+//! The service of `uniq`.
 
 ghost use Rattle.std.specs.Prelude.{◌≡◌, length, false};
 ghost use Rattle.capn_words.specs.Watched.{inner_of, has_failed};

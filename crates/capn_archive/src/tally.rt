@@ -1,4 +1,4 @@
-//! What a run keeps of the messages that it has served.
+//! The tally of the messages served so far.
 
 ghost use Rattle.std.specs.Prelude.{◌≡◌};
 ghost use Rattle.capn_archive.specs.Tally as spec;

@@ -1,4 +1,4 @@
-//! What a run does with an archive.
+//! Task and options of a run over an archive.
 
 use capn_canon::{Form, Limits};
 

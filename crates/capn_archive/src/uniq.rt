@@ -1,4 +1,4 @@
-//! What a run does that leaves duplicates out.
+//! The options of `uniq`.
 
 use capn_canon::{Form, Limits};
 

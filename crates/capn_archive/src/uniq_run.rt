@@ -1,4 +1,4 @@
-//! A run that leaves duplicates out, from its first byte to its last.
+//! A whole run of `uniq`.
 
 ghost use Rattle.std.specs.Prelude.{◌≡◌, false, IfOk, IfErr, string_bytes};
 ghost use Rattle.capn_words.specs.Watched.{inner_of, has_failed};

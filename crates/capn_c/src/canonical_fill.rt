@@ -1,4 +1,4 @@
-//! Canonical bytes of a message in a form, into the caller's buffer.
+//! Canonical bytes of input in any form, into a buffer.
 
 ghost use Rattle.std.specs.Prelude.{IsTrue, ◌≡◌, ◌≢◌, ◌⊎◌, ◌≤◌, ◌+◌, ◌*◌, ℕ, List, None, length, take};
 ghost use Rattle.capn_value.specs.Tree.{Tree as Value};

@@ -1,4 +1,4 @@
-//! Checks of messages that are held in segments.
+//! Checks of messages held in segments.
 
 ghost use Rattle.std.specs.Prelude.{IsTrue, ◌≡◌, ◌≢◌, ◌⊎◌, ◌↔◌, ◌≤◌};
 ghost use Rattle.capn_value.specs.Tree.{Tree as Value};

@@ -1,4 +1,4 @@
-//! What an index has for each slot, as C reads it.
+//! The entries of an index, as C reads them.
 
 ghost use Rattle.std.specs.Prelude.{◌≡◌, ◌≤◌, ◌++◌, length, drop, get_or};
 ghost use Rattle.capn_words.specs.Message.{segment_at};

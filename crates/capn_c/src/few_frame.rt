@@ -1,4 +1,4 @@
-//! Frames of few segments, which are read without memory.
+//! Frames of few segments, read without memory.
 
 ghost use Rattle.std.specs.Prelude.{◌≡◌, ◌≤◌, None, length, IfOk, IfErr, IfSome};
 ghost use Rattle.capn_few.specs.Few.{most_few};

@@ -1,4 +1,4 @@
-//! What a survey says of a message.
+//! The figures of a survey, as C reads them.
 
 ghost use Rattle.std.specs.Prelude.{IsTrue, ◌≡◌, ◌↔◌, ◌≤◌};
 ghost use Rattle.capn_c.specs.Figures.{reported_cap};

@@ -1,4 +1,4 @@
-//! How many bytes a frame needs that is not whole.
+//! The number of bytes needed for an unfinished frame.
 
 ghost use Rattle.std.specs.Prelude.{◌≡◌, ◌+◌, ◌*◌, ◌≤◌, length, drop, sum};
 ghost use Rattle.capn_words.specs.Message.{most_segments, most_message_words};

@@ -1,4 +1,4 @@
-//! Messages that are held in segments.
+//! Messages held in segments.
 
 ghost use Rattle.std.specs.Prelude.{◌≡◌, ◌≢◌, ◌≤◌, ◌+◌, ◌*◌, List, ℕ, Ok, None, length};
 ghost use Rattle.std.specs.Prelude.{IfOk, IfErr, IsErrOf, IsOk, MatchResult};

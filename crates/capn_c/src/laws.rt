@@ -1,4 +1,4 @@
-//! Laws of the answers, each as a function that does nothing.
+//! The laws of the answers, as empty functions.
 
 ghost use Rattle.capn_c.specs.AsFramed.{HeldAreAnsweredAsFramed, HeldAreRefusedAsFramed};
 ghost use Rattle.capn_c.specs.Offsets.{OffsetsAreOfContents, OffsetsAreOfPlaces};

@@ -1,4 +1,5 @@
-//! The libraries, callable from C: one export for each call, over buffers that the caller owns.
+//! The libraries for C: one export for each call.
+//! The buffers belong to the caller.
 //!
 //! Each export answers a status and fills in a [`CapnReport`]. Statuses up to 6 speak of the call: 0, the answer is
 //! there; 1, its buffer has no room; 2, 3, 4 and 6, the form, a limit, the tariff or the style is out of its range; 5,

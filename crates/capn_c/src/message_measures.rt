@@ -1,4 +1,4 @@
-//! What a message comes to beside its price.
+//! The measures of a message beside its price.
 
 ghost use Rattle.std.specs.Prelude.{◌≡◌, ◌≢◌, None, length, IfSome, IsSome};
 ghost use Rattle.std.specs.Prelude.{IfOk, IfErr, IsOk, MatchResult};

@@ -1,4 +1,4 @@
-//! What a call reports beside its status.
+//! The report of a call, beside its status.
 
 ghost use Rattle.std.specs.Prelude.{◌≡◌};
 ghost use Rattle.capn_c.specs.StatusCodes.{at_number, answered};

@@ -1,4 +1,4 @@
-//! How the text of a message is written, as C passes it.
+//! Styles of text, as C passes them.
 
 ghost use Rattle.std.specs.Prelude.{◌≡◌, ◌↔◌, IsSome, IfSome};
 ghost use Rattle.capn_c.specs.Shown as shown;

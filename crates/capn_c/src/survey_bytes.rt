@@ -1,4 +1,5 @@
-//! Surveys of bytes in a form, without memory where their segments are few.
+//! Surveys of bytes in any form.
+//! They take no memory if the segments are few and not packed.
 
 ghost use Rattle.std.specs.Prelude.{◌≡◌, ◌≤◌, ◌+◌, ◌*◌, length, IfOk, IfErr, IsErrOf, MatchResult};
 ghost use Rattle.capn_value.specs.Tree.{Tree as Value};

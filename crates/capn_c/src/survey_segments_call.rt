@@ -1,4 +1,4 @@
-//! The figures of messages that are held in segments.
+//! The figures of messages held in segments.
 
 ghost use Rattle.std.specs.Prelude.{IsTrue, ◌≡◌, ◌≢◌, ◌⊎◌, ◌↔◌, ◌≤◌};
 ghost use Rattle.capn_value.specs.Tree.{Tree as Value};

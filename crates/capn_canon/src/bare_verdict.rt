@@ -1,4 +1,4 @@
-//! Whether bytes are canonical, without a buffer.
+//! The test for canonical bytes, without a buffer.
 
 ghost use Rattle.std.specs.Prelude.{◌≡◌, ◌↔◌, ◌≢◌, ◌+◌, ◌*◌, ◌<◌, ◌≤◌, [], ◌∷◌, ◌⊎◌, None, IsTrue, IfOk, IfErr};
 ghost use Rattle.std.specs.Prelude.{MatchResult, length};

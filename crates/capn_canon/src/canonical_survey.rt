@@ -1,4 +1,4 @@
-//! What the walk of canonical bytes pays, found in one pass.
+//! The one pass over canonical bytes, with its price.
 
 ghost use Rattle.std.specs.Prelude.{◌≡◌, ◌+◌, ◌*◌, ◌<◌, ◌≤◌, [], ◌∷◌, length, IsTrue, IfSome, IsSome, None};
 ghost use Rattle.capn_words.specs.Message.{IsMessage, bytes, segment_at};

@@ -1,4 +1,4 @@
-//! The words of a message of one segment, each read counted.
+//! The words of one segment, with every read counted.
 
 ghost use Rattle.std.specs.Prelude.{◌≡◌, ◌+◌, ◌<◌, [], ◌∷◌, length, slice_index};
 ghost use Rattle.capn_words.specs.Message.{IsMessage, segment_at};

@@ -1,4 +1,4 @@
-//! How the bytes of a message are written.
+//! The forms of a message's bytes.
 
 /// How the bytes of one message are written.
 #[derive(Clone, Copy, Debug, PartialEq, Eq)]

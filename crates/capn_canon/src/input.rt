@@ -1,4 +1,4 @@
-//! Bytes in each form, read as a message for what is done with it.
+//! Messages read from bytes in any form, for a task.
 
 ghost use Rattle.std.specs.Prelude.{ℕ, List, Result};
 ghost use Rattle.capn_walk.specs.Limits.{Bounds};

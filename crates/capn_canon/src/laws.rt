@@ -1,4 +1,4 @@
-//! The laws of canonical bytes, as functions that do nothing.
+//! The laws of canonical bytes, as empty functions.
 
 ghost use Rattle.capn_canon.specs.Laws.{CanonIsForm, EqualExactlySame, DenotedHaveForms, DenoteOne};
 ghost use Rattle.capn_canon.specs.Laws.{DenotedAreNotRefused, RefusedForOneReason};

@@ -1,4 +1,5 @@
-//! Canonical bytes: one spelling for each value, so that equal values have equal bytes.
+//! Canonical bytes: one spelling for each value.
+//! So equal values have equal bytes.
 //!
 //! - [`canonicalise`] answers the canonical bytes of the value that bytes denote, whichever of the three
 //!   forms they are in, and what its walk paid. [`canonical_of`] does so for any message that is a `Space`.

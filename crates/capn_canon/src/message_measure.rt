@@ -1,4 +1,4 @@
-//! What a message costs, how deep it is, whether it is canonical.
+//! The price and depth of a message, and its canonicity.
 
 ghost use Rattle.std.specs.Prelude.{◌≡◌, ◌≢◌, [], ◌∷◌, IfOk, IfErr, IsOk, MatchResult};
 ghost use Rattle.capn_value.specs.Tree.{Tree as Value};

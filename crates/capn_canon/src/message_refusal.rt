@@ -1,4 +1,4 @@
-//! Why a message has no canonical bytes, or they are not written.
+//! Refusals of canonical bytes for a message or a buffer.
 
 use crate::refusal::Refusal;
 use capn_walk::Stopped;

@@ -1,4 +1,4 @@
-//! A survey of all that a message holds.
+//! The survey of a whole message.
 
 ghost use Rattle.std.specs.Prelude.{◌≡◌, ◌≢◌, ℕ, ◌≤◌, IfOk, IfErr, MatchResult};
 ghost use Rattle.capn_value.specs.Tree.{Tree as Value};

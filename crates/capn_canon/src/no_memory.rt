@@ -1,4 +1,4 @@
-//! An allocator that has no memory.
+//! An allocator without memory.
 
 ghost use Rattle.std.specs.Borrow.{ffalse};
 

@@ -1,4 +1,5 @@
-//! Objects that one pass meets at the next free word, each by itself: tested, paid, and opened for what is below them.
+//! Single objects at the next free word of a pass.
+//! Each is tested, paid, and opened for what is below it.
 
 ghost use Rattle.std.specs.Prelude.{◌≡◌, ◌+◌, ◌-◌, ◌*◌, ◌%◌, ◌^◌, ◌<◌, ◌≤◌, [], ◌∷◌, slice_index, IfSome, IsSome};
 ghost use Rattle.capn_words.specs.Message.{IsMessage};

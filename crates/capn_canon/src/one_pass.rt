@@ -1,4 +1,5 @@
-//! One pass over words that finds them to be a canonical layout, and counts what their walk pays.
+//! The one-pass test for a canonical layout.
+//! It counts what the walk of the words pays.
 //!
 //! Every object of a layout is at the next free word, so where each pointer is the one to that word, nothing is out
 //! of range and nothing is read twice: the pass follows the words in order, and needs no survey before it.

@@ -1,4 +1,4 @@
-//! Messages of one segment, and those that are their own canonical bytes.
+//! Messages of one segment, and already canonical ones.
 
 ghost use Rattle.std.specs.Prelude.{◌≡◌, ◌≢◌, ℕ, ◌^◌, ◌<◌, ◌≤◌, List, [], ◌∷◌, None, length, IfSome, IfNone, IsSome};
 ghost use Rattle.capn_words.specs.Message.{IsBare, bytes as bytes_of};

@@ -1,4 +1,4 @@
-//! Whether an object's own words are those of its canonical layout.
+//! Tests of an object's own words for canonical layout.
 
 ghost use Rattle.std.specs.Prelude.{◌≡◌, ◌+◌, ◌*◌, ◌/◌, ◌^◌, ◌<◌, ◌≤◌, IsTrue, ◌↔◌, [], ◌∷◌};
 ghost use Rattle.std.specs.Prelude.{length, take, drop, slice_index, pos, ◌-◌, ◌%◌};

@@ -1,4 +1,4 @@
-//! How far one pass over the words of a layout has come.
+//! The progress of one pass over a layout's words.
 
 ghost use Rattle.std.specs.Prelude.{◌≡◌, ◌+◌, ◌-◌, ◌^◌, ◌<◌, ◌≤◌, IfSome, IsSome, IsTrue, min};
 

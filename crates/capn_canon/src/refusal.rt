@@ -1,4 +1,4 @@
-//! Why no canonical bytes are answered.
+//! Refusals of canonical bytes for an input.
 
 use capn_pack::UnpackFault;
 use capn_stream::FrameFault;

@@ -1,4 +1,4 @@
-//! What the check of a bare message answers.
+//! The answers of the check of a bare message.
 
 /// What the walk of a bare message pays, and whether its bytes are canonical.
 #[derive(Clone, Copy, Debug, PartialEq, Eq)]

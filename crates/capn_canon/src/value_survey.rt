@@ -1,4 +1,4 @@
-//! A survey of a message that has canonical bytes.
+//! The survey of a message for its canonical bytes.
 
 ghost use Rattle.std.specs.Prelude.{◌≡◌, ◌+◌, ◌*◌, ◌≤◌, None, IfOk, IfErr, MatchResult};
 ghost use Rattle.capn_walk.specs.Accepted.{IsBounded};

@@ -1,4 +1,4 @@
-//! Canonical bytes, written into a buffer that is there.
+//! Canonical bytes, written into the caller's buffer.
 
 ghost use Rattle.std.specs.Prelude.{◌≡◌, ◌+◌, ◌*◌, ◌<◌, ◌≤◌, length, take, drop, IfOk, IfErr, OnErr, MatchResult};
 ghost use Rattle.capn_value.specs.Tree.{Tree as Value};

@@ -1,4 +1,4 @@
-//! Faults that end a run, and the end itself.
+//! Endings: faults of a run, with text and status.
 
 ghost use Rattle.std.specs.Prelude.{◌≡◌, false};
 ghost use Rattle.capn_words.specs.Watched.{inner_of, has_failed};

@@ -1,4 +1,4 @@
-//! How a run ends: its exit status, and the line that says why.
+//! The end of a run: exit status and error line.
 //!
 //! A fault that can end a run is an [`Ending`]: it has a text and a status. [`end`] writes the line of its text,
 //! `capn: `, the text and a newline, and answers its status. The line goes through a block of bytes, so no memory is

@@ -1,4 +1,4 @@
-//! A message of at most 64 segments, borrowed, whose table takes no memory.
+//! A borrowed message of at most 64 segments, without memory.
 
 ghost use Rattle.std.specs.Prelude.{◌≡◌, ◌≤◌, ◌∷◌, ◌++◌, [], length, take, slice_index};
 ghost use Rattle.capn_stream.specs.Cuts.{AreEnds, cut};

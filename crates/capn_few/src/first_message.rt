@@ -1,4 +1,4 @@
-//! The first message in a stream, if it has few segments.
+//! The first message in a stream, of few segments.
 
 ghost use Rattle.std.specs.Prelude.{◌≡◌, ◌≢◌, ℕ, ◌≤◌, List, Some, None, Ok, length, IfOk, IfErr, IfSome};
 ghost use Rattle.capn_words.specs.Message.{most_message_words};

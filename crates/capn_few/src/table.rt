@@ -1,4 +1,5 @@
-//! The table of segments at the front of a stream, read as `capn_stream` reads it.
+//! The segment table at the front of a stream.
+//! It is read as `capn_stream` reads it.
 
 ghost use Rattle.std.specs.Prelude.{◌≡◌, ◌+◌, ◌*◌, ◌^◌, ◌<◌, ◌≤◌, length, take, drop, sum, IfOk, IfErr};
 ghost use Rattle.capn_words.specs.Message.{most_segments, most_message_words};

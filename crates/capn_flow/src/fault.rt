@@ -1,4 +1,4 @@
-//! Why a stream isn't packed or unpacked to its end.
+//! Faults of packing or unpacking a stream.
 
 ghost use Rattle.std.specs.Prelude.{◌≡◌};
 ghost use Rattle.capn_flow.specs.FaultText.{status_of};

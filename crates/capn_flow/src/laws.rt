@@ -1,4 +1,4 @@
-//! The laws of bytes that flow, as functions that do nothing.
+//! The laws of flowing bytes, as empty functions.
 
 ghost use Rattle.capn_flow.specs.Laws.{PackingGivesOne, UnpackingGivesOne};
 

@@ -1,4 +1,4 @@
-//! Packing and unpacking of a stream of any length, while it comes in.
+//! Packing and unpacking of streams of any length.
 //!
 //! [`unpack_stream`] reads a packed stream in chunks, and writes the words of the groups that each chunk makes whole
 //! before it reads again. [`pack_stream`] writes the text that the packer has for the words of the stream, as far as no

@@ -1,4 +1,4 @@
-//! Packing of a stream, from its first byte to its last.
+//! Packing of a whole stream.
 
 ghost use Rattle.std.specs.Prelude.{◌≡◌, ◌+◌, ◌%◌, ◌<◌, ◌≤◌, length, true, false, IfOk};
 ghost use Rattle.capn_pack.specs.Chosen.{Chosen, zero_count};

@@ -1,4 +1,4 @@
-//! Unpacking of a stream, from its first byte to its last.
+//! Unpacking of a whole stream.
 
 ghost use Rattle.std.specs.Prelude.{◌≡◌, false};
 ghost use Rattle.capn_words.specs.Watched.{inner_of, has_failed};

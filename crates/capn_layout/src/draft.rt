@@ -1,5 +1,5 @@
-//! Words written into bytes that are there: the first `len` words are written, and what comes next is written after
-//! them.
+//! Words written into given bytes, one after the other.
+//! The first `len` words are written, and what comes next is written after them.
 
 ghost use Rattle.std.specs.Prelude.{◌≡◌, ℕ, ◌+◌, ◌*◌, ◌/◌, ◌%◌, ◌<◌, ◌≤◌, [], ◌∷◌, length, replicate};
 ghost use Rattle.std.specs.List.{flat_map};

@@ -1,4 +1,4 @@
-//! Bytes, appended in one growth and filled up with zeros to whole words.
+//! Bytes, appended in one growth as zero-padded words.
 
 ghost use Rattle.std.specs.Prelude.{◌≡◌, ◌+◌, ◌*◌, ◌^◌, ◌<◌, ◌++◌, length, replicate, IfOk, OnOk, OnErr};
 ghost use Rattle.capn_layout.specs.inner.PaddedBytes.{pad, padded};

@@ -1,4 +1,4 @@
-//! What the pointer at a place names, where it is known to name something.
+//! The target of a pointer already tested.
 
 ghost use Rattle.std.specs.Prelude.{◌≡◌, ℕ, ◌+◌, ◌^◌, ◌<◌, ◌≤◌, Ok, length};
 ghost use Rattle.capn_words.specs.Message.{IsMessage, IsPlace};

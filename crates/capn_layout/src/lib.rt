@@ -1,4 +1,5 @@
-//! The canonical layout: one segment, its objects in preorder, every struct cut to what it keeps.
+//! The canonical layout of values and messages.
+//! It is one segment, its objects in preorder, every struct cut to what it keeps.
 //!
 //! - [`layout`] writes the canonical bytes of a tree. A tree with a capability has none, and is refused by the first
 //!   one's index.

@@ -1,4 +1,4 @@
-//! The canonical layout of a message's value, read where it is.
+//! The canonical layout of a message's value, read in place.
 
 ghost use Rattle.std.specs.Prelude.{◌≡◌, ℕ, ◌+◌, ◌*◌, ◌<◌, ◌≤◌, ◌++◌, length, drop, IfOk};
 ghost use Rattle.capn_value.specs.Tree.{Tree as Value};

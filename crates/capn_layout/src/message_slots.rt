@@ -1,4 +1,4 @@
-//! The slots of a message that was surveyed, as what is laid out.
+//! The slots of a surveyed message, as a source.
 
 ghost use Rattle.std.specs.Prelude.{ℕ, ◌+◌};
 ghost use Rattle.capn_words.specs.Message.{IsMessage};

@@ -1,4 +1,4 @@
-//! The content of values, each object with all below it before the next.
+//! The content of values, object by object, in preorder.
 
 ghost use Rattle.std.specs.Prelude.{◌≡◌, ℕ, ◌+◌, ◌*◌, ◌/◌, ◌^◌, ◌<◌, ◌≤◌, ◌++◌, List, length, drop, IfOk};
 ghost use Rattle.capn_words.specs.Message.{words_in};

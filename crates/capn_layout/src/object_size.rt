@@ -1,4 +1,4 @@
-//! How many words the content of values takes, with all that is below it.
+//! Sizes of values' contents, with all below them.
 
 ghost use Rattle.std.specs.Prelude.{◌≡◌, ℕ, ◌+◌, ◌*◌, ◌^◌, ◌<◌, ◌≤◌};
 ghost use Rattle.capn_value.specs.Tree.{Tree, Trees, Bodies, tree_at, count as count_of, count_rows, row_words};

@@ -1,4 +1,4 @@
-//! The own words of an object, whose slots are still to be written over.
+//! An object's own words, ahead of its slots.
 
 ghost use Rattle.std.specs.Prelude.{◌^◌, ◌+◌, ◌*◌, ◌<◌, ◌≤◌, length};
 ghost use Rattle.capn_value.specs.Tree.{Tree, Bodies, count_rows, row_words};

@@ -1,4 +1,4 @@
-//! A buffer of words, some of which are still to be written.
+//! A buffer of words and holes.
 
 ghost use Rattle.std.specs.Prelude.{◌≡◌, ℕ, ◌+◌, ◌*◌, ◌<◌, ◌≤◌, [], ◌∷◌, ◌++◌, length, take, drop, set, replicate};
 ghost use Rattle.std.specs.Prelude.{Some, None, IfOk, IfErr, OnOk, OnErr, IsOk};

@@ -1,4 +1,4 @@
-//! What is laid out: slots with their values, of a tree or of a message.
+//! The source of a layout: slots with their values.
 
 ghost use Rattle.std.specs.Prelude.{◌≡◌, ℕ, ◌+◌, ◌*◌, ◌^◌, ◌<◌, ◌≤◌, List, length};
 ghost use Rattle.capn_value.specs.Tree.{Tree, Bodies, count, count_rows, row_words, tree_at};

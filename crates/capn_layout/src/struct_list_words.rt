@@ -1,4 +1,4 @@
-//! What is kept of rows, copied from the message.
+//! The kept parts of rows, copied from the message.
 
 ghost use Rattle.std.specs.Prelude.{◌≡◌, ◌+◌, ◌*◌, ◌^◌, ◌<◌, ◌≤◌, ◌++◌, take, length};
 ghost use Rattle.capn_words.specs.Message.{IsMessage};

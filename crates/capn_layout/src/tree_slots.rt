@@ -1,4 +1,4 @@
-//! The slots of values in memory, as what is laid out.
+//! The slots of values in memory, as a source.
 
 ghost use Rattle.std.specs.Prelude.{◌≡◌, ◌+◌, ◌*◌, ◌≤◌, ◌++◌, length, take, replicate};
 ghost use Rattle.std.proofs.Common.{◌∙◌, sym};

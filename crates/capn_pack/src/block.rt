@@ -1,4 +1,4 @@
-//! How far a block has come, and how bytes are written into it.
+//! The progress of a block, and writes into it.
 ghost use Rattle.std.specs.Prelude.{◌≡◌, ◌+◌, ◌≤◌, ◌++◌, length, take};
 
 /// What a block holds: what was made of the groups up to an offset of the input, and how many bytes that is.

@@ -1,4 +1,5 @@
-//! Why bytes aren't packed or unpacked. The variants are in the order in which they are tested, except for memory.
+//! Faults of packing and of unpacking.
+//! The variants are in the order in which they are tested, except for memory.
 ghost use Rattle.std.specs.Prelude.{◌≡◌};
 
 use std::alloc::AllocError;

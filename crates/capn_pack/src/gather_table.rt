@@ -1,4 +1,4 @@
-//! Where the bytes that a tag names come from.
+//! The source lanes of the bytes named by a tag.
 ghost use Rattle.std.specs.Prelude.{◌≡◌};
 ghost use Rattle.capn_pack.specs.inner.ShuffleRows.{gather_row};
 

@@ -1,4 +1,4 @@
-//! One word and its tag, eight or sixteen lanes at a time.
+//! One word and its tag, in eight or sixteen lanes.
 ghost use Rattle.std.specs.Prelude.{◌≡◌, ◌+◌, ◌≤◌, ◌∷◌, ◌++◌, length, take, replicate, count_ones, ℕ};
 ghost use Rattle.capn_pack.specs.Packed.{tag_of, named_bytes, IsNamedBy};
 

@@ -1,4 +1,4 @@
-//! The laws of packed texts, as functions that do nothing.
+//! The laws of packed texts, as empty functions.
 ghost use Rattle.capn_pack.specs.Laws.{EachSplits, OneReading, OneRefusal, OneSplit, PackedAreNotRefused};
 
 /// A text packs one list of words at most; under a maximum it is refused for one reason, and never both.

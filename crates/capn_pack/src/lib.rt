@@ -1,4 +1,5 @@
-//! The packing of Cap'n Proto: words are written as groups that leave out their zero bytes.
+//! The packing of Cap'n Proto.
+//! Words are written as groups that leave out their zero bytes.
 //!
 //! [`pack`] writes the one text of whole words that this packer chooses, and [`unpack`] reads any packed text, under a
 //! maximum of words; [`unpack`] of what [`pack`] gives is the words again. [`Unpacker`] reads a text that comes in

@@ -1,4 +1,4 @@
-//! Groups written into a block, so that they are appended together.
+//! Groups written into a block, for one append.
 ghost use Rattle.std.specs.Prelude.{◌≡◌, ◌+◌, ◌≤◌, ◌∷◌, ◌++◌, [], length, take, drop, IfSome, IfNone};
 ghost use Rattle.capn_pack.specs.Packed.{named_bytes, tag_of};
 ghost use Rattle.capn_pack.specs.inner.Steps.{Puts, PutsRow};

@@ -1,4 +1,5 @@
-//! How much room is asked for at once, so that a long answer is seldom moved as it grows.
+//! Room for long answers, asked for at once.
+//! So a long answer is seldom moved as it grows.
 ghost use Rattle.std.specs.Prelude.{◌≤◌, ◌+◌, ◌*◌, max, length};
 
 use std::alloc::Allocator;

@@ -1,4 +1,4 @@
-//! How far zero words go on, and dense words.
+//! Lengths of runs of zero words and of dense words.
 ghost use Rattle.std.specs.Prelude.{◌≡◌, ◌+◌, ◌*◌, ◌<◌, ◌≤◌, ◌++◌, length, take, drop, slice_range, replicate};
 ghost use Rattle.capn_pack.specs.Chosen.{IsDense, AllDense};
 

@@ -1,4 +1,4 @@
-//! The tag of a word as the packer takes it, and the tags of four words.
+//! Tags by sign bits: of a word, and of four.
 ghost use Rattle.std.specs.Prelude.{◌≡◌};
 ghost use Rattle.capn_pack.specs.Packed.{tag_of};
 

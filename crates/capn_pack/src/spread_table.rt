@@ -1,4 +1,4 @@
-//! Where the bytes of a word come from, by its tag.
+//! The source lanes of a word's bytes, by its tag.
 ghost use Rattle.std.specs.Prelude.{◌≡◌};
 ghost use Rattle.capn_pack.specs.inner.ShuffleRows.{spread_row};
 

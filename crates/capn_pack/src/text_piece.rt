@@ -1,4 +1,4 @@
-//! One piece of a packed text, and what is held of the pieces before it.
+//! One piece of a packed text, after the bytes held.
 ghost use Rattle.std.specs.Prelude.{◌≡◌, ◌+◌, ◌<◌, ◌≤◌, ◌++◌, length, take, drop, IfOk, OnErr};
 ghost use Rattle.capn_pack.specs.PackedPieces.{Splits, Begins, NoGroupFirst};
 ghost use Rattle.capn_pack.specs.inner.Joins.{FeedGives, Joins};

@@ -1,4 +1,4 @@
-//! Groups read into a block, so that their words are appended together.
+//! Groups read into a block, for one append.
 ghost use Rattle.std.specs.Prelude.{◌≡◌, ◌+◌, ◌*◌, ◌<◌, ◌-◌, ◌≤◌, ◌++◌, [], length, take, slice_index, slice_range};
 ghost use Rattle.std.specs.Prelude.{replicate, ℕ};
 ghost use Rattle.std.specs.Prelude.{IfSome, IfNone, IfOk, OnErr};

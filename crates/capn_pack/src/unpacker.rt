@@ -1,4 +1,4 @@
-//! Unpacking a text that comes in pieces.
+//! Unpacking of a text in pieces.
 ghost use Rattle.std.specs.Prelude.{◌≡◌, ◌≢◌, ◌++◌, [], true, false, IfErr, OnOk, IsErrOf, IsOk};
 ghost use Rattle.capn_pack.specs.PackedPieces.{Feeds, Begins, NoGroupFirst};
 

@@ -1,4 +1,4 @@
-//! How a run ends: its exit status, and the line that says why.
+//! Exit statuses and error lines of the program's runs.
 
 ghost use Rattle.std.specs.Prelude.{◌≡◌, false};
 ghost use Rattle.capn_words.specs.Watched.{inner_of, has_failed};

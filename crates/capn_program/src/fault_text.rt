@@ -1,4 +1,4 @@
-//! The text of a fault that ends a run over an archive.
+//! The text of a fault of a run over archives.
 
 ghost use Rattle.std.specs.Prelude.{◌≡◌, IfOk, string_bytes};
 ghost use Rattle.capn_serve.specs.FaultText.{place_text};

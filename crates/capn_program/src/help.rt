@@ -1,5 +1,5 @@
-//! The pages of help for the program and for the commands that `capn_tool` doesn't have or has with fewer options, in
-//! lines of at most 80 columns as they are printed.
+//! The pages of help for the program and its commands.
+//! The commands are those that `capn_tool` doesn't have or has with fewer options. Lines have at most 80 columns.
 
 use capn_tool::help::Page;
 

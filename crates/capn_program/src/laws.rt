@@ -1,4 +1,4 @@
-//! The laws of the command line and of what is shown, as functions that do nothing.
+//! Laws of command lines and shown texts, as empty functions.
 
 ghost use Rattle.capn_program.specs.Laws.{OneShown};
 ghost use Rattle.capn_program.specs.Meaning.{MeansOneOrder};

@@ -1,4 +1,5 @@
-//! The program `capn`: its whole command line, and each of its runs from all of the input to all of the output.
+//! The program `capn`: its whole command line and its runs.
+//! Each run goes from all of the input to all of the output.
 //!
 //! [`program`] is all of it, from the words of the command line to the exit status, over any reader and writers.
 //! [`order_of`] reads the words. They order a command of [`capn_tool`]; that messages, or parts of them, are shown in a

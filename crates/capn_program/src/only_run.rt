@@ -1,4 +1,4 @@
-//! A run that writes the messages of a list as they stand.
+//! A run of `pick --only`.
 
 ghost use Rattle.std.specs.Prelude.{◌≡◌, false};
 ghost use Rattle.capn_words.specs.Watched.{inner_of, has_failed};

@@ -1,4 +1,4 @@
-//! What help says of the options that `capn_tool` doesn't have, and the messages for values that are not taken.
+//! Help for options beyond `capn_tool`'s, and their error messages.
 
 /// `--at`.
 pub const AT: &str = "The way from the root to what is written: numbers

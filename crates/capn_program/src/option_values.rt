@@ -1,4 +1,4 @@
-//! What single options of a command have, given or usual.
+//! Values of single options, given or usual.
 
 ghost use Rattle.std.specs.Prelude.{◌≡◌, ◌≤◌, ◌↔◌, ◌<◌, ◌^◌, ℕ, Bool, None, Some, IfNone, IfSome, IsSome, IsTrue};
 ghost use Rattle.clap.specs.Words.{first_of, found_of, rows_of};

@@ -1,4 +1,4 @@
-//! What the program can do.
+//! The orders of the program.
 
 use capn_archive::{Archive, Uniq};
 use capn_serve::{Pick, StreamForm};

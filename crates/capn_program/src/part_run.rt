@@ -1,4 +1,4 @@
-//! A run that shows messages in a style, or parts of them.
+//! A run of `show`, over messages or their parts.
 
 ghost use Rattle.std.specs.Prelude.{◌≡◌, false};
 ghost use Rattle.capn_words.specs.Watched.{inner_of, has_failed};

@@ -1,4 +1,4 @@
-//! The service that writes, in a style, what is at a way from the root of each message.
+//! The service of `show`: parts of messages in a style.
 
 ghost use Rattle.std.specs.Prelude.{◌≡◌, ◌≢◌, ◌⊎◌, List, ℕ, false};
 ghost use Rattle.capn_words.specs.Watched.{has_failed};

@@ -1,4 +1,4 @@
-//! The program: from the words of the command line to the exit status.
+//! The program, from command line to exit status.
 
 ghost use Rattle.std.specs.Prelude.{◌≡◌, ◌↔◌, Ok, IsTrue, map, false};
 ghost use Rattle.std.specs.Io.KnownBytes.{Keeps};

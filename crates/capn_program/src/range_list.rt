@@ -1,4 +1,4 @@
-//! The text of `--only`: numbers of messages, and ranges of them.
+//! The text of `--only`: message numbers and ranges.
 
 ghost use Rattle.std.specs.Prelude.{◌≡◌, ◌<◌, ◌≤◌, List, Some, IfOk, IfSome, is_some};
 ghost use Rattle.capn_serve.specs.Pick.{AreAscending};

@@ -1,4 +1,4 @@
-//! What the options of `show` order.
+//! The order given by the options of `show`.
 
 ghost use Rattle.std.specs.Prelude.{◌≡◌, List, codes, IfNone, IfSome, IsSome, None, Some};
 ghost use Rattle.clap.specs.Words.{Row, first_of, found_of, rows_of};

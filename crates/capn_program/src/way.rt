@@ -1,4 +1,5 @@
-//! The text of a way: the numbers that lead from the root of a message to what is below it.
+//! The text of a way, read as its numbers.
+//! They lead from the root of a message to what is below it.
 
 ghost use Rattle.std.specs.Prelude.{◌≡◌, List, ℕ, true, IfOk, OnErr, Some, is_some};
 ghost use Rattle.capn_program.specs.Way as spec;

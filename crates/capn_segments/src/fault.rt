@@ -1,4 +1,4 @@
-//! Why segments are no message.
+//! Faults of segments as a message.
 
 use std::error::Error;
 use std::fmt;

@@ -1,4 +1,4 @@
-//! Messages in segments, each where its words lie.
+//! Messages in borrowed segments, read in place.
 //!
 //! A [`Segments`] is the [`Space`] of segments that are borrowed, as a builder holds them: no table is made and nothing
 //! is copied. It reads what the frame of the same segments is read as. A segment is its words, and a word is 8 bytes,

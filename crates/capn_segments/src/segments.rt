@@ -1,4 +1,4 @@
-//! A message in segments, read where its words lie.
+//! A message in segments, read in place.
 
 ghost use Rattle.std.specs.Prelude.{◌≡◌, ◌≤◌, ◌<◌, length, All, List, ℕ, Ok};
 ghost use Rattle.capn_words.specs.Message.{most_message_words};

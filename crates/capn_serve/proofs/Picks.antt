@@ -83,7 +83,7 @@ module _ (most : ℕ) (ranges : List Range) (p : Picker) (same : p.rest.now ≡ 
     before : (y : Run Picker) → IsOn y → until.done y ≡ false → y.at.index < last_of ranges
     before y h going = some_left ranges y.service.rest.now y.at.index h going
 
-    -- ---- what is due of some bytes
+    -- ---- what is picked of some bytes
 
     module _ (bytes text : List ℕ) (behind : Option RunFault) (ending : Ending) (y : Run Picker)
         (due : IsFolded until x bytes behind text ending y) where

@@ -1,4 +1,4 @@
-//! Bytes that are added to what a run writes.
+//! Additions to the output of a run.
 
 ghost use Rattle.std.specs.Prelude.{◌≡◌, false};
 ghost use Rattle.capn_words.specs.Watched.{inner_of, has_failed};

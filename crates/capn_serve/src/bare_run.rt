@@ -1,4 +1,4 @@
-//! A run over a bare input: the one message that it is.
+//! A run over a bare input, as one message.
 
 ghost use Rattle.std.specs.Prelude.{◌≡◌, ℕ, ◌*◌, ◌<◌, List, length, false, Err};
 ghost use Rattle.capn_words.specs.Message.{most_words, ReadsBare};

@@ -1,4 +1,4 @@
-//! How much is read at once.
+//! The most bytes of one read.
 
 /// The most bytes that one call of a reader is asked for.
 pub const CHUNK: u64 = 65_536;

@@ -1,4 +1,4 @@
-//! Why a run over a stream ends.
+//! Faults of a run over a stream.
 
 use crate::position::Position;
 use crate::refusal_line::{say_place, say_refusal};

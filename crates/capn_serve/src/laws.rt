@@ -1,4 +1,4 @@
-//! The laws of what is picked, as functions that do nothing.
+//! The laws of picking, as empty functions.
 
 ghost use Rattle.capn_serve.specs.Laws.{PicksOne};
 

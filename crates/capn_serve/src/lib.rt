@@ -1,4 +1,4 @@
-//! The messages of an input, served one after the other by one loop.
+//! The messages of an input, served one by one.
 //!
 //! A [`Service`] is what is done with each message: a fold whose state is the service. [`Run`] is how far it has come.
 //! [`run_stream`], [`run_packed`] and [`run_bare`] are the loops over the three forms, and [`serve_form`] is the loop

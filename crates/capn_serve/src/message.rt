@@ -1,4 +1,4 @@
-//! One message of a stream, whose text joins what is written next.
+//! One message of a stream, served into the run's text.
 
 ghost use Rattle.std.specs.Prelude.{◌≡◌, ℕ, length, false};
 ghost use Rattle.capn_words.specs.Watched.{inner_of, has_failed};

@@ -1,4 +1,4 @@
-//! The text of a run on its way to the writer.
+//! A run's text on its way to the writer.
 
 ghost use Rattle.std.specs.Prelude.{◌≡◌, ◌↔◌, true, false, OnOk, IsErrOf, IsOkUnless};
 ghost use Rattle.std.specs.Io.KnownBytes.{Appends};

@@ -1,4 +1,4 @@
-//! Which messages of a stream are picked.
+//! The choice of messages from a stream.
 
 use capn_canon::Limits;
 

@@ -1,4 +1,4 @@
-//! A run that writes some messages of a stream as they stand.
+//! Runs of `pick` over a stream.
 
 ghost use Rattle.std.specs.Prelude.{◌≡◌, false};
 ghost use Rattle.capn_words.specs.Watched.{inner_of, has_failed};

@@ -1,4 +1,4 @@
-//! The service that writes the frames of the messages of some ranges.
+//! The service of `pick`, over ranges of messages.
 
 ghost use Rattle.std.specs.Prelude.{◌≡◌};
 ghost use Rattle.capn_serve.specs.inner.Picker as spec;

@@ -1,4 +1,4 @@
-//! Where a message is in a stream.
+//! The position of a message in a stream.
 
 ghost use Rattle.std.specs.Prelude.{◌≡◌, ◌+◌};
 

@@ -1,4 +1,4 @@
-//! What is done with the messages of a stream.
+//! Services over the messages of a stream.
 
 ghost use Rattle.std.specs.Prelude.{◌≡◌, Bool, List, ℕ, false};
 ghost use Rattle.capn_words.specs.Watched.{inner_of, has_failed};

@@ -1,4 +1,4 @@
-//! The messages of a stream that comes in chunks.
+//! The messages of a stream in chunks.
 
 ghost use Rattle.std.specs.Prelude.{◌≡◌, ◌⊎◌, ℕ, ◌≤◌, ◌+◌, [], length, false};
 ghost use Rattle.capn_words.specs.Message.{most_message_words};

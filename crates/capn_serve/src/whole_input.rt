@@ -1,4 +1,4 @@
-//! An input that is read to its end, of which no more is held than needed.
+//! An input read to its end, held only as needed.
 
 ghost use Rattle.std.specs.Prelude.{◌≡◌, false};
 ghost use Rattle.capn_words.specs.Watched.{inner_of, has_failed};

@@ -1,4 +1,4 @@
-//! Lists of bytes: their digits, or what is a text between quotes.
+//! Lists of bytes: digits, or a text between quotes.
 
 ghost use Rattle.std.specs.Prelude.{◌≡◌, ◌<◌, ◌+◌, ◌^◌, ◌||◌, ◌==◌, IfErr, OnOk};
 ghost use Rattle.capn_words.specs.Message.{IsMessage};

@@ -1,4 +1,4 @@
-//! The bytes of a text between quotes, some of them escaped.
+//! The bytes of a quoted text, some of them escaped.
 
 ghost use Rattle.std.specs.Prelude.{◌≡◌, ◌≤◌, length, take, IfErr, OnOk};
 ghost use Rattle.capn_show.specs.JsonTexts as json;

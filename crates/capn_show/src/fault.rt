@@ -1,4 +1,4 @@
-//! Why the text of a message ends.
+//! Faults of the text of a message.
 
 ghost use Rattle.std.specs.Prelude.{◌≡◌};
 ghost use Rattle.capn_show.specs.declared.fault.ShowFault.TheVariants as faults;

@@ -1,4 +1,4 @@
-//! The JSON of what is in the slots of a message, and of all below it.
+//! The JSON of a message's slots, with all below them.
 
 ghost use Rattle.std.specs.Prelude.{◌+◌, ◌*◌, IfErr, OnOk};
 ghost use Rattle.capn_words.specs.Message.{IsMessage, IsPlace};

@@ -1,4 +1,4 @@
-//! The items of an array of JSON, and the commas between them.
+//! The items of a JSON array, and their commas.
 
 ghost use Rattle.std.specs.Prelude.{◌≡◌, IfErr, OnOk};
 ghost use Rattle.std.specs.Fmt.{decimal};

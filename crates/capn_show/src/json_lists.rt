@@ -1,4 +1,5 @@
-//! The JSON of data words and of lists of elements without pointers, read from the words of the message.
+//! The JSON of data words and of lists without pointers.
+//! Both are read from the words of the message.
 
 ghost use Rattle.std.specs.Prelude.{ℕ, ◌∷◌, [], ◌++◌, codes, IfErr, OnOk};
 ghost use Rattle.std.specs.Fmt.{decimal};

@@ -1,4 +1,4 @@
-//! Lists of bytes in JSON: their digits, or what is a text as it is.
+//! Lists of bytes in JSON: digits, or plain text.
 
 ghost use Rattle.std.specs.Prelude.{◌≡◌, IfErr, OnOk};
 ghost use Rattle.std.specs.Str.{is_utf8};

@@ -1,4 +1,4 @@
-//! The laws of texts in a style, as a function that does nothing.
+//! The law of styled texts, as an empty function.
 
 ghost use Rattle.capn_show.specs.Laws.{OneJson};
 

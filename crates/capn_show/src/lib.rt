@@ -1,4 +1,4 @@
-//! The text of a message, written from the message itself, without its value.
+//! The text of a message, written without making its value.
 //!
 //! [`show_message`] surveys a message within limits. Of one that is refused it writes nothing. Of one that is accepted
 //! it writes what `capn_value::show` writes of the value that `capn_walk::walk` answers: it goes from slot to slot as

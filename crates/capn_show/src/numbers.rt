@@ -1,4 +1,5 @@
-//! Lists of numbers, and data words: a line for each, read from the words of the message.
+//! Lists of numbers, and data words: a line for each.
+//! They are read from the words of the message.
 
 ghost use Rattle.std.specs.Prelude.{◌≡◌, ◌+◌, ◌/◌, IfErr, OnOk};
 ghost use Rattle.capn_words.specs.Message.{IsMessage};

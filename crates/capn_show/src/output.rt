@@ -1,4 +1,5 @@
-//! A text on its way to a writer: it is kept until it is long, and written then.
+//! A text on its way to a writer.
+//! It is kept until it is long, and written then.
 
 ghost use Rattle.std.specs.Prelude.{◌≡◌, [], ◌||◌, is_err, IfErr, OnOk};
 ghost use Rattle.std.specs.Io.KnownBytes.{Appends};

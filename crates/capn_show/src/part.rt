@@ -1,4 +1,4 @@
-//! The text of what is at a way from the root of a message.
+//! The text of a message's part, at a way.
 
 ghost use Rattle.std.specs.Prelude.{◌≡◌, ℕ, ◌+◌, ◌*◌, ◌<◌, ◌^◌, IfErr, IfNone, IfSome, None, OnOk};
 ghost use Rattle.capn_words.specs.Message.{IsMessage, IsPlace};

@@ -1,4 +1,4 @@
-//! How the text of a value is written.
+//! Styles of a value's text.
 
 /// How the text of a value is written.
 #[derive(Clone, Copy, Debug, PartialEq, Eq)]

@@ -1,4 +1,4 @@
-//! The text of what is somewhere, in a style.
+//! Text of a value or of nothing, in a style.
 
 ghost use Rattle.std.specs.Prelude.{◌*◌, ◌<◌, ◌^◌, None, IfErr, OnOk};
 ghost use Rattle.capn_words.specs.Message.{IsMessage};

@@ -1,4 +1,4 @@
-//! Why a call is refused.
+//! Faults of frames, of reads and of writes.
 
 use std::alloc::AllocError;
 use std::error::Error;

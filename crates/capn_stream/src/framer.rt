@@ -1,4 +1,4 @@
-//! Messages from a stream that comes in pieces.
+//! Messages from a stream in pieces.
 
 ghost use Rattle.std.specs.Prelude.{◌≡◌, ◌↔◌, IsTrue, ℕ, ◌+◌, ◌<◌, ◌≤◌, ◌++◌, List, [], length, false};
 ghost use Rattle.std.specs.Prelude.{IsErrOf};

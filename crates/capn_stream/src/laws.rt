@@ -1,4 +1,4 @@
-//! The laws of frames, as a function that does nothing.
+//! The laws of frames, as an empty function.
 
 ghost use Rattle.capn_stream.specs.Laws.{FramedAreNotRefused, OneFrame, OneRefusal};
 

@@ -1,4 +1,4 @@
-//! Messages in a stream: segment tables, and the segments after them.
+//! Messages in a stream: segment tables followed by segments.
 //!
 //! [`first`] reads the first message in some bytes, as a [`Framed`] that borrows them, [`first_bare`] one
 //! of one segment as its words alone, and [`frame`] writes a message as such bytes:

@@ -1,4 +1,4 @@
-//! How far the frame that comes in pieces is known.
+//! The stages of a frame in pieces.
 
 ghost use Rattle.std.specs.Prelude.{◌≡◌, ℕ, ◌+◌, ◌-◌, ◌*◌, ◌<◌, ◌≤◌, ◌++◌, length, drop, IfOk, IfErr, IsErrOf, OnErr};
 ghost use Rattle.std.specs.Prelude.{vec_capacity};

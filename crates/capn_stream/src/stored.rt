@@ -1,4 +1,4 @@
-//! A message that owns its segments.
+//! A message with segments of its own.
 
 ghost use Rattle.std.specs.Prelude.{◌≡◌, ℕ, ◌+◌, ◌-◌, ◌*◌, ◌/◌, ◌%◌, ◌<◌, ◌≤◌, List, length, slice_index, take, drop};
 ghost use Rattle.capn_words.specs.Message.{AreBytes, bytes, word_number, words_in};

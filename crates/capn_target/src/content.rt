@@ -1,4 +1,4 @@
-//! Content from a word of a segment on, by the form that a pointer or a tag says.
+//! Content at a word of a segment, by its form.
 
 ghost use Rattle.std.specs.Prelude.{◌≡◌, ℕ, ◌<◌, ◌≤◌, ◌+◌, ◌^◌, length, slice_index};
 ghost use Rattle.capn_words.specs.Message.{segment_at};

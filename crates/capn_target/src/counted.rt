@@ -1,4 +1,4 @@
-//! The steps to a slot's target where each read of the message is counted.
+//! The steps to a slot's target, with counted reads.
 
 pub use crate::content::{many_at, node_at, segment_length, size_of};
 pub use crate::reader::{CountedSpace, Reads, count_reads};

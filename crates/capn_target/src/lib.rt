@@ -1,4 +1,5 @@
-//! What the pointer at a place of a message names: null, a capability, or content that lies inside its segment.
+//! The targets of a message's pointers.
+//! A target is null, a capability, or content that lies inside its segment.
 //!
 //! - [`resolve`] says it for any place, after landing pads if need be, or answers the first fault of that slot.
 //! - [`near`] says it for a pointer in hand that leads to content in its own segment, and [`node_at`] and [`many_at`]

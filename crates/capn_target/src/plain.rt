@@ -1,5 +1,5 @@
-//! The steps to a slot's target for whoever counts no reads: those of [`counted`](crate::counted), with a ledger of
-//! their own.
+//! The steps to a slot's target, without a count.
+//! They are those of [`counted`](crate::counted), with a ledger of their own.
 
 ghost use Rattle.std.specs.Prelude.{◌≡◌, ◌<◌, ◌≤◌, ◌^◌, length, IfOk};
 ghost use Rattle.capn_words.specs.Message.{segment_at, IsPlace};

@@ -1,4 +1,4 @@
-//! A message each of whose reads is counted.
+//! A message with counted reads.
 //!
 //! Whoever is handed a [`CountedSpace`] in place of a `Space` can read the message by its calls alone, and each of them
 //! counts. So a clause on [`Reads`] bounds what a body reads, whatever it answers. That a read is counted

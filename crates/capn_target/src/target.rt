@@ -1,4 +1,4 @@
-//! What a pointer names, and why it names nothing.
+//! Targets of pointers, and faults of slots.
 
 use capn_words::Width;
 use std::error::Error;

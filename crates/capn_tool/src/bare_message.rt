@@ -1,4 +1,4 @@
-//! The one message of a bare input, of which something is written.
+//! A run over the one message of a bare input.
 
 ghost use Rattle.std.specs.Prelude.{◌≡◌, ◌≢◌, false};
 ghost use Rattle.capn_words.specs.Watched.{inner_of, has_failed};

@@ -1,4 +1,4 @@
-//! What the tool can be asked to do.
+//! The commands of the tool.
 
 use capn_canon::Form;
 use capn_walk::Limits;

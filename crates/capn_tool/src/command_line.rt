@@ -1,4 +1,4 @@
-//! What the words of the command line ask the tool to do.
+//! The command named by the words of the command line.
 
 ghost use Rattle.std.specs.Prelude.{◌≡◌, ◌⊎◌, ℕ, ◌<◌, ◌^◌, true, IfErr, IfOk, IfSome, IsSome, Some, codes, map};
 ghost use Rattle.clap.specs.Words.{FailsBy, HasMatchesOf, fault_of, found_of, kind_of, rows_of, subcommand_of, takes};

@@ -1,4 +1,4 @@
-//! From all of the input to all of the output.
+//! The run of a command over all of its input.
 
 ghost use Rattle.std.specs.Prelude.{◌≡◌, ◌↔◌, ◌⊎◌, ℕ, Bool, List, Option, Result, true, false, IfSome, IsErrOf};
 ghost use Rattle.capn_words.specs.Watched.{inner_of, has_failed};

@@ -1,4 +1,4 @@
-//! How a run ends: its exit status, and the line that says why.
+//! The end of a run: exit status and error line.
 
 ghost use Rattle.std.specs.Prelude.{◌≡◌, IfOk, string_bytes, false};
 ghost use Rattle.capn_words.specs.Watched.{inner_of, has_failed};

@@ -1,4 +1,4 @@
-//! Why a run of the tool ends without having done its work.
+//! Faults of a run of the tool.
 
 ghost use Rattle.std.specs.Prelude.{◌≡◌};
 ghost use Rattle.capn_tool.specs.declared.fault.ToolFault.TheVariants as fault;

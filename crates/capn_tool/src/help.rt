@@ -1,4 +1,4 @@
-//! The texts of help, in lines of at most 80 columns as they are printed.
+//! Texts of help, in lines of at most 80 columns.
 //!
 //! A program with more commands than these has pages of its own for them.
 

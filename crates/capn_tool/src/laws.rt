@@ -1,4 +1,4 @@
-//! The laws of the command line, as functions that do nothing.
+//! The laws of the command line, as empty functions.
 
 ghost use Rattle.capn_tool.specs.Meaning.{MeansOne};
 

@@ -1,5 +1,5 @@
-//! The work of the program `capn`: what its command line asks for, and each run from all of the input to all of the
-//! output.
+//! The work of the program `capn`: command lines and runs.
+//! Each run goes from all of the input to all of the output.
 //!
 //! [`program`] is all of it, from the words of the command line to the exit status, over any reader and writers.
 //! [`command_of`] reads the words, and [`run`] carries the command out: it writes exactly the text for its input, and

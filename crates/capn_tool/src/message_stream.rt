@@ -1,4 +1,4 @@
-//! A stream of messages, packed or not, of each of which something is written.
+//! Runs over the messages of a stream, packed or not.
 
 ghost use Rattle.std.specs.Prelude.{◌≡◌, false};
 ghost use Rattle.capn_words.specs.Watched.{inner_of, has_failed};

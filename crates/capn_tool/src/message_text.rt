@@ -1,4 +1,4 @@
-//! What is written of one message.
+//! The lines of one message: price, verdict or digest.
 
 ghost use Rattle.std.specs.Prelude.{◌≡◌, ◌≤◌, ◌∷◌, ◌++◌, [], length};
 ghost use Rattle.sha2.specs.Sha256.{sha256};

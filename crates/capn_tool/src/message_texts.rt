@@ -1,4 +1,4 @@
-//! The service that writes something of each message of a stream, or of the one of a bare input.
+//! The service of `show`, `check` and `hash`, message by message.
 
 ghost use Rattle.std.specs.Prelude.{◌≡◌, ◌≢◌, ◌⊎◌, List, ℕ, false};
 ghost use Rattle.capn_words.specs.Watched.{inner_of, has_failed};

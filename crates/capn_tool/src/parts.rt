@@ -1,4 +1,4 @@
-//! The parts of which a program with more commands is made.
+//! Parts for a program with more commands.
 
 pub use crate::command_line::{form_of, limits_of, order_of};
 pub use crate::output::{flush_behind, write_all};

@@ -1,4 +1,4 @@
-//! A packed input whose words are unpacked while it comes.
+//! A packed input, unpacked on arrival.
 
 ghost use Rattle.std.specs.Prelude.{◌≡◌, ℕ, ◌+◌, ◌-◌, ◌<◌, ◌≤◌, ◌^◌, ◌++◌, List, length, take, drop, false, OnOk};
 ghost use Rattle.capn_words.specs.Watched.{inner_of, has_failed};

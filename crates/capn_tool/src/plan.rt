@@ -1,4 +1,4 @@
-//! What each command does with its input.
+//! The plan of each command for its input.
 
 ghost use Rattle.std.specs.Prelude.{◌≡◌};
 ghost use Rattle.capn_tool.specs.Plan as spec;

@@ -1,4 +1,4 @@
-//! The line of a price, written from its end to its beginning.
+//! A price's line, written from its end to its beginning.
 
 ghost use Rattle.std.specs.Prelude.{◌≡◌, ◌+◌, ◌<◌, ◌≤◌, [], ◌++◌, length, OnOk, OnErr};
 ghost use Rattle.std.specs.Fmt.{decimal};

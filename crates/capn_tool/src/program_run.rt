@@ -1,4 +1,4 @@
-//! The program: from the words of the command line to the exit status.
+//! The program, from command line to exit status.
 
 ghost use Rattle.std.specs.Prelude.{◌≡◌, List, ℕ, map, false, IfOk, IfErr, string_bytes};
 ghost use Rattle.clap.specs.Words.{kind_of};

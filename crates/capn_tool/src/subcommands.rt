@@ -1,4 +1,4 @@
-//! The command line: the subcommands, their options, and what help says of each.
+//! The subcommands, their options, and their help.
 
 ghost use Rattle.std.specs.Prelude.{◌≡◌, IfOk, false};
 ghost use Rattle.clap.specs.Words.{App, app_of, kind_of, rule_of, new_app, with_subcommand};

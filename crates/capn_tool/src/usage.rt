@@ -1,4 +1,4 @@
-//! Words of the command line that order nothing.
+//! Command lines without a command: help, mistakes, refused memory.
 
 ghost use Rattle.std.specs.Prelude.{◌≡◌, ◌↔◌, IfOk, IsTrue, string_bytes};
 ghost use Rattle.clap.specs.Words.{kind_of};

@@ -1,4 +1,4 @@
-//! What is made of an input that is taken whole.
+//! Outputs made of an input taken whole.
 
 ghost use Rattle.std.specs.Prelude.{◌≡◌, false};
 ghost use Rattle.capn_words.specs.Watched.{inner_of, has_failed};

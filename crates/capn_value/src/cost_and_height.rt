@@ -1,4 +1,5 @@
-//! What a value costs and how tall it is, capped so that no sum can wrap.
+//! The capped cost and height of a value.
+//! The caps keep each sum from wrapping.
 //!
 //! Cost looks at each list, and what a slice holds is in its type's range. So it is here that a value is
 //! found to be in range, which takes no step of its own.

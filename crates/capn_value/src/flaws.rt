@@ -1,4 +1,4 @@
-//! The first reason why a value fits into no message.
+//! The first misfit of a value.
 
 ghost use Rattle.std.specs.Prelude.{◌≡◌, ◌||◌, IfNone};
 ghost use Rattle.capn_value.specs.TreeOf.{tree_of, trees_of, rows_of};

@@ -1,4 +1,4 @@
-//! How much of a data section and of a pointer section is kept.
+//! Kept lengths of data sections and of pointer sections.
 
 ghost use Rattle.std.specs.Prelude.{◌≡◌};
 ghost use Rattle.capn_value.specs.TreeOf.{trees_of, rows_of};

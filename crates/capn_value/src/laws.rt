@@ -1,4 +1,4 @@
-//! The laws of trimming and of the limits of a value, as a function that does nothing.
+//! Laws of trimming and of limits, as an empty function.
 
 ghost use Rattle.capn_value.specs.Laws.{SameExactlyTrimmed, SameOnceTrimmed, TrimmingIsThrifty, FittingIsSixFacts};
 ghost use Rattle.capn_value.specs.Laws.{MisfitIsFirst};

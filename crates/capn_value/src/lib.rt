@@ -1,4 +1,5 @@
-//! Values of messages as trees: what a pointer denotes, apart from where it is in a message.
+//! Values of messages as trees.
+//! A value is what a pointer denotes, apart from where it is in a message.
 //!
 //! A [`Value`] is put together freely. A [`Tree`] is a value that fits into a message: [`Tree::new`] makes
 //! one, or gives the value back with the first [`Misfit`]. Contracts see both as one mathematical tree,

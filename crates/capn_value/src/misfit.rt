@@ -1,4 +1,4 @@
-//! Why a value fits into no message.
+//! The misfits of a value, in the order of tests.
 
 use std::error::Error;
 use std::fmt;

@@ -1,4 +1,4 @@
-//! What is wrong with one part of a value, whatever is below it.
+//! The flaws of one part of a value, by itself.
 
 ghost use Rattle.std.specs.Prelude.{◌≡◌, ◌||◌, length, nat_lt};
 ghost use Rattle.capn_value.specs.TreeOf.{tree_of, trees_of, rows_of};

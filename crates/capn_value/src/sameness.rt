@@ -1,4 +1,4 @@
-//! Equality up to what trimming cuts.
+//! Equality of values up to trimming.
 
 ghost use Rattle.std.specs.Prelude.{◌≡◌, ◌↔◌, ◌&&◌, IsTrue};
 ghost use Rattle.capn_value.specs.TreeOf.{tree_of, trees_of, rows_of};

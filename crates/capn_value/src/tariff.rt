@@ -1,4 +1,4 @@
-//! How the contents of a message are priced.
+//! Tariffs for the contents of a message.
 
 ghost use Rattle.std.specs.Prelude.{◌≡◌, ◌≤◌};
 ghost use Rattle.capn_value.specs.Cost as sizes;

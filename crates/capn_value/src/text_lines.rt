@@ -1,4 +1,4 @@
-//! The lines of a tree's text, each written straight into the one string.
+//! The lines of a tree's text, written into one string.
 
 ghost use Rattle.std.specs.Prelude.{◌≡◌, ◌≤◌, [], ◌∷◌, ◌++◌, ◌*◌, length, OnOk, string_bytes, codes, replicate};
 ghost use Rattle.capn_value.specs.Text as text;

@@ -1,4 +1,4 @@
-//! Values that fit into a message.
+//! Trees: values fit for a message.
 
 ghost use Rattle.std.specs.Prelude.{◌≡◌, ◌↔◌, ◌≢◌, ◌+◌, ◌*◌, ◌≤◌, IfOk, IfErr, OnErr, IsOk, string_bytes};
 ghost use Rattle.capn_value.specs.TreeOf.{tree_of};

@@ -1,4 +1,4 @@
-//! Values made in new memory: with every body cut to what it keeps, or whole.
+//! Copies of values in new memory, trimmed or whole.
 
 ghost use Rattle.std.specs.Prelude.{◌≡◌, ◌≢◌, [], ◌∷◌, ◌++◌, IfOk, OnOk, OnErr, IsOkAnd, List};
 ghost use Rattle.capn_value.specs.Tree.{nil, front};

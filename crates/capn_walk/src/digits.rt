@@ -1,4 +1,4 @@
-//! The numbers that a word holds.
+//! The numbers in a word.
 
 ghost use Rattle.std.specs.Prelude.{◌≡◌, ◌<◌};
 ghost use Rattle.capn_walk.specs.View as seen;

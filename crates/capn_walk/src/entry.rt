@@ -1,4 +1,4 @@
-//! What an index of a message has for each slot.
+//! The entries of a message's index, one for each slot.
 
 ghost use Rattle.std.specs.Prelude.{◌≡◌};
 ghost use Rattle.capn_walk.specs.Index.{entry_of};

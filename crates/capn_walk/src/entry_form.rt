@@ -1,4 +1,4 @@
-//! How the entries of an index are written into a room.
+//! The forms of index entries in a room.
 
 ghost use Rattle.std.specs.Prelude.{◌≡◌, set};
 ghost use Rattle.capn_walk.specs.declared.entry.Entry.{Entry as Entries};

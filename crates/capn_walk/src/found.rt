@@ -1,4 +1,4 @@
-//! What the visits of slots found.
+//! The findings of the visits of slots.
 
 ghost use Rattle.std.specs.Prelude.{◌≡◌};
 ghost use Rattle.capn_value.specs.Tree as trees;

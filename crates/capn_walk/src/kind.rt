@@ -1,4 +1,4 @@
-//! What a view shows.
+//! The kinds of values shown by a view.
 
 ghost use Rattle.std.specs.Prelude.{◌≡◌};
 ghost use Rattle.capn_walk.specs.View as seen;

@@ -1,4 +1,5 @@
-//! Laws of the definitions, for the crates above: each function does nothing, and its contract is the law.
+//! Laws of the definitions, as empty functions.
+//! They are for the crates above. The contract of each function is the law.
 
 ghost use Rattle.std.specs.Prelude.{ℕ, List};
 ghost use Rattle.capn_words.specs.declared.space.Place.{Place};

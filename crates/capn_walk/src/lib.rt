@@ -1,4 +1,5 @@
-//! Reading a message from its root: what a pointer names, and what the whole message denotes.
+//! The reading of a message from its root.
+//! It finds what a pointer names, and what the whole message denotes.
 //!
 //! - [`resolve`] says what the pointer at a place names: null, a capability, or content that lies inside its
 //!   segment, after landing pads if need be; else the first fault of that slot.

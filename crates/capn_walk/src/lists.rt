@@ -1,4 +1,4 @@
-//! Lists of elements without pointers, read from the bytes of their segment in one pass.
+//! Lists of elements without pointers, read in one pass.
 
 ghost use Rattle.std.specs.Prelude.{◌≡◌, ◌+◌, ◌*◌, ◌/◌, ◌%◌, ◌<◌, ◌≤◌, ◌^◌, ◌++◌, length, map, take};
 ghost use Rattle.std.specs.Prelude.{vec_capacity, IfOk};

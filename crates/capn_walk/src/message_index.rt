@@ -1,4 +1,4 @@
-//! An index of a message: an entry for each slot that its walk visits, in preorder.
+//! The index of a message: its visited slots in preorder.
 
 ghost use Rattle.std.specs.Prelude.{◌≡◌, ◌⊎◌, ◌<◌, ◌≤◌, ◌+◌, ◌*◌, length, IfOk, IfErr, IsOk, OnOk, MatchResult};
 ghost use Rattle.capn_walk.specs.Index.{index_of, IsIndexed, IsIndexedAs};

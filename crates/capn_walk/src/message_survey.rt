@@ -1,4 +1,4 @@
-//! A survey of all that a message holds, without its value.
+//! The survey of a whole message, without its value.
 
 ghost use Rattle.std.specs.Prelude.{◌≡◌, ◌≢◌, ◌<◌, ◌≤◌, ◌+◌, ◌*◌, ◌⊎◌, IfOk, IfErr, MatchResult};
 ghost use Rattle.capn_walk.specs.Accepted.{IsValueOf, IsWalkRefused, IsBounded};

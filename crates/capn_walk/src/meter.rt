@@ -1,4 +1,4 @@
-//! What may still be paid.
+//! The meter of a view's steps.
 
 ghost use Rattle.std.specs.Prelude.{◌≡◌, ◌+◌, ◌≤◌};
 ghost use Rattle.capn_value.specs.Cost.{most_cost};

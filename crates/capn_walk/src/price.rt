@@ -1,4 +1,4 @@
-//! What a visit costs.
+//! The price of a visit.
 
 ghost use Rattle.std.specs.Prelude.{◌≡◌, ◌+◌};
 ghost use Rattle.capn_walk.specs.Visits.{price};

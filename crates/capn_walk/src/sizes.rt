@@ -1,4 +1,4 @@
-//! How much a target has of what.
+//! The sizes of a target.
 
 ghost use Rattle.std.specs.Prelude.{◌≡◌};
 ghost use Rattle.capn_walk.specs.View as seen;

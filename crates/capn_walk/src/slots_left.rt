@@ -1,4 +1,4 @@
-//! The slots of an object that a survey has still to visit.
+//! The slots of an object left to a survey.
 
 ghost use Rattle.std.specs.Prelude.{◌≡◌, ℕ, ◌-◌, ◌<◌, ◌≤◌, ◌+◌, ◌*◌, ◌^◌, [], ◌∷◌, ◌↔◌, IsTrue};
 ghost use Rattle.capn_walk.specs.Visits.{slots};

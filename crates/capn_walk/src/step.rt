@@ -1,4 +1,4 @@
-//! A step to a slot: what it costs, and what is below it.
+//! The price of a step, and its target's slots.
 
 ghost use Rattle.std.specs.Prelude.{◌≡◌, ◌<◌, ◌≤◌, ℕ, Ok, Err, IfOk, MatchResult};
 ghost use Rattle.capn_words.specs.Message.{IsMessage};

@@ -1,4 +1,4 @@
-//! What a survey answers.
+//! The answers of a survey.
 
 /// What a walk pays and visits, and the first capability that it meets.
 #[derive(Clone, Copy, Debug, PartialEq, Eq)]

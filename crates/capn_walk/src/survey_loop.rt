@@ -1,4 +1,4 @@
-//! The loop of a survey over slots, from the root's on.
+//! The loop of a survey, from the root's slot on.
 
 ghost use Rattle.std.specs.Prelude.{◌≡◌, ◌≢◌, ◌<◌, ◌≤◌, ◌+◌, ◌*◌, Ok, IsTrue, IfOk, IfErr, MatchResult};
 ghost use Rattle.capn_words.specs.Message.{IsMessage, IsPlace};

@@ -1,4 +1,4 @@
-//! What a walk answers.
+//! The answers of a walk.
 
 ghost use Rattle.std.specs.Prelude.{◌≡◌, ◌+◌, ◌<◌, ◌^◌};
 ghost use Rattle.capn_target.specs.declared.target.Fault.TheVariants.{Memory};

@@ -1,4 +1,5 @@
-//! The visits of slots, in preorder: what each denotes, what was paid, and how many there were.
+//! The visits of slots, in preorder.
+//! They find what each slot denotes, what was paid, and how many visits there were.
 //!
 //! A slot costs at most ten reads and turns: its turn, its word, and eight to find what it names. The object that it
 //! names costs the words of its data, and a turn for each row, which is at most two for each word of its price.

@@ -1,4 +1,4 @@
-//! The object that holds a slot.
+//! The holder of a slot.
 
 ghost use Rattle.std.specs.Prelude.{◌≡◌, ℕ, ◌+◌, ◌<◌, ◌≤◌, ◌^◌, length, None, Some, IfNone, IfSome, MatchOption};
 ghost use Rattle.capn_words.specs.Message.{segment_at, IsPlace};

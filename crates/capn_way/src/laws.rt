@@ -1,4 +1,4 @@
-//! Laws of the definitions: each is the contract of a function that does nothing.
+//! The laws of ways, as empty functions.
 
 ghost use Rattle.capn_way.specs.Laws.{WaysAreOne, HoldersAreOne};
 

@@ -1,4 +1,5 @@
-//! The way to a slot of a message: the numbers that lead to it from the root.
+//! The way to a slot of a message.
+//! It is the numbers that lead to the slot from the root.
 //!
 //! A number leads from a struct to a slot, from a list of pointers to an element, and from a list of structs to a row,
 //! whose slot the next number says. No number leads to the root.

@@ -1,4 +1,4 @@
-//! The way to the slot at which a walk stopped.
+//! The way to the slot of a refusal.
 
 ghost use Rattle.std.specs.Prelude.{IfOk, IfSome, IfNone, ◌-◌};
 ghost use Rattle.capn_walk.specs.Accepted.{IsAccepted, IsWalkRefused};

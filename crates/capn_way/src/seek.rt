@@ -1,4 +1,4 @@
-//! The search for a visit of a walk by its number.
+//! The search for a visit by its number.
 
 ghost use Rattle.std.specs.Prelude.{◌≡◌, ◌≤◌, ◌+◌, ◌*◌, IfOk, length};
 ghost use Rattle.capn_words.specs.Message.{segment_at, IsMessage, IsPlace};

@@ -1,4 +1,4 @@
-//! A message of one segment, read where its bytes lie.
+//! A message of one segment, read in place.
 
 ghost use Rattle.std.specs.Prelude.{◌≡◌, ℕ, ◌<◌, ◌≤◌, ◌*◌, ◌+◌, List, [], ◌∷◌, length, take, drop};
 ghost use Rattle.capn_words.specs.Message.{IsBare, ReadsBare, word_number};

@@ -1,4 +1,4 @@
-//! The laws of one segment, as a function that does nothing.
+//! The laws of one segment, as an empty function.
 
 ghost use Rattle.capn_words.specs.Laws.{BareAreNotRefused, OneBareReading, OneBareRefusal};
 

@@ -1,4 +1,5 @@
-//! Words, pointers and segments: what every other crate reads a message by.
+//! Words, pointers and segments.
+//! Every other crate reads a message by them.
 //!
 //! - `split` takes a pointer word apart and `join` puts one together; each is the other's inverse.
 //! - `Space` is a message whose words and bytes can be read at a `Place`; a function over any `Space`

@@ -1,4 +1,4 @@
-//! How large a message is.
+//! The size of a message.
 
 ghost use Rattle.std.specs.Prelude.{◌≡◌};
 ghost use Rattle.capn_words.specs.Message.{total};

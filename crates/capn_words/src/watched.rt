@@ -1,4 +1,4 @@
-//! A reader or a writer that remembers whether it has failed.
+//! Readers and writers with a record of failure.
 
 ghost use Rattle.std.specs.Prelude.{◌≡◌, ℕ, ◌<◌, ◌≤◌, Bool, true, false, ◌||◌, is_err, OnOk};
 ghost use Rattle.std.specs.Io.{ReadsAtMost, WritesAtMost};

@@ -1,4 +1,5 @@
-//! Each message cut at each byte: its beginnings have the answer that the definitions give for them.
+//! Each message, cut at each byte.
+//! Its beginnings have the answer that the definitions give for them.
 
 use crate::messages::{canonical_text, form_at, paid_text, true_limits_at};
 use crate::refusals::told;

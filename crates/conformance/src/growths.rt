@@ -1,4 +1,5 @@
-//! Each case with ample memory, then with each growth of its calls refused in turn, and then with its message cut.
+//! Each case, with ample and with refused memory.
+//! It is answered with ample memory, then with each growth of its calls refused in turn, and then with its message cut.
 
 use crate::answer;
 use crate::cuts::cut_each;

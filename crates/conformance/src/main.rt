@@ -1,9 +1,9 @@
-//! Answers each case of standard input: a line with its name and a line with a call, each word parted by a space. Bytes
-//! are hexadecimal, and `-` stands for none. A call after the word `plain` pays by the plain tariff, another by the
-//! strict one. What must come out is the stored output, which no run of ours wrote. Each call is made once with ample
-//! memory, and then as often as it grows with one growth refused; a message is cut at each byte too. The line of a case
-//! is printed only if it answered each time that memory ran out, and its answer afterwards, and for each beginning what
-//! the definitions give.
+//! Answers to the cases of standard input.
+//! A case is a line with its name and a line with a call, each word parted by a space. Bytes are hexadecimal, and `-`
+//! stands for none. A call after the word `plain` pays by the plain tariff, another by the strict one. What must come
+//! out is the stored output, which no run of ours wrote. Each call is made once with ample memory, and then as often as
+//! it grows with one growth refused; a message is cut at each byte too. The line of a case is printed only if it
+//! answered each time that memory ran out, and its answer afterwards, and for each beginning what the definitions give.
 #![tactic(auto)]
 
 mod archives;

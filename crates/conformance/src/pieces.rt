@@ -1,4 +1,4 @@
-//! The calls on streams that come in pieces, and over a reader and a writer.
+//! Calls on streams in pieces, and on readers and writers.
 
 ghost use Rattle.std.specs.Prelude.{◌≤◌};
 ghost use Rattle.capn_words.specs.Message.{most_message_words};

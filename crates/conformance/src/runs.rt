@@ -1,4 +1,4 @@
-//! Runs of the program, from the words of the command line to what is written.
+//! Runs of the program, from command line to output.
 
 use crate::growths::{Heap, cut_short};
 use crate::words::{bytes_at, digits_of, number_at, word_at};

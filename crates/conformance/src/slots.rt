@@ -1,4 +1,4 @@
-//! The call that resolves a slot.
+//! The call to resolve a slot.
 
 use crate::growths::Heap;
 use crate::messages::form_at;

@@ -1,4 +1,4 @@
-//! The calls on packed texts that come in pieces.
+//! The calls on packed texts in pieces.
 
 use crate::growths::{Heap, MEMORY, cut_short};
 use crate::refusals::told;

@@ -1,4 +1,5 @@
-//! The calls on views of a message. Each step that makes a view gives it the next number, from 0 on.
+//! The calls on views of a message.
+//! Each step that makes a view gives it the next number, from 0 on.
 
 ghost use Rattle.std.specs.Prelude.{◌≡◌, ◌<◌, ◌≤◌, ◌^◌, IfOk};
 

@@ -1,4 +1,4 @@
-//! The calls that report a message's visits, and whether its bytes are canonical.
+//! The calls for a message's visits and for its canonicity.
 
 use crate::growths::Heap;
 use crate::messages::{form_at, true_limits_at};

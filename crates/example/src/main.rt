@@ -1,5 +1,6 @@
-//! An example of the libraries: the messages of standard input, each with the digest of its canonical bytes, and
-//! whether its value is that of the message before it.
+//! An example of the libraries: the digests of messages.
+//! It prints for each message of standard input the digest of its canonical bytes, and whether its value is that of
+//! the message before it.
 //!
 //! Canonical bytes are what one signs, hashes and compares: they are equal if and only if the values are, up to
 //! trailing zero words and trailing null pointers. Programs that read messages from strangers set limits first; a

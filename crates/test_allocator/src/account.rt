@@ -1,4 +1,4 @@
-//! What was asked of an allocator, and which growths it refuses.
+//! The account of an allocator: growths asked for and refused.
 
 ghost use Rattle.std.specs.Prelude.{◌≡◌, ◌⊎◌, ◌+◌, ◌-◌, ◌^◌, ◌<◌, ◌↔◌, true, max, min};
 

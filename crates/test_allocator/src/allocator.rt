@@ -1,4 +1,4 @@
-//! An allocator that refuses growths, and remembers what was asked of it.
+//! An allocator with refusals, and an account of its growths.
 
 use crate::account::Account;
 use std::alloc::{AllocError, Allocator};

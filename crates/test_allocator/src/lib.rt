@@ -1,4 +1,5 @@
-//! An allocator for trials: it refuses growths by their number or by their size, and counts them.
+//! An allocator for trials.
+//! It refuses growths by their number or by their size, and counts them.
 #![tactic(auto)]
 
 mod account;

@@ -1,4 +1,4 @@
-//! One segment, read by itself and by a function over any message.
+//! One segment, read by itself and as any message.
 
 use capn_words::{Bare, BareFault, Place, Space, total_words};
 

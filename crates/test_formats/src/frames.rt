@@ -1,4 +1,4 @@
-//! The frame of a message that is read bare, a frame of one segment that is, and when a framer is empty.
+//! Bare messages as frames, frames as bare messages, empty framers.
 
 ghost use Rattle.std.specs.Prelude.{◌≤◌};
 ghost use Rattle.capn_words.specs.Message.{most_message_words};

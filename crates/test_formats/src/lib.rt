@@ -1,4 +1,4 @@
-//! Trials of pointer words, of words of every kind of group, and of readers and writers that are watched.
+//! Trials of pointer words, packed words, frames, readers and writers.
 //!
 //! They stand apart from the crates that they try, since a crate with tests is proved twice, and apart from the trials
 //! of the crates above these, since they need not wait for those.

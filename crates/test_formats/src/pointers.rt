@@ -1,4 +1,4 @@
-//! Pointer words of each kind, at the ends of their fields' ranges.
+//! Pointer words of each kind, at their fields' limits.
 
 ghost use Rattle.std.specs.Prelude.{◌≡◌};
 ghost use Rattle.capn_words.specs.Pointers.{FitsFields};

@@ -1,4 +1,4 @@
-//! What a reader of messages is asked for, and what it has left after a refusal.
+//! Bytes asked of a reader, and left after a refusal.
 
 use capn_stream::{FrameFault, ReadFault, read_message};
 use capn_words::{MOST_MESSAGE_WORDS, Watched};

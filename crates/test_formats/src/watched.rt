@@ -1,4 +1,4 @@
-//! Calls are passed on, and what makes a reader or a writer failed.
+//! Watched readers and writers: calls passed on, and failures.
 
 ghost use Rattle.std.specs.Prelude.{◌≤◌, IfOk};
 

@@ -1,4 +1,5 @@
-//! A thousand messages of all kinds that are accepted: five hundred values, each in one segment and in several.
+//! A thousand accepted messages of all kinds.
+//! They are five hundred values, each in one segment and in several.
 
 use crate::agreement::{Answer, agreed};
 use crate::writing::message;

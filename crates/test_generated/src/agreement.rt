@@ -1,4 +1,4 @@
-//! What all calls say of one message, compared.
+//! The agreement of all calls on one message.
 
 use capn_canon::{
     Canonical, Form, LayoutFault, Refusal, canonical_of, canonicalise, is_canonical, layout,

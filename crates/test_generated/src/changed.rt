@@ -1,4 +1,4 @@
-//! Canonical bytes of which one is changed.
+//! Canonical bytes with one byte changed.
 
 use crate::agreement::is_told;
 use capn_walk::Limits;

@@ -1,4 +1,4 @@
-//! Messages that nobody writes by mistake: words of pointers that lead anywhere.
+//! Hostile messages: words of pointers to anywhere.
 
 use crate::agreement::{Answer, agreed};
 use crate::random::Random;

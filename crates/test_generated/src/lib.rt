@@ -1,4 +1,5 @@
-//! Trials of the libraries' calls on messages that are made from fixed seeds: all calls have to agree on each.
+//! Trials of the libraries' calls on messages from fixed seeds.
+//! All calls have to agree on each.
 //!
 //! They stand apart from the crates that they try, since a crate with tests is proved twice.
 #![tactic(auto)]

@@ -1,4 +1,4 @@
-//! Segments that are written word by word, pointers into them, and their frame.
+//! Segments written word by word, pointers into them, their frame.
 
 ghost use Rattle.std.specs.Prelude.{◌≡◌, [], length, map, replicate, slice_index_or, IfOk};
 

@@ -1,4 +1,4 @@
-//! Texts of values, which are read back: one by one, and as a stream.
+//! Texts of values, read back singly and as a stream.
 
 use crate::writing::message;
 use capn_stream::first;

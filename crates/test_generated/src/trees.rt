@@ -1,4 +1,5 @@
-//! A thousand values without a capability, whose layout is read bare by all calls.
+//! Layouts of a thousand values, read bare by all calls.
+//! The values have no capability.
 
 use crate::texts::value_of;
 use capn_canon::{Form, canonicalise, is_canonical, layout};

@@ -1,4 +1,4 @@
-//! Messages of all kinds that are accepted, made from a seed.
+//! Accepted messages of all kinds, made from a seed.
 
 use crate::random::Random;
 use crate::segments::{At, Segments, capability, far, list, node, offset_to, tag};

@@ -1,4 +1,4 @@
-//! Streams that are cut at every byte, and fed in pieces of several sizes.
+//! Streams cut at every byte, in pieces of several sizes.
 
 use capn_stream::{FrameFault, Framer, first, frame};
 use capn_words::Space;

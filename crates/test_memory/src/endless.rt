@@ -1,4 +1,5 @@
-//! Inputs that are longer than what a command may hold of them: it holds no more, and answers what is right of all.
+//! Inputs too long for a command to hold.
+//! It holds no more, and answers what is right of all.
 
 use capn_canon::{Form, Refusal};
 use capn_pack::UnpackFault;

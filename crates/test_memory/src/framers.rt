@@ -1,4 +1,4 @@
-//! Many framers that wait for the greatest message.
+//! Many framers, each waiting for the greatest message.
 
 use capn_stream::{FrameFault, Framer};
 use std::alloc::{AllocError, Global};

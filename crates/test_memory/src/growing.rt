@@ -1,4 +1,5 @@
-//! How often and by how much calls grow: tables of many segments, bytes that come one by one, and what is announced.
+//! The number and the size of calls' growths.
+//! The trials are of tables of many segments, bytes that come one by one, and what is announced.
 
 use crate::cuts::long_table;
 use crate::short_runs::output;

@@ -1,5 +1,5 @@
-//! Trials of the libraries' calls where something is short: memory that is refused at each growth in turn, and input
-//! that is cut at each byte.
+//! Trials of the libraries' calls, short of memory or input.
+//! Memory is refused at each growth in turn, and input is cut at each byte.
 //!
 //! They stand apart from the crates that they try, since a crate with tests is proved twice.
 #![tactic(auto)]

@@ -1,4 +1,5 @@
-//! Streams that are longer than what a run holds of them, which is a piece and the message in hand.
+//! Streams longer than the part held by a run.
+//! A run holds a piece and the message in hand.
 
 use crate::subject::MOST;
 use capn_archive::{Archive, Task, Uniq, run_archive, run_uniq};
@@ -173,7 +174,7 @@ fn two_hundred_thousand_messages(rt: HostRuntime) -> Result<(), Fail> {
     Ok(())
 }
 
-/// Whether a run that is done over 200,704 messages writes so many bytes, and asks for no growth of more than 256 KiB.
+/// Whether a run that is done over 200,704 messages writes `written` bytes, and asks for no growth above 256 KiB.
 fn writes(alloc: Global, order: Order, written: u64) -> Result<bool, AllocError> {
     let row = times(alloc, &EMPTY, IN_A_ROW)?;
     match taken(alloc, order, Form::Stream, row.as_slice(), ROWS) {

@@ -1,4 +1,4 @@
-//! What takes no memory.
+//! Checks without memory.
 
 use crate::short_runs::accounted;
 use crate::subject::{chain, limits};

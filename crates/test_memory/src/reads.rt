@@ -1,4 +1,4 @@
-//! What a reader has left where a growth for its next message is refused.
+//! Bytes left to a reader after a refused growth.
 
 use crate::refused::STREAM;
 use crate::words::bytes_of;

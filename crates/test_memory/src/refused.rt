@@ -1,4 +1,4 @@
-//! Calls of which each growth is refused in turn.
+//! Calls with each growth refused in turn.
 
 use crate::short_runs::*;
 use crate::short_streams::*;

@@ -1,4 +1,4 @@
-//! Room that is asked for at once.
+//! Room asked for at once.
 
 use crate::long_streams::Counted;
 use crate::short_runs::output;

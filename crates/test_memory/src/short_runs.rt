@@ -1,4 +1,4 @@
-//! Canonical bytes, texts of faults and runs, with an allocator that may refuse a growth.
+//! Canonical bytes, fault texts and runs, short of memory.
 
 use crate::subject::{Answer, Subject, judged, limits, wanting};
 use capn_canon::{

@@ -1,4 +1,4 @@
-//! Calls on streams and packed texts, with an allocator that may refuse a growth.
+//! Calls on streams and packed texts, short of memory.
 
 use crate::subject::{Answer, MOST, Subject, judged, judged_message, wanting};
 use capn_pack::{PackFault, UnpackFault, Unpacker, pack, unpack};

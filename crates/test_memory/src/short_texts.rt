@@ -1,4 +1,4 @@
-//! Texts that are read, with an allocator that may refuse a growth.
+//! Readings of texts, short of memory.
 
 use crate::short_values::judged_tree;
 use crate::subject::{Answer, Subject, wanting};

@@ -1,4 +1,4 @@
-//! Calls on messages and their values, with an allocator that may refuse a growth.
+//! Calls on messages and their values, short of memory.
 
 use crate::subject::{Answer, Subject, judged, limits, wanting};
 use capn_canon::{LayoutFault, Patch, layout};

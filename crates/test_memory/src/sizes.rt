@@ -1,4 +1,5 @@
-//! How much calls ask for: big messages through each of them, and nothing before the input is known to have it.
+//! Sizes of the growths of calls on big messages.
+//! Nothing is asked for before the input is known to have it.
 
 use crate::refused::{CALLS, Call, answer};
 use crate::short_values::growths_of_four;

@@ -1,4 +1,4 @@
-//! What calls that take memory are tried on, and how their answers are judged.
+//! The subject of the trials, and judgements of answers.
 
 use crate::words::bytes_of;
 use capn_pack::pack;

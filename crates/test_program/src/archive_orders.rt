@@ -1,4 +1,4 @@
-//! What the words of the command line order of archives.
+//! Orders of command lines over archives.
 
 use crate::orders::expect_usage;
 use capn_program::{

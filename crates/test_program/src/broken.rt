@@ -1,10 +1,10 @@
-//! Runs over readers and writers that fail.
+//! Runs over failing readers and writers.
 
 use capn_program::{Watched, program};
 use std::alloc::Global;
 use std::io::{self, ErrorKind, Read, Write};
 
-/// A reader of pieces of at most so many bytes, which ends with its bytes, or fails there and notes that it did.
+/// A reader of pieces of at most `most` bytes, which ends with its bytes, or fails there and notes that it did.
 #[derive(Drop)]
 struct Pieces<'a> {
     bytes: &'a [u8],
@@ -26,7 +26,7 @@ impl Read for Pieces<'_> {
     }
 }
 
-/// A writer that takes so many bytes, and then fails.
+/// A writer that takes a number of bytes, and then fails.
 #[derive(Drop)]
 pub(crate) struct Short {
     /// What it took.

@@ -1,4 +1,4 @@
-//! Outputs of runs whose reader or writer fails.
+//! Outputs of runs over a failing reader or writer.
 
 use crate::broken::{Ending, Input, ended};
 use std::alloc::Global;
@@ -62,7 +62,7 @@ fn unread(alloc: Global, words: &[&str], bytes: &[u8], most: usize) -> Ending {
     ended(alloc, words, input)
 }
 
-/// How a run ends whose writer takes so many bytes.
+/// How a run ends whose writer takes `room` bytes.
 fn unwritten(alloc: Global, words: &[&str], bytes: &[u8], room: usize) -> Ending {
     let input = Input {
         bytes,

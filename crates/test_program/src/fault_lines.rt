@@ -1,4 +1,4 @@
-//! What is written where a run ends.
+//! The lines written at the end of runs.
 
 use crate::broken::Short;
 use capn_endings::Line;

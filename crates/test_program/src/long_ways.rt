@@ -1,4 +1,4 @@
-//! What is shown at a way of many numbers.
+//! Values shown at a way of many numbers.
 
 use crate::broken::{Input, ended};
 use std::process::Abort;

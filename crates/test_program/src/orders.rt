@@ -1,4 +1,4 @@
-//! What the words of the command line order.
+//! Orders of command lines.
 
 use capn_program::{Command, Flow, Form, Limits, Order, Style, Tariff, order_of};
 use std::alloc::Global;

@@ -1,4 +1,4 @@
-//! Runs that pick the messages of a list.
+//! Picks of messages by a list.
 
 use capn_program::{Limits, Only, StreamForm, Watched, pick_only};
 use std::test::Fail;

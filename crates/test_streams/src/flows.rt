@@ -1,4 +1,4 @@
-//! Streams that are packed and unpacked by hand.
+//! Handmade streams, packed and unpacked.
 
 use capn_flow::{FlowFault, pack_stream, unpack_stream};
 use capn_words::Watched;

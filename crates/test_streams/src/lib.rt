@@ -1,4 +1,5 @@
-//! Tests of runs over streams that were made by hand: messages that are served, and words that are packed and unpacked.
+//! Tests of runs over handmade streams.
+//! Messages are served, and words are packed and unpacked.
 //!
 //! They stand apart from the crates that they test, since a crate with tests is proved twice.
 #![tactic(auto)]

@@ -1,4 +1,4 @@
-//! Runs that pick messages which were made by hand.
+//! Picks of handmade messages.
 
 ghost use Rattle.capn_serve.specs.Pick.{AreAscending};
 

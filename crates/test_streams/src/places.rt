@@ -1,4 +1,5 @@
-//! Runs over packed inputs that were made by hand, by a service that no command has.
+//! Runs of a service over handmade packed inputs.
+//! No command has this service.
 
 ghost use Rattle.std.specs.Prelude.{⊤};
 

@@ -1,4 +1,5 @@
-//! Inputs without an end that are refused whatever follows: little more of them is read than it takes to know that.
+//! Endless inputs, refused after few bytes.
+//! Little more of them is read than it takes to know that they are refused.
 
 use capn_make::{Form, MakeFault, Misfit, Watched, make};
 use std::alloc::Global;

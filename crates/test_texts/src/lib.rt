@@ -1,4 +1,4 @@
-//! Tests of the calls that read the texts of values and make messages of them.
+//! Tests of reading value texts and making messages of them.
 //!
 //! They stand apart from the crates that they test, since a crate with tests is proved twice.
 #![tactic(auto)]

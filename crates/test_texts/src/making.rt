@@ -1,4 +1,4 @@
-//! Messages that are made of texts: in each form, and what a run that is refused has written.
+//! Messages made of texts in each form, and refused runs.
 
 use capn_make::{Form, MakeFault, Misfit, Watched, make};
 use capn_value::show;

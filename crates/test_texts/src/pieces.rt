@@ -1,4 +1,4 @@
-//! Messages that are made of texts that come in pieces.
+//! Messages made of texts in pieces.
 
 use crate::making::{MADE, NULL, PADDED, run};
 use capn_make::{Form, MakeFault, Watched, make};

@@ -1,4 +1,5 @@
-//! Texts that are read: what is shown is read back, and a text that isn't one is refused at its first wrong line.
+//! Texts of values, read back or refused.
+//! What is shown is read back, and a text that isn't one is refused at its first wrong line.
 
 use capn_text::{TextFault, Texts, read};
 use capn_value::{Body, Items, Misfit, Tree, Value, show};

@@ -1,5 +1,5 @@
-//! Messages that are written as their texts come: whatever the pieces, a reader or a writer that fails, and how much of
-//! a long input is held.
+//! Messages written on arrival of their texts.
+//! The tests vary the pieces, have a reader or a writer fail, and measure how much of a long input is held.
 
 use crate::making::NULL;
 use capn_make::{Form, MakeFault, Watched, make};

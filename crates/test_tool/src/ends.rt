@@ -1,4 +1,4 @@
-//! Runs over readers and writers of one byte a call, which fail at one call.
+//! Ends of runs over slow or failing readers and writers.
 
 use crate::slow::{Ending, Run, ended};
 use capn_canon::{Form, Refusal};

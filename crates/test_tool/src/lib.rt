@@ -1,4 +1,4 @@
-//! Tests of the program's work: its runs, its command line, and readers and writers that fail.
+//! Tests of the program's command line, runs and failures.
 //!
 //! They stand apart from the crates that they test, since a crate with tests is proved twice.
 #![tactic(auto)]

@@ -1,4 +1,4 @@
-//! Command lines and what they order.
+//! Command lines and their orders.
 
 use capn_canon::Form;
 use capn_tool::*;

@@ -1,4 +1,4 @@
-//! Runs over a reader that gives pieces and a writer that takes all, both of which count their calls.
+//! Runs over a reader of pieces, with counted calls.
 
 use capn_canon::Form;
 use capn_tool::*;

@@ -1,4 +1,5 @@
-//! The program over readers and writers in memory: its status, and what it writes where.
+//! The program over readers and writers in memory.
+//! The tests compare its status, and what it writes where.
 
 use capn_tool::program;
 use capn_words::Watched;

@@ -1,4 +1,4 @@
-//! Runs over a reader and a writer of one byte a call, each of which fails at one call.
+//! A failing reader and writer of one byte a call.
 
 use capn_tool::{Command, ToolFault, run};
 use capn_words::Watched;

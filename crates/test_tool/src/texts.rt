@@ -1,4 +1,5 @@
-//! The names of the faults, and the texts and statuses of those that no message of a few bytes has.
+//! Names, texts and statuses of faults.
+//! The texts and statuses are those of faults that no message of a few bytes has.
 
 use capn_canon::Refusal;
 use capn_pack::UnpackFault;

@@ -1,4 +1,4 @@
-//! The least depth under which a message is accepted.
+//! The least depth for accepting a message.
 
 use crate::words::bytes_of;
 use capn_canon::{MeasuredBare, measure_canonical};

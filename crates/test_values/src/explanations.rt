@@ -1,4 +1,4 @@
-//! The texts by which messages are explained.
+//! The texts of explanations of messages.
 
 use crate::words::bytes_of;
 use capn_explain::{PointerText, SlotText, TagText, WayText, WordText, place_byte};

@@ -1,4 +1,4 @@
-//! Indexes of messages, and rooms that are too short for them.
+//! Indexes of messages, and rooms too short for them.
 
 use crate::words::bytes_of;
 use capn_walk::{

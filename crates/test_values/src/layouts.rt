@@ -1,4 +1,4 @@
-//! Canonical bytes of values that are put together by hand.
+//! Canonical bytes of handmade values.
 
 use crate::making::*;
 use crate::words::bytes_of;

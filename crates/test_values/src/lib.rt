@@ -1,4 +1,4 @@
-//! Tests of the libraries' public calls on values and messages that are put together by hand.
+//! Tests of public calls on handmade values and messages.
 //!
 //! They stand apart from the crates that they test, since a crate with tests is proved twice.
 #![tactic(auto)]

@@ -1,5 +1,5 @@
-//! Values that are put together by hand. Each call takes what others gave, so that running out of memory is reported at
-//! the end.
+//! Handmade values.
+//! Each call takes what others gave, so that running out of memory is reported at the end.
 
 use capn_value::{Body, Items, Misfit, Tree, Value};
 use std::alloc::{AllocError, Global};

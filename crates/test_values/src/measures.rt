@@ -1,4 +1,4 @@
-//! What is found of a message, canonical or not.
+//! Measures of messages, canonical or not.
 
 use crate::words::bytes_of;
 use capn_canon::{MeasuredBare, SurveyedBare, measure, own_canonical};

@@ -1,4 +1,4 @@
-//! What steps of views pay and where they lead, and what a survey and a check of a message report.
+//! Steps of views, and reports of surveys and checks.
 
 use crate::words::bytes_of;
 use capn_canon::{Refusal, SurveyedBare, survey, survey_bare, survey_canonical};

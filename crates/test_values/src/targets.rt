@@ -1,4 +1,4 @@
-//! What pointers name, and the steps by which that is found.
+//! Targets of pointers, and the steps to them.
 
 use crate::words::bytes_of;
 use capn_target::{

@@ -1,4 +1,4 @@
-//! The text of a tree, of its trimmed form and of its copy.
+//! Texts of trees, trimmed trees and copies.
 
 use crate::making::*;
 use capn_value::{Memory, Tariff, Tree, Value, copy, cost, same, show, trim};

@@ -1,4 +1,4 @@
-//! Values: the table of misfits, the table of sameness, and what is kept of them.
+//! Misfits and sameness of values, and their kept parts.
 
 use crate::making::*;
 use capn_value::{

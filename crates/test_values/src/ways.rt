@@ -1,4 +1,4 @@
-//! Ways to the slots of messages, and to those at which walks stop.
+//! Ways to slots of messages, visited or refused.
 
 use crate::words::bytes_of;
 use capn_walk::{Fault, Limits};

@@ -1,4 +1,5 @@
-//! A message in the making: words that are appended, and pointers that are written once their object has a place.
+//! A message in the making.
+//! Its words are appended, and a pointer is written once its object has a place.
 
 ghost use Rattle.std.specs.Prelude.{◌<◌};
 

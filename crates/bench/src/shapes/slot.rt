@@ -1,4 +1,4 @@
-//! Where a word of a message in the making is.
+//! The place of a word in a draft.
 
 /// A word of a draft.
 #[derive(Clone, Copy)]
