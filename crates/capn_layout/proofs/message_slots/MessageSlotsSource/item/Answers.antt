@@ -49,7 +49,7 @@ pub item_at-requires-clause-content : goal.item_at-requires-clause-content
 item_at-requires-clause-content g c =
     let m = c.args.self.now.space in
     let at : Place =
-      record { segment = c.args.self.now.start.segment; word = c.args.self.now.start.word + c.args.slot } in
+    record { segment = c.args.self.now.start.segment; word = c.args.self.now.start.word + c.args.slot } in
     let x = c.in-Content in
     let e = c.target_at.ensures.found ∙ ap Ok x.is in
     record {
