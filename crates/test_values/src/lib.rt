@@ -6,6 +6,8 @@
 #[cfg(test)]
 mod depths;
 #[cfg(test)]
+mod explained_refusals;
+#[cfg(test)]
 mod explanations;
 #[cfg(test)]
 mod indexes;
