@@ -4,6 +4,8 @@
 #![tactic(auto)]
 
 #[cfg(test)]
+mod departures;
+#[cfg(test)]
 mod depths;
 #[cfg(test)]
 mod explanations;

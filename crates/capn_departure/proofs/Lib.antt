@@ -1,0 +1,5 @@
+pub mod Steps
+pub mod CapsMet
+pub mod Capabilities
+pub mod FirstCapability
+pub mod Departing

@@ -1,0 +1,5 @@
+pub mod inner
+pub mod Difference
+pub mod Owner
+pub mod Capability
+pub mod Departures

@@ -1,0 +1,4 @@
+-- What no public clause cites.
+pub mod Capability
+pub mod Difference
+pub mod Towards
