@@ -102,7 +102,7 @@ int main(void) {
     int failed = 0;
     for (int shows = 0; shows < 2; shows++)
         for (int d = 0; d < 4; d++) {
-            const size_t stated = 16384 + (shows ? 432 : 352) * (size_t)depths[d];
+            const size_t stated = 16384 + (shows ? 432 : 368) * (size_t)depths[d];
             printf("stack: %sat most %zu bytes at depth %u, of %zu that are stated\n", shows ? "capn_show " : "",
                    most[shows][d], depths[d], stated);
             failed |= most[shows][d] > stated;
