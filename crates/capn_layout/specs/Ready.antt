@@ -7,6 +7,10 @@ use Rattle.capn_layout.specs.Layout.{size, sizes, sizes_in_rows, point, row_cont
 use Rattle.capn_layout.specs.LayoutSteps.{laid, laid_slots, laid_rows, AreRowsOver, past, rows_past}
 use Rattle.capn_layout.specs.Sound.{AreWide, Sound, Sounds, SoundRows}
 
+-- the pointer to a value has been put at a place, and its content appended (Own.)
+abbrev pub IsLaidAs : Tree → ℕ → List ℕ → List ℕ → Type 0
+IsLaidAs v from p q = q ≡ laid v (set p from (point v from (length p)))
+
 module _ {S : Type 0} (has : S → ℕ → Tree → Type 0) where
   -- a slot has a value, at most `depth` objects high, and there is room for it after n of `most` words (Own.)
   pub record IsReadyIn (source : S) (slot depth n most : ℕ) : Type 0 where

@@ -12,7 +12,8 @@ use capn_words::{Place, Space};
 use std::marker::Brand;
 use std::sync::ledger::{Blank, Ledger};
 
-/// How many of `count` words are left when the zeros at their end are cut, but no fewer than `least`.
+/// How many of `count` words are left when the zeros at their end are cut, but no fewer than `least`. In most cases it
+/// is all of them.
 #[inline(always)]
 pub fn kept_above<S: Space, L: Ledger>(
     space: &CountedSpace<'_, S, L>,
@@ -25,6 +26,35 @@ pub fn kept_above<S: Space, L: Ledger>(
     requires content { IsContent space.now at count }
     requires least { least ≤ count }
     ensures kept { result ≡ max least (kept_words (take count (words_from space.now at.segment at.word))) }
+    ensures reads { reads.new + 2 * least ≤ reads.old + 2 * count }
+{
+    if count == least {
+        return count;
+    }
+    reads.tick();
+    let last = Place {
+        segment: at.segment,
+        word: at.word + (count - 1),
+    };
+    if space.word(last, reads) != 0 {
+        return count;
+    }
+    kept_below(space.again(), at, count - 1, least, reads)
+}
+
+/// The same, as a call of its own: a loop, whose numbers would else lie on the stack at each level of depth.
+#[inline(never)]
+fn kept_below<S: Space, L: Ledger>(
+    space: CountedSpace<'_, S, L>,
+    at: Place,
+    count: u32,
+    least: u32,
+    reads: &mut Reads<L>,
+) -> u32
+    requires message { IsMessage space }
+    requires content { IsContent space at count }
+    requires least { least ≤ count }
+    ensures kept { result ≡ max least (kept_words (take count (words_from space.entry at.segment at.word))) }
     ensures reads { reads.new + 2 * least ≤ reads.old + 2 * count }
 {
     let mut kept = count;

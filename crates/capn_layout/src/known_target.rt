@@ -20,8 +20,7 @@ fn start_of(word: u32, offset: i32) -> u32
     if start < 0 { 0 } else { start as u32 }
 }
 
-/// What the pointer at a place names. It is known to name something, so nothing is tested again. A call has its answer
-/// in a place of its own: then only that one comes through memory.
+/// What the pointer at a place names. It is known to name something, so nothing is tested again.
 #[inline(always)]
 pub fn target_at<S: Space, L: Ledger>(
     space: &CountedSpace<'_, S, L>,
@@ -51,10 +50,7 @@ pub fn target_at<S: Space, L: Ledger>(
             width,
             count,
         } => match width {
-            Width::Rows => {
-                let target = resolved(space.again(), at, reads);
-                target
-            }
+            Width::Rows => followed(space, at, reads),
             _ => Target::Content {
                 segment: at.segment,
                 start: start_of(at.word, offset),
@@ -62,14 +58,28 @@ pub fn target_at<S: Space, L: Ledger>(
                 pads: 0,
             },
         },
-        _ => {
-            let target = resolved(space.again(), at, reads);
-            target
-        }
+        _ => followed(space, at, reads),
     }
 }
 
-/// The same with all tests.
+/// The same with all tests. A call has its answer in a place of its own: then only that one comes through memory, and
+/// the place lies on the stack no longer than here.
+#[inline(always)]
+fn followed<S: Space, L: Ledger>(
+    space: &CountedSpace<'_, S, L>,
+    at: Place,
+    reads: &mut Reads<L>,
+) -> Target
+    requires place { IsPlace space.now at }
+    requires found { (t : Targets) × (spec.target space.now at ≡ Ok t) }
+    ensures found { spec.target space.now at ≡ Ok result }
+    ensures reads { reads.new ≤ reads.old + 8 }
+{
+    let target = resolved(space.again(), at, reads);
+    target
+}
+
+/// The same, as a call of its own.
 #[inline(never)]
 fn resolved<S: Space, L: Ledger>(
     space: CountedSpace<'_, S, L>,

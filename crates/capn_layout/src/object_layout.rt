@@ -4,12 +4,14 @@ ghost use Rattle.std.specs.Prelude.{◌≡◌, ℕ, ◌+◌, ◌*◌, ◌/◌, �
 ghost use Rattle.capn_words.specs.Message.{words_in};
 ghost use Rattle.capn_value.specs.Tree.{Tree as Value, Trees, Bodies, tree_at, count as count_of};
 ghost use Rattle.capn_value.specs.Tree.{count_rows, row_words};
-ghost use Rattle.capn_layout.specs.Layout.{canon};
-ghost use Rattle.capn_layout.specs.Ready.{IsReady, IsReadyIn, AreReady, RowsReady, IsLaid, AreLaid, RowsLaid};
+ghost use Rattle.capn_value.specs.Cost.{height};
+ghost use Rattle.capn_layout.specs.Layout.{canon, size};
+ghost use Rattle.capn_layout.specs.Ready.{IsReady, IsReadyIn, AreReady, RowsReady, IsLaid, AreLaid, RowsLaid, IsLaidAs};
 ghost use Rattle.capn_layout.specs.LayoutSteps.{past};
-ghost use Rattle.capn_layout.specs.Sound.{AreWide, SoundRows};
+ghost use Rattle.capn_layout.specs.Sound.{AreWide, Sound, SoundRows};
 ghost use Rattle.capn_layout.specs.Weight.{weight, weights, weights_in_rows};
 ghost use Rattle.capn_layout.specs.inner.Draft.{IsKept};
+ghost use Rattle.capn_layout.specs.inner.Source.{AreStructs};
 
 use crate::draft::{push, put};
 use crate::object_size::size_of_slot;
@@ -110,28 +112,53 @@ fn lay_slot<S: Source>(
                 reads,
             )
         }
-        Item::Rows(rows, count) => {
-            let own = open_rows::<S>(S::again(&rows), count, from, out, len, reads);
-            lay_rows::<S>(
-                rows,
-                count,
-                own.words,
-                own.slots,
-                own.first,
-                depth - 1,
-                out,
-                own.end,
-                reads,
-            )
-        }
+        Item::Rows(rows, count) => { lay_list::<S>(&rows, count, from, depth, out, len, reads) }
     }
+}
+
+/// Puts the pointer to a list of structs, and appends its content with all below it, at most `depth` objects deep.
+/// It is a call of its own, so that what it needs on the stack is not kept at each level of depth.
+#[cycle(objects)]
+#[inline(never)]
+fn lay_list<S: Source>(
+    rows: &S::Rows,
+    count: u32,
+    from: usize,
+    depth: u32,
+    out: &mut [u8],
+    len: usize,
+    reads: &mut S::Reads,
+) -> usize
+    requires some { (v : Value) × (bs : Bodies) × AreStructs count v bs × S.are rows.now bs × Sound v
+        × (height v ≤ depth) × (length (words_in len out.old) + size v ≤ length out.old / 8) }
+    requires inside { from < len }
+    requires short { length out.old ≤ 2 ^ 32 }
+    ensures laid { (v : Value) (bs : Bodies) → AreStructs count v bs → S.are rows.now bs → Sound v → height v ≤ depth
+        → length (words_in len out.old) + size v ≤ length out.old / 8
+        → IsLaidAs v from (words_in len out.old) (words_in result out.new) }
+    ensures kept { IsKept result out.old out.new }
+    ensures reads { (v : Value) (bs : Bodies) → AreStructs count v bs → S.are rows.now bs → Sound v
+        → S.spent reads.new ≤ S.spent reads.old + 20 * weight v }
+{
+    let own = open_rows::<S>(rows, count, from, out, len, reads);
+    lay_rows::<S>(
+        rows,
+        count,
+        own.words,
+        own.slots,
+        own.first,
+        depth - 1,
+        out,
+        own.end,
+        reads,
+    )
 }
 
 /// Writes the pointers of the first `count` slots over the words from `first` on, and appends their content with all
 /// below it.
 #[cycle(objects)]
-#[inline(never)]
-fn lay_slots<S: Source>(
+#[inline(always)]
+fn lay_each<S: Source>(
     source: S,
     count: u32,
     first: usize,
@@ -156,12 +183,35 @@ fn lay_slots<S: Source>(
     end
 }
 
+/// The same, as a call of its own.
+#[cycle(objects)]
+#[inline(never)]
+fn lay_slots<S: Source>(
+    source: S,
+    count: u32,
+    first: usize,
+    depth: u32,
+    out: &mut [u8],
+    len: usize,
+    reads: &mut S::Reads,
+) -> usize
+    requires ready { AreReady S.has source 0 count depth (length (words_in len out.old)) (length out.old / 8) }
+    requires inside { first + count ≤ len }
+    requires short { length out.old ≤ 2 ^ 32 }
+    ensures laid { AreLaid S.has source count first (words_in len out.old) (words_in result out.new) }
+    ensures kept { IsKept result out.old out.new }
+    ensures reads { (ts : Trees) → count ≤ count_of ts → ((k : ℕ) → k < count → S.has source k (tree_at ts k))
+        → S.spent reads.new + 20 * weights (past count ts) ≤ S.spent reads.old + 12 * count + 20 * weights ts }
+{
+    lay_each(source, count, first, depth, out, len, reads)
+}
+
 /// Writes the pointers of the slots of `count` rows over their words, row by row, and appends their content with all
 /// below it. The rows begin at `first`, each with `words` words and `slots` slots.
 #[cycle(objects)]
-#[inline(never)]
+#[inline(always)]
 fn lay_rows<S: Source>(
-    rows: S::Rows,
+    rows: &S::Rows,
     count: u32,
     words: u32,
     slots: u32,
@@ -171,13 +221,13 @@ fn lay_rows<S: Source>(
     len: usize,
     reads: &mut S::Reads,
 ) -> usize
-    requires ready { RowsReady S.are rows 0 count words slots depth (length (words_in len out.old))
+    requires ready { RowsReady S.are rows.now 0 count words slots depth (length (words_in len out.old))
         (length out.old / 8) }
     requires inside { first + count * (words + slots) ≤ len }
     requires short { length out.old ≤ 2 ^ 32 }
-    ensures laid { RowsLaid S.are rows count words slots first (words_in len out.old) (words_in result out.new) }
+    ensures laid { RowsLaid S.are rows.now count words slots first (words_in len out.old) (words_in result out.new) }
     ensures kept { IsKept result out.old out.new }
-    ensures reads { (bs : Bodies) → S.are rows bs → count_rows bs ≡ count → AreWide words slots bs → SoundRows bs
+    ensures reads { (bs : Bodies) → S.are rows.now bs → count_rows bs ≡ count → AreWide words slots bs → SoundRows bs
         → S.spent reads.new ≤ S.spent reads.old + count + 12 * row_words bs + 20 * weights_in_rows bs }
 {
     if slots == 0 {
@@ -188,7 +238,7 @@ fn lay_rows<S: Source>(
     for row in 0..count {
         S::tick(reads);
         let from = next + words as usize;
-        end = lay_slots(S::slots(&rows, row), slots, from, depth, out, end, reads);
+        end = lay_each(S::slots(rows, row), slots, from, depth, out, end, reads);
         next = from + slots as usize;
     }
     end

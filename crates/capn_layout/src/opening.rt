@@ -91,32 +91,32 @@ pub fn open_links<S: Source>(
 /// It is a call of its own, so that what it needs on the stack is not kept at each level of depth.
 #[inline(never)]
 pub fn open_rows<S: Source>(
-    rows: S::Rows,
+    rows: &S::Rows,
     count: u32,
     from: usize,
     out: &mut [u8],
     len: usize,
     reads: &mut S::Reads,
 ) -> Opened
-    requires some { (v : Tree) × (bs : Bodies) × AreStructs count v bs × S.are rows bs × Sound v
+    requires some { (v : Tree) × (bs : Bodies) × AreStructs count v bs × S.are rows.now bs × Sound v
         × (8 * (len + size v) ≤ length out.old) }
     requires order { from < len }
     requires short { length out.old ≤ 2 ^ 32 }
-    ensures opened { (v : Tree) (bs : Bodies) → AreStructs count v bs → S.are rows bs → Sound v
+    ensures opened { (v : Tree) (bs : Bodies) → AreStructs count v bs → S.are rows.now bs → Sound v
         → IsOpened v bs from (words_in len out.old) (words_in result.end out.new) result.first result.words
         result.slots }
     ensures kept { IsKept result.end out.old out.new }
-    ensures reads { (bs : Bodies) → S.are rows bs
+    ensures reads { (bs : Bodies) → S.are rows.now bs
         → S.spent reads.new ≤ S.spent reads.old + 2 * count_rows bs + 5 * row_words bs }
 {
-    let words = S::kept_words(&rows, reads);
-    let slots = S::kept_slots(&rows, reads);
+    let words = S::kept_words(rows, reads);
+    let slots = S::kept_slots(rows, reads);
     let size = count as usize * (words as usize + slots as usize);
     let word = list_pointer(from, len, Width::Rows, size);
     put(out, from, word);
     let tag = tag_word(count as usize, words as usize, slots as usize);
     let first = push(out, len, tag);
-    let end = S::append_rows(&rows, words, slots, out, first, reads);
+    let end = S::append_rows(rows, words, slots, out, first, reads);
     Opened {
         first,
         end,

@@ -77,6 +77,23 @@ module _ (seg : List ℕ) (w count : ℕ) where
       let a = cut n h in
       omega arith
 
+-- zeros at the end of a part don't count
+zeros-after : (k n : ℕ) (xs : List ℕ) → k ≤ n → ((j : ℕ) → k ≤ j → j < n → slice_index xs j ≡ 0)
+    → kept_words (take k xs) ≡ kept_words (take n xs)
+zeros-after zero n xs l h =
+    let c = cut xs 0 n 0 (λ j a b. let e : 0 + j ≡ j = omega arith in rw e (h j a b)) in omega arith
+zeros-after (suc k) zero xs l h = absurd (omega arith)
+zeros-after (suc k) (suc n) [] l h = refl
+zeros-after (suc k) (suc n) (x ∷ xs) l h =
+    ap (kept_behind (x == 0)) (zeros-after k n xs (omega arith) (λ j a b. h (suc j) (omega arith) (omega arith)))
+
+-- the last word of a part doesn't count if it is zero
+pub last-cut : (seg : List ℕ) (w count : ℕ) → 0 < count → slice_index seg (w + (count - 1)) ≡ 0
+    → kept_words (take (count - 1) (drop w seg)) ≡ kept_words (take count (drop w seg))
+last-cut seg w count some z =
+    zeros-after (count - 1) count (drop w seg) (omega arith)
+    (λ j a b. let d : j ≡ count - 1 = omega arith in get_or-drop w seg j 0 ∙ rw d z)
+
 pub part-le : (n : ℕ) (xs : List ℕ) → kept_words (take n xs) ≤ n
 part-le n xs = let a = kept_words-le (take n xs) in let b = take-short n xs in omega arith
   where

@@ -293,68 +293,90 @@ lay_slot-returns-in-Links-clause-kept g t c =
 
 -- ---- a list of structs
 
-pub lay_slot-open_rows-own-requires-clause-some : goal.lay_slot-open_rows-own-requires-clause-some
-lay_slot-open_rows-own-requires-clause-some g t c =
+pub lay_slot-lay_list-requires : goal.lay_slot-lay_list-requires
+lay_slot-lay_list-requires g t c κs live =
     let v = c.requires.ready.value in
     let x = subst (λ (x : Item g.row.S-Numbers.Denot g.row.S-Rows.Denot). IsItem g.S.Source.packs g.S.Source.are x v)
-    c.in-Rows.is (c.item.ensures.is v c.requires.ready.is) in
-    let l = length-words_in c.args.len c.args.out.now in
-    let r = c.requires.ready.room in
-    (v, x.0, x.1, rw c.again.ensures x.2, c.requires.ready.sound, omega arith)
-
-pub lay_slot-lay_rows-requires : goal.lay_slot-lay_rows-requires
-lay_slot-lay_rows-requires g t c κs live =
-    let v = c.requires.ready.value in
-    let x = subst (λ (x : Item g.row.S-Numbers.Denot g.row.S-Rows.Denot). IsItem g.S.Source.packs g.S.Source.are x v)
-    c.in-Rows.is (c.item.ensures.is v c.requires.ready.is) in
-    let r = c.open_rows-own.result in
-    let p = words_in c.args.len c.args.out.now in
-    let q = words_in r.end c.open_rows-own.new.out in
-    let o = c.open_rows-own.ensures.opened v x.0 x.1 (rw c.again.ensures x.2) c.requires.ready.sound in
-    let low = o.block.low in
-    let high = c.requires.ready.low in
-    let same = c.open_rows-own.ensures.kept.same in
-    let ready = subst (λ (k : ℕ). RowsReady g.S.Source.are c.in-Rows.rows 0 c.in-Rows.count r.words r.slots
-    (c.args.depth - 1)
-    (length q) (k / 8))
-    (sym same) (all-ready v x.0 c.args.from p q r.first r.words r.slots c.args.depth o
-    c.requires.ready.room c.requires.ready.low
-    g.S.Source.are c.in-Rows.rows c.in-Rows.count x.1.1 x.2) in
-    let inside = all-inside v x.0 c.args.from p q r.first r.words r.slots c.args.depth o
-    c.requires.ready.room c.requires.ready.low
-    g.S.Source.are c.in-Rows.rows c.in-Rows.count x.1.1 x.2 in
-    let l = length-words_in r.end c.open_rows-own.new.out in
-    let s = c.requires.short in
-    (omega arith, (live.0, (live.1.0, (live.1.1.0, (live.1.1.1, (ready, (omega arith, omega arith)))))))
+    c.in-Rows.is (c.item.ensures.is v c.requires.ready.is) in (
+      omega arith,
+      (
+        live.0,
+        (
+          live.1.0,
+          (
+            live.1.1.0,
+            (
+              live.1.1.1,
+              (
+                (v, x.0, x.1, x.2, c.requires.ready.sound, c.requires.ready.low, c.requires.ready.room),
+                (c.requires.inside, c.requires.short),
+              ),
+            ),
+          ),
+        ),
+      ),
+    )
 
 pub lay_slot-returns-in-Rows-clause-laid : goal.lay_slot-returns-in-Rows-clause-laid
 lay_slot-returns-in-Rows-clause-laid g t c w h =
     let v = c.requires.ready.value in
     let x = subst (λ (x : Item g.row.S-Numbers.Denot g.row.S-Rows.Denot). IsItem g.S.Source.packs g.S.Source.are x v)
     c.in-Rows.is (c.item.ensures.is v c.requires.ready.is) in
-    let r = c.open_rows-own.result in
     let p = words_in c.args.len c.args.out.now in
-    let q = words_in r.end c.open_rows-own.new.out in
-    let o = c.open_rows-own.ensures.opened v x.0 x.1 (rw c.again.ensures x.2) c.requires.ready.sound in
     let e = g.met.S.Source.one c.args.source.now c.args.slot w v h c.requires.ready.is in
-    all-laid v x.0 c.args.from p q r.first r.words r.slots c.args.depth o
-    c.requires.ready.room c.requires.ready.low
-    g.S.Source.are c.in-Rows.rows c.in-Rows.count x.1.1 x.2 (words_in c.lay_rows.result c.lay_rows.new.out)
-    c.lay_rows.ensures.laid
+    c.lay_list.ensures.laid v x.0 x.1 x.2 c.requires.ready.sound c.requires.ready.low c.requires.ready.room
     ∙ ap (λ (y : Tree). laid y (set p c.args.from (point y c.args.from (length p)))) (sym e)
 
-pub lay_slot-returns-in-Rows-clause-kept : goal.lay_slot-returns-in-Rows-clause-kept
-lay_slot-returns-in-Rows-clause-kept g t c =
-    let v = c.requires.ready.value in
-    let x = subst (λ (x : Item g.row.S-Numbers.Denot g.row.S-Rows.Denot). IsItem g.S.Source.packs g.S.Source.are x v)
-    c.in-Rows.is (c.item.ensures.is v c.requires.ready.is) in
+pub lay_list-open_rows-own-requires-clause-some : goal.lay_list-open_rows-own-requires-clause-some
+lay_list-open_rows-own-requires-clause-some g t c =
+    let x = c.requires.some in
+    let l = length-words_in c.args.len c.args.out.now in
+    let r = x.6 in
+    (x.0, x.1, x.2, x.3, x.4, omega arith)
+
+pub lay_list-lay_rows-requires : goal.lay_list-lay_rows-requires
+lay_list-lay_rows-requires g t c κs live =
+    let x = c.requires.some in
     let r = c.open_rows-own.result in
     let p = words_in c.args.len c.args.out.now in
     let q = words_in r.end c.open_rows-own.new.out in
-    let o = c.open_rows-own.ensures.opened v x.0 x.1 (rw c.again.ensures x.2) c.requires.ready.sound in
-    let grown = all-grown v x.0 c.args.from p q r.first r.words r.slots c.args.depth o
-    c.requires.ready.room c.requires.ready.low
-    g.S.Source.are c.in-Rows.rows c.in-Rows.count x.1.1 x.2 (words_in c.lay_rows.result c.lay_rows.new.out)
+    let o = c.open_rows-own.ensures.opened x.0 x.1 x.2 x.3 x.4 in
+    let low = o.block.low in
+    let high = x.5 in
+    let same = c.open_rows-own.ensures.kept.same in
+    let ready = subst (λ (k : ℕ). RowsReady g.S.Source.are c.args.rows.now 0 c.args.count r.words r.slots
+    (c.args.depth - 1)
+    (length q) (k / 8))
+    (sym same) (all-ready x.0 x.1 c.args.from p q r.first r.words r.slots c.args.depth o
+    x.6 x.5
+    g.S.Source.are c.args.rows.now c.args.count x.2.1 x.3) in
+    let inside = all-inside x.0 x.1 c.args.from p q r.first r.words r.slots c.args.depth o
+    x.6 x.5
+    g.S.Source.are c.args.rows.now c.args.count x.2.1 x.3 in
+    let l = length-words_in r.end c.open_rows-own.new.out in
+    let s = c.requires.short in
+    (omega arith, (live.0, (live.1.0, (live.1.1.0, (live.1.1.1, (ready, (omega arith, omega arith)))))))
+
+pub lay_list-returns-clause-laid : goal.lay_list-returns-clause-laid
+lay_list-returns-clause-laid g t c v bs is are sound low room =
+    let r = c.open_rows-own.result in
+    let p = words_in c.args.len c.args.out.now in
+    let q = words_in r.end c.open_rows-own.new.out in
+    let o = c.open_rows-own.ensures.opened v bs is are sound in
+    all-laid v bs c.args.from p q r.first r.words r.slots c.args.depth o room low
+    g.S.Source.are c.args.rows.now c.args.count is.1 are (words_in c.lay_rows.result c.lay_rows.new.out)
+    c.lay_rows.ensures.laid
+
+pub lay_list-returns-clause-kept : goal.lay_list-returns-clause-kept
+lay_list-returns-clause-kept g t c =
+    let x = c.requires.some in
+    let r = c.open_rows-own.result in
+    let p = words_in c.args.len c.args.out.now in
+    let q = words_in r.end c.open_rows-own.new.out in
+    let o = c.open_rows-own.ensures.opened x.0 x.1 x.2 x.3 x.4 in
+    let grown = all-grown x.0 x.1 c.args.from p q r.first r.words r.slots c.args.depth o
+    x.6 x.5
+    g.S.Source.are c.args.rows.now c.args.count x.2.1 x.3 (words_in c.lay_rows.result c.lay_rows.new.out)
     c.lay_rows.ensures.laid in
     let l = length-words_in r.end c.open_rows-own.new.out in
     let k = length-words_in c.lay_rows.result c.lay_rows.new.out in
@@ -363,8 +385,8 @@ lay_slot-returns-in-Rows-clause-kept g t c =
 
 -- ---- slots
 
-pub lay_slots-lay_slot-end-requires : goal.lay_slots-lay_slot-end-requires
-lay_slots-lay_slot-end-requires g t c κs live =
+pub lay_each-lay_slot-end-requires : goal.lay_each-lay_slot-end-requires
+lay_each-lay_slot-end-requires g t c κs live =
     let i = c.loop-slot.slot in
     let lt = c.loop-slot-test.true in
     let inside = c.loop-slot.invariant.inside in
@@ -374,8 +396,8 @@ lay_slots-lay_slot-end-requires g t c κs live =
     (length (words_in c.loop-slot.end c.loop-slot.out)) c.loop-slot.invariant.ready in
     (omega arith, (live.0, (live.1.0, (live.1.1.0, (live.1.1.1, (ready, (omega arith, omega arith)))))))
 
-pub lay_slots-loop-slot-preserved : goal.lay_slots-loop-slot-preserved
-lay_slots-loop-slot-preserved g t c =
+pub lay_each-loop-slot-preserved : goal.lay_each-loop-slot-preserved
+lay_each-loop-slot-preserved g t c =
     let n = c.args.count in
     let d = c.args.depth in
     let i = c.loop-slot.slot in
@@ -402,8 +424,8 @@ lay_slots-loop-slot-preserved g t c =
           (g.S.Source.spent c.lay_slot-end.new.reads) lt v.reads c.tick.ensures c.lay_slot-end.ensures.reads;
     }
 
-pub lay_slots-returns-clause-laid : goal.lay_slots-returns-clause-laid
-lay_slots-returns-clause-laid g t c ts m are =
+pub lay_each-returns-clause-laid : goal.lay_each-returns-clause-laid
+lay_each-returns-clause-laid g t c ts m are =
     sym (slots-end c.args.count c.loop-slot.slot ts c.args.first (words_in c.loop-slot.end c.loop-slot.out)
     c.loop-slot-test.false)
     ∙ c.loop-slot.invariant.rest ts m are
@@ -434,13 +456,13 @@ lay_rows-overflow_add-next g t c =
     let s = c.requires.short in
     omega arith
 
-pub lay_rows-lay_slots-end-requires : goal.lay_rows-lay_slots-end-requires
-lay_rows-lay_slots-end-requires g t c κs live =
+pub lay_rows-lay_each-end-requires : goal.lay_rows-lay_each-end-requires
+lay_rows-lay_each-end-requires g t c κs live =
     let h = one-more c.loop-row.next c.args.words c.args.slots c.args.count c.loop-row.row c.loop-row.end
     c.loop-row-test.true c.loop-row.invariant.inside in
     let same = c.loop-row.invariant.same.same in
     let s = c.requires.short in
-    let ready = row-ready g.S.Source.has g.S.Source.are c.args.rows c.slots.result c.args.count c.args.words
+    let ready = row-ready g.S.Source.has g.S.Source.are c.args.rows.now c.slots.result c.args.count c.args.words
     c.args.slots c.args.depth c.loop-row.row c.loop-row-test.true c.slots.ensures
     (length (words_in c.loop-row.end c.loop-row.out))
     c.loop-row.invariant.ready in
@@ -454,30 +476,30 @@ lay_rows-loop-row-preserved g t c =
     let i = c.loop-row.row in
     let lt = c.loop-row-test.true in
     let p = words_in c.loop-row.end c.loop-row.out in
-    let q = words_in c.lay_slots-end.result c.lay_slots-end.new.out in
+    let q = words_in c.lay_each-end.result c.lay_each-end.new.out in
     let v = c.loop-row.invariant in
-    let h = c.lay_slots-end.ensures.laid in
+    let h = c.lay_each-end.ensures.laid in
     let lp = length-words_in c.loop-row.end c.loop-row.out in
-    let lq = length-words_in c.lay_slots-end.result c.lay_slots-end.new.out in
-    let more = (grown-row g.S.Source.has g.S.Source.are c.args.rows c.slots.result n a b c.args.depth i
+    let lq = length-words_in c.lay_each-end.result c.lay_each-end.new.out in
+    let more = (grown-row g.S.Source.has g.S.Source.are c.args.rows.now c.slots.result n a b c.args.depth i
     lt c.slots.ensures c.loop-row.next p q v.ready h).0 in
-    let kept = c.lay_slots-end.ensures.kept in
+    let kept = c.lay_each-end.ensures.kept in
     record {
-      rest = λ bs is e w s. row-then-rest g.S.Source.has g.S.Source.are c.args.rows c.slots.result n a b c.args.depth i
-          lt c.slots.ensures c.loop-row.next p q v.ready h bs is e w s ∙ v.rest bs is e w s;
+      rest = λ bs is e w s. row-then-rest g.S.Source.has g.S.Source.are c.args.rows.now c.slots.result n a b
+          c.args.depth i lt c.slots.ensures c.loop-row.next p q v.ready h bs is e w s ∙ v.rest bs is e w s;
       inside = subst (λ (k : ℕ). c.loop-row.next + a + b + (n - (i + 1)) * (a + b) ≤ k) lq
-          (row-then-inside g.S.Source.has g.S.Source.are c.args.rows c.slots.result n a b c.args.depth i lt
+          (row-then-inside g.S.Source.has g.S.Source.are c.args.rows.now c.slots.result n a b c.args.depth i lt
           c.slots.ensures c.loop-row.next p q v.ready h
           (subst (λ (k : ℕ). c.loop-row.next + (n - i) * (a + b) ≤ k) (sym lp) v.inside));
-      ready = subst (λ (k : ℕ). RowsReady g.S.Source.are c.args.rows (i + 1) n a b c.args.depth (length q) (k / 8))
+      ready = subst (λ (k : ℕ). RowsReady g.S.Source.are c.args.rows.now (i + 1) n a b c.args.depth (length q) (k / 8))
           (sym kept.same)
-          (row-then-ready g.S.Source.has g.S.Source.are c.args.rows c.slots.result n a b c.args.depth i lt
+          (row-then-ready g.S.Source.has g.S.Source.are c.args.rows.now c.slots.result n a b c.args.depth i lt
           c.slots.ensures c.loop-row.next p q v.ready h);
-      same = kept-then c.loop-row.end c.lay_slots-end.result c.args.out.now c.loop-row.out c.lay_slots-end.new.out
+      same = kept-then c.loop-row.end c.lay_each-end.result c.args.out.now c.loop-row.out c.lay_each-end.new.out
           (omega arith) v.same kept;
-      reads = λ bs is e w s. row-weighed g.S.Source.has g.S.Source.are c.args.rows c.slots.result a b i
+      reads = λ bs is e w s. row-weighed g.S.Source.has g.S.Source.are c.args.rows.now c.slots.result a b i
           (g.S.Source.spent c.args.reads.now) (g.S.Source.spent c.loop-row.reads) (g.S.Source.spent c.tick.new.reads)
-          (g.S.Source.spent c.lay_slots-end.new.reads) c.slots.ensures c.tick.ensures c.lay_slots-end.ensures.reads bs
+          (g.S.Source.spent c.lay_each-end.new.reads) c.slots.ensures c.tick.ensures c.lay_each-end.ensures.reads bs
           is (omega arith) w s (v.reads bs is e w s);
     }
 
@@ -544,17 +566,22 @@ lay_slot-returns-in-Rows-clause-reads g t c w h =
     c.in-Rows.is (c.item.ensures.is v c.requires.ready.is) in
     let same = ap weight (g.met.S.Source.one c.args.source.now c.args.slot w v h c.requires.ready.is) in
     let i = c.item.ensures.reads in
-    let o = (c.open_rows-own.ensures.opened v x.0 x.1 (rw c.again.ensures x.2) c.requires.ready.sound).block in
-    let n = c.lay_rows.ensures.reads x.0 x.2 x.1.1 o.wide o.sound in
-    let k = c.open_rows-own.ensures.reads x.0 (rw c.again.ensures x.2) in
-    let all = rows-weigh c.in-Rows.count v x.0 x.1 in
-    let e = x.1.1 in
+    let n = c.lay_list.ensures.reads v x.0 x.1 x.2 c.requires.ready.sound in
+    omega arith
+
+pub lay_list-returns-clause-reads : goal.lay_list-returns-clause-reads
+lay_list-returns-clause-reads g t c v bs is are sound =
+    let o = (c.open_rows-own.ensures.opened v bs is are sound).block in
+    let n = c.lay_rows.ensures.reads bs are is.1 o.wide o.sound in
+    let k = c.open_rows-own.ensures.reads bs are in
+    let all = rows-weigh c.args.count v bs is in
+    let e = is.1 in
     let rows = all.0 in
     let words = all.1 in
     omega arith
 
-pub lay_slots-returns-clause-reads : goal.lay_slots-returns-clause-reads
-lay_slots-returns-clause-reads g t c ts m are =
+pub lay_each-returns-clause-reads : goal.lay_each-returns-clause-reads
+lay_each-returns-clause-reads g t c ts m are =
     slots-weighed c.args.count c.loop-slot.slot (g.S.Source.spent c.args.reads.now)
     (g.S.Source.spent c.loop-slot.reads) ts c.loop-slot.auto.slot-end c.loop-slot-test.false
     (c.loop-slot.invariant.reads ts m are)

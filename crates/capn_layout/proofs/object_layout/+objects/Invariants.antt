@@ -10,16 +10,22 @@ use Rattle.capn_layout.specs.Weight.{weights, weights_in_rows}
 use Rattle.capn_layout.proofs.object_layout.+objects.Given as goal
 
 abbrev pub decreases-lay_slot : goal.decreases-lay_slot
-decreases-lay_slot g l = 4 * l.depth
+decreases-lay_slot g l = 5 * l.depth + 1
+
+abbrev pub decreases-lay_list : goal.decreases-lay_list
+decreases-lay_list g l = 5 * l.depth
+
+abbrev pub decreases-lay_each : goal.decreases-lay_each
+decreases-lay_each g l = 5 * l.depth + 2
 
 abbrev pub decreases-lay_slots : goal.decreases-lay_slots
-decreases-lay_slots g l = 4 * l.depth + 1
+decreases-lay_slots g l = 5 * l.depth + 3
 
 abbrev pub decreases-lay_rows : goal.decreases-lay_rows
-decreases-lay_rows g l = 4 * l.depth + 2
+decreases-lay_rows g l = 5 * l.depth + 4
 
-abbrev pub invariant-lay_slots-loop-slot : goal.invariant-lay_slots-loop-slot
-invariant-lay_slots-loop-slot g l = record {
+abbrev pub invariant-lay_each-loop-slot : goal.invariant-lay_each-loop-slot
+invariant-lay_each-loop-slot g l = record {
   rest : (ts : Trees) → l.count ≤ count ts → ((k : ℕ) → k < l.count → g.S.Source.has l.source k (tree_at ts k))
       → laid_slots (l.count - l.slot) (past l.slot ts) (l.first + l.slot) (words_in l.end l.out)
       ≡ laid_slots l.count ts l.first (words_in l.len l.initial.out);
