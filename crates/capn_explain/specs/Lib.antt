@@ -3,3 +3,4 @@ pub mod PlaceByte
 pub mod Slot
 pub mod SlotTexts
 pub mod MessageTexts
+pub mod Refusal

@@ -1,6 +1,7 @@
 //! The byte at which a word of a message lies.
 
 ghost use Rattle.std.specs.Prelude.{◌<◌, ◌≤◌, ◌≡◌, ◌^◌, length};
+ghost use Rattle.capn_words.specs.Message.{IsPlace};
 ghost use Rattle.capn_explain.specs.PlaceByte as spec;
 
 use capn_words::{Place, Space};
@@ -23,4 +24,15 @@ pub fn place_byte<S: Space>(space: &S, offset: u64, table: u32, at: Place) -> u6
         }
     }
     offset + 8 * (table as u64 + before as u64 + at.word as u64)
+}
+
+/// The same of a place in range, also where it passes 64 bits.
+#[tactic(auto, using(crate::proofs::PlaceWithin::before_end, crate::proofs::PlaceWithin::has_segment))]
+pub(crate) fn long_place_byte<S: Space>(space: &S, offset: u64, table: u32, at: Place) -> u128
+    requires { IsPlace (S.message space.now) at }
+    ensures { result ≡ spec.place_byte offset table (S.message space.now) at }
+{
+    let _bounds = space.segments();
+    let within = place_byte(space, 0, table, at);
+    u128::from(offset) + u128::from(within)
 }

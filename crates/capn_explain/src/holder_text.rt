@@ -1,5 +1,12 @@
 //! The text of the object that holds a slot.
 
+ghost use Rattle.std.specs.Prelude.{◌≡◌};
+ghost use Rattle.capn_words.specs.Message.{IsPlace};
+ghost use Rattle.capn_explain.specs.Refusal as spec;
+
+use crate::byte_of_place::long_place_byte;
+use capn_way::Holder;
+use capn_words::Space;
 use std::fmt;
 
 /// The object that holds a slot, displayed in one line without its end.
@@ -12,6 +19,29 @@ pub enum HolderText {
     /// A row of a list of structs: its number, counted from 0, how many rows there are, and the byte at which it
     /// begins.
     Row(u32, u32, u128),
+}
+
+impl HolderText {
+    /// That of an object that holds a slot of a message, which has to begin at a place in range.
+    ///
+    /// `offset` is where the message's table begins in its stream, in bytes, and `table` how many words that takes:
+    /// none of a bare segment.
+    pub fn of<S: Space>(space: &S, offset: u64, table: u32, holder: Holder) -> HolderText
+        requires { IsPlace (S.message space.now) (spec.beginning holder) }
+        ensures { result ≡ spec.with_byte (S.message space.now) offset table holder }
+    {
+        match holder {
+            Holder::Struct { words, slots, at } => {
+                HolderText::Struct(words, slots, long_place_byte(space, offset, table, at))
+            }
+            Holder::Pointers { count, at } => {
+                HolderText::Pointers(count, long_place_byte(space, offset, table, at))
+            }
+            Holder::Row { row, count, at } => {
+                HolderText::Row(row, count, long_place_byte(space, offset, table, at))
+            }
+        }
+    }
 }
 
 impl fmt::Display for HolderText {

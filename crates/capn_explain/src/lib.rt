@@ -1,4 +1,4 @@
-//! The texts in which a message is explained: places, ways, and words read as pointers.
+//! The texts in which a message is explained.
 //!
 //! - [`PointerText`] displays what a word says as a pointer, and [`TagText`] what it says as the tag of a list of
 //!   structs.
@@ -8,6 +8,7 @@
 //! - [`place_byte`] answers the byte of a stream at which a word of a message lies.
 //! - [`examine`] answers what there is to say of the slot at which the walk of a message was refused: the words that
 //!   lead to its content, where that lies, and the limit that the refusal is about.
+//! - [`explain_refusal`] says whether a message is refused, and answers all lines that explain it then.
 //! - [`RefusedLines`], [`FrameLines`] and [`AcceptedLines`] display all lines that explain a message, and [`CountText`]
 //!   the line where there is none to explain. Their parts are [`MessageHead`], [`SegmentsText`], [`SlotLines`],
 //!   [`HolderText`], [`FrameKey`] and [`CanonicalText`].
@@ -25,6 +26,7 @@ mod message_text;
 mod pads;
 mod pointer_text;
 mod price;
+mod refusal;
 mod segments_text;
 mod slot_text;
 mod tag_text;
@@ -43,6 +45,7 @@ pub use frame_text::FrameKey;
 pub use holder_text::HolderText;
 pub use message_text::{AcceptedLines, FrameLines, MessageHead, RefusedLines};
 pub use pointer_text::PointerText;
+pub use refusal::{Told, explain_refusal};
 pub use segments_text::SegmentsText;
 pub use slot_text::SlotText;
 pub use tag_text::TagText;

@@ -4,7 +4,7 @@ ghost use Rattle.std.specs.Prelude.{◌≡◌};
 ghost use Rattle.capn_words.specs.Message.{IsPlace};
 ghost use Rattle.capn_explain.specs.Slot.{placed};
 
-use crate::byte_of_place::place_byte;
+use crate::byte_of_place::long_place_byte;
 use crate::pointer_text::PointerText;
 use crate::word_text::WordText;
 use capn_words::{Place, Space};
@@ -27,16 +27,12 @@ impl SlotText {
     ///
     /// `offset` is where the message's table begins in its stream, in bytes, and `table` how many words that takes:
     /// none of a bare segment.
-    #[tactic(auto, using(crate::proofs::PlaceWithin::before_end, crate::proofs::PlaceWithin::has_segment))]
     pub fn at<S: Space>(space: &S, offset: u64, table: u32, at: Place) -> SlotText
         requires { IsPlace (S.message space.now) at }
         ensures { result ≡ placed (S.message space.now) offset table at }
     {
-        let _bounds = space.segments();
-        // The sum may pass 64 bits.
-        let within = place_byte(space, 0, table, at);
         SlotText {
-            byte: u128::from(offset) + u128::from(within),
+            byte: long_place_byte(space, offset, table, at),
             place: at,
             word: space.word(at),
         }

@@ -4,7 +4,10 @@
 #![tactic(auto)]
 
 #[cfg(test)]
+#[cfg(test)]
 mod depths;
+#[cfg(test)]
+mod explained_refusals;
 #[cfg(test)]
 mod explanations;
 #[cfg(test)]

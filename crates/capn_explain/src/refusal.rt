@@ -1,0 +1,135 @@
+//! The explanation of a message that its walk refuses.
+
+ghost use Rattle.std.specs.Prelude.{◌≡◌, ℕ, ◌<◌, length, IfOk, IfSome, IfNone};
+ghost use Rattle.capn_words.specs.Message.{segment_at};
+ghost use Rattle.capn_walk.specs.Accepted.{IsAccepted};
+ghost use Rattle.capn_walk.specs.Limits.{Bounds};
+ghost use Rattle.capn_way.specs.Ways.{IsRefusedAt, IsWayTo};
+ghost use Rattle.capn_explain.specs.MessageTexts.{refused_lines};
+ghost use Rattle.capn_explain.specs.Refusal as spec;
+ghost use Rattle.capn_explain.specs.Refusal.{IsRefusalTold, AreLinesIf, IsHolderText};
+
+use crate::examination::examine;
+use crate::examined_text::SlotLines;
+use crate::holder_text::HolderText;
+use crate::message_text::{MessageHead, RefusedLines};
+use crate::segments_text::SegmentsText;
+use capn_walk::{Limits, Stopped};
+use capn_way::{Refused, holder_of, way_of_refusal};
+use capn_words::{Memory, Place, Space};
+use std::alloc::{Allocator, Global};
+
+/// A message that its walk refuses, explained.
+#[derive(Debug, Drop)]
+pub struct Told<A: Allocator = Global> {
+    /// Why, and where its walk stopped.
+    pub stopped: Stopped,
+    /// The lines that explain it, as [`RefusedLines`] displays them.
+    pub text: Vec<u8, A>,
+}
+
+/// Whether the walk of a message is refused within limits, and then the lines that explain it: `None` where it is
+/// accepted.
+///
+/// `index` is how many messages are before it, `offset` the byte of the stream at which its table begins, and `table`
+/// how many words that takes: none of a bare segment. It surveys the message, and where that is refused it makes the
+/// visits up to the refused one again. Memory: the way, which has at most two numbers for each level of the depth
+/// limit, and the text. (Own.)
+pub fn explain_refusal<S: Space, A: Allocator + Copy>(
+    alloc: A,
+    space: &S,
+    index: u64,
+    offset: u64,
+    table: u32,
+    limits: Limits,
+) -> Result<Option<Told<A>>, Memory>
+    ensures refused { IfOk result (λ r. IfSome r (λ told.
+        IsRefusalTold (S.message space.now) limits index offset table told.stopped told.text.items)) }
+    ensures accepted { IfOk result (λ r. IfNone r (IsAccepted (S.message space.now) limits)) }
+{
+    match way_of_refusal(alloc, space, limits)? {
+        Some(refused) => {
+            let told = tell(alloc, space, index, offset, table, limits, &refused)?;
+            Ok(Some(told))
+        }
+        None => Ok(None),
+    }
+}
+
+/// The explanation of a message whose walk is refused, with the way to the slot where it stopped.
+fn tell<S: Space, A: Allocator + Copy>(
+    alloc: A,
+    space: &S,
+    index: u64,
+    offset: u64,
+    table: u32,
+    limits: Limits,
+    refused: &Refused<A>,
+) -> Result<Told<A>, Memory>
+    requires refused { IsRefusedAt (S.message space.now) limits refused.now.stopped refused.now.way.items }
+    ensures { IfOk result (λ told.
+        IsRefusalTold (S.message space.now) limits index offset table told.stopped told.text.items) }
+{
+    let stopped = refused.stopped;
+    let lines = RefusedLines {
+        head: head_of(space, index, offset),
+        stopped,
+        slot: slot_lines(space, offset, table, limits, stopped, &refused.way),
+    };
+    let text = text_of(alloc, lines)?;
+    Ok(Told { stopped, text })
+}
+
+/// The bytes of all lines.
+fn text_of<'w, A: Allocator>(alloc: A, lines: RefusedLines<'w>) -> Result<Vec<u8, A>, Memory>
+    ensures { IfOk result (λ text. text.items ≡ refused_lines lines.entry.head lines.entry.stopped
+        lines.entry.slot) }
+{
+    let text = format!(in alloc; "{lines}")?;
+    Ok(text.into_bytes())
+}
+
+/// Where a message is, and how large.
+fn head_of<S: Space>(space: &S, index: u64, offset: u64) -> MessageHead
+    ensures { result ≡ spec.head (S.message space.now) index offset }
+{
+    MessageHead {
+        index,
+        offset,
+        segments: Some(SegmentsText::of(space)),
+    }
+}
+
+/// What there is to say of the slot at which the walk of a message stopped: nothing where there is no root.
+fn slot_lines<'w, S: Space>(
+    space: &S,
+    offset: u64,
+    table: u32,
+    limits: Limits,
+    stopped: Stopped,
+    way: &'w [u32],
+) -> Option<SlotLines<'w>>
+    requires refused { IsRefusedAt (S.message space.now) limits stopped way.now }
+    ensures { AreLinesIf (S.message space.now) offset table limits way.now stopped result }
+{
+    if stopped.visits == 0 {
+        return None;
+    }
+    Some(SlotLines {
+        way,
+        holder: text_of_holder(space, offset, table, way),
+        examined: examine(space, offset, table, limits, stopped),
+    })
+}
+
+/// The text of the object that holds the slot to which a way leads: of the root's there is none.
+fn text_of_holder<S: Space>(space: &S, offset: u64, table: u32, way: &[u32]) -> Option<HolderText>
+    requires root { 0 < length (segment_at (S.message space.now) 0) }
+    ensures { (limits : Bounds) (number : ℕ) (to : Place) → IsWayTo (S.message space.now) limits number way.now to
+        → IsHolderText (S.message space.now) offset table way.now to result }
+{
+    match holder_of(space, way) {
+        Some(holder) => Some(HolderText::of(space, offset, table, holder)),
+        None => None,
+    }
+}
