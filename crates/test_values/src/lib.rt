@@ -4,6 +4,7 @@
 #![tactic(auto)]
 
 #[cfg(test)]
+mod departures;
 #[cfg(test)]
 mod depths;
 #[cfg(test)]

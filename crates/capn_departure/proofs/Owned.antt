@@ -1,0 +1,80 @@
+-- Visits of which one is of the slot whose a word is.
+use Rattle.std.proofs.Common.{◌≡◌, ℕ, suc, ◌+◌, ◌-◌, ◌<◌, ◌≤◌, ◌==◌}
+use Rattle.std.proofs.Common.{◌&&◌, List, [], ◌∷◌, ◌++◌, Option}
+use Rattle.std.proofs.Common.{Some, None, Result, ap, sym, subst, ◌∙◌, arith}
+use Rattle.std.proofs.lemmas.Bool.Decides.{nat_tests}
+use Rattle.std.specs.List.{flat_map}
+use Rattle.capn_words.specs.declared.space.Place.{Place}
+use Rattle.capn_words.proofs.shared.Choices.{if-yes, if-no}
+use Rattle.capn_target.specs.declared.target.Target.{Target}
+use Rattle.capn_target.specs.declared.target.Fault.{Fault}
+use Rattle.capn_target.specs.Target.{target}
+use Rattle.capn_walk.specs.Visits.{Visit, places, visits}
+use Rattle.capn_walk.specs.Index.{place_of}
+use Rattle.capn_walk.proofs.shared.Walks.{all-split}
+use Rattle.capn_departure.specs.declared.sought.Sought.TheVariants.{Word}
+use Rattle.capn_departure.specs.declared.sought.Found.{Found}
+use Rattle.capn_departure.specs.declared.sought.Found.TheVariants as finding
+use Rattle.capn_departure.specs.inner.Search.{found_at, first_found, found_there}
+use Rattle.capn_departure.proofs.Pointed.{here}
+use Rattle.capn_departure.proofs.FoundFirst.{none-both, found-append, begins}
+
+module _ (cs : List ℕ) (base k : ℕ) where
+  -- the canonical bytes as a message
+  abbrev pub m : List (List ℕ)
+  m = cs ∷ []
+
+  abbrev pub first : List Visit → Option Found
+  first = first_found m (Word (here k))
+
+  -- ---- visits of which one is of the slot whose the word is
+
+  abbrev pub Owned : List Visit → Type 0
+  Owned vs = first vs ≡ None → ⊥
+
+  pub owned-left : (xs ys : List Visit) → Owned xs → Owned (xs ++ ys)
+  owned-left xs ys h e = h (none-both (first xs) (first ys) (sym (found-append m (Word (here k)) xs ys) ∙ e)).0
+
+  pub owned-right : (xs ys : List Visit) → Owned ys → Owned (xs ++ ys)
+  owned-right xs ys h e = h (none-both (first xs) (first ys) (sym (found-append m (Word (here k)) xs ys) ∙ e)).1
+
+  pub owned-here : (v : Visit) (rest : List Visit) (x : Found) → found_at m (Word (here k)) (place_of v) ≡ Some x
+      → Owned (v ∷ rest)
+  owned-here v rest x e f =
+      let a = (none-both (found_at m (Word (here k)) (place_of v)) (first rest) f).0 in
+      absurd cc
+
+  pub owned-as : (vs us : List Visit) → vs ≡ us → Owned us → Owned vs
+  owned-as vs us e h = λ f. h (ap first (sym e) ∙ f)
+
+  pub pointer-here : found_at m (Word (here k)) (here k) ≡ Some finding.Pointer
+  pointer-here = if-yes ((0 == 0) && (k == k)) _ _ (grind (arith, nat_tests))
+
+  -- the visits of the slot at the word
+  pub owned-slot : (d : ℕ) → Owned (visits m base d (here k))
+  owned-slot d =
+      let b = begins m base d (here k) in
+      owned-as _ _ b.is (owned-here b.head b.rest finding.Pointer
+      (ap (found_at m (Word (here k))) b.place ∙ pointer-here))
+
+  -- those of slots of which it is one
+  pub owned-among : (p c d : ℕ) → p ≤ k → k < p + c → Owned (flat_map (visits m base d) (places 0 p c))
+  owned-among p c d le lt =
+      let i = k - p in
+      let e : p + i ≡ k = omega arith in
+      let f = visits m base d in
+      let more = flat_map f (places 0 (p + i + 1) (c - suc i)) in
+      owned-as _ _ (all-split f 0 p i c (omega arith))
+      (owned-right (flat_map f (places 0 p i)) (f (here (p + i)) ++ more)
+      (owned-left (f (here (p + i))) more (subst (λ (w : ℕ). Owned (f (here w))) (sym e) (owned-slot d))))
+
+  pub found-begins : (d : ℕ) (at : Place) (x : Found) → found_at m (Word (here k)) at ≡ Some x
+      → Owned (visits m base d at)
+  found-begins d at x e =
+      let b = begins m base d at in
+      owned-as _ _ b.is (owned-here b.head b.rest x (ap (found_at m (Word (here k))) b.place ∙ e))
+
+  pub not-there : (p : ℕ) (x : Result Target Fault) (y : Option Found) → p < k → target m (here p) ≡ x
+      → found_there (here k) x ≡ y → found_at m (Word (here k)) (here p) ≡ y
+  not-there p x y lt e f =
+      if-no ((0 == 0) && (p == k)) _ _ (grind (arith, nat_tests)) ∙ ap (found_there (here k)) e ∙ f

@@ -1,0 +1,18 @@
+-- Where two lists of words go apart. (Own.)
+use Rattle.std.specs.Prelude.{◌≡◌, ◌≢◌, ℕ, ◌<◌, List, length, take, slice_index}
+
+-- two lists are the same before word k, which is x in the one and y in the other, and these are not the same
+pub record Differ (xs ys : List ℕ) (k x y : ℕ) : Type 0 where
+  pub before : take k xs ≡ take k ys
+  pub in_one : k < length xs
+  pub in_other : k < length ys
+  pub one : x ≡ slice_index xs k
+  pub other : y ≡ slice_index ys k
+  pub differ : x ≢ y
+
+-- a list begins with another, which has k words, and goes on with x
+pub record GoesOn (xs ys : List ℕ) (k x : ℕ) : Type 0 where
+  pub before : take k xs ≡ ys
+  pub ended : length ys ≡ k
+  pub in_one : k < length xs
+  pub one : x ≡ slice_index xs k

@@ -1,0 +1,5 @@
+-- What no public clause cites.
+pub mod Difference
+pub mod Owned
+pub mod Search
+pub mod Seeks

@@ -1,0 +1,72 @@
+-- A search among the visits of a walk: for the first capability, or for the slot whose object a word belongs to.
+use Rattle.std.specs.Prelude.{ℕ, ◌+◌, ◌==◌, ◌&&◌, nat_lt, Bool, true, false, List, [], ◌∷◌}
+use Rattle.std.specs.Prelude.{Option, Some, None, Result, Ok, Err, if◌then◌else◌}
+use Rattle.std.specs.Option.{option_or}
+use Rattle.capn_words.specs.declared.space.Place.{Place}
+use Rattle.capn_words.specs.declared.pointer.Width.{Width}
+use Rattle.capn_words.specs.declared.pointer.Width.TheVariants.{W1, W8, W16, W32}
+use Rattle.capn_target.specs.declared.target.Target.{Target}
+use Rattle.capn_target.specs.declared.target.Target.TheVariants as targets
+use Rattle.capn_target.specs.declared.target.Shape.TheVariants as shapes
+use Rattle.capn_target.specs.declared.target.Fault.{Fault}
+use Rattle.capn_target.specs.Target.{target, content_words}
+use Rattle.capn_walk.specs.Visits.{Visit}
+use Rattle.capn_walk.specs.Index.{place_of}
+use Rattle.capn_departure.specs.declared.sought.Sought.{Sought}
+use Rattle.capn_departure.specs.declared.sought.Sought.TheVariants as sought
+use Rattle.capn_departure.specs.declared.sought.Found.{Found}
+use Rattle.capn_departure.specs.declared.sought.Found.TheVariants as found
+
+-- a word of a segment is at a place
+abbrev pub is_at : ℕ → ℕ → Place → Bool
+is_at s w place = (s == place.segment) && (w == place.word)
+
+-- bits, bytes, u16 and u32: several elements share a word
+abbrev pub is_small : Width → Bool
+is_small W1 = true
+is_small W8 = true
+is_small W16 = true
+is_small W32 = true
+is_small width = false
+
+-- the last of n words from a word of a segment on is at a place
+abbrev pub ends_at : ℕ → ℕ → ℕ → Place → Bool
+ends_at s start n place = (s == place.segment) && (nat_lt 0 n && (start + n == place.word + 1))
+
+-- what a word is of what a slot names: its tag, or its last word
+abbrev pub found_in : Place → Target → Option Found
+found_in word (targets.Content s start (shapes.Rows n a b span) pads) =
+    if is_at s start word then Some found.Tag else None
+found_in word (targets.Content s start (shapes.Many width n) pads) =
+    if is_small width && ends_at s start (content_words width n) word then Some found.LastWord else None
+found_in word named = None
+
+-- the same, where a slot may name nothing
+abbrev pub found_there : Place → Result Target Fault → Option Found
+found_there word (Ok named) = found_in word named
+found_there word (Err e) = None
+
+-- the capability that a slot names
+abbrev pub capability_in : Target → Option Found
+capability_in (targets.Cap index) = Some (found.Capability index)
+capability_in named = None
+
+-- the same, where a slot may name nothing
+abbrev pub capability_there : Result Target Fault → Option Found
+capability_there (Ok named) = capability_in named
+capability_there (Err e) = None
+
+-- what is found at a slot that names this
+abbrev pub finds : Sought → Place → Result Target Fault → Option Found
+finds sought.Capability at named = capability_there named
+finds (sought.Word word) at named = if is_at at.segment at.word word then Some found.Pointer else found_there word named
+
+module _ (m : List (List ℕ)) (what : Sought) where
+  -- what is found at the slot of a visit
+  abbrev pub found_at : Place → Option Found
+  found_at at = finds what at (target m at)
+
+  -- the first that is found at the slots of visits
+  abbrev pub first_found : List Visit → Option Found
+  first_found [] = None
+  first_found (v ∷ vs) = option_or (found_at (place_of v)) (first_found vs)

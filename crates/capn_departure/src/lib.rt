@@ -1,0 +1,33 @@
+//! Where a message leaves its canonical bytes, and why.
+//!
+//! - [`departure`] says whether a message that its walk accepts is canonical, and if not, the first reason: that it has
+//!   more segments than one, its first capability, or the first word that differs from the same word of its canonical
+//!   bytes.
+//! - [`Whose`] says whose that word is, by the way to a slot.
+//! - [`lines_of_accepted`] answers the lines that explain the same of an accepted message, as [`CanonicalLines`].
+//!
+//! ```text
+//! match departure(alloc, &message, limits)? {
+//!     Departure::Canonical => tell("yes"),
+//!     Departure::Word { word, whose, .. } => report(word, whose),
+//!     ..
+//! }
+//! ```
+#![tactic(auto)]
+
+mod accepted;
+mod answer;
+mod canonical_lines;
+mod capability;
+mod difference;
+mod message_departure;
+mod owner;
+mod seek;
+mod sought;
+mod whose;
+
+pub use accepted::lines_of_accepted;
+pub use answer::Departure;
+pub use canonical_lines::CanonicalLines;
+pub use message_departure::departure;
+pub use whose::Whose;

@@ -1,0 +1,114 @@
+//! Where a message leaves its canonical bytes.
+
+ghost use Rattle.std.specs.Prelude.{◌≡◌, ◌≢◌, ◌↔◌, [], ◌∷◌, length, ⊤, None, IfOk, IfErr, IsErrOf, MatchResult};
+ghost use Rattle.capn_words.specs.Message.{segment_at};
+ghost use Rattle.capn_value.specs.Tree.{Tree as Value};
+ghost use Rattle.capn_walk.specs.Accepted.{IsValueOf};
+ghost use Rattle.capn_canon.specs.Measure.{IsCanonicalOf};
+ghost use Rattle.capn_canon.specs.Refusal.{IsUnaccepted};
+ghost use Rattle.capn_canon.specs.declared.refusal.Refusal.TheVariants as refusals;
+ghost use Rattle.capn_departure.specs.Departures.{IsDeparture, AnswersCanonical, AnswersSegments};
+ghost use Rattle.capn_departure.specs.Departures.{Compares, Departs, HasCanonicalBytes};
+
+use crate::answer::Departure;
+use crate::capability::first_capability;
+use crate::difference::{Difference, first_difference};
+use crate::owner::owner;
+use capn_canon::{Refusal, canonical_of, measure};
+use capn_walk::Limits;
+use capn_words::{Bare, Memory, Space};
+use std::alloc::Allocator;
+
+/// Whether a message is canonical, and if not, the first reason: its segments, its first capability, or the first word
+/// that differs from its canonical bytes.
+///
+/// `Walk`: the message is not accepted within the limits. `Memory` comes only for a message of one segment that is not
+/// canonical, where a growth was refused; no other refusal comes. Memory: the canonical bytes while it looks for the
+/// word, and the way, which has at most two numbers for each level of the depth limit. (Own.)
+pub fn departure<S: Space, A: Allocator + Copy>(
+    alloc: A,
+    space: &S,
+    limits: Limits,
+) -> Result<Departure<A>, Refusal>
+    // What each answer means.
+    ensures found { IfOk result (λ d. IsDeparture (S.message space.now) limits d) }
+    // It says that a message is canonical if and only if it is,
+    ensures canonical { IfOk result (λ d. (v : Value) → IsValueOf (S.message space.now) limits v
+        → AnswersCanonical d ↔ IsCanonicalOf (S.message space.now) v) }
+    // and that it has more segments than one if and only if it has.
+    ensures segments { IfOk result (λ d. AnswersSegments d ↔ (length (S.message space.now) ≢ 1)) }
+    // An accepted message is answered, unless memory runs out.
+    ensures only { (v : Value) → IsValueOf (S.message space.now) limits v
+        → MatchResult result (λ d. ⊤) (λ e. e ≡ refusals.Memory) }
+    // What each refusal means.
+    ensures refused { IfErr result (λ e. IsUnaccepted (S.message space.now) limits e) }
+    // Memory is needed only for a message of one segment that is not canonical.
+    ensures memory { IsErrOf result refusals.Memory → Departs (S.message space.now) limits }
+{
+    let measured = measure(alloc, space, limits)?;
+    if measured.survey.is_canonical {
+        return Ok(Departure::Canonical);
+    }
+    let segments = space.segments();
+    if segments > 1 {
+        return Ok(Departure::Segments(segments));
+    }
+    match measured.survey.capability {
+        Some(_) => {
+            let (index, way) = first_capability(alloc, space, limits)?;
+            Ok(Departure::Capability(index, way))
+        }
+        None => Ok(from_canonical(alloc, space, limits)?),
+    }
+}
+
+/// The same of a message of one segment that is not canonical and has canonical bytes.
+fn from_canonical<S: Space, A: Allocator + Copy>(
+    alloc: A,
+    space: &S,
+    limits: Limits,
+) -> Result<Departure<A>, Memory>
+    requires departs { HasCanonicalBytes (S.message space.now) limits }
+    ensures { IfOk result (λ d. IsDeparture (S.message space.now) limits d) }
+{
+    let _segments = space.segments();
+    match canonical_of(alloc, space, limits) {
+        Ok(canonical) => match Bare::new(canonical.bytes.as_slice()) {
+            Ok(other) => apart(alloc, space, &other, limits),
+            Err(_) => unreachable!(),
+        },
+        Err(_) => Err(Memory),
+    }
+}
+
+/// The same, once the canonical bytes are there.
+fn apart<S: Space, A: Allocator + Copy>(
+    alloc: A,
+    space: &S,
+    canonical: &Bare<'_>,
+    limits: Limits,
+) -> Result<Departure<A>, Memory>
+    requires compares { Compares (S.message space.now) limits (segment_at (S.message space.now) 0) canonical.now }
+    requires differs { segment_at (S.message space.now) 0 ≢ canonical.now }
+    ensures { IfOk result (λ d. IsDeparture (S.message space.now) limits d) }
+{
+    // The clauses need what they promise of a message and of limits.
+    let _segments = space.segments();
+    let _other = canonical.segments();
+    let _budget = limits.budget();
+    let _depth = limits.depth();
+    match first_difference(space, canonical) {
+        Difference::None => unreachable!(),
+        Difference::Word { word, is, other } => {
+            let whose = owner(alloc, canonical, limits, word)?;
+            Ok(Departure::Word {
+                word,
+                is,
+                canonical: other,
+                whose,
+            })
+        }
+        Difference::After { word, is } => Ok(Departure::After { word, is }),
+        Difference::Short { .. } => unreachable!(),
+    }
+}

@@ -1,0 +1,241 @@
+//! Where messages leave their canonical bytes.
+
+use crate::words::bytes_of;
+use capn_canon::Refusal;
+use capn_departure::{Departure, Whose, departure, lines_of_accepted};
+use capn_stream::first;
+use capn_walk::{Fault, Limits, survey};
+use capn_words::Bare;
+use std::alloc::Global;
+use std::test::Fail;
+
+/// Of whom a word is.
+#[derive(Clone, Copy, PartialEq, Eq)]
+enum Owner {
+    /// The pointer of a slot.
+    Pointer,
+    /// The tag of a list of structs.
+    Tag,
+    /// The last word of a list.
+    LastWord,
+}
+
+/// Where the only segment of these words leaves its canonical bytes within the usual limits.
+fn told(alloc: Global, words: &[u64]) -> Result<Departure, Fail> {
+    let bytes = bytes_of(alloc, words)?;
+    let Ok(bare) = Bare::new(bytes.as_slice()) else {
+        return Err(Fail::new("no words"));
+    };
+    match departure(alloc, &bare, Limits::usual()) {
+        Ok(found) => Ok(found),
+        Err(_) => Err(Fail::new("refused")),
+    }
+}
+
+/// Whether a message leaves its canonical bytes at this word, with this one and that one, which is this owner's.
+fn leaves(
+    alloc: Global,
+    words: &[u64],
+    at: u32,
+    both: (u64, u64),
+    owner: Owner,
+    way: &[u32],
+) -> Result<bool, Fail> {
+    let Departure::Word {
+        word,
+        is,
+        canonical,
+        whose,
+    } = told(alloc, words)?
+    else {
+        return Ok(false);
+    };
+    if word != at || (is, canonical) != both {
+        return Ok(false);
+    }
+    match whose {
+        Whose::Pointer(found) => Ok(owner == Owner::Pointer && found.as_slice() == way),
+        Whose::Tag(found) => Ok(owner == Owner::Tag && found.as_slice() == way),
+        Whose::LastWord(found) => Ok(owner == Owner::LastWord && found.as_slice() == way),
+    }
+}
+
+/// A struct of one word, and a root that is null.
+#[test]
+fn canonical_messages(rt: HostRuntime) -> Result<(), Fail> {
+    let found = told(rt.alloc(), &[0x1_0000_0000, 5])?;
+    assert!(rt; matches!(found, Departure::Canonical));
+    let found = told(rt.alloc(), &[0])?;
+    assert!(rt; matches!(found, Departure::Canonical));
+    Ok(())
+}
+
+/// A word that a builder left over behind the value.
+#[test]
+fn a_word_after_the_value(rt: HostRuntime) -> Result<(), Fail> {
+    let found = told(rt.alloc(), &[0x1_0000_0000, 5, 7, 8])?;
+    assert!(rt; matches!(found, Departure::After { word: 2, is: 7 }));
+    Ok(())
+}
+
+/// A zero word at the end of the root; slots whose objects lie the other way round; an empty struct that isn't at its
+/// own slot; rows that share an object.
+#[test]
+fn pointers_that_differ(rt: HostRuntime) -> Result<(), Fail> {
+    let zero = [0x2_0000_0000, 5, 0];
+    let both = (0x2_0000_0000, 0x1_0000_0000);
+    assert!(rt; leaves(rt.alloc(), &zero, 0, both, Owner::Pointer, &[])?);
+    let turned = [0x2_0000_0000_0000, 0x1_0000_0008, 0x1_0000_0000, 6, 5];
+    let both = (0x1_0000_0008, 0x1_0000_0004);
+    assert!(rt; leaves(rt.alloc(), &turned, 1, both, Owner::Pointer, &[0])?);
+    let empty = [0x1_0000_0000_0000, 4, 0];
+    assert!(rt;
+        leaves(
+            rt.alloc(),
+            &empty,
+            1,
+            (4, 0xffff_fffc),
+            Owner::Pointer,
+            &[0]
+        )?
+    );
+    let shared = [
+        0x1_0000_0000_0000,
+        0x17_0000_0001,
+        0x1_0000_0000_0008,
+        0x1_0000_0004,
+        0x1_0000_0000,
+        9,
+    ];
+    let both = (0x1_0000_0000, 0x1_0000_0004);
+    assert!(rt; leaves(rt.alloc(), &shared, 4, both, Owner::Pointer, &[0, 1, 0])?);
+    Ok(())
+}
+
+/// A list without rows whose tag has sizes.
+#[test]
+fn a_tag_that_differs(rt: HostRuntime) -> Result<(), Fail> {
+    let words = [0x1_0000_0000_0000, 0x7_0000_0001, 0x1_0000_0000];
+    assert!(rt; leaves(rt.alloc(), &words, 2, (0x1_0000_0000, 0), Owner::Tag, &[0])?);
+    Ok(())
+}
+
+/// A list of three bytes, and a list of one `u16` below a later slot: the bytes after their elements aren't zero.
+#[test]
+fn last_words_that_differ(rt: HostRuntime) -> Result<(), Fail> {
+    let bytes = [0x1_0000_0000_0000, 0x1a_0000_0001, 0x403_0201];
+    let both = (0x403_0201, 0x3_0201);
+    assert!(rt; leaves(rt.alloc(), &bytes, 2, both, Owner::LastWord, &[0])?);
+    let pairs = [
+        0x2_0000_0000_0000,
+        0x1_0000_0004,
+        0x1_0000_0000_0004,
+        7,
+        0xb_0000_0001,
+        0x1_0009,
+    ];
+    assert!(rt;
+        leaves(
+            rt.alloc(),
+            &pairs,
+            5,
+            (0x1_0009, 9),
+            Owner::LastWord,
+            &[1, 0]
+        )?
+    );
+    Ok(())
+}
+
+/// A capability in the first slot of a struct; and one below the first slot, with another in the second.
+#[test]
+fn capabilities(rt: HostRuntime) -> Result<(), Fail> {
+    let found = told(
+        rt.alloc(),
+        &[0x2_0000_0000_0000, 0x7_0000_0003, 0x8_0000_0003],
+    )?;
+    let Departure::Capability(index, way) = found else {
+        return Err(Fail::new("no capability"));
+    };
+    assert!(rt; index == 7 && way.as_slice() == [0].as_slice());
+    let below = [
+        0x2_0000_0000_0000,
+        0x1_0000_0000_0004,
+        0x2_0000_0003,
+        0x4_0000_0003,
+    ];
+    let Departure::Capability(index, way) = told(rt.alloc(), &below)? else {
+        return Err(Fail::new("no capability"));
+    };
+    assert!(rt; index == 4 && way.as_slice() == [0, 0].as_slice());
+    Ok(())
+}
+
+/// A struct of one word, with an empty segment after its own.
+#[test]
+fn two_segments(rt: HostRuntime) -> Result<(), Fail> {
+    let bytes = bytes_of(rt.alloc(), &[0x2_0000_0001, 0, 0x1_0000_0000, 5])?;
+    let Ok((message, _taken)) = first(rt.alloc(), bytes.as_slice(), 64) else {
+        return Err(Fail::new("no frame"));
+    };
+    let found = departure(rt.alloc(), &message, Limits::usual());
+    assert!(rt; matches!(found, Ok(Departure::Segments(2))));
+    Ok(())
+}
+
+/// A message without a root is refused.
+#[test]
+fn no_root(rt: HostRuntime) -> Result<(), Fail> {
+    let Ok(none) = Bare::new(&[]) else {
+        return Err(Fail::new("no words"));
+    };
+    let found = departure(rt.alloc(), &none, Limits::usual());
+    let Err(Refusal::Walk(stopped)) = found else {
+        return Err(Fail::new("not refused"));
+    };
+    assert!(rt; stopped.fault == Fault::NoRoot);
+    Ok(())
+}
+
+/// Whether the lines of a message that is read bare are these, where a table of so many words stands before its words.
+fn reads(alloc: Global, words: &[u64], table: u32, lines: &str) -> Result<bool, Fail> {
+    let bytes = bytes_of(alloc, words)?;
+    let Ok(bare) = Bare::new(bytes.as_slice()) else {
+        return Err(Fail::new("no words"));
+    };
+    let Ok(_) = survey(alloc, &bare, Limits::usual()) else {
+        return Err(Fail::new("refused"));
+    };
+    let Ok(found) = lines_of_accepted(alloc, &bare, Limits::usual(), 16, table) else {
+        return Err(Fail::new("out of memory"));
+    };
+    let text = format!(in alloc; "{found}")?;
+    Ok(text.as_str() == lines)
+}
+
+/// The lines of each kind: a zero word at the end of the root, which makes its canonical bytes shorter; a tag with
+/// sizes and no rows; a byte behind three; a word behind the value; a capability; and a message that is canonical.
+#[test]
+fn lines_of_each_kind(rt: HostRuntime) -> Result<(), Fail> {
+    let alloc = rt.alloc();
+    let pointer =
+        "canonical: no: at byte 24: 0000000002000000 (struct of 2 words and 0 slots, offset 0), \
+        canonical 0000000001000000 (struct of 1 words and 0 slots, offset 0), the pointer at root\n\
+        lengths: 24 bytes, canonical 16\n";
+    assert!(rt; reads(alloc, &[0x2_0000_0000, 5, 0], 1, pointer)?);
+    let tag = [0x1_0000_0000_0000, 0x7_0000_0001, 0x1_0000_0000];
+    let line =
+        "canonical: no: at byte 32: 0000000001000000, canonical 0000000000000000, the tag of 0\n";
+    assert!(rt; reads(alloc, &tag, 0, line)?);
+    let bytes = [0x1_0000_0000_0000, 0x1a_0000_0001, 0x403_0201];
+    let line =
+        "canonical: no: at byte 32: 0102030400000000, canonical 0102030000000000, the last word of 0\n";
+    assert!(rt; reads(alloc, &bytes, 0, line)?);
+    let after = "canonical: no: at byte 32: 0700000000000000, canonical nothing, after the value\n\
+        lengths: 24 bytes, canonical 16\n";
+    assert!(rt; reads(alloc, &[0x1_0000_0000, 5, 7], 0, after)?);
+    let line = "canonical: no: capability 7 at 0\n";
+    assert!(rt; reads(alloc, &[0x1_0000_0000_0000, 0x7_0000_0003], 0, line)?);
+    assert!(rt; reads(alloc, &[0x1_0000_0000, 5], 1, "canonical: yes\n")?);
+    Ok(())
+}
