@@ -1,0 +1,332 @@
+-- The end of a run over an input that explains one of its messages.
+use Rattle.std.proofs.Common.{◌≡◌, ◌≢◌, ◌⊎◌, inl, inr, ℕ, ◌+◌, List, [], ◌++◌, length, take, Bool, true, false, Option}
+use Rattle.std.proofs.Common.{None, Some, IfSome, Ok, Err, refl, ap, sym, subst, ◌∙◌, append-nil}
+use Rattle.std.proofs.Math.Seq.{take-length, take-append-add}
+use Rattle.std.specs.Io.KnownBytes.{Appends}
+use Rattle.std.proofs.KnownBytes.{Appends-trans}
+use Rattle.capn_words.specs.Watched.{HasBegun}
+use Rattle.capn_canon.specs.declared.form.Form.{Form}
+use Rattle.capn_canon.specs.declared.form.Form.TheVariants as forms
+use Rattle.capn_canon.specs.declared.refusal.Refusal.{Refusal}
+use Rattle.capn_serve.specs.declared.position.Position.{Position}
+use Rattle.capn_serve.specs.declared.fault.RunFault.{RunFault}
+use Rattle.capn_serve.specs.declared.fault.RunFault.TheVariants as faults
+use Rattle.capn_serve.specs.Fold.{Fold, texts_of}
+use Rattle.capn_serve.specs.StreamRun.{HasWrittenAll, IsAhead}
+use Rattle.capn_serve.specs.PackedRun.{HasWrittenAllPacked}
+use Rattle.capn_serve.specs.FormRun.{AreMessages, BeginsMessages, HasWritten, IsReadSoFar, MessagesEnd, ServesMessages}
+use Rattle.capn_serve.specs.FormRun.{most_stream}
+use Rattle.capn_report.specs.Finish.{EndsAs, EndsForMemory, Finish, Finished, HasBegunClosing, HasClosing, fault_text}
+use Rattle.capn_report.specs.Finish.{last_ending, last_text}
+use Rattle.capn_report.specs.inner.Closing.{PutsClosing, PutsFault}
+use Rattle.capn_report.proofs.Closings.{Ending, done_fine, io_is_not_memory, memory_is_not_io, refused_fine}
+use Rattle.capn_report.proofs.Closings.{stopped}
+
+-- the text of which a beginning was written
+begun_text : {X : Type 0} (f : Fold X) (x : X) (form : Form) (bytes : List ℕ) (c d : Option (List ℕ))
+    → HasWritten f x form bytes c d → (text : List ℕ) × Appends c d text
+begun_text f x forms.Stream bytes c d (parts, rest, y, count, are, wrote) = (take count (texts_of parts), wrote)
+begun_text f x forms.Packed bytes c d (stream, begins, parts, rest, y, count, are, wrote) =
+    (take count (texts_of parts), wrote)
+begun_text f x forms.Bare bytes c d (inl wrote) = ([], wrote)
+begun_text f x forms.Bare bytes c d (inr (text, y, count, writes, wrote)) = (take count text, wrote)
+
+-- what is written after something
+ahead_more : (P : List ℕ → Option (List ℕ) → Option (List ℕ) → Type 0) (bytes more : List ℕ)
+    (c m d : Option (List ℕ)) → IsAhead P bytes c m → Appends m d more → IsAhead P bytes c d
+ahead_more P bytes more c m d (before, piece, mid, first, is, small, written, wrote) after =
+    (before, piece, mid, first ++ more, is, small, written, Appends-trans mid m d first more wrote after)
+
+read_so_far : {X : Type 0} (f : Fold X) (x : X) (form : Form) (bytes more : List ℕ) (c m d : Option (List ℕ))
+    → IsReadSoFar f x form bytes c m → Appends m d more → IsReadSoFar f x form bytes c d
+read_so_far f x forms.Stream bytes more c m d (bound, ahead) wrote =
+    (bound, ahead_more (HasWrittenAll f x most_stream) bytes more c m d ahead wrote)
+read_so_far f x forms.Packed bytes more c m d (bound, ahead) wrote =
+    (bound, ahead_more (HasWrittenAllPacked f x most_stream) bytes more c m d ahead wrote)
+read_so_far f x forms.Bare bytes more c m d bound wrote = bound
+
+-- a beginning of what is written at the end was written after a text
+begun_after : (c m d : Option (List ℕ)) (text last : List ℕ) (count : ℕ) → Appends c m text
+    → Appends m d (take count last) → HasBegun c d (text ++ last)
+begun_after c m d text last count before wrote = (
+  length text + count,
+  subst (Appends c d) (sym (take-append-add text last count))
+      (Appends-trans c m d text (take count last) before wrote),
+)
+
+module _ {X : Type 0} (f : Fold X) (x : X) (finish : Finish X) (form : Form) where
+  -- all texts of the messages of an input were written, and what comes after them, and the ending, are these
+  abbrev pub Serves : Option (List ℕ) → Option (List ℕ) → Ending → List ℕ → Ending → List ℕ → Type 0
+  Serves c m served last ending input =
+      (text : List ℕ) × (z : X) × AreMessages f x form input text served z × Appends c m text
+      × (last_text f x finish served z ≡ last) × (last_ending f x finish served z ≡ ending)
+
+  -- the messages ended in a way after which something is written
+  pub record IsOver (a b c m : Option (List ℕ)) (reader before : Bool) (served : Ending) (last : List ℕ)
+      (ending : Ending) : Type 0 where
+    pub state : X
+    pub same : last_text f x finish served state ≡ last
+    pub exact : IfSome a (Serves c m served last ending)
+    pub begun : BeginsMessages f x form a b c m
+    pub reader_fine : reader ≡ true → ⊥
+    pub writer_fine : before ≡ false
+    pub not_io : ending ≡ Err faults.Io → ⊥
+    pub for_memory : ending ≡ Err faults.Memory → EndsForMemory f x finish form a
+
+  -- ---- all messages were served
+
+  over_done_exact : (a c m : Option (List ℕ)) (y : X) → IfSome a (MessagesEnd f x form c m (Ok tt) y)
+      → IfSome a (Serves c m (Ok tt) (finish.closing y) (finish.ending y))
+  over_done_exact None c m y is = tt
+  over_done_exact (Some input) c m y (text, are, wrote) = (text, y, are, wrote, refl, refl)
+
+  over_done_memory : (a c m : Option (List ℕ)) (y : X) → IfSome a (MessagesEnd f x form c m (Ok tt) y)
+      → finish.ending y ≡ Err faults.Memory → EndsForMemory f x finish form a
+  over_done_memory None c m y is ends = (y, tt, ends)
+  over_done_memory (Some input) c m y (text, are, wrote) ends = (y, (text, are), ends)
+
+  over_done : (a b c m : Option (List ℕ)) (reader before : Bool) (y : X) → (finish.ending y ≡ Err faults.Io → ⊥)
+      → ServesMessages f x form a b c m reader before (Ok tt) y
+      → IsOver a b c m reader before (Ok tt) (finish.closing y) (finish.ending y)
+  over_done a b c m reader before y not_io run = record {
+    state = y;
+    same = refl;
+    exact = over_done_exact a c m y run.exact;
+    begun = run.begun;
+    reader_fine = (done_fine reader before run.io).0;
+    writer_fine = (done_fine reader before run.io).1;
+    not_io = not_io;
+    for_memory = over_done_memory a c m y run.exact;
+  }
+
+  -- ---- a refusal ended them
+
+  over_refused_exact : (a c m : Option (List ℕ)) (at : Position) (r : Refusal) (y : X)
+      → IfSome a (MessagesEnd f x form c m (Err (faults.Refused at r)) y)
+      → IfSome a (Serves c m (Err (faults.Refused at r)) (finish.told at r) (Err (faults.Refused at r)))
+  over_refused_exact None c m at r y is = tt
+  over_refused_exact (Some input) c m at r y (inl memory) = absurd (cc)
+  over_refused_exact (Some input) c m at r y (inr (inl io)) = absurd (cc)
+  over_refused_exact (Some input) c m at r y (inr (inr (text, z, are, wrote))) = (text, z, are, wrote, refl, refl)
+
+  over_refused : (a b c m : Option (List ℕ)) (reader before : Bool) (at : Position) (r : Refusal) (y : X)
+      → ServesMessages f x form a b c m reader before (Err (faults.Refused at r)) y
+      → IsOver a b c m reader before (Err (faults.Refused at r)) (finish.told at r) (Err (faults.Refused at r))
+  over_refused a b c m reader before at r y run = record {
+    state = y;
+    same = refl;
+    exact = over_refused_exact a c m at r y run.exact;
+    begun = run.begun;
+    reader_fine = (refused_fine at r reader before run.io).0;
+    writer_fine = (refused_fine at r reader before run.io).1;
+    not_io = λ h. absurd (cc);
+    for_memory = λ h. absurd (cc);
+  }
+
+  -- ---- a fault ended them after which nothing is written
+
+  stopped_exact : (e : RunFault) (y : X) (a c d : Option (List ℕ)) → fault_text finish.told e ≡ []
+      → IfSome a (MessagesEnd f x form c d (Err e) y) → IfSome a (EndsAs f x finish form c d (Err e))
+  stopped_exact e y None c d none is = tt
+  stopped_exact e y (Some input) c d none (inl memory) = inl (ap stopped memory)
+  stopped_exact e y (Some input) c d none (inr (inl io)) = inr (inl (ap stopped io))
+  stopped_exact e y (Some input) c d none (inr (inr (text, z, are, wrote))) =
+      let joined = sym (append-nil text) ∙ ap (λ (l : List ℕ). text ++ l) (sym none) in
+      inr (inr (text, (text, Err e, z, are, joined, refl), wrote))
+
+  finished_stopped : (a b c d : Option (List ℕ)) (reader writer : Bool) (e : RunFault) (y : X)
+      → fault_text finish.told e ≡ [] → ServesMessages f x form a b c d reader writer (Err e) y
+      → Finished f x finish form a b c d reader writer (Err e)
+  finished_stopped a b c d reader writer e y none run = record {
+    exact = stopped_exact e y a c d none run.exact;
+    io = run.io;
+    begun = record {
+      bytes = run.begun.bytes;
+      read = run.begun.read;
+      bounded = run.begun.bounded;
+      needed = run.begun.needed;
+      written = inl run.begun.written;
+    };
+    heard = run.heard;
+    memory = λ h. inl (run.memory h);
+  }
+
+  -- ---- what is written at the end
+
+  written_exact : (a c m d : Option (List ℕ)) (served : Ending) (last : List ℕ) (ending : Ending)
+      → IfSome a (Serves c m served last ending) → Appends m d last → IfSome a (EndsAs f x finish form c d ending)
+  written_exact None c m d served last ending is wrote = tt
+  written_exact (Some input) c m d served last ending (text, z, are, before, same, ends) wrote = inr (inr (
+    text ++ last,
+    (text, served, z, are, ap (λ (l : List ℕ). text ++ l) (sym same), sym ends),
+    Appends-trans c m d text last before wrote,
+  ))
+
+  memory_exact : (a c d : Option (List ℕ)) → IfSome a (EndsAs f x finish form c d (Err faults.Memory))
+  memory_exact None c d = tt
+  memory_exact (Some input) c d = inl refl
+
+  failed_exact : (a c d : Option (List ℕ)) → IfSome a (EndsAs f x finish form c d (Err faults.Io))
+  failed_exact None c d = tt
+  failed_exact (Some input) c d = inr (inl refl)
+
+  module _ (a b c m : Option (List ℕ)) (reader before : Bool) (served : Ending) (last : List ℕ) (ending : Ending)
+      (over : IsOver a b c m reader before served last ending) where
+    closing_text : (z : X) (d : Option (List ℕ)) (text : List ℕ) → last_text f x finish served z ≡ last
+        → HasBegun c d (text ++ last) → HasBegun c d (text ++ last_text f x finish served z)
+    closing_text z d text same begun = subst (λ (l : List ℕ). HasBegun c d (text ++ l)) (sym same) begun
+
+    begins_by : (input : Option (List ℕ)) (d : Option (List ℕ)) → IfSome input (Serves c m served last ending)
+        → HasBegun m d last → HasBegunClosing f x finish form input c d
+    begins_by None d is (count, wrote) =
+        let (text, first) = begun_text f x form over.begun.bytes c m over.begun.written in (
+          text,
+          served,
+          over.state,
+          tt,
+          closing_text over.state d text over.same (begun_after c m d text last count first wrote),
+        )
+    begins_by (Some bytes) d (text, z, are, first, same, ends) (count, wrote) = (
+      text,
+      served,
+      z,
+      are,
+      closing_text z d text same (begun_after c m d text last count first wrote),
+    )
+
+    -- something is written at the end
+    closes_by : (input : Option (List ℕ)) → IfSome input (Serves c m served last ending) → last ≢ []
+        → HasClosing f x finish form input
+    closes_by None is some = (served, over.state, tt, λ h. some (sym over.same ∙ h))
+    closes_by (Some bytes) (text, z, are, first, same, ends) some =
+        (served, z, (text, are), λ h. some (sym same ∙ h))
+
+    neither : (after : Bool) → after ≡ before → (reader ≡ true) ⊎ (after ≡ true) → ⊥
+    neither after fine (inl failed) = over.reader_fine failed
+    neither after fine (inr failed) =
+        let e : true ≡ false = sym failed ∙ fine ∙ over.writer_fine in
+        absurd (cc)
+
+    -- all was written
+    pub finished_written : (d : Option (List ℕ)) (after : Bool) → Appends m d last → after ≡ before
+        → Finished f x finish form a b c d reader after ending
+    finished_written d after wrote fine = record {
+      exact = written_exact a c m d served last ending over.exact wrote;
+      io = (λ h. absurd (over.not_io h), λ h. absurd (neither after fine h));
+      begun = record {
+        bytes = over.begun.bytes;
+        read = over.begun.read;
+        bounded = read_so_far f x form over.begun.bytes last c m d over.begun.bounded wrote;
+        needed = over.begun.needed;
+        written = inr (begins_by a d over.exact (length last, subst (Appends m d) (sym (take-length last)) wrote));
+      };
+      heard = λ h. absurd (over.reader_fine h);
+      memory = λ h. inr (inr (over.for_memory h));
+    }
+
+    -- memory was refused for it
+    unclosed : (d : Option (List ℕ)) (after : Bool) → d ≡ m → after ≡ before → last ≢ []
+        → Finished f x finish form a b c d reader after (Err faults.Memory)
+    unclosed d after same fine some = record {
+      exact = memory_exact a c d;
+      io = (λ h. absurd (memory_is_not_io h), λ h. absurd (neither after fine h));
+      begun = record {
+        bytes = over.begun.bytes;
+        read = over.begun.read;
+        bounded = subst (IsReadSoFar f x form over.begun.bytes c) (sym same) over.begun.bounded;
+        needed = over.begun.needed;
+        written = inl (subst (HasWritten f x form over.begun.bytes c) (sym same) over.begun.written);
+      };
+      heard = λ h. absurd (over.reader_fine h);
+      memory = λ h. inr (inl (closes_by a over.exact some));
+    }
+
+    -- the writer failed within it
+    broken : (d : Option (List ℕ)) (after : Bool) → HasBegun m d last → after ≡ true
+        → Finished f x finish form a b c d reader after (Err faults.Io)
+    broken d after begun failed = record {
+      exact = failed_exact a c d;
+      io = (λ h. inr failed, λ h. refl);
+      begun = record {
+        bytes = over.begun.bytes;
+        read = over.begun.read;
+        bounded = read_so_far f x form over.begun.bytes (take begun.0 last) c m d over.begun.bounded begun.1;
+        needed = over.begun.needed;
+        written = inr (begins_by a d over.exact begun);
+      };
+      heard = λ h. absurd (over.reader_fine h);
+      memory = λ h. absurd (io_is_not_memory h);
+    }
+
+    pub finished_unwritten : (d : Option (List ℕ)) (after : Bool) (fault : RunFault)
+        → PutsClosing last m d before after (Err fault)
+        → Finished f x finish form a b c d reader after (Err fault)
+    finished_unwritten d after fault (some, inl (memory, same, fine)) =
+        subst (λ (e : RunFault). Finished f x finish form a b c d reader after (Err e)) (sym memory)
+        (unclosed d after same fine some)
+    finished_unwritten d after fault (some, inr (io, begun, failed)) =
+        subst (λ (e : RunFault). Finished f x finish form a b c d reader after (Err e)) (sym io)
+        (broken d after begun failed)
+
+module _ {X : Type 0} (f : Fold X) (x : X) (finish : Finish X) (form : Form) (a b c m : Option (List ℕ))
+    (reader before : Bool) (y : X) where
+  -- all messages were served, and what is written after them was written, or was not
+  pub finished_closed : (d : Option (List ℕ)) (after : Bool) → (finish.ending y ≡ Err faults.Io → ⊥)
+      → ServesMessages f x form a b c m reader before (Ok tt) y
+      → PutsClosing (finish.closing y) m d before after (Ok tt)
+      → Finished f x finish form a b c d reader after (finish.ending y)
+  finished_closed d after not_io run (wrote, fine) =
+      finished_written f x finish form a b c m reader before (Ok tt) (finish.closing y)
+      (finish.ending y) (over_done f x finish form a b c m reader before y not_io run) d after wrote fine
+
+  pub finished_unclosed : (d : Option (List ℕ)) (after : Bool) (fault : RunFault)
+      → (finish.ending y ≡ Err faults.Io → ⊥)
+      → ServesMessages f x form a b c m reader before (Ok tt) y
+      → PutsClosing (finish.closing y) m d before after (Err fault)
+      → Finished f x finish form a b c d reader after (Err fault)
+  finished_unclosed d after fault not_io run put =
+      finished_unwritten f x finish form a b c m reader before (Ok tt) (finish.closing y)
+      (finish.ending y) (over_done f x finish form a b c m reader before y not_io run) d after fault put
+
+  still : (d : Option (List ℕ)) (after : Bool) (e : RunFault) → fault_text finish.told e ≡ [] → d ≡ m
+      → after ≡ before → ServesMessages f x form a b c m reader before (Err e) y
+      → Finished f x finish form a b c d reader after (Err e)
+  still d after e none same fine run =
+      subst (λ (w : Bool). Finished f x finish form a b c d reader w (Err e)) (sym fine)
+      (subst (λ (n : Option (List ℕ)). Finished f x finish form a b c n reader before (Err e)) (sym same)
+      (finished_stopped f x finish form a b c m reader before e y none run))
+
+  -- a fault ended them, and its lines were written, if it has some
+  pub finished_told : (d : Option (List ℕ)) (after : Bool) (e : RunFault)
+      → ServesMessages f x form a b c m reader before (Err e) y
+      → PutsFault finish.told e m d before after (Ok tt)
+      → Finished f x finish form a b c d reader after (Err e)
+  finished_told d after (faults.Refused at r) run (wrote, fine) =
+      finished_written f x finish form a b c m reader before (Err (faults.Refused at r)) (finish.told at r)
+      (Err (faults.Refused at r)) (over_refused f x finish form a b c m reader before at r y run) d after wrote fine
+  finished_told d after faults.Memory run (done, same, fine) = still d after faults.Memory refl same fine run
+  finished_told d after faults.Io run (done, same, fine) = still d after faults.Io refl same fine run
+  finished_told d after faults.InputTooLong run (done, same, fine) =
+      still d after faults.InputTooLong refl same fine run
+
+  -- or they were not written
+  pub finished_untold : (d : Option (List ℕ)) (after : Bool) (e fault : RunFault)
+      → ServesMessages f x form a b c m reader before (Err e) y
+      → PutsFault finish.told e m d before after (Err fault)
+      → Finished f x finish form a b c d reader after (Err fault)
+  finished_untold d after (faults.Refused at r) fault run put =
+      finished_unwritten f x finish form a b c m reader before (Err (faults.Refused at r)) (finish.told at r)
+      (Err (faults.Refused at r)) (over_refused f x finish form a b c m reader before at r y run) d after fault put
+  finished_untold d after faults.Memory fault run (done, same, fine) = absurd (cc)
+  finished_untold d after faults.Io fault run (done, same, fine) = absurd (cc)
+  finished_untold d after faults.InputTooLong fault run (done, same, fine) = absurd (cc)
+
+module _ {X : Type 0} where
+  -- the messages were served that an order says, from the state before the first
+  pub of_order : (fold : ℕ → Fold X) (form : Form) (words most : ℕ) (first x : X) → most ≡ words → x ≡ first
+      → (a b c d : Option (List ℕ)) (reader writer : Bool) (r : Ending) (y : X)
+      → ServesMessages (fold most) x form a b c d reader writer r y
+      → ServesMessages (fold words) first form a b c d reader writer r y
+  of_order fold form words most first x same fresh a b c d reader writer r y ran =
+      subst (λ (z : X). ServesMessages (fold words) z form a b c d reader writer r y) fresh
+      (subst (λ (n : ℕ). ServesMessages (fold n) x form a b c d reader writer r y) same ran)

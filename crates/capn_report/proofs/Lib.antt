@@ -1,0 +1,4 @@
+pub mod Accounts
+pub mod Closings
+pub mod Finishes
+pub mod Reporters

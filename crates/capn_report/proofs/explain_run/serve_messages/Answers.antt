@@ -1,0 +1,16 @@
+use Rattle.std.proofs.Common.{ℕ}
+use Rattle.capn_words.specs.Watched.{inner_of, has_failed}
+use Rattle.capn_report.specs.ExplainRun.{first_run}
+use Rattle.capn_report.specs.Reports.{done, refuses, serves}
+use Rattle.capn_serve.specs.Fold.{fold_until}
+use Rattle.capn_report.proofs.Finishes.{of_order}
+use Rattle.capn_report.proofs.explain_run.serve_messages.Goals as goal
+
+pub returns : goal.returns
+returns g c =
+    of_order (λ (n : ℕ). fold_until serves refuses done n) c.args.order.now.form c.args.order.now.limits.message_words
+    c.message_words-most.result (first_run c.args.order.now) c.args.run.now c.message_words-most.ensures.value
+    c.requires.fresh (g.R.Read.remaining (inner_of c.args.reader.now))
+    (g.R.Read.remaining (inner_of c.serve_form.new.reader)) (g.W.Write.contents (inner_of c.args.writer.now))
+    (g.W.Write.contents (inner_of c.serve_form.new.writer)) (has_failed c.serve_form.new.reader)
+    (has_failed c.serve_form.new.writer) c.serve_form.result c.serve_form.new.run c.serve_form.ensures

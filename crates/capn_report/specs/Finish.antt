@@ -1,0 +1,89 @@
+-- A run over an input that explains one of its messages: the text of its input, how it ends, and what was written
+-- whatever it answers. (Own.)
+use Rattle.std.specs.Prelude.{◌≡◌, ◌≢◌, ◌⊎◌, ◌↔◌, ℕ, List, [], ◌++◌, Bool, true, Option, IfSome, Result, Ok, Err}
+use Rattle.std.specs.Io.KnownBytes.{Consumes, Appends}
+use Rattle.capn_words.specs.Watched.{HasBegun}
+use Rattle.capn_canon.specs.declared.form.Form.{Form}
+use Rattle.capn_canon.specs.declared.refusal.Refusal.{Refusal}
+use Rattle.capn_serve.specs.declared.position.Position.{Position}
+use Rattle.capn_serve.specs.declared.fault.RunFault.{RunFault}
+use Rattle.capn_serve.specs.declared.fault.RunFault.TheVariants as faults
+use Rattle.capn_serve.specs.Fold.{Fold}
+use Rattle.capn_serve.specs.FormRun.{AreMessages, HasWritten, IsNeededSoFar, IsReadSoFar, KeepsUp}
+use Rattle.capn_serve.specs.FormRun.{MayNeedMemory}
+
+-- what is written where a fault ended the messages: the lines of a refusal, else nothing
+abbrev pub fault_text : (Position → Refusal → List ℕ) → RunFault → List ℕ
+fault_text told (faults.Refused at r) = told at r
+fault_text told faults.Memory = []
+fault_text told faults.Io = []
+fault_text told faults.InputTooLong = []
+
+-- what a run does after its messages: the text that it writes by its state, and how it ends then; or the lines of a
+-- refusal that ended them
+pub record Finish (X : Type 0) : Type 0 where
+  pub closing : X → List ℕ
+  pub ending : X → Result (Unit {0}) RunFault
+  pub told : Position → Refusal → List ℕ
+
+module _ {X : Type 0} (f : Fold X) (x : X) (finish : Finish X) where
+  -- what is written after the messages, by how they ended
+  abbrev pub last_text : Result (Unit {0}) RunFault → X → List ℕ
+  last_text (Ok u) y = finish.closing y
+  last_text (Err fault) y = fault_text finish.told fault
+
+  -- how a run ends whose messages ended so
+  abbrev pub last_ending : Result (Unit {0}) RunFault → X → Result (Unit {0}) RunFault
+  last_ending (Ok u) y = finish.ending y
+  last_ending (Err fault) y = Err fault
+
+  -- the whole text of an input, and how a run over it ends
+  abbrev pub IsWholeText : Form → List ℕ → List ℕ → Result (Unit {0}) RunFault → Type 0
+  IsWholeText form input text ending =
+      (messages : List ℕ) × (served : Result (Unit {0}) RunFault) × (y : X)
+      × AreMessages f x form input messages served y × (text ≡ messages ++ last_text served y)
+      × (ending ≡ last_ending served y)
+
+  -- a run has written the text of its input and ended as that does; or memory was refused, or the reader or the writer
+  -- failed
+  abbrev pub EndsAs : Form → Option (List ℕ) → Option (List ℕ) → Result (Unit {0}) RunFault → List ℕ → Type 0
+  EndsAs form old new r input =
+      (r ≡ Err faults.Memory)
+      ⊎ ((r ≡ Err faults.Io) ⊎ ((text : List ℕ) × IsWholeText form input text r × Appends old new text))
+
+  -- the messages of an input were served, and a beginning of their text and of what is written after them was written;
+  -- how they end, and the state after them, is not known of an input that is not known
+  abbrev pub HasBegunClosing : Form → Option (List ℕ) → Option (List ℕ) → Option (List ℕ) → Type 0
+  HasBegunClosing form input old new =
+      (messages : List ℕ) × (served : Result (Unit {0}) RunFault) × (y : X)
+      × IfSome input (λ bytes. AreMessages f x form bytes messages served y)
+      × HasBegun old new (messages ++ last_text served y)
+
+  -- the messages of an input were served, and something is written after them
+  abbrev pub HasClosing : Form → Option (List ℕ) → Type 0
+  HasClosing form input = (served : Result (Unit {0}) RunFault) × (y : X)
+      × IfSome input (λ bytes. (messages : List ℕ) × AreMessages f x form bytes messages served y)
+      × (last_text served y ≢ [])
+
+  -- the messages of an input were served as done, and the state after them ends the run for memory
+  abbrev pub EndsForMemory : Form → Option (List ℕ) → Type 0
+  EndsForMemory form input = (y : X)
+      × IfSome input (λ bytes. (messages : List ℕ) × AreMessages f x form bytes messages (Ok tt) y)
+      × (finish.ending y ≡ Err faults.Memory)
+
+  -- a reader gave some bytes, as far as is read, and a writer took a beginning of their text
+  pub record Begins (form : Form) (a b c d : Option (List ℕ)) : Type 0 where
+    pub bytes : List ℕ
+    pub read : Consumes a b bytes
+    pub bounded : IsReadSoFar f x form bytes c d
+    pub needed : IsNeededSoFar f x form bytes
+    pub written : HasWritten f x form bytes c d ⊎ HasBegunClosing form a c d
+
+  -- what a run did, over a reader (from a to b) and a writer (from c to d)
+  pub record Finished (form : Form) (a b c d : Option (List ℕ)) (reader_failed writer_failed : Bool)
+      (r : Result (Unit {0}) RunFault) : Type 0 where
+    pub exact : IfSome a (EndsAs form c d r)
+    pub io : (r ≡ Err faults.Io) ↔ ((reader_failed ≡ true) ⊎ (writer_failed ≡ true))
+    pub begun : Begins form a b c d
+    pub heard : reader_failed ≡ true → KeepsUp f x form a b c d
+    pub memory : r ≡ Err faults.Memory → MayNeedMemory form a b ⊎ (HasClosing form a ⊎ EndsForMemory form a)

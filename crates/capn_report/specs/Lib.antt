@@ -1,0 +1,6 @@
+pub mod inner
+pub mod Accounts
+pub mod Reports
+pub mod FaultLines
+pub mod Finish
+pub mod ExplainRun

@@ -1,0 +1,99 @@
+//! What is told of a message that is accepted.
+
+ghost use Rattle.std.specs.Prelude.{◌≡◌, IfOk, IsErr};
+ghost use Rattle.capn_walk.specs.Accepted.{IsAccepted};
+ghost use Rattle.capn_departure.specs.Departures.{Departs};
+ghost use Rattle.capn_report.specs.Accounts as spec;
+ghost use Rattle.capn_report.specs.Accounts.{IsAccount};
+
+use crate::table::table_words;
+use capn_canon::{Form, MeasuredBare, measure};
+use capn_departure::{CanonicalLines, lines_of_accepted};
+use capn_explain::{MessageHead, SegmentsText};
+use capn_serve::Position;
+use capn_walk::Limits;
+use capn_words::{Memory, Space};
+use std::alloc::{Allocator, Global};
+use std::fmt;
+
+/// What is told of a message that is accepted, displayed in lines.
+#[derive(Debug, Drop)]
+pub struct Account<A: Allocator = Global> {
+    /// Where it is, and how large.
+    pub head: MessageHead,
+    /// The words that its walk pays.
+    pub paid: u32,
+    /// The visits that its walk makes.
+    pub visits: u32,
+    /// The least depth that admits it.
+    pub depth: u32,
+    /// Whether it is canonical, and why not.
+    pub lines: CanonicalLines<A>,
+}
+
+impl<A: Allocator> fmt::Display for Account<A> {
+    ghost use Rattle.std.specs.Prelude.{Some};
+    ghost use Rattle.capn_report.specs.Accounts.{account_text};
+
+    ghost output = { λ account. Some (account_text account) };
+
+    fn fmt<W: fmt::Write>(&self, f: &mut fmt::Formatter<W>) -> fmt::Result {
+        let head = self.head;
+        let paid = self.paid;
+        let visits = self.visits;
+        let depth = self.depth;
+        write!(
+            f,
+            "{head}accepted: paid {paid} visits {visits} depth {depth}\n{}",
+            &self.lines
+        )
+    }
+}
+
+/// What is told of a message that was measured, and has these lines.
+fn account_by<S: Space, A: Allocator>(
+    at: Position,
+    message: &S,
+    measured: MeasuredBare,
+    lines: CanonicalLines<A>,
+) -> Account<A>
+    ensures { result ≡ spec.account_by at (S.message message.now) measured lines }
+{
+    Account {
+        head: MessageHead {
+            index: at.index,
+            offset: at.offset,
+            segments: Some(SegmentsText::of(message)),
+        },
+        paid: measured.survey.paid,
+        visits: measured.survey.visits,
+        depth: measured.depth,
+        lines,
+    }
+}
+
+/// What is told of a message that is accepted within limits.
+///
+/// `Memory` comes only for a message of one segment that is not canonical, where a growth was refused. Memory: that of
+/// [`lines_of_accepted`].
+pub(crate) fn account_of<S: Space, A: Allocator + Copy>(
+    alloc: A,
+    form: Form,
+    at: Position,
+    message: &S,
+    limits: Limits,
+) -> Result<Account<A>, Memory>
+    requires accepted { IsAccepted (S.message message.now) limits }
+    ensures found { IfOk result (λ account. IsAccount form at (S.message message.now) limits account) }
+    ensures memory { IsErr result → Departs (S.message message.now) limits }
+{
+    match measure(alloc, message, limits) {
+        Ok(measured) => {
+            let table = table_words(form, message);
+            let lines = lines_of_accepted(alloc, message, limits, at.offset, table)?;
+            Ok(account_by(at, message, measured, lines))
+        }
+        // A message that is accepted is measured.
+        Err(_) => unreachable!(),
+    }
+}

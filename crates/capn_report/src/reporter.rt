@@ -1,0 +1,267 @@
+//! The service that finds the message that is explained.
+
+ghost use Rattle.std.specs.Prelude.{◌≡◌, false, IfOk, IfErr, IfSome, IfNone, string_bytes};
+ghost use Rattle.capn_walk.specs.Accepted.{IsAccepted};
+ghost use Rattle.capn_serve.specs.declared.fault.ServeFault.TheVariants as faults;
+ghost use Rattle.capn_report.specs.Accounts.{account_text};
+ghost use Rattle.capn_report.specs.Reports as spec;
+ghost use Rattle.capn_report.specs.Reports.{IsFirst, IsTold, Puts, PutsAccount, PutsText, ServesBy, TellsAccepted};
+
+use crate::account::{Account, account_of};
+use crate::explain::Explain;
+use crate::outcome::Outcome;
+use crate::table::table_words;
+use capn_explain::{Told, explain_refusal};
+use capn_serve::{Position, ServeFault, Service, flush_long, number_of};
+use capn_words::{Memory, Space, Watched};
+use std::alloc::{Allocator, Global};
+use std::io::Write;
+use std::marker::Model;
+
+/// The service that finds the message that is explained, and what it has found.
+///
+/// Without a number it walks each message. The first one that is refused writes the lines that explain it, and no more
+/// is served. With a number it passes over the messages before that one, which are not walked; that one writes the
+/// lines that explain it, refused or accepted, and no more is served. No message ends its run. It keeps what is told of
+/// the first message, or that memory was refused for it, until another one has begun.
+#[derive(Drop)]
+pub struct Reporter<A: Allocator = Global> {
+    alloc: A,
+    order: Explain,
+    outcome: Outcome,
+    first: Option<Result<Account<A>, Memory>>,
+}
+
+impl<A: Allocator> Model for Reporter<A> {
+    ghost use Rattle.capn_report.specs.Reports.{Reporting, lines_first};
+
+    ghost Value = { Reporting };
+
+    ghost view = { λ s. record { order = s.order; outcome = s.outcome; first = lines_first s.first } };
+}
+
+/// Whether a message comes before the one of a number.
+fn is_before(at: Position, number: Option<u64>) -> bool
+    ensures { result ≡ spec.is_before at number }
+{
+    match number {
+        Some(number) => number_of(at.index) < u128::from(number),
+        None => false,
+    }
+}
+
+/// Whether a message is refused, and then the lines that explain it.
+fn told_of<S: Space, A: Allocator + Copy>(
+    alloc: A,
+    order: &Explain,
+    at: Position,
+    message: &S,
+) -> Result<Option<Told<A>>, ServeFault>
+    ensures refused { IfOk result (λ r. IfSome r (λ told.
+        IsTold order.now at (S.message message.now) told.stopped told.text.items)) }
+    ensures accepted { IfOk result (λ r. IfNone r (IsAccepted (S.message message.now) order.now.limits)) }
+    ensures only { IfErr result (λ e. e ≡ faults.Memory) }
+{
+    let table = table_words(order.form, message);
+    match explain_refusal(alloc, message, at.index, at.offset, table, order.limits) {
+        Ok(told) => Ok(told),
+        Err(_) => Err(ServeFault::Memory),
+    }
+}
+
+/// Appends some bytes, or nothing where memory is refused.
+fn put_bytes<A: Allocator>(text: &mut Vec<u8, A>, bytes: &[u8]) -> Result<(), ServeFault>
+    ensures { PutsText bytes.now text.old.items text.new.items result }
+{
+    match text.extend_from_slice(bytes) {
+        Ok(()) => Ok(()),
+        Err(_) => Err(ServeFault::Memory),
+    }
+}
+
+/// The lines of an account.
+fn lines_of<B: Allocator, A: Allocator>(
+    alloc: A,
+    account: &Account<B>,
+) -> Result<String<A>, ServeFault>
+    ensures found { IfOk result (λ lines. string_bytes lines ≡ account_text account.now) }
+    ensures only { IfErr result (λ e. e ≡ faults.Memory) }
+{
+    match format!(in alloc; "{account}") {
+        Ok(lines) => Ok(lines),
+        Err(_) => Err(ServeFault::Memory),
+    }
+}
+
+/// Appends the lines of an account, or nothing where memory is refused.
+fn put_account<B: Allocator, A: Allocator + Copy>(
+    alloc: A,
+    account: &Account<B>,
+    text: &mut Vec<u8, A>,
+) -> Result<(), ServeFault>
+    ensures { PutsText (account_text account.now) text.old.items text.new.items result }
+{
+    let lines = lines_of(alloc, account)?;
+    put_bytes(text, lines.as_bytes())
+}
+
+/// Appends the lines that explain an accepted message, or nothing where memory is refused.
+fn put_accepted<S: Space, A: Allocator + Copy>(
+    alloc: A,
+    order: &Explain,
+    at: Position,
+    message: &S,
+    text: &mut Vec<u8, A>,
+) -> Result<(), ServeFault>
+    requires accepted { IsAccepted (S.message message.now) order.now.limits }
+    ensures { PutsAccount order.now at (S.message message.now) text.old.items text.new.items result }
+{
+    match account_of(alloc, order.form, at, message, order.limits) {
+        Ok(account) => put_account(alloc, &account, text),
+        Err(_) => Err(ServeFault::Memory),
+    }
+}
+
+/// What is kept of a message that is accepted: what is told of it, if it is the first.
+fn first_of<S: Space, A: Allocator + Copy>(
+    alloc: A,
+    order: &Explain,
+    at: Position,
+    message: &S,
+) -> Option<Result<Account<A>, Memory>>
+    requires accepted { IsAccepted (S.message message.now) order.now.limits }
+    ensures { IsFirst order.now.form at (S.message message.now) order.now.limits (spec.lines_first result) }
+{
+    if 0 < at.index {
+        return None;
+    }
+    Some(account_of(alloc, order.form, at, message, order.limits))
+}
+
+impl<B: Allocator> Reporter<B> {
+    /// A reporter that has found nothing. It takes no memory.
+    pub(crate) fn new(alloc: B, order: Explain) -> Reporter<B>
+        ensures { result ≡ spec.first_reporting order }
+    {
+        Reporter {
+            alloc,
+            order,
+            outcome: Outcome::Nothing,
+            first: None,
+        }
+    }
+
+    /// What is explained.
+    pub(crate) fn order(&self) -> Explain
+        ensures { result ≡ self.now.order }
+    {
+        self.order
+    }
+
+    /// What has been explained.
+    pub(crate) fn outcome(&self) -> Outcome
+        ensures { result ≡ self.now.outcome }
+    {
+        self.outcome
+    }
+
+    /// What is kept of the only message so far, if that is accepted and no number is asked for.
+    pub(crate) fn first(&self) -> &Option<Result<Account<B>, Memory>>
+        ensures { spec.lines_first result.now ≡ self.now.first }
+    {
+        &self.first
+    }
+}
+
+impl<B: Allocator + Copy> Reporter<B> {
+    /// Reports on a message that is accepted.
+    fn report_accepted<S: Space, A: Allocator + Copy>(
+        &mut self,
+        alloc: A,
+        at: Position,
+        message: &S,
+        text: &mut Vec<u8, A>,
+    ) -> Result<(), ServeFault>
+        requires accepted { IsAccepted (S.message message.now) self.old.order.limits }
+        ensures { Puts (TellsAccepted self.old at (S.message message.now)) text.old.items text.new.items result
+            self.new }
+    {
+        match self.order.number {
+            Some(_) => {
+                put_accepted(alloc, &self.order, at, message, text)?;
+                self.outcome = Outcome::Accepted;
+            }
+            None => self.first = first_of(self.alloc, &self.order, at, message),
+        }
+        Ok(())
+    }
+
+    /// Reports on a message that isn't before the one that is explained.
+    fn report_known<S: Space, A: Allocator + Copy>(
+        &mut self,
+        alloc: A,
+        at: Position,
+        message: &S,
+        text: &mut Vec<u8, A>,
+    ) -> Result<(), ServeFault>
+        ensures { Puts (ServesBy false self.old at (S.message message.now)) text.old.items text.new.items result
+            self.new }
+    {
+        match told_of(alloc, &self.order, at, message)? {
+            Some(told) => {
+                put_bytes(text, &told.text)?;
+                self.outcome = Outcome::Refused(at, told.stopped);
+                Ok(())
+            }
+            None => self.report_accepted(alloc, at, message, text),
+        }
+    }
+
+    /// Reports on a message.
+    fn report<S: Space, A: Allocator + Copy>(
+        &mut self,
+        alloc: A,
+        at: Position,
+        message: &S,
+        text: &mut Vec<u8, A>,
+    ) -> Result<(), ServeFault>
+        ensures { Puts (ServesBy (spec.is_before at self.old.order.number) self.old at (S.message message.now))
+            text.old.items text.new.items result self.new }
+    {
+        if is_before(at, self.order.number) {
+            return Ok(());
+        }
+        self.report_known(alloc, at, message, text)
+    }
+}
+
+impl<B: Allocator + Copy> Service for Reporter<B> {
+    ghost use Rattle.capn_report.specs.Reports as spec;
+
+    ghost serves = { spec.serves };
+
+    ghost refuses = { spec.refuses };
+
+    ghost done = { spec.done };
+
+    #[inline(always)]
+    fn is_done(&self, _at: Position) -> bool {
+        match self.outcome {
+            Outcome::Nothing => false,
+            Outcome::Refused(_, _) | Outcome::Accepted => true,
+        }
+    }
+
+    fn serve<S: Space, W: Write, A: Allocator + Copy>(
+        &mut self,
+        alloc: A,
+        at: Position,
+        _frame: &[u8],
+        message: &S,
+        text: &mut Vec<u8, A>,
+        writer: &mut Watched<W>,
+    ) -> Result<(), ServeFault> {
+        self.report(alloc, at, message, text)?;
+        flush_long(text, writer)
+    }
+}
