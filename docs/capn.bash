@@ -9,7 +9,7 @@ _capn() {
     [[ ${COMP_WORDS[at - 1]} == = ]] && ((at--))
     local before=${COMP_WORDS[at - 1]}
     if ((COMP_CWORD == 1)); then
-        mapfile -t COMPREPLY < <(compgen -W 'show check list limits canonical hash uniq pick pack unpack make help --help --version' -- "$word")
+        mapfile -t COMPREPLY < <(compgen -W 'show check explain list limits canonical hash uniq pick pack unpack make help --help --version' -- "$word")
         return
     fi
     case "$command $before" in
@@ -24,6 +24,12 @@ _capn() {
         'check --budget') words='' ;;
         'check --depth') words='' ;;
         'check --tariff') words='strict plain' ;;
+        'explain --form') words='stream packed bare' ;;
+        'explain --message-words') words='' ;;
+        'explain --budget') words='' ;;
+        'explain --depth') words='' ;;
+        'explain --tariff') words='strict plain' ;;
+        'explain --number') words='' ;;
         'list --form') words='stream packed bare' ;;
         'list --message-words') words='' ;;
         'list --budget') words='' ;;
@@ -58,6 +64,7 @@ _capn() {
         'make --form') words='stream packed bare' ;;
         'show '*) words='--form --message-words --budget --depth --tariff --at --text --json --help' ;;
         'check '*) words='--form --message-words --budget --depth --tariff --help' ;;
+        'explain '*) words='--form --message-words --budget --depth --tariff --number --help' ;;
         'list '*) words='--form --message-words --budget --depth --tariff --keep-going --digest --help' ;;
         'limits '*) words='--form --message-words --budget --depth --tariff --keep-going --help' ;;
         'canonical '*) words='--form --message-words --budget --depth --tariff --framed --keep-going --help' ;;
@@ -67,7 +74,7 @@ _capn() {
         'pack '*) words='--streaming --help' ;;
         'unpack '*) words='--message-words --streaming --help' ;;
         'make '*) words='--form --help' ;;
-        'help '*) words='show check list limits canonical hash uniq pick pack unpack make' ;;
+        'help '*) words='show check explain list limits canonical hash uniq pick pack unpack make' ;;
     esac
     mapfile -t COMPREPLY < <(compgen -W "$words" -- "$word")
 }

@@ -5,6 +5,7 @@ _capn() {
     commands=(
         'show:Writes the value of each message as text, and then the line `end`'
         'check:Writes `ok paid P visits V` for each message\: what reading it costs'
+        'explain:Explains the first message that is refused, down to the byte'
         'list:Writes a line for each message\: its place, size, price and form'
         'limits:Writes which limits the messages need, and some to read them with'
         'canonical:Writes the canonical bytes of one message, or `--framed` of each'
@@ -44,6 +45,15 @@ _capn() {
                 '--budget=[The most words that reading one message may cost, from 0 to 268435456]:budget:()' \
                 '--depth=[The most objects one below the other, from 1 to 256]:depth:()' \
                 '--tariff=[What reading a struct or list costs beside its words]:tariff:(strict plain)' \
+                '--help[Print help]' ;;
+        explain)
+            _arguments \
+                '--form=[How the input holds its messages]:form:(stream packed bare)' \
+                '--message-words=[The most words of a message, from 1 to 268435456]:message-words:()' \
+                '--budget=[The most words that reading one message may cost, from 0 to 268435456]:budget:()' \
+                '--depth=[The most objects one below the other, from 1 to 256]:depth:()' \
+                '--tariff=[What reading a struct or list costs beside its words]:tariff:(strict plain)' \
+                '--number=[The number of the message to explain, from 1]:number:()' \
                 '--help[Print help]' ;;
         list)
             _arguments \

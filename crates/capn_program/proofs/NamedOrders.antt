@@ -12,8 +12,9 @@ use Rattle.capn_archive.specs.declared.task.Task.{Task}
 use Rattle.capn_archive.specs.declared.task.Task.TheVariants as tasks
 use Rattle.capn_show.specs.declared.style.Style.{Style}
 use Rattle.capn_show.specs.declared.style.Style.TheVariants as styles
-use Rattle.capn_program.specs.Meaning.{AreOptions, FlagIs, IsTask, IsUsual, MeansOrder, OnlyIs, PickIs, StyleIs}
-use Rattle.capn_program.specs.Meaning.{WayIs}
+use Rattle.capn_report.specs.declared.explain.Explain.{Explain}
+use Rattle.capn_program.specs.Meaning.{AreOptions, ExplainIs, FlagIs, IsTask, IsUsual, MeansOrder, OnlyIs, PickIs}
+use Rattle.capn_program.specs.Meaning.{StyleIs, WayIs}
 use Rattle.capn_program.specs.Way.{way_of}
 use Rattle.capn_serve.specs.declared.pick.Pick.{Pick}
 use Rattle.capn_program.specs.declared.order.Flow.TheVariants as flows
@@ -31,6 +32,8 @@ list_means rows (orders.Message c) m =
     absurd (never_command c 335 refl (sym (told (codes "list", rows) (orders.Message c) m)))
 list_means rows (orders.Show s) m =
     absurd (let bad : 335 ≡ 326 = told (codes "list", rows) (orders.Show s) m in omega arith)
+list_means rows (orders.Explain x) m =
+    absurd (let bad : 335 ≡ 344 = told (codes "list", rows) (orders.Explain x) m in omega arith)
 list_means rows (orders.Uniq u) m =
     absurd (let bad : 335 ≡ 320 = told (codes "list", rows) (orders.Uniq u) m in omega arith)
 list_means rows (orders.Pick p) m =
@@ -78,6 +81,7 @@ canonical_means rows o m = go o m (told (codes "canonical", rows) o m)
     go (orders.Message (commands.Unpack k)) m e = absurd (omega arith)
     go (orders.Message (commands.Hash f l)) m e = absurd (omega arith)
     go (orders.Show s) m e = absurd (omega arith)
+    go (orders.Explain x) m e = absurd (omega arith)
     go (orders.Uniq u) m e = absurd (omega arith)
     go (orders.Pick p) m e = absurd (omega arith)
     go (orders.Only p) m e = absurd (omega arith)
@@ -115,6 +119,7 @@ survey_means name rows o m e = go o m e
     go (orders.Message commands.Pack) m e = other e
     go (orders.Message (commands.Unpack k)) m e = other e
     go (orders.Show s) m e = other e
+    go (orders.Explain x) m e = other e
     go (orders.Uniq u) m e = other e
     go (orders.Pick p) m e = other e
     go (orders.Only p) m e = other e
@@ -136,7 +141,7 @@ abbrev pub IsName : Text → Type 0
 IsName name =
     (name ≡ codes "show") ⊎ ((name ≡ codes "check") ⊎ ((name ≡ codes "list") ⊎ ((name ≡ codes "limits")
     ⊎ ((name ≡ codes "canonical") ⊎ ((name ≡ codes "uniq") ⊎ ((name ≡ codes "pick") ⊎ ((name ≡ codes "pack")
-    ⊎ ((name ≡ codes "unpack") ⊎ ((name ≡ codes "make") ⊎ (name ≡ codes "hash"))))))))))
+    ⊎ ((name ≡ codes "unpack") ⊎ ((name ≡ codes "make") ⊎ ((name ≡ codes "hash") ⊎ (name ≡ codes "explain")))))))))))
 
 pub named : (name : Text) (rows : List Row) (o : Order) → MeansOrder (Some (name, rows)) o → IsName name
 named name rows o m = go o m
@@ -153,8 +158,9 @@ named name rows o m = go o m
     go (orders.Message commands.Pack) m = inr (inr (inr (inr (inr (inr (inr (inl m.0)))))))
     go (orders.Message (commands.Unpack k)) m = inr (inr (inr (inr (inr (inr (inr (inr (inl m.0.0))))))))
     go (orders.Message (commands.Canonical f l)) m = inr (inr (inr (inr (inl m.0.0))))
-    go (orders.Message (commands.Hash f l)) m = inr (inr (inr (inr (inr (inr (inr (inr (inr (inr m.0.0)))))))))
+    go (orders.Message (commands.Hash f l)) m = inr (inr (inr (inr (inr (inr (inr (inr (inr (inr (inl m.0.0))))))))))
     go (orders.Show s) m = inl m.0
+    go (orders.Explain x) m = inr (inr (inr (inr (inr (inr (inr (inr (inr (inr (inr m.0))))))))))
     go (orders.Archive a) m = task a.task m.0
     go (orders.Uniq u) m = inr (inr (inr (inr (inr (inl m.0)))))
     go (orders.Pick p) m = inr (inr (inr (inr (inr (inr (inl m.0))))))
@@ -184,6 +190,7 @@ pack_means rows o m = go o m (told (codes "pack", rows) o m)
     go (orders.Message (commands.Unpack k)) m e = absurd (omega arith)
     go (orders.Message (commands.Hash f l)) m e = absurd (omega arith)
     go (orders.Show s) m e = absurd (omega arith)
+    go (orders.Explain x) m e = absurd (omega arith)
     go (orders.Uniq u) m e = absurd (omega arith)
     go (orders.Pick p) m e = absurd (omega arith)
     go (orders.Only p) m e = absurd (omega arith)
@@ -215,6 +222,7 @@ unpack_means rows o m = go o m (told (codes "unpack", rows) o m)
     go (orders.Message (commands.Check f l)) m e = absurd (omega arith)
     go (orders.Message (commands.Hash f l)) m e = absurd (omega arith)
     go (orders.Show s) m e = absurd (omega arith)
+    go (orders.Explain x) m e = absurd (omega arith)
     go (orders.Uniq u) m e = absurd (omega arith)
     go (orders.Pick p) m e = absurd (omega arith)
     go (orders.Only p) m e = absurd (omega arith)
@@ -273,6 +281,7 @@ show_means rows o m = go o m (told (codes "show", rows) o m)
       style_is = m.1.2;
       way = way_means rows s.style s.way m.1.3;
     }
+    go (orders.Explain x) m e = absurd (omega arith)
     go (orders.Uniq u) m e = absurd (omega arith)
     go (orders.Pick p) m e = absurd (omega arith)
     go (orders.Only p) m e = absurd (omega arith)
@@ -298,9 +307,32 @@ pick_means rows o m = go o m (told (codes "pick", rows) o m)
     go (orders.Message c) m e = absurd (never_command c 303 refl (sym e))
     go (orders.Show s) m e = absurd (omega arith)
     go (orders.Archive a) m e = absurd (task a.task e)
+    go (orders.Explain x) m e = absurd (omega arith)
     go (orders.Uniq u) m e = absurd (omega arith)
     go (orders.Pick p) m e = inl (p, m.1)
     go (orders.Only p) m e = inr (p, m.1)
+    go (orders.Flow flows.Pack) m e = absurd (omega arith)
+    go (orders.Flow flows.Unpack) m e = absurd (omega arith)
+    go (orders.Make f) m e = absurd (omega arith)
+
+pub explain_means : (rows : List Row) (o : Order) → MeansOrder (Some (codes "explain", rows)) o
+    → (x : Explain) × ExplainIs rows x
+explain_means rows o m = go o m (told (codes "explain", rows) o m)
+  where
+    task : (t : Task) → 344 ≡ tell_task t → ⊥
+    task tasks.List e = omega arith
+    task tasks.Digests e = omega arith
+    task tasks.Limits e = omega arith
+    task tasks.Canonical e = omega arith
+
+    go : (o : Order) → MeansOrder (Some (codes "explain", rows)) o → 344 ≡ tell_of o → (x : Explain) × ExplainIs rows x
+    go (orders.Message c) m e = absurd (never_command c 344 refl (sym e))
+    go (orders.Show s) m e = absurd (omega arith)
+    go (orders.Explain x) m e = (x, m.1)
+    go (orders.Archive a) m e = absurd (task a.task e)
+    go (orders.Uniq u) m e = absurd (omega arith)
+    go (orders.Pick p) m e = absurd (omega arith)
+    go (orders.Only p) m e = absurd (omega arith)
     go (orders.Flow flows.Pack) m e = absurd (omega arith)
     go (orders.Flow flows.Unpack) m e = absurd (omega arith)
     go (orders.Make f) m e = absurd (omega arith)

@@ -15,10 +15,13 @@ use Rattle.capn_archive.specs.declared.task.Archive.{Archive}
 use Rattle.capn_archive.specs.declared.task.Task.{Task}
 use Rattle.capn_archive.specs.declared.task.Task.TheVariants as tasks
 use Rattle.capn_archive.specs.declared.uniq.Uniq.{Uniq}
+use Rattle.capn_report.specs.declared.explain.Explain.{Explain}
 use Rattle.capn_serve.specs.declared.pick.Pick.{Pick}
 use Rattle.capn_serve.specs.declared.pick.StreamForm.{StreamForm}
 use Rattle.capn_serve.specs.declared.pick.StreamForm.TheVariants as stream_forms
-use Rattle.capn_program.specs.Meaning.{AreOptions, AreSame, FlagIs, HasNoFlag, IsFlow, IsSameWay, IsTask}
+use Rattle.capn_program.specs.MessageNumber.{number_of}
+use Rattle.capn_program.specs.Meaning.{AreOptions, AreSame, ExplainIs, FlagIs, HasNoFlag, IsFlow, IsNumbered}
+use Rattle.capn_program.specs.Meaning.{IsSameWay, IsTask}
 use Rattle.capn_program.specs.Meaning.{MeansOneOrder, MeansOrder, OnlyIs, PickIs, ShowIs, StyleIs, UniqIs, WayIs}
 use Rattle.capn_program.specs.Meaning.{flag_text, form_of, usual_with}
 use Rattle.capn_program.specs.declared.order.Flow.{Flow}
@@ -73,6 +76,7 @@ tell_flow flows.Unpack = 334
 abbrev pub tell_of : Order → ℕ
 tell_of (orders.Message c) = tell_command c
 tell_of (orders.Show s) = 326
+tell_of (orders.Explain x) = 344
 tell_of (orders.Archive a) = tell_task a.task
 tell_of (orders.Uniq u) = 320
 tell_of (orders.Pick k) = 303
@@ -102,6 +106,7 @@ told_flow name rows flows.Unpack is = ap tell is.0
 pub told : (said : Text × List Row) (o : Order) → MeansOrder (Some said) o → tell said.0 ≡ tell_of o
 told said (orders.Message c) m = told_command said c m.0
 told said (orders.Show s) m = ap tell m.0
+told said (orders.Explain x) m = ap tell m.0
 told said (orders.Archive a) m = told_task said.0 said.1 a.task m.0
 told said (orders.Uniq u) m = ap tell m.0
 told said (orders.Pick k) m = ap tell m.0
@@ -111,7 +116,7 @@ told said (orders.Make f) m = ap tell m.0
 
 -- no command over messages or bytes is named so
 abbrev is_no_command : ℕ → Bool
-is_no_command n = n == 303 || (n == 311 || (n == 320 || (n == 323 || n == 335)))
+is_no_command n = n == 303 || (n == 311 || (n == 320 || (n == 323 || (n == 335 || n == 344))))
 
 no_command : (c : Command) → is_no_command (tell_command c) ≡ false
 no_command (commands.Show f l) = refl
@@ -126,7 +131,7 @@ never_command c n other e = let bad : false ≡ true = sym (no_command c) ∙ ap
 
 -- and no task
 abbrev is_no_task : ℕ → Bool
-is_no_task n = n == 303 || (n == 311 || (n == 320 || (n == 326 || (n == 295 || n == 334))))
+is_no_task n = n == 303 || (n == 311 || (n == 320 || (n == 326 || (n == 295 || (n == 334 || n == 344)))))
 
 no_task : (t : Task) → is_no_task (tell_task t) ≡ false
 no_task tasks.List = refl
@@ -139,7 +144,7 @@ never_task t n other e = let bad : false ≡ true = sym (no_task t) ∙ ap is_no
 
 -- and no flow
 abbrev is_no_flow : ℕ → Bool
-is_no_flow n = n == 303 || (n == 311 || (n == 320 || n == 326))
+is_no_flow n = n == 303 || (n == 311 || (n == 320 || (n == 326 || n == 344)))
 
 no_flow : (w : Flow) → is_no_flow (tell_flow w) ≡ false
 no_flow flows.Pack = refl
@@ -295,6 +300,27 @@ show_one rows s t (f, l, style, way) (g, m, other, also) = (
   way_one rows s.style t.style s.way t.way way also,
 )
 
+-- the value of `--number` is one number
+number_given : (rows : List Row) (a b : Option ℕ) → IsNumbered rows a → IsNumbered rows b → a ≡ b
+number_given rows None None is also = refl
+number_given rows None (Some m) is (text, there, reads) = let bad : None ≡ Some text = sym is ∙ there in absurd cc
+number_given rows (Some n) None (text, there, reads) also = let bad : Some text ≡ None = sym there ∙ also in absurd cc
+number_given rows (Some n) (Some m) (text, there, reads) (other, also, same) =
+    sym reads
+    ∙ ap (λ (o : Option Text). number_of (unwrap_or o (codes ""))) (sym there ∙ also)
+    ∙ same
+
+explain_same : (x y : Explain) → x.form ≡ y.form → x.limits ≡ y.limits → x.number ≡ y.number → x ≡ y
+explain_same x y f l n =
+    ap (λ (v : Form). record { form = v; limits = x.limits; number = x.number }) f
+    ∙ ap (λ (v : Bounds). record { form = y.form; limits = v; number = x.number }) l
+    ∙ ap (λ (v : Option ℕ). record { form = y.form; limits = y.limits; number = v }) n
+
+explain_one : (rows : List Row) (x y : Explain) → ExplainIs rows x → ExplainIs rows y → x ≡ y
+explain_one rows x y (f, l, n) (g, m, k) =
+    explain_same x y (form_one x.form y.form (sym f ∙ g)) (limits_one rows x.limits y.limits l m)
+    (number_given rows x.number y.number n k)
+
 -- ---- two orders of two kinds
 
 -- words without `--at` and without a style order no part and no other style
@@ -353,6 +379,7 @@ same : (s : Text × List Row) (o p : Order) → tell_of o ≡ tell_of p → Mean
 same s (orders.Message c) (orders.Message d) e m n =
     ap (λ (x : Command). orders.Message x) (means_one (Some s) c d m.0 n.0)
 same s (orders.Message c) (orders.Show t) e m n = absurd (shows s.1 c t e m.1 n.1)
+same s (orders.Message c) (orders.Explain y) e m n = absurd (never_command c 344 refl e)
 same s (orders.Message c) (orders.Archive b) e m n = absurd (apart s.0 s.1 c b.task e m.1 n.0)
 same s (orders.Message c) (orders.Uniq v) e m n = absurd (never_command c 320 refl e)
 same s (orders.Message c) (orders.Pick k) e m n = absurd (never_command c 303 refl e)
@@ -361,14 +388,26 @@ same s (orders.Message c) (orders.Flow w) e m n = absurd (streams s.0 s.1 c w e 
 same s (orders.Message c) (orders.Make g) e m n = absurd (never_command c 311 refl e)
 same s (orders.Show r) (orders.Message d) e m n = absurd (shows s.1 d r (sym e) n.1 m.1)
 same s (orders.Show r) (orders.Show t) e m n = show_one s.1 r t m.1 n.1
+same s (orders.Show r) (orders.Explain y) e m n = absurd (omega arith)
 same s (orders.Show r) (orders.Archive b) e m n = absurd (never_task b.task 326 refl (sym e))
 same s (orders.Show r) (orders.Uniq v) e m n = absurd (omega arith)
 same s (orders.Show r) (orders.Pick k) e m n = absurd (omega arith)
 same s (orders.Show r) (orders.Only k) e m n = absurd (omega arith)
 same s (orders.Show r) (orders.Flow w) e m n = absurd (never_flow w 326 refl (sym e))
 same s (orders.Show r) (orders.Make g) e m n = absurd (omega arith)
+same s (orders.Explain x) (orders.Message d) e m n = absurd (never_command d 344 refl (sym e))
+same s (orders.Explain x) (orders.Show t) e m n = absurd (omega arith)
+same s (orders.Explain x) (orders.Explain y) e m n =
+    ap (λ (v : Explain). orders.Explain v) (explain_one s.1 x y m.1 n.1)
+same s (orders.Explain x) (orders.Archive b) e m n = absurd (never_task b.task 344 refl (sym e))
+same s (orders.Explain x) (orders.Uniq v) e m n = absurd (omega arith)
+same s (orders.Explain x) (orders.Pick k) e m n = absurd (omega arith)
+same s (orders.Explain x) (orders.Only k) e m n = absurd (omega arith)
+same s (orders.Explain x) (orders.Flow w) e m n = absurd (never_flow w 344 refl (sym e))
+same s (orders.Explain x) (orders.Make g) e m n = absurd (omega arith)
 same s (orders.Archive a) (orders.Message d) e m n = absurd (apart s.0 s.1 d a.task (sym e) n.1 m.0)
 same s (orders.Archive a) (orders.Show t) e m n = absurd (never_task a.task 326 refl e)
+same s (orders.Archive a) (orders.Explain y) e m n = absurd (never_task a.task 344 refl e)
 same s (orders.Archive a) (orders.Archive b) e m n =
     ap (λ (x : Archive). orders.Archive x) (archive_one s.0 s.1 a b e m.0 m.1 n.0 n.1)
 same s (orders.Archive a) (orders.Uniq v) e m n = absurd (never_task a.task 320 refl e)
@@ -378,6 +417,7 @@ same s (orders.Archive a) (orders.Flow w) e m n = absurd (stays a.task w e)
 same s (orders.Archive a) (orders.Make g) e m n = absurd (never_task a.task 311 refl e)
 same s (orders.Uniq u) (orders.Message d) e m n = absurd (never_command d 320 refl (sym e))
 same s (orders.Uniq u) (orders.Show t) e m n = absurd (omega arith)
+same s (orders.Uniq u) (orders.Explain y) e m n = absurd (omega arith)
 same s (orders.Uniq u) (orders.Archive b) e m n = absurd (never_task b.task 320 refl (sym e))
 same s (orders.Uniq u) (orders.Uniq v) e m n = ap (λ (x : Uniq). orders.Uniq x) (uniq_one s.1 u v m.1 n.1)
 same s (orders.Uniq u) (orders.Pick k) e m n = absurd (omega arith)
@@ -386,6 +426,7 @@ same s (orders.Uniq u) (orders.Flow w) e m n = absurd (never_flow w 320 refl (sy
 same s (orders.Uniq u) (orders.Make g) e m n = absurd (omega arith)
 same s (orders.Pick k) (orders.Message d) e m n = absurd (never_command d 303 refl (sym e))
 same s (orders.Pick k) (orders.Show t) e m n = absurd (omega arith)
+same s (orders.Pick k) (orders.Explain y) e m n = absurd (omega arith)
 same s (orders.Pick k) (orders.Archive b) e m n = absurd (never_task b.task 303 refl (sym e))
 same s (orders.Pick k) (orders.Uniq v) e m n = absurd (omega arith)
 same s (orders.Pick k) (orders.Pick l) e m n = ap (λ (x : Pick). orders.Pick x) (pick_one s.1 k l m.1 n.1)
@@ -394,6 +435,7 @@ same s (orders.Pick k) (orders.Flow w) e m n = absurd (never_flow w 303 refl (sy
 same s (orders.Pick k) (orders.Make g) e m n = absurd (omega arith)
 same s (orders.Only k) (orders.Message d) e m n = absurd (never_command d 303 refl (sym e))
 same s (orders.Only k) (orders.Show t) e m n = absurd (omega arith)
+same s (orders.Only k) (orders.Explain y) e m n = absurd (omega arith)
 same s (orders.Only k) (orders.Archive b) e m n = absurd (never_task b.task 303 refl (sym e))
 same s (orders.Only k) (orders.Uniq v) e m n = absurd (omega arith)
 same s (orders.Only k) (orders.Pick l) e m n = absurd (listed s.1 l k n.1 m.1)
@@ -402,6 +444,7 @@ same s (orders.Only k) (orders.Flow w) e m n = absurd (never_flow w 303 refl (sy
 same s (orders.Only k) (orders.Make g) e m n = absurd (omega arith)
 same s (orders.Flow v) (orders.Message d) e m n = absurd (streams s.0 s.1 d v (sym e) n.1 m)
 same s (orders.Flow v) (orders.Show t) e m n = absurd (never_flow v 326 refl e)
+same s (orders.Flow v) (orders.Explain y) e m n = absurd (never_flow v 344 refl e)
 same s (orders.Flow v) (orders.Archive b) e m n = absurd (stays b.task v (sym e))
 same s (orders.Flow v) (orders.Uniq u) e m n = absurd (never_flow v 320 refl e)
 same s (orders.Flow v) (orders.Pick k) e m n = absurd (never_flow v 303 refl e)
@@ -410,6 +453,7 @@ same s (orders.Flow v) (orders.Flow w) e m n = ap (λ (x : Flow). orders.Flow x)
 same s (orders.Flow v) (orders.Make g) e m n = absurd (never_flow v 311 refl e)
 same s (orders.Make f) (orders.Message d) e m n = absurd (never_command d 311 refl (sym e))
 same s (orders.Make f) (orders.Show t) e m n = absurd (omega arith)
+same s (orders.Make f) (orders.Explain y) e m n = absurd (omega arith)
 same s (orders.Make f) (orders.Archive b) e m n = absurd (never_task b.task 311 refl (sym e))
 same s (orders.Make f) (orders.Uniq v) e m n = absurd (omega arith)
 same s (orders.Make f) (orders.Pick k) e m n = absurd (omega arith)

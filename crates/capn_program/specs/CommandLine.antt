@@ -56,17 +56,26 @@ show_line = with_rule (with_rule (with_rule (message_line (codes "show")) way_ru
 abbrev pub canonical_line : App
 canonical_line = with_rule (with_rule (message_line (codes "canonical")) framed_rule) keep_going_rule
 
+-- the number of the message that is explained, which has no usual value
+abbrev pub number_rule : Rule
+number_rule = record (new_rule (codes "number")) { long = Some (codes "number"); value_names = 1 }
+
+-- `explain` takes what a command over messages takes, and `--number`
+abbrev pub explain_line : App
+explain_line = with_rule (message_line (codes "explain")) number_rule
+
 -- the program, which needs a subcommand and has a version
 abbrev pub top_line : App
 top_line =
     let a = new_app (codes "capn") in
     record a { top = record a.top { subcommand_required = true; has_version = true } }
 
--- the program with the commands that show what messages hold and cost
+-- the program with the commands that show what messages hold and cost, and why one is refused
 abbrev pub reading_line : App
 reading_line =
     let with_show = with_subcommand top_line show_line.top in
-    with_subcommand with_show (message_line (codes "check")).top
+    let with_check = with_subcommand with_show (message_line (codes "check")).top in
+    with_subcommand with_check explain_line.top
 
 -- the same with those that show what an archive holds and needs
 abbrev pub surveying_line : App

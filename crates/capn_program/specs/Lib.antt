@@ -1,6 +1,7 @@
 pub mod CommandLine
 pub mod Way
 pub mod RangeList
+pub mod MessageNumber
 pub mod Meaning
 pub mod Usage
 pub mod ExitStatus

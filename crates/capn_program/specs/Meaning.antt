@@ -24,6 +24,8 @@ use Rattle.capn_serve.specs.declared.pick.Pick.{Pick}
 use Rattle.capn_serve.specs.declared.pick.StreamForm.{StreamForm}
 use Rattle.capn_serve.specs.declared.pick.StreamForm.TheVariants as streams
 use Rattle.capn_program.specs.CommandLine.{most_number}
+use Rattle.capn_report.specs.declared.explain.Explain.{Explain}
+use Rattle.capn_program.specs.MessageNumber.{number_of}
 use Rattle.capn_program.specs.RangeList.{ranges_in}
 use Rattle.capn_program.specs.Way.{way_of}
 use Rattle.capn_program.specs.declared.order.Flow.{Flow}
@@ -103,6 +105,15 @@ OnlyIs rows only = FormIs rows (form_of only.form)
     × (only.limits ≡ usual_with only.limits.message_words)
     × ListIs rows only.list.now
 
+-- `--number` is given, and its value is this number of a message; or it isn't given
+abbrev pub IsNumbered : List Row → Option ℕ → Type 0
+IsNumbered rows None = first_of (codes "number") rows ≡ None
+IsNumbered rows (Some n) = (text : Text) × (first_of (codes "number") rows ≡ Some text) × (number_of text ≡ Some n)
+
+-- the options of `explain` have these values
+abbrev pub ExplainIs : List Row → Explain → Type 0
+ExplainIs rows explain = FormIs rows explain.form × LimitsAre rows explain.limits × IsNumbered rows explain.number
+
 -- the subcommand of this name lets bytes flow this way: `--streaming` is given, and `--message-words` is not
 abbrev pub IsFlow : Text → List Row → Flow → Type 0
 IsFlow name rows flows.Pack = (name ≡ codes "pack") × FlagIs rows (codes "streaming") true
@@ -142,6 +153,7 @@ abbrev pub MeansOrder : Option (Text × List Row) → Order → Type 0
 MeansOrder None order = ⊥
 MeansOrder (Some s) (orders.Message command) = Means (Some s) command × HasNoFlag s.1 command
 MeansOrder (Some s) (orders.Show show) = (s.0 ≡ codes "show") × ShowIs s.1 show
+MeansOrder (Some s) (orders.Explain explain) = (s.0 ≡ codes "explain") × ExplainIs s.1 explain
 MeansOrder (Some s) (orders.Archive archive) = IsTask s.0 s.1 archive.task × AreOptions s.1 archive
 MeansOrder (Some s) (orders.Uniq uniq) = (s.0 ≡ codes "uniq") × UniqIs s.1 uniq
 MeansOrder (Some s) (orders.Pick pick) = (s.0 ≡ codes "pick") × PickIs s.1 pick

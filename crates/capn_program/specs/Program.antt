@@ -18,6 +18,8 @@ use Rattle.capn_archive.specs.declared.fault.ArchiveFault.TheVariants as faults
 use Rattle.capn_serve.specs.declared.fault.RunFault.{RunFault}
 use Rattle.capn_serve.specs.declared.fault.RunFault.TheVariants as run_faults
 use Rattle.capn_serve.specs.PickRun.{Picks}
+use Rattle.capn_report.specs.ExplainRun.{Explained}
+use Rattle.capn_report.specs.declared.explain.Explain.{Explain}
 use Rattle.capn_serve.specs.declared.pick.Pick.{Pick}
 use Rattle.capn_archive.specs.UniqRun.{Sieved}
 use Rattle.capn_archive.specs.declared.uniq.Uniq.{Uniq}
@@ -70,6 +72,10 @@ pub record RunsFlushed {F : Type 0} (io : F) (Runs : RunOver F) (input output : 
 abbrev pub ShowsParts : Show → Course → Course → Result (Unit {0}) ToolFault → Type 0
 ShowsParts show = RunsFlushed tool_faults.Io (PartsShown show)
 
+-- a run explained a message
+abbrev pub ExplainsMessage : Explain → Course → Course → Result (Unit {0}) RunFault → Type 0
+ExplainsMessage explain = RunsFlushed run_faults.Io (Explained explain)
+
 -- a run went over an archive
 abbrev pub RunsOver : Archive → Course → Course → Result (Unit {0}) ArchiveFault → Type 0
 RunsOver archive = RunsFlushed faults.Io (Archived archive)
@@ -120,6 +126,10 @@ EndsMessage = EndsOrder (λ command. orders.Message command) CarriesOut ReportsE
 -- the words order that parts of messages are shown
 abbrev pub EndsShow : List Text → Course → Course → Course → ℕ → Type 0
 EndsShow = EndsOrder (λ show. orders.Show show) ShowsParts ReportsEnding status_of
+
+-- the words order that a message is explained
+abbrev pub EndsExplain : List Text → Course → Course → Course → ℕ → Type 0
+EndsExplain = EndsOrder (λ explain. orders.Explain explain) ExplainsMessage WritesPickEnding pick_status
 
 -- the words order a run over an archive
 abbrev pub EndsArchive : List Text → Course → Course → Course → ℕ → Type 0
@@ -183,9 +193,10 @@ abbrev pub Ends : List Text → Course → Course → Course → ℕ → Type 0
 Ends words input output errors status =
     EndsMessage words input output errors status
     ⊎ (EndsShow words input output errors status
+    ⊎ (EndsExplain words input output errors status
     ⊎ (EndsArchive words input output errors status
     ⊎ (EndsUniq words input output errors status
     ⊎ (EndsPick words input output errors status
     ⊎ (EndsOnly words input output errors status
     ⊎ (EndsFlow words input output errors status
-    ⊎ (EndsMake words input output errors status ⊎ Unordered words input output errors status)))))))
+    ⊎ (EndsMake words input output errors status ⊎ Unordered words input output errors status))))))))

@@ -14,6 +14,7 @@ ghost use Rattle.capn_program.specs.Usage.{IsReason, Orders};
 ghost use Rattle.capn_program.specs.declared.order.Only.{Only};
 ghost use Rattle.capn_program.specs.declared.order.Order.{Order};
 
+use crate::explain_options::explain_of;
 use crate::option_help;
 use crate::option_values::{flag_of, is_usual, limits_with, number_in, stream_form_of, text_in};
 use crate::order::{Flow, Only, Order};
@@ -191,6 +192,7 @@ fn named_order<'a>(name: &str, matches: &ArgMatches<'a>) -> Option<Order<'a>>
             let limits = parts::limits_of(matches)?;
             Some(Order::Message(Command::Check(form, limits)))
         }
+        "explain" => Some(Order::Explain(explain_of(matches)?)),
         "list" => list_of(matches),
         "limits" => Some(Order::Archive(archive_of(Task::Limits, matches)?)),
         "canonical" => canonical_of(matches),
@@ -227,8 +229,8 @@ fn said_of_pick(matches: &ArgMatches) -> &'static str {
 }
 
 /// The message for options of this command that mean nothing: for `pick`, that of its own; for `unpack`, which two
-/// don't go together; for the others, that on `--form`, or else on `--tariff`, or else on `--at` of `show`, and on
-/// `--keep-going` of `canonical`.
+/// don't go together; for the others, that on `--form`, or else on `--tariff`, or else on `--at` of `show`, on
+/// `--number` of `explain`, and on `--keep-going` of `canonical`.
 fn said_of(name: &str, matches: &ArgMatches) -> &'static str {
     if name == "pick" {
         return said_of_pick(matches);
@@ -242,10 +244,11 @@ fn said_of(name: &str, matches: &ArgMatches) -> &'static str {
     if parts::limits_of(matches).is_none() {
         return tool_help::NO_SUCH_TARIFF;
     }
-    if name == "show" {
-        return option_help::NO_WAY;
+    match name {
+        "show" => option_help::NO_WAY,
+        "explain" => option_help::NO_NUMBER,
+        _ => option_help::ONLY_FRAMED,
     }
-    option_help::ONLY_FRAMED
 }
 
 /// The command whose options mean nothing, and the message for them.
@@ -270,9 +273,9 @@ fn meaningless(alloc: Global, matches: &ArgMatches) -> Usage
 /// What the words order, the first of them being the program's name: the subcommand's work, with the form, the limits,
 /// the tariff and the flags that its options have, given or usual. A request for help or for the version, a word, an
 /// option or a value that is not known, a number out of its range, a form or a tariff that the command does not take,
-/// a value of `--at` that is no way, one of `--only` that is no list, `--only` with `--from` or `--to`,
-/// `--keep-going` of `canonical` without `--framed`, `--message-words` of `unpack` with `--streaming`, and
-/// refused memory are answered as `Usage`, with the text for the user.
+/// a value of `--at` that is no way, one of `--number` that is no number of a message, one of `--only` that is no list,
+/// `--only` with `--from` or `--to`, `--keep-going` of `canonical` without `--framed`, `--message-words` of `unpack`
+/// with `--streaming`, and refused memory are answered as `Usage`, with the text for the user.
 pub fn order_of<'a, S: AsStr>(alloc: Global, words: &'a [S]) -> Result<Order<'a>, Usage>
     // An order that is given is what the words mean.
     ensures means { IfOk result (MeansOrder (subcommand_of program_line (map S.text words.now))) }

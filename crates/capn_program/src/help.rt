@@ -12,9 +12,10 @@ pub const VERSION_LINE: &[u8] = b"capn 1.0.0\n";
 /// The program.
 pub const PROGRAM: Page = Page {
     usage: "capn <COMMAND> [OPTIONS] < INPUT",
-    about: "Shows, checks, lists, canonicalises, hashes, packs and unpacks messages, and
-tells which limits they need. No message can make it read forever: following a
-pointer costs words of a budget, and the depth of objects has a limit.",
+    about: "Shows, checks, lists, canonicalises, hashes, packs and unpacks messages, tells
+which limits they need, and explains why one is refused. No message can make it
+read forever: following a pointer costs words of a budget, and the depth of
+objects has a limit.",
     more: "Input is standard input, and output is standard output.
 `capn <COMMAND> --help` says what a command takes and writes, with an example.
 
@@ -63,6 +64,36 @@ Examples:
   capn show < message
   capn show --at 0.3.1 < message
   capn show --json < messages",
+};
+
+/// `explain`.
+pub const EXPLAIN: Page = Page {
+    usage: "capn explain [OPTIONS] < INPUT",
+    about: "Explains the first message that is refused, down to the byte",
+    more: "The lines `KEY: TEXT` say which message it is, where it begins and why it is
+refused. If its walk is refused, they also say the way from the root to the
+pointer, the byte at which that lies, and what it says. Bytes are counted from
+the beginning of the input; with `--form packed`, in what it unpacks to.
+If no message is refused, the only one is explained; of more, or of none, the
+line is `N messages, none refused`.
+With `--number` that message is explained, refused or accepted. If one before it
+keeps the input from being read so far, that one is; if there are fewer
+messages, the line is `N messages`.
+Nothing is looked at after the message that is explained. The input may have any
+length.
+
+Exit status:
+  0  Done: the message that is explained is accepted, or there is none
+  1  The message that is explained is refused
+  2  The command line is wrong
+  3  Reading or writing failed, the input is longer than 2^64 - 1 bytes, or
+     memory ran out
+With 1 and 3 one line on standard error says why; the manual page explains it
+under DIAGNOSTICS.
+
+Examples:
+  capn explain < messages
+  capn explain --number 3 < messages",
 };
 
 /// `list`.

@@ -3,9 +3,10 @@
 //!
 //! [`program`] is all of it, from the words of the command line to the exit status, over any reader and writers.
 //! [`order_of`] reads the words. They order a command of [`capn_tool`]; that messages, or parts of them, are shown in a
-//! style, by [`show_parts`]; a run over an archive, which is a stream of messages of any length, by [`capn_archive`] or
-//! [`capn_serve`]; that bytes are packed or unpacked while they come in, by [`capn_flow`]; or that messages are made
-//! from texts, by [`capn_make`]. [`end_archive`], [`end_flow`] and [`end_make`] report how such a run ended.
+//! style, by [`show_parts`]; that a message is explained, by [`capn_report`]; a run over an archive, which is a stream
+//! of messages of any length, by [`capn_archive`] or [`capn_serve`]; that bytes are packed or unpacked while they come
+//! in, by [`capn_flow`]; or that messages are made from texts, by [`capn_make`]. [`end_archive`], [`end_pick`],
+//! [`end_flow`] and [`end_make`] report how such a run ended.
 //!
 //! ```text
 //! let order = order_of(alloc, &["capn", "list", "--keep-going"])?;
@@ -14,9 +15,11 @@
 
 mod command_line;
 mod endings;
+mod explain_options;
 mod fault_text;
 mod help;
 pub mod laws;
+mod message_number;
 mod only_run;
 mod option_help;
 mod option_values;
@@ -42,6 +45,7 @@ pub use subcommands::program_command;
 pub use capn_archive::{Archive, ArchiveFault, Passed, Position, RunFault, Task, Uniq};
 pub use capn_flow::FlowFault;
 pub use capn_make::{MakeFault, Misfit};
+pub use capn_report::Explain;
 pub use capn_serve::{Pick, StreamForm};
 pub use capn_show::Style;
 pub use capn_tool::{Command, Form, Limits, Memory, Refusal, Tariff, ToolFault, Usage, Watched};

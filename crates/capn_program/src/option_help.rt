@@ -13,6 +13,13 @@ pub const JSON: &str = "Write each message as a line of JSON";
 /// The message for a value that `--at` does not take.
 pub const NO_WAY: &str = "--at takes numbers below 2^64, parted by dots";
 
+/// `--number`.
+pub const NUMBER: &str = "The number of the message to explain, from 1; usually
+the first one that is refused";
+
+/// The message for a value that `--number` does not take.
+pub const NO_NUMBER: &str = "--number takes 1 to 2^64 - 1, without a sign or leading zeros";
+
 /// `--form` of `make`.
 pub const FORMS_OF_MADE: &str = "How messages are written: `stream`, each after its
 segment table; `packed`, the same, packed; or `bare`,

@@ -1,6 +1,7 @@
 //! The orders of the program.
 
 use capn_archive::{Archive, Uniq};
+use capn_report::Explain;
 use capn_serve::{Pick, StreamForm};
 use capn_show::Style;
 use capn_tool::{Command, Form, Limits};
@@ -45,6 +46,8 @@ pub enum Order<'a> {
     Message(Command),
     /// Shows each message of an input, which may have any length, in a style, or what is at a way from its root.
     Show(Show<'a>),
+    /// Explains one message of an input, which may have any length: the first that is refused, or one by its number.
+    Explain(Explain),
     /// A run over an archive, which may have any length.
     Archive(Archive),
     /// Writes the messages of an archive without duplicates, or counts them.

@@ -6,8 +6,9 @@ ghost use Rattle.clap.specs.Words.{kind_of};
 ghost use Rattle.capn_words.specs.Watched.{inner_of, has_failed};
 ghost use Rattle.capn_tool.specs.Program.{course};
 ghost use Rattle.capn_tool.specs.Usage.{error_of};
-ghost use Rattle.capn_program.specs.Program.{Ends, EndsFlushed, EndsUnordered, LeavesDoublesOut, MakesTexts, RunsOver};
-ghost use Rattle.capn_program.specs.Program.{Flowed, LetsFlow, PicksMessages, PicksOnly, ShowsParts, ShowsVersion};
+ghost use Rattle.capn_program.specs.Program.{Ends, EndsFlushed, EndsUnordered, ExplainsMessage, LeavesDoublesOut};
+ghost use Rattle.capn_program.specs.Program.{Flowed, LetsFlow, MakesTexts, PicksMessages, PicksOnly, RunsOver};
+ghost use Rattle.capn_program.specs.Program.{ShowsParts, ShowsVersion};
 ghost use Rattle.capn_program.specs.Usage.{WishesVersion};
 
 use crate::command_line::order_of;
@@ -19,6 +20,7 @@ use crate::part_run::show_parts;
 use capn_archive::{Archive, ArchiveFault, RunFault, Uniq, run_archive, run_uniq};
 use capn_flow::{FlowFault, pack_stream, unpack_stream};
 use capn_make::{MakeFault, make};
+use capn_report::{Explain, run_explain};
 use capn_serve::{Pick, run_pick};
 use capn_tool::parts::{carry_out, flush_behind, write_all};
 use capn_tool::{Form, ToolFault, Usage, Watched, end, parts};
@@ -63,6 +65,24 @@ fn show_and_flush<R: Read, W: Write>(
 {
     let outcome = show_parts(alloc, show, reader, writer);
     flush_after(outcome, ToolFault::Io, writer)
+}
+
+/// Explains a message, and flushes the output. It ends as the run does, or with `Io` if the run is done and the flush
+/// fails.
+fn explain_and_flush<R: Read, W: Write>(
+    alloc: Global,
+    explain: Explain,
+    reader: &mut Watched<R>,
+    writer: &mut Watched<W>,
+) -> Result<(), RunFault>
+    requires reader_fine { has_failed reader.old ≡ false }
+    requires writer_fine { has_failed writer.old ≡ false }
+    ensures { ExplainsMessage explain
+        (course (R.remaining (inner_of reader.old)) (R.remaining (inner_of reader.new)) (has_failed reader.new))
+        (course (W.contents (inner_of writer.old)) (W.contents (inner_of writer.new)) (has_failed writer.new)) result }
+{
+    let outcome = run_explain(alloc, explain, reader, writer);
+    flush_after(outcome, RunFault::Io, writer)
 }
 
 /// Goes over an archive, and flushes the output. It ends as the run does, or with `Io` if the run is done and the flush
@@ -231,12 +251,12 @@ fn end_unordered<W: Write, E: Write>(
 /// The whole program, from the words of the command line, the first of them its name, to the exit status.
 ///
 /// It does what the words order, from the reader to the writer: a command as [`capn_tool::run`] promises, parts of
-/// messages as [`show_parts`] shows them, a run over an archive as [`run_archive`] or [`run_uniq`] does, one that
-/// picks messages as [`run_pick`] or [`pick_only`] does, packing or unpacking as [`pack_stream`] and [`unpack_stream`]
-/// do, or the messages of texts as [`make`] does; and it flushes the writer. If the run is done and the flush fails,
-/// it ends as a failed output does; after any other run a failed flush changes nothing. The status is 0 if all is
-/// done, 1 if the input, or a message of it, is refused, and 3 if memory, the input or the output failed or the input
-/// is too long.
+/// messages as [`show_parts`] shows them, what explains a message as [`run_explain`] says it, a run over an archive as
+/// [`run_archive`] or [`run_uniq`] does, one that picks messages as [`run_pick`] or [`pick_only`] does, packing or
+/// unpacking as [`pack_stream`] and [`unpack_stream`] do, or the messages of texts as [`make`] does; and it flushes the
+/// writer. If the run is done and the flush fails, it ends as a failed output does; after any other run a failed flush
+/// changes nothing. The status is 0 if all is done, 1 if the input, or a message of it, is refused, and 3 if memory,
+/// the input or the output failed or the input is too long.
 /// With 1 and 3 one line on `errors` says why: `capn: ` and the text of the fault. A command line that orders nothing
 /// ends with 2, and `errors` says what is wrong with it, or `capn: out of memory` if there is no memory for that.
 /// Help and the version are written to the writer and end with 0, or with 3 if that fails.
@@ -263,6 +283,11 @@ pub fn program<'a, S: AsStr, R: Read, W: Write, E: Write>(
                 errors,
             ),
             Order::Show(show) => end(alloc, &show_and_flush(alloc, &show, reader, writer), errors),
+            Order::Explain(explain) => end_pick(
+                alloc,
+                &explain_and_flush(alloc, explain, reader, writer),
+                errors,
+            ),
             Order::Archive(archive) => end_archive(
                 alloc,
                 &go_over(alloc, archive, reader, writer),

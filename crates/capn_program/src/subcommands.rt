@@ -5,7 +5,7 @@ ghost use Rattle.clap.specs.Words.{app_of, kind_of, rule_of};
 ghost use Rattle.clap.specs.declared.error.ErrorKind.TheVariants as kinds;
 ghost use Rattle.capn_tool.specs.CommandLine.{HasLine};
 ghost use Rattle.capn_program.specs.CommandLine.{archive_line, bytes_line, canonical_bytes_line, canonical_line};
-ghost use Rattle.capn_program.specs.CommandLine.{flag_rule};
+ghost use Rattle.capn_program.specs.CommandLine.{explain_line, flag_rule, number_rule};
 ghost use Rattle.capn_program.specs.CommandLine.{flagged_line, make_line, messages_line, packing_line, pick_line};
 ghost use Rattle.capn_program.specs.CommandLine.{place_rule, program_line, reading_line, surveying_line, top_line};
 ghost use Rattle.capn_program.specs.CommandLine.{only_rule, show_line, unpacking_line, way_rule};
@@ -44,6 +44,7 @@ fn page_of(name: &str) -> Page {
         "make" => help::MAKE,
         "show" => help::SHOW,
         "check" => tool_help::CHECK,
+        "explain" => help::EXPLAIN,
         _ => tool_help::HASH,
     }
 }
@@ -79,6 +80,26 @@ fn show_command<'a>(alloc: Global) -> Result<Command<'a>, AllocError>
     let with_at = command.arg(way_option(alloc))?;
     let with_text = with_at.arg(flag(alloc, "text", option_help::TEXT))?;
     with_text.arg(flag(alloc, "json", option_help::JSON))
+}
+
+/// `--number`, whose value is the number of the message that is explained.
+fn number_option<'a>(alloc: Global) -> Arg<'a>
+    ensures rule { rule_of result ≡ number_rule }
+    ensures local { result.global ≡ false }
+{
+    Arg::new(alloc, "number")
+        .long("number")
+        .value_name("K")
+        .help(option_help::NUMBER)
+}
+
+/// `explain`, with `--number`.
+fn explain_command<'a>(alloc: Global) -> Result<Command<'a>, AllocError>
+    ensures { IfOk result (λ c. HasLine c explain_line) }
+{
+    let forms = tool_help::FORMS_OF_MESSAGES;
+    let command = parts::message_command(alloc, "explain", help::EXPLAIN, forms)?;
+    command.arg(number_option(alloc))
 }
 
 /// A command over an archive: with the options of one over messages, and `--keep-going`.
@@ -122,12 +143,14 @@ fn top_command<'a>(alloc: Global) -> Command<'a>
         .version(help::VERSION)
 }
 
-/// The program with the commands that show what messages hold and cost.
+/// The program with the commands that show what messages hold and cost, and why one is refused.
 fn reading_command<'a>(alloc: Global) -> Result<Command<'a>, AllocError>
     ensures { IfOk result (λ c. app_of c ≡ reading_line) }
 {
     let with_show = parts::with_command(Ok(top_command(alloc)), show_command(alloc));
-    parts::with_messages(with_show, alloc, "check", tool_help::FORMS_OF_MESSAGES)
+    let forms = tool_help::FORMS_OF_MESSAGES;
+    let with_check = parts::with_messages(with_show, alloc, "check", forms);
+    parts::with_command(with_check, explain_command(alloc))
 }
 
 /// The program with the commands that show what an archive holds and needs.

@@ -12,11 +12,12 @@ use capn_program::{
     ArchiveFault, Flow, Order, RunFault, archive_text, order_of, pick_only, show_parts,
     status_of_archive,
 };
+use capn_report::run_explain;
 use capn_serve::run_pick;
 use capn_words::Watched;
 use std::alloc::Global;
 
-/// The fault of a run that picks messages, as one of a run over an archive.
+/// The fault of a run that picks or explains messages, as one of a run over an archive.
 fn archive_fault_of(fault: RunFault) -> ArchiveFault {
     match fault {
         RunFault::Memory => ArchiveFault::Memory,
@@ -72,6 +73,13 @@ pub(crate) fn archive_answer(alloc: Global, heap: &Heap, words: &[&str]) -> Resu
         Order::Show(show) => {
             let outcome = show_parts(heap, &show, &mut reader, &mut writer);
             tool_told(alloc, heap, outcome, writer.into_inner().as_slice())
+        }
+        Order::Explain(explain) => {
+            let outcome = match run_explain(heap, explain, &mut reader, &mut writer) {
+                Ok(()) => Ok(()),
+                Err(fault) => Err(archive_fault_of(fault)),
+            };
+            archive_told(alloc, heap, outcome, writer.into_inner().as_slice())
         }
         Order::Archive(archive) => {
             let outcome = run_archive(heap, archive, &mut reader, &mut writer);

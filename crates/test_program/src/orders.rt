@@ -1,6 +1,6 @@
 //! Orders of command lines.
 
-use capn_program::{Command, Flow, Form, Limits, Order, Style, Tariff, order_of};
+use capn_program::{Command, Explain, Flow, Form, Limits, Order, Style, Tariff, order_of};
 use std::alloc::Global;
 use std::process::Abort;
 
@@ -21,6 +21,15 @@ fn is_shown(alloc: Global, words: &[&str], style: Style, way: Option<&str>) -> b
             && show.limits == Limits::usual()
             && show.style == style
             && show.way == way,
+        _ => false,
+    }
+}
+
+/// Whether the words explain this message.
+fn is_explained(alloc: Global, words: &[&str], want: Explain) -> bool {
+    let told = order_of(alloc, words);
+    match &told {
+        Ok(Order::Explain(explain)) => *explain == want,
         _ => false,
     }
 }
@@ -148,8 +157,75 @@ fn messages_are_shown_in_a_style(rt: HostRuntime) {
         &["capn", "show", "--json=1"][..],
         &["capn", "check", "--json"][..],
         &["capn", "list", "--text"][..],
+        &["capn", "list", "--number=1"][..],
+        &["capn", "explain", "--keep-going"][..],
+        &["capn", "explain", "--number=1", "--number=2"][..],
+        &["capn", "explain", "--form=flat"][..],
     ] {
         expect_usage(&rt, rt.alloc(), words, 2);
+    }
+}
+
+/// Without `--number` the first message that is refused is explained.
+#[test]
+fn a_message_is_explained(rt: HostRuntime) {
+    let limits = Limits::new(1, 2, 3).unwrap_or(Limits::usual());
+    let words = ["capn", "explain"];
+    let want = Explain {
+        form: Form::Stream,
+        limits: Limits::usual(),
+        number: None,
+    };
+    assert!(rt; is_explained(rt.alloc(), &words, want), "{words:?}");
+    let words = [
+        "capn",
+        "explain",
+        "--number=7",
+        "--form=bare",
+        "--message-words=1",
+        "--budget=2",
+        "--depth=3",
+        "--tariff=plain",
+    ];
+    let want = Explain {
+        form: Form::Bare,
+        limits: limits.with_tariff(Tariff::Plain),
+        number: Some(7),
+    };
+    assert!(rt; is_explained(rt.alloc(), &words, want), "{words:?}");
+}
+
+/// Numbers of messages are written in plain digits.
+#[test]
+fn a_message_is_explained_by_its_number(rt: HostRuntime) {
+    for (text, number) in [
+        ("1", 1),
+        ("10", 10),
+        ("1002", 1002),
+        ("18446744073709551615", u64::MAX),
+    ] {
+        let words = ["capn", "explain", "--number", text];
+        let want = Explain {
+            form: Form::Stream,
+            limits: Limits::usual(),
+            number: Some(number),
+        };
+        assert!(rt; is_explained(rt.alloc(), &words, want), "{words:?}");
+    }
+    for text in [
+        "",
+        "0",
+        "01",
+        "+1",
+        "-1",
+        " 1",
+        "1,2",
+        "1-2",
+        "0x1",
+        "18446744073709551616",
+        "100000000000000000000",
+    ] {
+        expect_usage(&rt, rt.alloc(), &["capn", "explain", "--number", text], 2);
     }
 }
 
@@ -208,6 +284,7 @@ fn help_names_each_command(rt: HostRuntime) {
     for name in [
         "show",
         "check",
+        "explain",
         "list",
         "limits",
         "canonical",

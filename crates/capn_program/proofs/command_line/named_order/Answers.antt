@@ -45,5 +45,6 @@ returns-in_default-clause-served c order means =
       | inr (inr (inr (inr (inr (inr (inr (inl pack))))))) ↦ c.in_default.not-pack pack
       | inr (inr (inr (inr (inr (inr (inr (inr (inl unpack)))))))) ↦ c.in_default.not-unpack unpack
       | inr (inr (inr (inr (inr (inr (inr (inr (inr (inl make))))))))) ↦ c.in_default.not-make make
-      | inr (inr (inr (inr (inr (inr (inr (inr (inr (inr hash))))))))) ↦ c.in_default.not-hash hash
+      | inr (inr (inr (inr (inr (inr (inr (inr (inr (inr (inl hash)))))))))) ↦ c.in_default.not-hash hash
+      | inr (inr (inr (inr (inr (inr (inr (inr (inr (inr (inr explain)))))))))) ↦ c.in_default.not-explain explain
     ])

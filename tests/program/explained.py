@@ -1,0 +1,242 @@
+"""What `explain` writes, in Python: a second reading of docs/DIAGNOSTICS.md, beside that of `model`."""
+
+import model
+
+KINDS = ["voids", "bits", "bytes", "u16", "u32", "u64", "pointers"]
+
+
+def decoded(word):
+    """What a word says as a pointer."""
+    if word == 0:
+        return "null"
+    kind, offset = word & 3, (word & 0xFFFFFFFF) >> 2
+    offset -= offset >> 29 << 30
+    if kind == 0:
+        return f"struct of {word >> 32 & 0xFFFF} words and {word >> 48} slots, offset {offset}"
+    if kind == 1:
+        code, count = word >> 32 & 7, word >> 35
+        what = f"structs in {count} words" if code == 7 else f"{count} {KINDS[code]}"
+        return f"list of {what}, offset {offset}"
+    if kind == 2:
+        name = "double far" if word & 4 else "far"
+        return f"{name} to segment {word >> 32} word {word >> 3 & 0x1FFFFFFF}"
+    return "reserved" if word & 0xFFFFFFFC else f"capability {word >> 32}"
+
+
+def tag_of(word):
+    """What a word says as the tag of a list of structs."""
+    if word & 3:
+        return decoded(word)
+    return f"tag of {(word & 0xFFFFFFFF) >> 2} structs of {word >> 32 & 0xFFFF} words and {word >> 48} slots"
+
+
+def dotted(way):
+    return ".".join(map(str, way)) if way else "root"
+
+
+class Explanation(model.Walk):
+    """A walk that knows the way to the slot that it visits, and which object holds that."""
+
+    def __init__(self, segments, limits, begin, table):
+        self.begin, self.table, self.limits = begin, table, limits
+        self.way, self.holder, self.refused, self.asked = [], None, None, None
+        self.capability_way = None
+        # What the next slots are in: the way to it, its first slot, and what it is; of structs and rows what they are
+        # in.
+        self.within = self.shape = None
+        try:
+            super().__init__(segments, *limits)
+        except model.Refused as refused:
+            self.refused = str(refused)
+
+    def byte(self, segment, at):
+        """The byte of a word of a segment."""
+        return self.begin + 8 * (self.table + sum(map(self.words, range(segment))) + at)
+
+    def slot(self, segment, at, depth, is_root=False):
+        within = self.within
+        if not is_root:
+            way, first, self.holder = within
+            self.way = way + [at - first]
+        self.visited = (segment, at)
+        way, before = self.way, self.capability
+        value = super().slot(segment, at, depth, is_root)
+        if value[0] == "capability" and before is None:
+            self.capability_way = way
+        self.within = within
+        return value
+
+    def content(self, place, segment, begin, word, pads, depth):
+        self.found = (segment, begin, word, pads)
+        if word & 1 and word >> 32 & 7 == 6:
+            text = f"list of {word >> 35} pointers at byte {self.byte(segment, begin)}"
+            self.within = (self.way, begin, text)
+        self.shape = (self.way, begin + 1 if word & 1 else None)
+        return super().content(place, segment, begin, word, pads, depth)
+
+    def body(self, segment, begin, data, slots, depth):
+        shape, byte = self.shape, self.byte(segment, begin)
+        way, first = shape
+        text = f"struct of {data} words and {slots} slots at byte {byte}"
+        if first is not None and data + slots:
+            row = (begin - first) // (data + slots)
+            way = way + [row]
+            rows = (self.word(segment, first - 1) & 0xFFFFFFFF) >> 2
+            text = f"row {row} of {rows} at byte {byte}"
+        self.within = (way, begin + data, text)
+        value = super().body(segment, begin, data, slots, depth)
+        self.shape = shape
+        return value
+
+    def word_line(self, key, segment, at, text_of=decoded):
+        word = self.word(segment, at)
+        text = self.segments[segment][8 * at:8 * at + 8].hex()
+        return f"{key}: byte {self.byte(segment, at)}, segment {segment} word {at}: {text}: {text_of(word)}\n"
+
+    def reach(self, segment, begin, end):
+        return f"content: words {begin} to {end} of segment {segment}, which has {self.words(segment)}\n"
+
+    def slot_lines(self):
+        """The lines about the slot at which the walk was refused."""
+        fault = self.refused.split(" ")[0]
+        segment, at = self.visited
+        word = self.word(segment, at)
+        out = [f"way: {dotted(self.way)}\n", self.word_line("slot", segment, at)]
+        if self.holder:
+            out.append(f"in: {self.holder}\n")
+        if word & 3 == 2 and word >> 32 < len(self.segments):
+            pad, there = word >> 3 & 0x1FFFFFFF, word >> 32
+            size = 2 if word & 4 else 1
+            if pad + size <= self.words(there):
+                out += [self.word_line("pad", there, pad + i) for i in range(size)]
+            else:
+                out.append(self.reach(there, pad, pad + size))
+        if fault in ("Range", "BadTag", "TagOverrun", "TooDeep", "OverBudget"):
+            out += self.content_lines(fault)
+        if fault == "NoSegment":
+            out.append(f"limit: {len(self.segments)} segments\n")
+        return out
+
+    def content_lines(self, fault):
+        segment, begin, word, pads = self.found
+        is_rows, count = word & 1 and word >> 32 & 7 == 7, word >> 35
+        size = (word >> 32 & 0xFFFF) + (word >> 48)
+        if word & 1:
+            code = word >> 32 & 7
+            size = count + 1 if code == 7 else count if code == 6 else -(-count * model.WIDTH_BITS[code] // 64)
+        price = self.base + size + pads + (count if word & 1 and word >> 32 & 7 == 0 else 0)
+        out, budget, depth = [], self.limits[0], self.limits[1]
+        if is_rows and fault != "Range":
+            tag = self.word(segment, begin)
+            rows, row = (tag & 0xFFFFFFFF) >> 2, (tag >> 32 & 0xFFFF) + (tag >> 48)
+            price += 0 if row else rows
+            out.append(self.word_line("tag", segment, begin, tag_of))
+        if fault in ("Range", "TagOverrun"):
+            out.append(self.reach(segment, begin, begin + size))
+        if fault == "TagOverrun":
+            out.append(f"rows: {rows} of {row} words each: {rows * row} of the list's {count}\n")
+        if fault == "TooDeep":
+            out.append(f"limit: --depth {depth}\n")
+        if fault == "OverBudget":
+            out.append(f"limit: asks for {price} of {budget - self.paid} left, --budget {budget}\n")
+        return out
+
+
+def segments_line(segments):
+    """The line about the segments of a message, which has the sizes of the first eight where there are several."""
+    sizes = [len(segment) // 8 for segment in segments]
+    first = ", ".join(map(str, sizes[:8])) + (", .." if len(sizes) > 8 else "")
+    return f"segments: {len(sizes)} of {sum(sizes)} words{': ' + first if len(sizes) > 1 else ''}\n"
+
+
+class Owner(Explanation):
+    """A walk of canonical bytes that finds whose a word is, by the way to its slot."""
+
+    def __init__(self, segment, word, walk):
+        self.sought, self.owner = word, None
+        budget, depth, tariff = walk.limits
+        super().__init__([segment], (1 << 64, depth, tariff), 0, 0)
+
+    def is_found(self, what):
+        self.owner = self.owner or f"{what} {dotted(self.way)}"
+
+    def slot(self, segment, at, depth, is_root=False):
+        self.way = [] if is_root else self.within[0] + [at - self.within[1]]
+        if at == self.sought:
+            self.is_found("the pointer at")
+        return super().slot(segment, at, depth, is_root)
+
+    def content(self, place, segment, begin, word, pads, depth):
+        code, count = word >> 32 & 7, word >> 35
+        if word & 1 and code == 7 and begin == self.sought:
+            self.is_found("the tag of")
+        if word & 1 and 1 <= code <= 4 and begin + -(-count * model.WIDTH_BITS[code] // 64) - 1 == self.sought:
+            self.is_found("the last word of")
+        return super().content(place, segment, begin, word, pads, depth)
+
+
+def difference(walk, segment, canonical):
+    """Which word of a segment is not that of its canonical bytes, and whose that is."""
+    at = next(i for i in range(0, len(segment), 8) if segment[i:i + 8] != canonical[i:i + 8])
+    word, other = segment[at:at + 8], canonical[at:at + 8]
+    line = f"at byte {walk.byte(0, at // 8)}: {word.hex()}"
+    if not other:
+        return f"{line}, canonical nothing, after the value"
+    owner = Owner(canonical, at // 8, walk).owner
+    if owner.startswith("the pointer"):
+        says = [f" ({decoded(int.from_bytes(it, 'little'))})" for it in (word, other)]
+    else:
+        says = ["", ""]
+    return f"{line}{says[0]}, canonical {other.hex()}{says[1]}, {owner}"
+
+
+def accepted_lines(walk, segments):
+    """The lines of a message that is accepted, after those about its place."""
+    out = [f"accepted: paid {walk.paid} visits {walk.visits} depth {walk.height}\n"]
+    canonical = model.canonical(walk.value) if walk.capability is None else None
+    if len(segments) == 1 and canonical == segments[0]:
+        return out + ["canonical: yes\n"]
+    if len(segments) > 1:
+        out.append(f"canonical: no: {len(segments)} segments\n")
+    elif canonical is None:
+        out.append(f"canonical: no: capability {walk.capability} at {dotted(walk.capability_way)}\n")
+    else:
+        out.append(f"canonical: no: {difference(walk, segments[0], canonical)}\n")
+    size = sum(map(len, segments))
+    if canonical is not None and len(canonical) != size:
+        out.append(f"lengths: {size} bytes, canonical {len(canonical)}\n")
+    return out
+
+
+def fault_lines(fault, message_words):
+    """The lines of a message that is refused before its walk."""
+    text, index, offset = fault
+    out = [f"message: {index} at {offset}\n", f"refused: {text}\n"]
+    for name, most in [("frame: TooManySegments(", model.MOST_SEGMENTS), ("frame: TooManyWords(", message_words)]:
+        if text.startswith(name):
+            out.append(f"announced: {text[len(name):-1]}, at most {most}\n")
+    return out
+
+
+def explain(data, form="stream", message_words=8388608, budget=8388608, depth=64, tariff="strict", wanted=None):
+    """What `explain` writes, with the number that it has or None, the line on standard error, and its exit status."""
+    found, fault = model.messages(data, form, message_words)
+    for index, (offset, frame, segments) in enumerate(found, 1):
+        if wanted not in (None, index):
+            continue
+        table = 0 if form == "bare" else len(segments) // 2 + 1
+        walk = Explanation(segments, (budget, depth, tariff), offset, table)
+        head = [f"message: {index} at {offset}\n", segments_line(segments)]
+        if walk.refused:
+            head.append(f"refused: {walk.refused}\n")
+            named = walk.slot_lines() if segments[0] else []
+            return written(head + named), model.line_of((walk.refused, index, offset)), 1
+        if wanted or fault is None and len(found) == 1:
+            return written(head + accepted_lines(walk, segments)), "", 0
+    if fault is not None:
+        return written(fault_lines(fault, message_words)), model.line_of(fault), 1
+    return written([f"{len(found)} messages{'' if wanted else ', none refused'}\n"]), "", 0
+
+
+def written(lines):
+    return "".join(lines).encode()
