@@ -16,3 +16,5 @@ pub mod Endings
 pub mod TestedInput
 pub mod UnderWay
 pub mod FoundRefusal
+pub mod UnderTexts
+pub mod TextsEnds

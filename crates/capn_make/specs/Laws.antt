@@ -1,12 +1,15 @@
 -- What holds of the definitions alone. (Own.)
-use Rattle.std.specs.Prelude.{◌≡◌, ℕ, List, [], ◌∷◌, ◌++◌, Result, Ok, Err}
+use Rattle.std.specs.Prelude.{◌≡◌, ◌↔◌, ◌<◌, ◌^◌, ℕ, List, [], ◌∷◌, ◌++◌, length, Result, Ok, Err}
 use Rattle.std.specs.List.{AllByRecursion}
 use Rattle.capn_words.specs.Message.{IsBare}
 use Rattle.capn_stream.specs.Frames.{Frames}
 use Rattle.capn_value.specs.Tree.{Tree}
 use Rattle.capn_value.specs.Fits.{Fits}
 use Rattle.capn_value.specs.InRange.{InRange}
+use Rattle.capn_text.specs.Showable.{IsShowable}
 use Rattle.capn_text.specs.Streams.{stream_text}
+use Rattle.capn_text.specs.PlainForm.{plain}
+use Rattle.capn_text.specs.PlainLaws.{quoted_stream}
 use Rattle.capn_canon.specs.Layout.{canon}
 use Rattle.capn_canon.specs.declared.form.Form.{Form}
 use Rattle.capn_canon.specs.declared.form.Form.TheVariants as forms
@@ -96,3 +99,9 @@ FramedAreFrames = (v : Tree) → Fits v → InRange v
 abbrev pub OneTextInFrames : Type 0
 OneTextInFrames = (vs : List Tree) (text other : List ℕ) → AreMade forms.Stream vs text
     → AreMade forms.Stream vs other → text ≡ other
+
+-- what is shown of values with texts between quotes is made as what is shown of them without
+abbrev pub QuotedAreMade : Type 0
+QuotedAreMade = (form : Form) (vs : List Tree) (text : List ℕ) (r : Result (Unit {0}) MakeFault)
+    → AllByRecursion IsShowable vs → length (quoted_stream vs) < 2 ^ 64
+    → (Makes form (plain (quoted_stream vs)) text r ↔ Makes form (stream_text vs) text r)

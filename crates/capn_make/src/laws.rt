@@ -3,10 +3,11 @@
 ghost use Rattle.capn_make.specs.Laws.{ShownAreMade, ShownAreMadeOnly, OneShownIsMade, OneShownIsMadeOnly};
 ghost use Rattle.capn_make.specs.Laws.{FramedAreFrames, OneMaking, OneBareMaking, OneTextInFrames};
 ghost use Rattle.capn_make.specs.Laws.{FaultStays, RefusalStays, OneEnding, MakingEnds};
+ghost use Rattle.capn_make.specs.Laws.{QuotedAreMade};
 ghost use Rattle.capn_make.specs.Laws.{OneDeciding, DecidedStay, UnendedIsStuck, RefusedIsStuck};
 
 use capn_canon::laws::canonicity;
-use capn_text::laws::{refusals, texts, whole_lines};
+use capn_text::laws::{plain_forms, refusals, texts, whole_lines};
 
 /// The texts that [`capn_value::show`] writes, each with its line `end`, are made again: of values that fit and have no
 /// capability nothing but their canonical bytes, in order.
@@ -66,4 +67,11 @@ pub fn framing()
     ensures { FramedAreFrames }
 {
     canonicity();
+}
+
+/// What is shown of values with texts between quotes is made as what is shown of them without.
+pub fn quoting()
+    ensures { QuotedAreMade }
+{
+    plain_forms();
 }

@@ -24,3 +24,10 @@ pub mod FirstWrong
 pub mod WrongOrDeep
 pub mod LostTexts
 pub mod WhateverFollows
+pub mod Quotes
+pub mod QuotedLines
+pub mod PlainTexts
+pub mod PlainLines
+pub mod ShownPlain
+pub mod OwnLines
+pub mod Unquotings
