@@ -4,7 +4,8 @@
 //! it writes what `capn_value::show` writes of the value that `capn_walk::walk` answers: it goes from slot to slot as
 //! the walk did, and adds each line to a text that the caller keeps. So small texts of many messages make one write. A
 //! text of 65,536 bytes or more is written and emptied, so that it takes the same memory for every message.
-//! [`show_part`] does so for what is at a way of numbers from the root, in one of four styles.
+//! [`show_part`] does so for what is at a way of numbers from the root, in one of four styles, and [`show_marked`] in
+//! lines before which stand the byte of what each is about, the way to it, or both.
 //!
 //! ```text
 //! let mut text = Vec::new(alloc);
@@ -19,6 +20,7 @@
 mod bits;
 mod byte_digits;
 mod bytes;
+mod descent;
 mod digits;
 mod escapes;
 mod fault;
@@ -28,15 +30,22 @@ mod json_lists;
 mod json_texts;
 pub mod laws;
 mod lines;
+mod marked;
+mod marked_lists;
+mod marked_part;
+mod marks;
 mod message;
 mod numbers;
 mod output;
 mod part;
 mod slots;
+mod starts;
 mod style;
 mod styled;
 
 pub use fault::ShowFault;
+pub use marked_part::show_marked;
+pub use marks::Marks;
 pub use message::show_message;
 pub use part::show_part;
 pub use style::Style;
