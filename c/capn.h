@@ -21,8 +21,8 @@
  * capn_survey, capn_index and capn_is_canonical ask for none, nor does a call whose name ends in `_segments` but
  * capn_hash_segments. Memory is asked for by a packed text, by a stream of more segments, for the bytes that are
  * hashed, packed or unpacked, and for the text of capn_show; and by capn_first, capn_hash and capn_show, for the table
- * of a stream of two segments or more. A call takes at most 16 KiB of stack, and 304 bytes more for each level of depth
- * that the limits allow, capn_show 432, capn_index 560: 92 KiB at depth 256, capn_show 124 KiB, capn_index 156 KiB.
+ * of a stream of two segments or more. A call takes at most 16 KiB of stack, and 368 bytes more for each level of depth
+ * that the limits allow, capn_show 432: 108 KiB at depth 256, capn_show 124 KiB.
  *
  * Each call answers a status and fills its report in; a field that the status does not speak of is 0. */
 #ifndef CAPN_H

@@ -1,5 +1,4 @@
-/* How much stack each call takes at most: painted stacks of threads, over chains of objects as deep as a limit, in
- * one segment, in two and in more than are read without memory. */
+/* How much stack each call takes at most: painted stacks of threads, over chains of objects as deep as a limit. */
 #include "capn.h"
 #include <pthread.h>
 #include <stdio.h>
@@ -7,15 +6,10 @@
 #include <string.h>
 
 enum { ROOM = 1 << 20 };
-enum { MOST_SEGMENTS = 66, CALLS = 22, KINDS = 3 };
-/* The calls that have a bound of their own, and the bytes of each level of depth. */
-static const char *const names[KINDS] = {"", "capn_show ", "capn_index "};
-static const size_t levels[KINDS] = {304, 432, 560};
-static uint8_t in[8 * 4096], framed[8 * 4096 + 1024], text[ROOM];
+static uint8_t in[8 * 4096], framed[8 * 4096 + 8], text[ROOM];
 static _Alignas(8) uint8_t out[ROOM];
-static capn_segment all[MOST_SEGMENTS];
-static size_t size, framed_size, packed_size;
-static uint32_t depth, segments;
+static size_t size, packed_size;
+static uint32_t depth;
 static int call;
 
 static void put(size_t at, uint32_t low, uint32_t high) {
@@ -29,6 +23,7 @@ static void *run(void *status) {
     capn_limits limits = {1u << 28, 1u << 28, depth, CAPN_STRICT};
     capn_figures figures;
     capn_report report;
+    const capn_segment whole = {in, size / 8};
     uint8_t digest[32];
     uint32_t *told = status;
     switch (call) {
@@ -38,74 +33,51 @@ static void *run(void *status) {
     case 3: *told = capn_check(CAPN_PACKED, text, packed_size, &limits, &report); break;
     case 4: *told = capn_is_canonical(in, size, &limits, &report); break;
     case 5: *told = capn_pack(in, size, out, ROOM, &report); break;
-    case 6: *told = capn_first(framed, framed_size, &limits, &report); break;
+    case 6: *told = capn_first(framed, size + 8, &limits, &report); break;
     case 7: *told = capn_unpack_some(text, packed_size, out, ROOM, &report); break;
-    case 8: *told = capn_survey(CAPN_STREAM, framed, framed_size, &limits, &figures, &report); break;
-    case 9: *told = capn_index(CAPN_STREAM, framed, framed_size, &limits, (capn_entry *)out, ROOM / 24, &report); break;
-    case 10: *told = capn_canonical_segments(all, segments, &limits, out, ROOM, &report); break;
-    case 11: *told = capn_hash_segments(all, segments, &limits, digest, &report); break;
-    case 12: *told = capn_survey_segments(all, segments, &limits, &figures, &report); break;
-    case 13: *told = capn_check_segments(all, segments, &limits, &report); break;
+    case 8: *told = capn_survey(CAPN_STREAM, framed, size + 8, &limits, &figures, &report); break;
+    case 9: *told = capn_index(CAPN_STREAM, framed, size + 8, &limits, (capn_entry *)out, ROOM / 24, &report); break;
+    case 10: *told = capn_canonical_segments(&whole, 1, &limits, out, ROOM, &report); break;
+    case 11: *told = capn_hash_segments(&whole, 1, &limits, digest, &report); break;
+    case 12: *told = capn_survey_segments(&whole, 1, &limits, &figures, &report); break;
+    case 13: *told = capn_check_segments(&whole, 1, &limits, &report); break;
     case 14: *told = capn_show(CAPN_PACKED, text, packed_size, &limits, 0, (char *)out, ROOM, &report); break;
     case 15: *told = capn_show(CAPN_BARE, in, size, &limits, 1, (char *)out, ROOM, &report); break;
     case 16: *told = capn_show(CAPN_BARE, in, size, &limits, 2, (char *)out, ROOM, &report); break;
     case 17: *told = capn_show(CAPN_BARE, in, size, &limits, 3, (char *)out, ROOM, &report); break;
-    case 18: *told = capn_canonical(CAPN_STREAM, framed, framed_size, &limits, out, ROOM, &report); break;
-    case 19: *told = capn_hash(CAPN_STREAM, framed, framed_size, &limits, digest, &report); break;
-    case 20: *told = capn_check(CAPN_STREAM, framed, framed_size, &limits, &report); break;
     default: *told = capn_unpack(text, packed_size, 1u << 20, out, ROOM, &report); break;
     }
     return NULL;
 }
 
-/* A number of 4 bytes in the table of the frame. */
-static void put_entry(size_t at, uint32_t number) {
-    for (int i = 0; i < 4; i++) framed[4 * at + i] = (uint8_t)(number >> 8 * i);
-}
-
-/* The message as segments and in a frame: after its first segment there are segments of one word. */
-static void cut(void) {
-    const size_t table = 8 * (segments / 2 + 1);
-    memset(framed, 0, sizeof framed);
-    put_entry(0, segments - 1);
-    for (uint32_t i = 0; i < segments; i++) {
-        all[i] = (capn_segment){in, i == 0 ? size / 8 : 1};
-        put_entry(i + 1, i == 0 ? (uint32_t)(size / 8) : 1);
-    }
-    memcpy(framed + table, in, size);
-    framed_size = table + size + 8 * (segments - 1);
-}
-
 int main(void) {
     static const uint32_t depths[] = {1, 64, 65, 256};
-    size_t most[KINDS][4] = {{0}};
+    size_t most[2][4] = {{0}};
     for (int d = 0; d < 4; d++)
-        for (int kind = 0; kind < 24; kind++) {
-            static const uint32_t counts[] = {1, 2, MOST_SEGMENTS};
+        for (int kind = 0; kind < 6; kind++) {
             depth = depths[d];
-            segments = counts[kind / 8];
-            /* The first of one or two slots, or of rows of one slot, leads down, in the last shape by a far pointer; a
-             * second has an empty struct. */
-            int is_wide = kind % 8 > 3, shape = kind % 4;
+            /* The first of one or two slots, or of rows of one slot, leads down; a second has an empty struct. */
+            int is_wide = kind > 2, shape = kind % 3;
             uint32_t many = is_wide ? 2 : 1, down = 0;
             size_t at = 0;
-            put(at++, 0, shape == 0 || shape == 3 ? many << 16 : 0x10000);
+            put(at++, 0, shape == 0 ? many << 16 : 0x10000);
             for (uint32_t i = 1; i < depth; i++) {
                 if (shape == 0) put(at++, is_wide ? 4 : 0, many << 16);
-                else if (shape == 3) { put(at, (uint32_t)(at + many) << 3 | 2, 0); at++; }
                 else put(at++, down + 1, many << 3 | (shape == 1 ? 6 : 7));
-                if (is_wide && (shape == 0 || shape == 3 || i > 1)) put(at++, 0xfffffffc, 0);
+                if (is_wide && (shape == 0 || i > 1)) put(at++, 0xfffffffc, 0);
                 if (shape == 2) put(at++, many << 2, 0x10000);
-                if (shape == 3) put(at++, 0, many << 16);
                 if (is_wide) down = 4;
             }
             for (uint32_t i = 0; i < many; i++) put(at++, 0, 0);
             size = 8 * at;
-            cut();
+            memset(framed, 0, 8);
+            framed[4] = (uint8_t)at;
+            framed[5] = (uint8_t)(at >> 8);
+            memcpy(framed + 8, in, size);
             capn_report report;
-            if (capn_pack(framed, framed_size, text, ROOM, &report) != CAPN_OK) return 1;
+            if (capn_pack(framed, size + 8, text, ROOM, &report) != CAPN_OK) return 1;
             packed_size = report.length;
-            for (call = 0; call < CALLS; call++) {
+            for (call = 0; call < 19; call++) {
                 char *stack = aligned_alloc(4096, ROOM);
                 if (!stack) return 2;
                 memset(stack, 0x5a, ROOM);
@@ -119,21 +91,21 @@ int main(void) {
                 size_t used = ROOM;
                 for (size_t i = 0; i < ROOM && stack[i] == 0x5a; i++) used--;
                 if (status != CAPN_OK && status != CAPN_NOT_CANONICAL) {
-                    printf("stack: call %d at depth %u, kind %d: status %u\n", call, depth, kind, status);
+                    printf("stack: call %d at depth %u: status %u\n", call, depth, status);
                     return 4;
                 }
-                const int of = call >= 14 && call <= 17 ? 1 : call == 9 ? 2 : 0;
-                if (used > most[of][d]) most[of][d] = used;
+                const int shows = call >= 14 && call <= 17;
+                if (used > most[shows][d]) most[shows][d] = used;
                 free(stack);
             }
         }
     int failed = 0;
-    for (int of = 0; of < KINDS; of++)
+    for (int shows = 0; shows < 2; shows++)
         for (int d = 0; d < 4; d++) {
-            const size_t stated = 16384 + levels[of] * depths[d];
-            printf("stack: %sat most %zu bytes at depth %u, of %zu that are stated\n", names[of], most[of][d],
-                   depths[d], stated);
-            failed |= most[of][d] > stated;
+            const size_t stated = 16384 + (shows ? 432 : 368) * (size_t)depths[d];
+            printf("stack: %sat most %zu bytes at depth %u, of %zu that are stated\n", shows ? "capn_show " : "",
+                   most[shows][d], depths[d], stated);
+            failed |= most[shows][d] > stated;
         }
     return failed;
 }

@@ -40,7 +40,6 @@ class Explanation(model.Walk):
     def __init__(self, segments, limits, begin, table):
         self.begin, self.table, self.limits = begin, table, limits
         self.way, self.holder, self.refused, self.asked = [], None, None, None
-        self.capability_way = None
         # What the next slots are in: the way to it, its first slot, and what it is; of structs and rows what they are
         # in.
         self.within = self.shape = None
@@ -59,10 +58,7 @@ class Explanation(model.Walk):
             way, first, self.holder = within
             self.way = way + [at - first]
         self.visited = (segment, at)
-        way, before = self.way, self.capability
         value = super().slot(segment, at, depth, is_root)
-        if value[0] == "capability" and before is None:
-            self.capability_way = way
         self.within = within
         return value
 
@@ -149,62 +145,14 @@ def segments_line(segments):
     return f"segments: {len(sizes)} of {sum(sizes)} words{': ' + first if len(sizes) > 1 else ''}\n"
 
 
-class Owner(Explanation):
-    """A walk of canonical bytes that finds whose a word is, by the way to its slot."""
-
-    def __init__(self, segment, word, walk):
-        self.sought, self.owner = word, None
-        budget, depth, tariff = walk.limits
-        super().__init__([segment], (1 << 64, depth, tariff), 0, 0)
-
-    def is_found(self, what):
-        self.owner = self.owner or f"{what} {dotted(self.way)}"
-
-    def slot(self, segment, at, depth, is_root=False):
-        self.way = [] if is_root else self.within[0] + [at - self.within[1]]
-        if at == self.sought:
-            self.is_found("the pointer at")
-        return super().slot(segment, at, depth, is_root)
-
-    def content(self, place, segment, begin, word, pads, depth):
-        code, count = word >> 32 & 7, word >> 35
-        if word & 1 and code == 7 and begin == self.sought:
-            self.is_found("the tag of")
-        if word & 1 and 1 <= code <= 4 and begin + -(-count * model.WIDTH_BITS[code] // 64) - 1 == self.sought:
-            self.is_found("the last word of")
-        return super().content(place, segment, begin, word, pads, depth)
-
-
-def difference(walk, segment, canonical):
-    """Which word of a segment is not that of its canonical bytes, and whose that is."""
-    at = next(i for i in range(0, len(segment), 8) if segment[i:i + 8] != canonical[i:i + 8])
-    word, other = segment[at:at + 8], canonical[at:at + 8]
-    line = f"at byte {walk.byte(0, at // 8)}: {word.hex()}"
-    if not other:
-        return f"{line}, canonical nothing, after the value"
-    owner = Owner(canonical, at // 8, walk).owner
-    if owner.startswith("the pointer"):
-        says = [f" ({decoded(int.from_bytes(it, 'little'))})" for it in (word, other)]
-    else:
-        says = ["", ""]
-    return f"{line}{says[0]}, canonical {other.hex()}{says[1]}, {owner}"
-
-
 def accepted_lines(walk, segments):
-    """The lines of a message that is accepted, after those about its place."""
+    """The lines of a message that is accepted, after those about its place. Why one segment isn't canonical isn't
+    told."""
     out = [f"accepted: paid {walk.paid} visits {walk.visits} depth {walk.height}\n"]
-    canonical = model.canonical(walk.value) if walk.capability is None else None
-    if len(segments) == 1 and canonical == segments[0]:
-        return out + ["canonical: yes\n"]
     if len(segments) > 1:
         out.append(f"canonical: no: {len(segments)} segments\n")
-    elif canonical is None:
-        out.append(f"canonical: no: capability {walk.capability} at {dotted(walk.capability_way)}\n")
-    else:
-        out.append(f"canonical: no: {difference(walk, segments[0], canonical)}\n")
-    size = sum(map(len, segments))
-    if canonical is not None and len(canonical) != size:
-        out.append(f"lengths: {size} bytes, canonical {len(canonical)}\n")
+    elif walk.capability is None and model.canonical(walk.value) == segments[0]:
+        out.append("canonical: yes\n")
     return out
 
 

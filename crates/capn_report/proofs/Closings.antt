@@ -1,6 +1,6 @@
 -- What is written after the loop over the messages.
-use Rattle.std.proofs.Common.{◌≡◌, ◌≢◌, ◌↔◌, ◌⊎◌, inl, inr, ℕ, List, [], Bool, true, false, Option, None}
-use Rattle.std.proofs.Common.{Some, OnOk, IsErrOf, IsErrAnd, IsOkUnless, length, arith}
+use Rattle.std.proofs.Common.{◌≡◌, ◌≢◌, ◌↔◌, ◌⊎◌, inl, inr, ℕ, List, [], ◌∷◌, ◌++◌, Bool, true, false, Option, None}
+use Rattle.std.proofs.Common.{Some, OnOk, IsErrOf, IsErrAnd, IsOkUnless, length, codes, arith}
 use Rattle.std.proofs.Common.{Result, Ok, Err, refl, ap, sym, subst, ◌∙◌}
 use Rattle.std.specs.Io.KnownBytes.{Appends}
 use Rattle.capn_words.specs.Watched.{HasBegun}
@@ -9,10 +9,14 @@ use Rattle.capn_canon.specs.declared.refusal.Refusal.{Refusal}
 use Rattle.capn_serve.specs.declared.fault.RunFault.{RunFault}
 use Rattle.capn_serve.specs.declared.fault.RunFault.TheVariants as faults
 use Rattle.capn_serve.specs.declared.position.Position.{Position}
-use Rattle.capn_report.specs.ExplainRun.{ending_by, rest_ending}
+use Rattle.capn_explain.specs.MessageTexts.{count_text}
+use Rattle.capn_explain.specs.declared.count_text.CountText.{CountText}
+use Rattle.capn_explain.specs.declared.count_text.CountText.TheVariants as counts
+use Rattle.capn_report.specs.ExplainRun.{closing_by, count_line, rest_text}
 use Rattle.capn_report.specs.FaultLines.{fault_lines}
-use Rattle.capn_report.specs.Reports.{First}
+use Rattle.capn_report.specs.Finish.{outcome_by}
 use Rattle.capn_report.specs.inner.Closing.{IsFineIfTold, PutsClosing}
+use Rattle.capn_report.specs.declared.account.Account.{Account}
 use Rattle.capn_report.specs.declared.outcome.Outcome.{Outcome}
 use Rattle.capn_report.specs.declared.outcome.Outcome.TheVariants as outcomes
 
@@ -49,24 +53,41 @@ pub closing_refused : (text : List ℕ) (old new : Option (List ℕ)) (before af
 closing_refused text old new before after (Ok u) fault told is same fine some = absurd told
 closing_refused text old new before after (Err e) fault told is same fine some = (some, inl (told ∙ is, same, fine))
 
--- the lines of a fault are not empty
+-- a text that goes on is not empty
+some_after : (xs ys : List ℕ) → ys ≢ [] → xs ++ ys ≢ []
+some_after [] ys some = some
+some_after (x ∷ xs) ys some = λ h. cc
+
+count_some : (count : CountText) → count_line count ≢ []
+count_some count = some_after (count_text count) (codes "\n") (λ h. absurd (omega (arith, ap length h)))
+
+rest_some : (number : Option ℕ) (first : Option Account) (count : ℕ) → rest_text number first count ≢ []
+rest_some (Some number) first count = count_some (counts.Fewer count)
+rest_some None (Some account) count = λ h. absurd (omega (arith, ap length h))
+rest_some None None count = count_some (counts.NoneRefused count)
+
+-- what is written where nothing was explained is not empty, nor are the lines of a fault
+pub closing_some : (outcome : Outcome) (number : Option ℕ) (first : Option Account) (count : ℕ)
+    → outcome ≡ outcomes.Nothing → closing_by outcome number first count ≢ []
+closing_some outcomes.Nothing number first count is = rest_some number first count
+closing_some (outcomes.Refused at s) number first count is = absurd (cc)
+closing_some outcomes.Accepted number first count is = absurd (cc)
+
 pub fault_some : (limits : Bounds) (at : Position) (r : Refusal) → fault_lines limits at r ≢ []
 fault_some limits at r = λ h. absurd (omega (arith, ap length h))
 
 -- ---- how a run ends
 
--- what has been explained does not end it for the reader and the writer
-rest_not_io : (number : Option ℕ) (first : Option First) → rest_ending number first ≡ Err faults.Io → ⊥
-rest_not_io (Some number) first is = absurd (cc)
-rest_not_io None (Some (Ok text)) is = absurd (cc)
-rest_not_io None (Some (Err memory)) is = absurd (cc)
-rest_not_io None None is = absurd (cc)
+-- what has been explained ends it neither for memory nor for the reader and the writer
+pub outcome_not_io : (outcome : Outcome) → outcome_by outcome ≡ Err faults.Io → ⊥
+outcome_not_io outcomes.Nothing is = absurd (cc)
+outcome_not_io (outcomes.Refused at s) is = absurd (cc)
+outcome_not_io outcomes.Accepted is = absurd (cc)
 
-pub ending_not_io : (outcome : Outcome) (number : Option ℕ) (first : Option First)
-    → ending_by outcome number first ≡ Err faults.Io → ⊥
-ending_not_io outcomes.Nothing number first is = rest_not_io number first is
-ending_not_io (outcomes.Refused at s) number first is = absurd (cc)
-ending_not_io outcomes.Accepted number first is = absurd (cc)
+pub outcome_not_memory : (outcome : Outcome) → outcome_by outcome ≡ Err faults.Memory → ⊥
+outcome_not_memory outcomes.Nothing is = absurd (cc)
+outcome_not_memory (outcomes.Refused at s) is = absurd (cc)
+outcome_not_memory outcomes.Accepted is = absurd (cc)
 
 pub io_is_not_memory : ended (Err faults.Io) ≡ Err faults.Memory → ⊥
 io_is_not_memory is = absurd (cc)

@@ -16,11 +16,11 @@ use Rattle.capn_serve.specs.StreamRun.{HasWrittenAll, IsAhead}
 use Rattle.capn_serve.specs.PackedRun.{HasWrittenAllPacked}
 use Rattle.capn_serve.specs.FormRun.{AreMessages, BeginsMessages, HasWritten, IsReadSoFar, MessagesEnd, ServesMessages}
 use Rattle.capn_serve.specs.FormRun.{most_stream}
-use Rattle.capn_report.specs.Finish.{EndsAs, EndsForMemory, Finish, Finished, HasBegunClosing, HasClosing, fault_text}
-use Rattle.capn_report.specs.Finish.{last_ending, last_text}
+use Rattle.capn_report.specs.Finish.{EndsAs, Finish, Finished, HasBegunClosing, HasClosing, fault_text, last_ending}
+use Rattle.capn_report.specs.Finish.{last_text, outcome_by}
 use Rattle.capn_report.specs.inner.Closing.{PutsClosing, PutsFault}
-use Rattle.capn_report.proofs.Closings.{Ending, done_fine, io_is_not_memory, memory_is_not_io, refused_fine}
-use Rattle.capn_report.proofs.Closings.{stopped}
+use Rattle.capn_report.proofs.Closings.{Ending, done_fine, io_is_not_memory, memory_is_not_io, outcome_not_io}
+use Rattle.capn_report.proofs.Closings.{outcome_not_memory, refused_fine, stopped}
 
 -- the text of which a beginning was written
 begun_text : {X : Type 0} (f : Fold X) (x : X) (form : Form) (bytes : List ℕ) (c d : Option (List ℕ))
@@ -71,32 +71,27 @@ module _ {X : Type 0} (f : Fold X) (x : X) (finish : Finish X) (form : Form) whe
     pub reader_fine : reader ≡ true → ⊥
     pub writer_fine : before ≡ false
     pub not_io : ending ≡ Err faults.Io → ⊥
-    pub for_memory : ending ≡ Err faults.Memory → EndsForMemory f x finish form a
+    pub not_memory : ending ≡ Err faults.Memory → ⊥
 
   -- ---- all messages were served
 
   over_done_exact : (a c m : Option (List ℕ)) (y : X) → IfSome a (MessagesEnd f x form c m (Ok tt) y)
-      → IfSome a (Serves c m (Ok tt) (finish.closing y) (finish.ending y))
+      → IfSome a (Serves c m (Ok tt) (finish.closing y) (outcome_by (finish.outcome y)))
   over_done_exact None c m y is = tt
   over_done_exact (Some input) c m y (text, are, wrote) = (text, y, are, wrote, refl, refl)
 
-  over_done_memory : (a c m : Option (List ℕ)) (y : X) → IfSome a (MessagesEnd f x form c m (Ok tt) y)
-      → finish.ending y ≡ Err faults.Memory → EndsForMemory f x finish form a
-  over_done_memory None c m y is ends = (y, tt, ends)
-  over_done_memory (Some input) c m y (text, are, wrote) ends = (y, (text, are), ends)
-
-  over_done : (a b c m : Option (List ℕ)) (reader before : Bool) (y : X) → (finish.ending y ≡ Err faults.Io → ⊥)
+  over_done : (a b c m : Option (List ℕ)) (reader before : Bool) (y : X)
       → ServesMessages f x form a b c m reader before (Ok tt) y
-      → IsOver a b c m reader before (Ok tt) (finish.closing y) (finish.ending y)
-  over_done a b c m reader before y not_io run = record {
+      → IsOver a b c m reader before (Ok tt) (finish.closing y) (outcome_by (finish.outcome y))
+  over_done a b c m reader before y run = record {
     state = y;
     same = refl;
     exact = over_done_exact a c m y run.exact;
     begun = run.begun;
     reader_fine = (done_fine reader before run.io).0;
     writer_fine = (done_fine reader before run.io).1;
-    not_io = not_io;
-    for_memory = over_done_memory a c m y run.exact;
+    not_io = outcome_not_io (finish.outcome y);
+    not_memory = outcome_not_memory (finish.outcome y);
   }
 
   -- ---- a refusal ended them
@@ -120,7 +115,7 @@ module _ {X : Type 0} (f : Fold X) (x : X) (finish : Finish X) (form : Form) whe
     reader_fine = (refused_fine at r reader before run.io).0;
     writer_fine = (refused_fine at r reader before run.io).1;
     not_io = λ h. absurd (cc);
-    for_memory = λ h. absurd (cc);
+    not_memory = λ h. absurd (cc);
   }
 
   -- ---- a fault ended them after which nothing is written
@@ -221,7 +216,7 @@ module _ {X : Type 0} (f : Fold X) (x : X) (finish : Finish X) (form : Form) whe
         written = inr (begins_by a d over.exact (length last, subst (Appends m d) (sym (take-length last)) wrote));
       };
       heard = λ h. absurd (over.reader_fine h);
-      memory = λ h. inr (inr (over.for_memory h));
+      memory = λ h. absurd (over.not_memory h);
     }
 
     -- memory was refused for it
@@ -238,7 +233,7 @@ module _ {X : Type 0} (f : Fold X) (x : X) (finish : Finish X) (form : Form) whe
         written = inl (subst (HasWritten f x form over.begun.bytes c) (sym same) over.begun.written);
       };
       heard = λ h. absurd (over.reader_fine h);
-      memory = λ h. inr (inl (closes_by a over.exact some));
+      memory = λ h. inr (closes_by a over.exact some);
     }
 
     -- the writer failed within it
@@ -271,22 +266,21 @@ module _ {X : Type 0} (f : Fold X) (x : X) (finish : Finish X) (form : Form) whe
 module _ {X : Type 0} (f : Fold X) (x : X) (finish : Finish X) (form : Form) (a b c m : Option (List ℕ))
     (reader before : Bool) (y : X) where
   -- all messages were served, and what is written after them was written, or was not
-  pub finished_closed : (d : Option (List ℕ)) (after : Bool) → (finish.ending y ≡ Err faults.Io → ⊥)
+  pub finished_closed : (d : Option (List ℕ)) (after : Bool)
       → ServesMessages f x form a b c m reader before (Ok tt) y
       → PutsClosing (finish.closing y) m d before after (Ok tt)
-      → Finished f x finish form a b c d reader after (finish.ending y)
-  finished_closed d after not_io run (wrote, fine) =
+      → Finished f x finish form a b c d reader after (outcome_by (finish.outcome y))
+  finished_closed d after run (wrote, fine) =
       finished_written f x finish form a b c m reader before (Ok tt) (finish.closing y)
-      (finish.ending y) (over_done f x finish form a b c m reader before y not_io run) d after wrote fine
+      (outcome_by (finish.outcome y)) (over_done f x finish form a b c m reader before y run) d after wrote fine
 
   pub finished_unclosed : (d : Option (List ℕ)) (after : Bool) (fault : RunFault)
-      → (finish.ending y ≡ Err faults.Io → ⊥)
       → ServesMessages f x form a b c m reader before (Ok tt) y
       → PutsClosing (finish.closing y) m d before after (Err fault)
       → Finished f x finish form a b c d reader after (Err fault)
-  finished_unclosed d after fault not_io run put =
+  finished_unclosed d after fault run put =
       finished_unwritten f x finish form a b c m reader before (Ok tt) (finish.closing y)
-      (finish.ending y) (over_done f x finish form a b c m reader before y not_io run) d after fault put
+      (outcome_by (finish.outcome y)) (over_done f x finish form a b c m reader before y run) d after fault put
 
   still : (d : Option (List ℕ)) (after : Bool) (e : RunFault) → fault_text finish.told e ≡ [] → d ≡ m
       → after ≡ before → ServesMessages f x form a b c m reader before (Err e) y

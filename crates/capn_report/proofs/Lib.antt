@@ -1,4 +1,3 @@
-pub mod Accounts
 pub mod Closings
 pub mod Finishes
 pub mod Reporters

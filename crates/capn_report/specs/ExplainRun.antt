@@ -1,11 +1,9 @@
 -- What a run that explains one message did: what is written at its end, and the rest by the definition for all such
 -- runs. (Own.)
-use Rattle.std.specs.Prelude.{◌≡◌, ℕ, List, [], ◌++◌, Bool, Option, Some, None, Result, Ok, Err, codes, refl}
+use Rattle.std.specs.Prelude.{◌≡◌, ℕ, List, [], ◌++◌, Bool, Option, Some, None, Result, codes, refl}
 use Rattle.std.specs.Fmt.{digits}
 use Rattle.capn_canon.specs.declared.refusal.Refusal.{Refusal}
-use Rattle.capn_canon.specs.declared.refusal.Refusal.TheVariants as refusals
 use Rattle.capn_serve.specs.declared.fault.RunFault.{RunFault}
-use Rattle.capn_serve.specs.declared.fault.RunFault.TheVariants as faults
 use Rattle.capn_serve.specs.declared.position.Position.{Position}
 use Rattle.capn_serve.specs.declared.service.Run.{Run}
 use Rattle.capn_serve.specs.Fold.{Fold, fold_until}
@@ -13,21 +11,24 @@ use Rattle.capn_serve.specs.StreamRun.{start}
 use Rattle.capn_explain.specs.MessageTexts.{count_text}
 use Rattle.capn_explain.specs.declared.count_text.CountText.{CountText}
 use Rattle.capn_explain.specs.declared.count_text.CountText.TheVariants as counts
+use Rattle.capn_report.specs.Accounts.{account_text}
 use Rattle.capn_report.specs.FaultLines.{fault_lines}
 use Rattle.capn_report.specs.Finish.{Finish, Finished}
-use Rattle.capn_report.specs.Reports.{First, Reporting, done, first_reporting, refuses, serves}
+use Rattle.capn_report.specs.Reports.{done, refuses, serves}
+use Rattle.capn_report.specs.declared.account.Account.{Account}
 use Rattle.capn_report.specs.declared.explain.Explain.{Explain}
 use Rattle.capn_report.specs.declared.outcome.Outcome.{Outcome}
 use Rattle.capn_report.specs.declared.outcome.Outcome.TheVariants as outcomes
+use Rattle.capn_report.specs.declared.reporter.Reporter.{Reporter}
 
 -- the fold over the messages of an input, up to the one that is explained
-abbrev pub explain_fold : Explain → Fold (Run Reporting)
+abbrev pub explain_fold : Explain → Fold (Run Reporter)
 explain_fold order = fold_until serves refuses done order.limits.message_words
 
 -- nothing has been served
-abbrev pub first_run : Explain → Run Reporting
+abbrev pub first_run : Explain → Run Reporter
 first_run order = record {
-  service = first_reporting order;
+  service = record { order = order; outcome = outcomes.Nothing; first = None };
   at = start;
 }
 
@@ -36,50 +37,31 @@ abbrev pub count_line : CountText → List ℕ
 count_line count = count_text count ++ codes "\n"
 
 -- what is written where this number of messages explained nothing: with a number, the count of messages; else the lines
--- of the only message, nothing where memory was refused for them, or the count of messages of which none is refused
-abbrev pub rest_text : Option ℕ → Option First → ℕ → List ℕ
+-- of the only message, or the count of messages of which none is refused
+abbrev pub rest_text : Option ℕ → Option Account → ℕ → List ℕ
 rest_text (Some number) first count = count_line (counts.Fewer count)
-rest_text None (Some (Ok text)) count = text
-rest_text None (Some (Err memory)) count = []
+rest_text None (Some account) count = account_text account
 rest_text None None count = count_line (counts.NoneRefused count)
 
 -- what is written after all messages: nothing more, where one was explained
-abbrev pub closing_by : Outcome → Option ℕ → Option First → ℕ → List ℕ
+abbrev pub closing_by : Outcome → Option ℕ → Option Account → ℕ → List ℕ
 closing_by outcomes.Nothing number first count = rest_text number first count
 closing_by (outcomes.Refused at stopped) number first count = []
 closing_by outcomes.Accepted number first count = []
 
 -- the same by the state after them
-abbrev pub closing : Run Reporting → List ℕ
+abbrev pub closing : Run Reporter → List ℕ
 closing run = closing_by run.service.outcome run.service.order.number run.service.first run.at.index
-
--- how a run ends whose messages explained nothing: for memory, where that was refused for the lines of the only
--- message; else as done
-abbrev pub rest_ending : Option ℕ → Option First → Result (Unit {0}) RunFault
-rest_ending (Some number) first = Ok tt
-rest_ending None (Some (Ok text)) = Ok tt
-rest_ending None (Some (Err memory)) = Err faults.Memory
-rest_ending None None = Ok tt
-
--- how a run ends whose messages ended as done: as refused if a message was explained that is
-abbrev pub ending_by : Outcome → Option ℕ → Option First → Result (Unit {0}) RunFault
-ending_by outcomes.Nothing number first = rest_ending number first
-ending_by (outcomes.Refused at stopped) number first = Err (faults.Refused at (refusals.Walk stopped))
-ending_by outcomes.Accepted number first = Ok tt
-
--- the same by the state after them
-abbrev pub ending : Run Reporting → Result (Unit {0}) RunFault
-ending run = ending_by run.service.outcome run.service.order.number run.service.first
 
 -- what is written of a message that is refused before its walk
 abbrev pub told_at : Explain → Position → Refusal → List ℕ
 told_at order at refusal = fault_lines order.limits at refusal
 
 -- what a run does after its messages
-abbrev pub explain_finish : Explain → Finish (Run Reporting)
+abbrev pub explain_finish : Explain → Finish (Run Reporter)
 explain_finish order = record {
   closing = λ y. closing y;
-  ending = λ y. ending y;
+  outcome = λ y. y.service.outcome;
   told = λ at r. told_at order at r;
 }
 
@@ -95,9 +77,6 @@ Explained order a b c d reader_failed writer_failed r =
 none_refused : rest_text None None 3 ≡ codes "3 messages, none refused\n"
 unfolding digits
 none_refused = refl
-
-no_memory : rest_ending None (Some (Err (record {}))) ≡ Err faults.Memory
-no_memory = refl
 
 fewer : rest_text (Some 5) None 3 ≡ codes "3 messages\n"
 unfolding digits

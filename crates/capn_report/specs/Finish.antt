@@ -5,12 +5,21 @@ use Rattle.std.specs.Io.KnownBytes.{Consumes, Appends}
 use Rattle.capn_words.specs.Watched.{HasBegun}
 use Rattle.capn_canon.specs.declared.form.Form.{Form}
 use Rattle.capn_canon.specs.declared.refusal.Refusal.{Refusal}
+use Rattle.capn_canon.specs.declared.refusal.Refusal.TheVariants as refusals
 use Rattle.capn_serve.specs.declared.position.Position.{Position}
 use Rattle.capn_serve.specs.declared.fault.RunFault.{RunFault}
 use Rattle.capn_serve.specs.declared.fault.RunFault.TheVariants as faults
 use Rattle.capn_serve.specs.Fold.{Fold}
 use Rattle.capn_serve.specs.FormRun.{AreMessages, HasWritten, IsNeededSoFar, IsReadSoFar, KeepsUp}
 use Rattle.capn_serve.specs.FormRun.{MayNeedMemory}
+use Rattle.capn_report.specs.declared.outcome.Outcome.{Outcome}
+use Rattle.capn_report.specs.declared.outcome.Outcome.TheVariants as outcomes
+
+-- how a run ends whose messages ended as done: as refused if a message was explained that is, else as done
+abbrev pub outcome_by : Outcome → Result (Unit {0}) RunFault
+outcome_by outcomes.Nothing = Ok tt
+outcome_by (outcomes.Refused at stopped) = Err (faults.Refused at (refusals.Walk stopped))
+outcome_by outcomes.Accepted = Ok tt
 
 -- what is written where a fault ended the messages: the lines of a refusal, else nothing
 abbrev pub fault_text : (Position → Refusal → List ℕ) → RunFault → List ℕ
@@ -19,11 +28,11 @@ fault_text told faults.Memory = []
 fault_text told faults.Io = []
 fault_text told faults.InputTooLong = []
 
--- what a run does after its messages: the text that it writes by its state, and how it ends then; or the lines of a
--- refusal that ended them
+-- what a run does after its messages: the text that it writes by its state, and what has been explained then; or the
+-- lines of a refusal that ended them
 pub record Finish (X : Type 0) : Type 0 where
   pub closing : X → List ℕ
-  pub ending : X → Result (Unit {0}) RunFault
+  pub outcome : X → Outcome
   pub told : Position → Refusal → List ℕ
 
 module _ {X : Type 0} (f : Fold X) (x : X) (finish : Finish X) where
@@ -34,7 +43,7 @@ module _ {X : Type 0} (f : Fold X) (x : X) (finish : Finish X) where
 
   -- how a run ends whose messages ended so
   abbrev pub last_ending : Result (Unit {0}) RunFault → X → Result (Unit {0}) RunFault
-  last_ending (Ok u) y = finish.ending y
+  last_ending (Ok u) y = outcome_by (finish.outcome y)
   last_ending (Err fault) y = Err fault
 
   -- the whole text of an input, and how a run over it ends
@@ -65,12 +74,6 @@ module _ {X : Type 0} (f : Fold X) (x : X) (finish : Finish X) where
       × IfSome input (λ bytes. (messages : List ℕ) × AreMessages f x form bytes messages served y)
       × (last_text served y ≢ [])
 
-  -- the messages of an input were served as done, and the state after them ends the run for memory
-  abbrev pub EndsForMemory : Form → Option (List ℕ) → Type 0
-  EndsForMemory form input = (y : X)
-      × IfSome input (λ bytes. (messages : List ℕ) × AreMessages f x form bytes messages (Ok tt) y)
-      × (finish.ending y ≡ Err faults.Memory)
-
   -- a reader gave some bytes, as far as is read, and a writer took a beginning of their text
   pub record Begins (form : Form) (a b c d : Option (List ℕ)) : Type 0 where
     pub bytes : List ℕ
@@ -86,4 +89,4 @@ module _ {X : Type 0} (f : Fold X) (x : X) (finish : Finish X) where
     pub io : (r ≡ Err faults.Io) ↔ ((reader_failed ≡ true) ⊎ (writer_failed ≡ true))
     pub begun : Begins form a b c d
     pub heard : reader_failed ≡ true → KeepsUp f x form a b c d
-    pub memory : r ≡ Err faults.Memory → MayNeedMemory form a b ⊎ (HasClosing form a ⊎ EndsForMemory form a)
+    pub memory : r ≡ Err faults.Memory → MayNeedMemory form a b ⊎ HasClosing form a

@@ -1,24 +1,49 @@
 //! What is told of a message that is accepted.
 
-ghost use Rattle.std.specs.Prelude.{◌≡◌, IfOk, IsErr};
+ghost use Rattle.std.specs.Prelude.{◌≡◌, length};
 ghost use Rattle.capn_walk.specs.Accepted.{IsAccepted};
-ghost use Rattle.capn_departure.specs.Departures.{Departs};
 ghost use Rattle.capn_report.specs.Accounts as spec;
 ghost use Rattle.capn_report.specs.Accounts.{IsAccount};
 
-use crate::table::table_words;
-use capn_canon::{Form, MeasuredBare, measure};
-use capn_departure::{CanonicalLines, lines_of_accepted};
-use capn_explain::{MessageHead, SegmentsText};
+use capn_canon::{MeasuredBare, measure};
+use capn_explain::{CanonicalText, MessageHead, SegmentsText};
 use capn_serve::Position;
 use capn_walk::Limits;
-use capn_words::{Memory, Space};
-use std::alloc::{Allocator, Global};
+use capn_words::Space;
+use std::alloc::Allocator;
 use std::fmt;
 
+/// Whether a message is canonical, as far as that is told, displayed in a line with its end; or in no bytes.
+#[derive(Clone, Copy, Debug, PartialEq, Eq)]
+pub enum Canonicity {
+    /// It is.
+    Yes,
+    /// It has more than one segment: how many.
+    Segments(u32),
+    /// It isn't, and why is not told.
+    Untold,
+}
+
+impl fmt::Display for Canonicity {
+    ghost use Rattle.std.specs.Prelude.{Some};
+    ghost use Rattle.capn_report.specs.Accounts.{canonicity_line};
+
+    ghost output = { λ canonicity. Some (canonicity_line canonicity) };
+
+    fn fmt<W: fmt::Write>(&self, f: &mut fmt::Formatter<W>) -> fmt::Result {
+        match self {
+            Canonicity::Yes => write!(f, "canonical: {}\n", CanonicalText::Yes),
+            Canonicity::Segments(count) => {
+                write!(f, "canonical: {}\n", CanonicalText::Segments(*count))
+            }
+            Canonicity::Untold => write!(f, ""),
+        }
+    }
+}
+
 /// What is told of a message that is accepted, displayed in lines.
-#[derive(Debug, Drop)]
-pub struct Account<A: Allocator = Global> {
+#[derive(Clone, Copy, Debug, PartialEq, Eq)]
+pub struct Account {
     /// Where it is, and how large.
     pub head: MessageHead,
     /// The words that its walk pays.
@@ -27,11 +52,11 @@ pub struct Account<A: Allocator = Global> {
     pub visits: u32,
     /// The least depth that admits it.
     pub depth: u32,
-    /// Whether it is canonical, and why not.
-    pub lines: CanonicalLines<A>,
+    /// Whether it is canonical.
+    pub canonicity: Canonicity,
 }
 
-impl<A: Allocator> fmt::Display for Account<A> {
+impl fmt::Display for Account {
     ghost use Rattle.std.specs.Prelude.{Some};
     ghost use Rattle.capn_report.specs.Accounts.{account_text};
 
@@ -45,19 +70,27 @@ impl<A: Allocator> fmt::Display for Account<A> {
         write!(
             f,
             "{head}accepted: paid {paid} visits {visits} depth {depth}\n{}",
-            &self.lines
+            self.canonicity
         )
     }
 }
 
-/// What is told of a message that was measured, and has these lines.
-fn account_by<S: Space, A: Allocator>(
-    at: Position,
-    message: &S,
-    measured: MeasuredBare,
-    lines: CanonicalLines<A>,
-) -> Account<A>
-    ensures { result ≡ spec.account_by at (S.message message.now) measured lines }
+/// Whether a message with this number of segments is canonical, as far as that is told.
+fn canonicity_of(segments: u32, is_canonical: bool) -> Canonicity
+    ensures { result ≡ spec.canonicity_of segments is_canonical }
+{
+    if is_canonical {
+        Canonicity::Yes
+    } else if 1 < segments {
+        Canonicity::Segments(segments)
+    } else {
+        Canonicity::Untold
+    }
+}
+
+/// What is told of a message that was measured.
+fn account_by<S: Space>(at: Position, message: &S, measured: MeasuredBare) -> Account
+    ensures { result ≡ spec.account_by at (S.message message.now) measured }
 {
     Account {
         head: MessageHead {
@@ -68,31 +101,22 @@ fn account_by<S: Space, A: Allocator>(
         paid: measured.survey.paid,
         visits: measured.survey.visits,
         depth: measured.depth,
-        lines,
+        canonicity: canonicity_of(message.segments(), measured.survey.is_canonical),
     }
 }
 
-/// What is told of a message that is accepted within limits.
-///
-/// `Memory` comes only for a message of one segment that is not canonical, where a growth was refused. Memory: that of
-/// [`lines_of_accepted`].
+/// What is told of a message that is accepted within limits. It takes no memory.
 pub(crate) fn account_of<S: Space, A: Allocator + Copy>(
     alloc: A,
-    form: Form,
     at: Position,
     message: &S,
     limits: Limits,
-) -> Result<Account<A>, Memory>
+) -> Account
     requires accepted { IsAccepted (S.message message.now) limits }
-    ensures found { IfOk result (λ account. IsAccount form at (S.message message.now) limits account) }
-    ensures memory { IsErr result → Departs (S.message message.now) limits }
+    ensures { IsAccount at (S.message message.now) limits result }
 {
     match measure(alloc, message, limits) {
-        Ok(measured) => {
-            let table = table_words(form, message);
-            let lines = lines_of_accepted(alloc, message, limits, at.offset, table)?;
-            Ok(account_by(at, message, measured, lines))
-        }
+        Ok(measured) => account_by(at, message, measured),
         // A message that is accepted is measured.
         Err(_) => unreachable!(),
     }

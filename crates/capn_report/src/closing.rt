@@ -1,12 +1,12 @@
 //! What is written after the loop over the messages, and how a run ends.
 
-ghost use Rattle.std.specs.Prelude.{◌≡◌, false, IfOk, IfErr, Some, string_bytes};
+ghost use Rattle.std.specs.Prelude.{◌≡◌, false, IfOk, IfErr, string_bytes};
 ghost use Rattle.capn_words.specs.Watched.{inner_of, has_failed};
 ghost use Rattle.capn_serve.specs.declared.fault.RunFault.TheVariants as faults;
 ghost use Rattle.capn_report.specs.Accounts.{account_text};
 ghost use Rattle.capn_report.specs.ExplainRun as spec;
-ghost use Rattle.capn_report.specs.Reports.{lines_first};
-ghost use Rattle.capn_report.specs.inner.Closing.{AreLines, IsFineIfTold, PutsClosing, PutsFault};
+ghost use Rattle.capn_report.specs.Finish as finish;
+ghost use Rattle.capn_report.specs.inner.Closing.{IsFineIfTold, PutsClosing, PutsFault};
 
 use crate::account::Account;
 use crate::explain::Explain;
@@ -16,38 +16,17 @@ use crate::reporter::Reporter;
 use capn_canon::Refusal;
 use capn_explain::CountText;
 use capn_serve::{Position, Run, RunFault, write_all};
-use capn_words::{Memory, Watched};
+use capn_words::Watched;
 use std::alloc::Allocator;
 use std::io::Write;
 
-/// How a run ends that explained nothing.
-fn rest_ending<A: Allocator>(
-    number: Option<u64>,
-    first: &Option<Result<Account<A>, Memory>>,
-) -> Result<(), RunFault>
-    ensures { result ≡ spec.rest_ending number (lines_first first.now) }
+/// How a run ends that has explained this.
+pub(crate) fn outcome_of(outcome: Outcome) -> Result<(), RunFault>
+    ensures { result ≡ finish.outcome_by outcome }
 {
-    match number {
-        Some(_) => Ok(()),
-        None => match first {
-            Some(kept) => match kept {
-                Ok(_) => Ok(()),
-                Err(_) => Err(RunFault::Memory),
-            },
-            None => Ok(()),
-        },
-    }
-}
-
-/// How a run ends whose messages ended as done.
-pub(crate) fn ending_of<A: Allocator>(run: &Run<Reporter<A>>) -> Result<(), RunFault>
-    ensures { result ≡ spec.ending run.now }
-{
-    let reporter = &run.service;
-    match reporter.outcome() {
+    match outcome {
         Outcome::Refused(at, stopped) => Err(RunFault::Refused(at, Refusal::Walk(stopped))),
-        Outcome::Nothing => rest_ending(reporter.order().number, reporter.first()),
-        Outcome::Accepted => Ok(()),
+        Outcome::Nothing | Outcome::Accepted => Ok(()),
     }
 }
 
@@ -63,10 +42,7 @@ fn count_line<A: Allocator>(alloc: A, count: CountText) -> Result<String<A>, Run
 }
 
 /// The lines of the only message.
-fn only_lines<B: Allocator, A: Allocator>(
-    alloc: A,
-    account: &Account<B>,
-) -> Result<String<A>, RunFault>
+fn only_lines<A: Allocator>(alloc: A, account: &Account) -> Result<String<A>, RunFault>
     ensures found { IfOk result (λ lines. string_bytes lines ≡ account_text account.now) }
     ensures only { IfErr result (λ e. e ≡ faults.Memory) }
 {
@@ -77,57 +53,41 @@ fn only_lines<B: Allocator, A: Allocator>(
 }
 
 /// What is written where this number of messages explained nothing.
-fn rest_lines<B: Allocator, A: Allocator>(
+fn rest_lines<A: Allocator>(
     alloc: A,
     number: Option<u64>,
-    first: &Option<Result<Account<B>, Memory>>,
+    first: Option<Account>,
     count: u64,
-) -> Result<Option<String<A>>, RunFault>
-    ensures { AreLines (spec.rest_text number (lines_first first.now) count) result }
+) -> Result<String<A>, RunFault>
+    ensures found { IfOk result (λ lines. string_bytes lines ≡ spec.rest_text number first count) }
+    ensures only { IfErr result (λ e. e ≡ faults.Memory) }
 {
-    let lines = match number {
-        Some(_) => count_line(alloc, CountText::Fewer(count))?,
+    match number {
+        Some(_) => count_line(alloc, CountText::Fewer(count)),
         None => match first {
-            Some(kept) => match kept {
-                Ok(account) => only_lines(alloc, account)?,
-                Err(_) => return Ok(None),
-            },
-            None => count_line(alloc, CountText::NoneRefused(count))?,
+            Some(account) => only_lines(alloc, &account),
+            None => count_line(alloc, CountText::NoneRefused(count)),
         },
-    };
-    Ok(Some(lines))
-}
-
-/// What is written after all messages.
-fn closing_lines<B: Allocator, A: Allocator>(
-    alloc: A,
-    run: &Run<Reporter<B>>,
-) -> Result<Option<String<A>>, RunFault>
-    ensures { AreLines (spec.closing run.now) result }
-{
-    let reporter = &run.service;
-    match reporter.outcome() {
-        Outcome::Refused(_, _) | Outcome::Accepted => Ok(None),
-        Outcome::Nothing => {
-            let number = reporter.order().number;
-            rest_lines(alloc, number, reporter.first(), run.at.index)
-        }
     }
 }
 
 /// Writes what is written after all messages.
-pub(crate) fn write_closing<W: Write, B: Allocator, A: Allocator + Copy>(
+pub(crate) fn write_closing<W: Write, A: Allocator + Copy>(
     alloc: A,
-    run: &Run<Reporter<B>>,
+    run: &Run<Reporter>,
     writer: &mut Watched<W>,
 ) -> Result<(), RunFault>
     requires { has_failed writer.old ≡ false }
     ensures { PutsClosing (spec.closing run.now) (W.contents (inner_of writer.old))
         (W.contents (inner_of writer.new)) (has_failed writer.old) (has_failed writer.new) result }
 {
-    match closing_lines(alloc, run)? {
-        Some(lines) => write_all(writer, lines.as_bytes()),
-        None => Ok(()),
+    let reporter = &run.service;
+    match reporter.outcome {
+        Outcome::Refused(_, _) | Outcome::Accepted => Ok(()),
+        Outcome::Nothing => {
+            let lines = rest_lines(alloc, reporter.order.number, reporter.first, run.at.index)?;
+            write_all(writer, lines.as_bytes())
+        }
     }
 }
 

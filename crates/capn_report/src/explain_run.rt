@@ -6,8 +6,9 @@ ghost use Rattle.capn_report.specs.ExplainRun as spec;
 ghost use Rattle.capn_report.specs.ExplainRun.{Explained};
 ghost use Rattle.capn_serve.specs.FormRun.{ServesMessages};
 
-use crate::closing::{ending_of, write_closing, write_fault};
+use crate::closing::{outcome_of, write_closing, write_fault};
 use crate::explain::Explain;
+use crate::outcome::Outcome;
 use crate::reporter::Reporter;
 use capn_serve::{Run, RunFault, serve_form};
 use capn_words::Watched;
@@ -15,17 +16,21 @@ use std::alloc::Allocator;
 use std::io::{Read, Write};
 
 /// The run of an order, before its first message.
-fn first_run<A: Allocator>(alloc: A, order: Explain) -> Run<Reporter<A>>
+fn first_run(order: Explain) -> Run<Reporter>
     ensures { result ≡ spec.first_run order }
 {
-    Run::new(Reporter::new(alloc, order))
+    Run::new(Reporter {
+        order,
+        outcome: Outcome::Nothing,
+        first: None,
+    })
 }
 
 /// Serves the messages of an input in its form.
 fn serve_messages<R: Read, W: Write, A: Allocator + Copy>(
     alloc: A,
     order: &Explain,
-    run: &mut Run<Reporter<A>>,
+    run: &mut Run<Reporter>,
     reader: &mut Watched<R>,
     writer: &mut Watched<W>,
 ) -> Result<(), RunFault>
@@ -51,9 +56,8 @@ fn serve_messages<R: Read, W: Write, A: Allocator + Copy>(
 ///
 /// It reads as [`serve_form`] does. The run ends as done, or as refused if what is explained is refused: its lines have
 /// been written then. It ends with `InputTooLong`; with `Io` if and only if the reader or the writer failed; and with
-/// `Memory` if a growth was refused; where that was for what is told of the first message, only if no other has come.
-/// Then no explanation has been written, unless the writer failed within it. It holds what its loop holds, the
-/// canonical bytes of the message that is explained, the ways of what is told of it, and the lines.
+/// `Memory` if a growth was refused. Then no explanation has been written, unless the writer failed within it. It holds
+/// what its loop holds, and the lines.
 pub fn run_explain<R: Read, W: Write, A: Allocator + Copy>(
     alloc: A,
     order: Explain,
@@ -66,10 +70,10 @@ pub fn run_explain<R: Read, W: Write, A: Allocator + Copy>(
         (W.contents (inner_of writer.old)) (W.contents (inner_of writer.new)) (has_failed reader.new)
         (has_failed writer.new) result }
 {
-    let mut run = first_run(alloc, order);
+    let mut run = first_run(order);
     match serve_messages(alloc, &order, &mut run, reader, writer) {
         Ok(()) => match write_closing(alloc, &run, writer) {
-            Ok(()) => ending_of(&run),
+            Ok(()) => outcome_of(run.service.outcome),
             Err(fault) => Err(fault),
         },
         Err(stopped) => match write_fault(alloc, &order, stopped, writer) {

@@ -12,9 +12,8 @@ mod explain_run;
 mod fault_lines;
 mod outcome;
 mod reporter;
-mod table;
 
-pub use account::Account;
+pub use account::{Account, Canonicity};
 pub use explain::Explain;
 pub use explain_run::run_explain;
 pub use outcome::Outcome;

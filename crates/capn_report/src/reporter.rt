@@ -5,39 +5,33 @@ ghost use Rattle.capn_walk.specs.Accepted.{IsAccepted};
 ghost use Rattle.capn_serve.specs.declared.fault.ServeFault.TheVariants as faults;
 ghost use Rattle.capn_report.specs.Accounts.{account_text};
 ghost use Rattle.capn_report.specs.Reports as spec;
-ghost use Rattle.capn_report.specs.Reports.{IsFirst, IsTold, Puts, PutsAccount, PutsText, ServesBy, TellsAccepted};
+ghost use Rattle.capn_report.specs.Reports.{IsFirst, IsTold, Puts, PutsText, ServesBy, TellsAccepted};
 
 use crate::account::{Account, account_of};
 use crate::explain::Explain;
 use crate::outcome::Outcome;
-use crate::table::table_words;
+use capn_canon::Form;
 use capn_explain::{Told, explain_refusal};
 use capn_serve::{Position, ServeFault, Service, flush_long, number_of};
-use capn_words::{Memory, Space, Watched};
-use std::alloc::{Allocator, Global};
+use capn_walk::Limits;
+use capn_words::{Space, Watched};
+use std::alloc::Allocator;
 use std::io::Write;
-use std::marker::Model;
 
 /// The service that finds the message that is explained, and what it has found.
 ///
 /// Without a number it walks each message. The first one that is refused writes the lines that explain it, and no more
 /// is served. With a number it passes over the messages before that one, which are not walked; that one writes the
 /// lines that explain it, refused or accepted, and no more is served. No message ends its run. It keeps what is told of
-/// the first message, or that memory was refused for it, until another one has begun.
-#[derive(Drop)]
-pub struct Reporter<A: Allocator = Global> {
-    alloc: A,
-    order: Explain,
-    outcome: Outcome,
-    first: Option<Result<Account<A>, Memory>>,
-}
-
-impl<A: Allocator> Model for Reporter<A> {
-    ghost use Rattle.capn_report.specs.Reports.{Reporting, lines_first};
-
-    ghost Value = { Reporting };
-
-    ghost view = { λ s. record { order = s.order; outcome = s.outcome; first = lines_first s.first } };
+/// the first message until another one has begun.
+#[derive(Clone, Copy, Debug, PartialEq, Eq)]
+pub struct Reporter {
+    /// What is explained.
+    pub order: Explain,
+    /// What has been explained.
+    pub outcome: Outcome,
+    /// What is told of the only message so far, if that is accepted and no number is asked for.
+    pub first: Option<Account>,
 }
 
 /// Whether a message comes before the one of a number.
@@ -47,6 +41,16 @@ fn is_before(at: Position, number: Option<u64>) -> bool
     match number {
         Some(number) => number_of(at.index) < u128::from(number),
         None => false,
+    }
+}
+
+/// The words of a message's table: none of a bare segment.
+fn table_words<S: Space>(form: Form, message: &S) -> u32
+    ensures { result ≡ spec.table_words form (S.message message.now) }
+{
+    match form {
+        Form::Bare => 0,
+        Form::Stream | Form::Packed => message.segments() / 2 + 1,
     }
 }
 
@@ -80,10 +84,7 @@ fn put_bytes<A: Allocator>(text: &mut Vec<u8, A>, bytes: &[u8]) -> Result<(), Se
 }
 
 /// The lines of an account.
-fn lines_of<B: Allocator, A: Allocator>(
-    alloc: A,
-    account: &Account<B>,
-) -> Result<String<A>, ServeFault>
+fn lines_of<A: Allocator>(alloc: A, account: &Account) -> Result<String<A>, ServeFault>
     ensures found { IfOk result (λ lines. string_bytes lines ≡ account_text account.now) }
     ensures only { IfErr result (λ e. e ≡ faults.Memory) }
 {
@@ -94,9 +95,9 @@ fn lines_of<B: Allocator, A: Allocator>(
 }
 
 /// Appends the lines of an account, or nothing where memory is refused.
-fn put_account<B: Allocator, A: Allocator + Copy>(
+fn put_account<A: Allocator + Copy>(
     alloc: A,
-    account: &Account<B>,
+    account: &Account,
     text: &mut Vec<u8, A>,
 ) -> Result<(), ServeFault>
     ensures { PutsText (account_text account.now) text.old.items text.new.items result }
@@ -105,75 +106,23 @@ fn put_account<B: Allocator, A: Allocator + Copy>(
     put_bytes(text, lines.as_bytes())
 }
 
-/// Appends the lines that explain an accepted message, or nothing where memory is refused.
-fn put_accepted<S: Space, A: Allocator + Copy>(
-    alloc: A,
-    order: &Explain,
-    at: Position,
-    message: &S,
-    text: &mut Vec<u8, A>,
-) -> Result<(), ServeFault>
-    requires accepted { IsAccepted (S.message message.now) order.now.limits }
-    ensures { PutsAccount order.now at (S.message message.now) text.old.items text.new.items result }
-{
-    match account_of(alloc, order.form, at, message, order.limits) {
-        Ok(account) => put_account(alloc, &account, text),
-        Err(_) => Err(ServeFault::Memory),
-    }
-}
-
 /// What is kept of a message that is accepted: what is told of it, if it is the first.
 fn first_of<S: Space, A: Allocator + Copy>(
     alloc: A,
-    order: &Explain,
     at: Position,
     message: &S,
-) -> Option<Result<Account<A>, Memory>>
-    requires accepted { IsAccepted (S.message message.now) order.now.limits }
-    ensures { IsFirst order.now.form at (S.message message.now) order.now.limits (spec.lines_first result) }
+    limits: Limits,
+) -> Option<Account>
+    requires accepted { IsAccepted (S.message message.now) limits }
+    ensures { IsFirst at (S.message message.now) limits result }
 {
     if 0 < at.index {
         return None;
     }
-    Some(account_of(alloc, order.form, at, message, order.limits))
+    Some(account_of(alloc, at, message, limits))
 }
 
-impl<B: Allocator> Reporter<B> {
-    /// A reporter that has found nothing. It takes no memory.
-    pub(crate) fn new(alloc: B, order: Explain) -> Reporter<B>
-        ensures { result ≡ spec.first_reporting order }
-    {
-        Reporter {
-            alloc,
-            order,
-            outcome: Outcome::Nothing,
-            first: None,
-        }
-    }
-
-    /// What is explained.
-    pub(crate) fn order(&self) -> Explain
-        ensures { result ≡ self.now.order }
-    {
-        self.order
-    }
-
-    /// What has been explained.
-    pub(crate) fn outcome(&self) -> Outcome
-        ensures { result ≡ self.now.outcome }
-    {
-        self.outcome
-    }
-
-    /// What is kept of the only message so far, if that is accepted and no number is asked for.
-    pub(crate) fn first(&self) -> &Option<Result<Account<B>, Memory>>
-        ensures { spec.lines_first result.now ≡ self.now.first }
-    {
-        &self.first
-    }
-}
-
-impl<B: Allocator + Copy> Reporter<B> {
+impl Reporter {
     /// Reports on a message that is accepted.
     fn report_accepted<S: Space, A: Allocator + Copy>(
         &mut self,
@@ -188,10 +137,11 @@ impl<B: Allocator + Copy> Reporter<B> {
     {
         match self.order.number {
             Some(_) => {
-                put_accepted(alloc, &self.order, at, message, text)?;
+                let account = account_of(alloc, at, message, self.order.limits);
+                put_account(alloc, &account, text)?;
                 self.outcome = Outcome::Accepted;
             }
-            None => self.first = first_of(self.alloc, &self.order, at, message),
+            None => self.first = first_of(alloc, at, message, self.order.limits),
         }
         Ok(())
     }
@@ -235,7 +185,7 @@ impl<B: Allocator + Copy> Reporter<B> {
     }
 }
 
-impl<B: Allocator + Copy> Service for Reporter<B> {
+impl Service for Reporter {
     ghost use Rattle.capn_report.specs.Reports as spec;
 
     ghost serves = { spec.serves };

@@ -2,6 +2,8 @@ pub mod inner
 pub mod Json
 pub mod JsonTexts
 pub mod Laws
+pub mod Marked
+pub mod MarkedPart
 pub mod Outgoing
 pub mod Part
 pub mod Quoting

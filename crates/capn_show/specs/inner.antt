@@ -1,3 +1,4 @@
 -- What no public clause cites.
 pub mod JsonPlaces
+pub mod MarkedPlaces
 pub mod ReadyPlaces

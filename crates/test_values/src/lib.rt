@@ -4,8 +4,6 @@
 #![tactic(auto)]
 
 #[cfg(test)]
-mod departures;
-#[cfg(test)]
 mod depths;
 #[cfg(test)]
 mod explained_refusals;
@@ -17,6 +15,8 @@ mod indexes;
 mod layouts;
 #[cfg(test)]
 mod making;
+#[cfg(test)]
+mod marked_texts;
 #[cfg(test)]
 mod measures;
 #[cfg(test)]

@@ -1,6 +1,5 @@
 -- What is written after the loop over the messages.
-use Rattle.std.specs.Prelude.{◌≡◌, ◌≢◌, ◌⊎◌, ℕ, List, [], Bool, true, false, Option, Some, None}
-use Rattle.std.specs.Prelude.{Result, Ok, Err, ⊤, String, string_bytes}
+use Rattle.std.specs.Prelude.{◌≡◌, ◌≢◌, ◌⊎◌, ℕ, List, [], Bool, true, false, Option, Result, Ok, Err, ⊤}
 use Rattle.std.specs.Io.KnownBytes.{Appends}
 use Rattle.capn_words.specs.Watched.{HasBegun}
 use Rattle.capn_canon.specs.declared.refusal.Refusal.{Refusal}
@@ -12,12 +11,6 @@ use Rattle.capn_serve.specs.declared.position.Position.{Position}
 abbrev pub IsFineIfTold : RunFault → Bool → Type 0
 IsFineIfTold (faults.Refused at r) failed = failed ≡ false
 IsFineIfTold _ failed = ⊤
-
--- these are the lines of a text that is not empty, or it is empty; or memory was refused for one that is not
-abbrev pub AreLines : {A : Type 0} → List ℕ → Result (Option (String A)) RunFault → Type 0
-AreLines text (Ok (Some lines)) = (string_bytes lines ≡ text) × (text ≢ [])
-AreLines text (Ok None) = text ≡ []
-AreLines text (Err fault) = (fault ≡ faults.Memory) × (text ≢ [])
 
 -- a text was written; or memory was refused for one that is not empty, and nothing was written; or the writer failed
 -- within one that is not empty

@@ -1,15 +1,9 @@
-use Rattle.std.proofs.Common.{◌≡◌, Err, sym, subst}
+use Rattle.std.proofs.Common.{sym, subst}
 use Rattle.capn_words.specs.Watched.{inner_of, has_failed}
-use Rattle.capn_serve.specs.declared.fault.RunFault.TheVariants as faults
-use Rattle.capn_serve.specs.declared.service.Run.{Run}
-use Rattle.capn_report.specs.ExplainRun.{Explained, ending, explain_finish, explain_fold, first_run}
-use Rattle.capn_report.specs.Reports.{Reporting}
-use Rattle.capn_report.proofs.Closings.{Ending, done_fine, ending_not_io, fine_if_told}
+use Rattle.capn_report.specs.ExplainRun.{Explained, explain_finish, explain_fold, first_run}
+use Rattle.capn_report.proofs.Closings.{Ending, done_fine, fine_if_told}
 use Rattle.capn_report.proofs.Finishes.{finished_closed, finished_told, finished_unclosed, finished_untold}
 use Rattle.capn_report.proofs.explain_run.run_explain.Goals as goal
-
-not_io : (run : Run Reporting) → ending run ≡ Err faults.Io → ⊥
-not_io run = ending_not_io run.service.outcome run.service.order.number run.service.first
 
 pub write_closing-requires : goal.write_closing-requires
 write_closing-requires g c =
@@ -25,25 +19,24 @@ returns-in-Ok-write_closing g c =
     subst (λ (r : Ending). Explained c.args.order (g.R.Read.remaining (inner_of c.args.reader.now))
     (g.R.Read.remaining (inner_of c.serve_messages.new.reader)) (g.W.Write.contents (inner_of c.args.writer.now))
     (g.W.Write.contents (inner_of c.write_closing.new.writer)) (has_failed c.serve_messages.new.reader)
-    (has_failed c.write_closing.new.writer) r) (sym c.ending_of.ensures)
+    (has_failed c.write_closing.new.writer) r) (sym c.outcome_of.ensures)
     (finished_closed (explain_fold c.args.order) (first_run c.args.order) (explain_finish c.args.order)
     c.args.order.form (g.R.Read.remaining (inner_of c.args.reader.now))
     (g.R.Read.remaining (inner_of c.serve_messages.new.reader)) (g.W.Write.contents (inner_of c.args.writer.now))
     (g.W.Write.contents (inner_of c.serve_messages.new.writer)) (has_failed c.serve_messages.new.reader)
     (has_failed c.serve_messages.new.writer) c.serve_messages.new.run
     (g.W.Write.contents (inner_of c.write_closing.new.writer)) (has_failed c.write_closing.new.writer)
-    (not_io c.serve_messages.new.run) c.in-Ok.ensures c.in-Ok-write_closing.ensures)
+    c.in-Ok.ensures c.in-Ok-write_closing.ensures)
 
-pub returns-in-Ok : goal.returns-in-Ok
-returns-in-Ok g c =
+pub returns-in-Err-write_closing : goal.returns-in-Err-write_closing
+returns-in-Err-write_closing g c =
     finished_unclosed (explain_fold c.args.order) (first_run c.args.order) (explain_finish c.args.order)
     c.args.order.form (g.R.Read.remaining (inner_of c.args.reader.now))
     (g.R.Read.remaining (inner_of c.serve_messages.new.reader)) (g.W.Write.contents (inner_of c.args.writer.now))
     (g.W.Write.contents (inner_of c.serve_messages.new.writer)) (has_failed c.serve_messages.new.reader)
     (has_failed c.serve_messages.new.writer) c.serve_messages.new.run
     (g.W.Write.contents (inner_of c.write_closing.new.writer)) (has_failed c.write_closing.new.writer)
-    c.in-Err-write_closing.fault (not_io c.serve_messages.new.run) c.in-Ok.ensures
-    c.in-Err-write_closing.ensures
+    c.in-Err-write_closing.fault c.in-Ok.ensures c.in-Err-write_closing.ensures
 
 pub returns-in-Ok-write_fault : goal.returns-in-Ok-write_fault
 returns-in-Ok-write_fault g c =
@@ -55,8 +48,8 @@ returns-in-Ok-write_fault g c =
     (g.W.Write.contents (inner_of c.write_fault.new.writer)) (has_failed c.write_fault.new.writer)
     c.in-Err.stopped c.in-Err.ensures c.in-Ok-write_fault.ensures
 
-pub returns : goal.returns
-returns g c =
+pub returns-in-Err-write_fault : goal.returns-in-Err-write_fault
+returns-in-Err-write_fault g c =
     finished_untold (explain_fold c.args.order) (first_run c.args.order) (explain_finish c.args.order)
     c.args.order.form (g.R.Read.remaining (inner_of c.args.reader.now))
     (g.R.Read.remaining (inner_of c.serve_messages.new.reader)) (g.W.Write.contents (inner_of c.args.writer.now))

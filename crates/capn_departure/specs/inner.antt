@@ -1,5 +1,0 @@
--- What no public clause cites.
-pub mod Difference
-pub mod Owned
-pub mod Search
-pub mod Seeks
