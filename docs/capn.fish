@@ -23,6 +23,8 @@ complete -c capn -n '__fish_seen_subcommand_from show' -l tariff -x -a 'strict p
 complete -c capn -n '__fish_seen_subcommand_from show' -l at -x -d 'The way from the root to what is written'
 complete -c capn -n '__fish_seen_subcommand_from show' -l text -d 'Write a list of bytes that is a text between quotes'
 complete -c capn -n '__fish_seen_subcommand_from show' -l json -d 'Write each message as a line of JSON'
+complete -c capn -n '__fish_seen_subcommand_from show' -l offsets -d 'Begin each line with the byte of what it is about, and a tab'
+complete -c capn -n '__fish_seen_subcommand_from show' -l ways -d 'Begin each line with the way to what it is about, and a tab'
 complete -c capn -n '__fish_seen_subcommand_from show' -l help -d 'Print help'
 complete -c capn -n '__fish_seen_subcommand_from check' -l form -x -a 'stream packed bare' -d 'How the input holds its messages'
 complete -c capn -n '__fish_seen_subcommand_from check' -l message-words -x -d 'The most words of a message, from 1 to 268435456'

@@ -479,16 +479,23 @@ def styled(value, style):
     return ("none\n" if value is None else shown(value, 0, style == "text")) + "end\n"
 
 
-def show(data, form="stream", message_words=8388608, budget=8388608, depth=64, tariff="strict", style="plain", way=()):
-    """What `show` writes in a style, at a way or of all, the line on standard error, and its exit status."""
+def show(data, form="stream", message_words=8388608, budget=8388608, depth=64, tariff="strict", style="plain", way=(),
+         offsets=False, ways=False):
+    """What `show` writes in a style, at a way or of all, the line on standard error, and its exit status. With offsets
+    or ways the style is "plain" or "text"."""
     found, fault = messages(data, form, message_words)
     out = []
-    for _, _, segments in found:
+    for at, frame, segments in found:
         try:
             walk = Walk(segments, budget, depth, tariff)
         except Refused as refused:
             return "".join(out).encode(), f"capn: {refused}\n", 1
-        out.append(styled(stands(walk.value, way), style))
+        if not offsets and not ways:
+            out.append(styled(stands(walk.value, way), style))
+            continue
+        begin = at + len(frame) - sum(map(len, segments))
+        out.append(Marked(segments, begin, offsets, ways, style == "text").part(way))
+        out.append((f"{at + len(frame)}\t" if offsets else "") + ("\t" if ways else "") + "end\n")
     return "".join(out).encode(), f"capn: {fault[0]}\n" if fault else "", 1 if fault else 0
 
 

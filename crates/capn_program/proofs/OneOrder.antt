@@ -23,7 +23,7 @@ use Rattle.capn_program.specs.MessageNumber.{number_of}
 use Rattle.capn_program.specs.Meaning.{AreOptions, AreSame, ExplainIs, FlagIs, HasNoFlag, IsFlow, IsNumbered}
 use Rattle.capn_program.specs.Meaning.{IsSameWay, IsTask}
 use Rattle.capn_program.specs.Meaning.{MeansOneOrder, MeansOrder, OnlyIs, PickIs, ShowIs, StyleIs, UniqIs, WayIs}
-use Rattle.capn_program.specs.Meaning.{flag_text, form_of, usual_with}
+use Rattle.capn_program.specs.Meaning.{MarksAre, flag_text, form_of, is_plain, usual_with}
 use Rattle.capn_program.specs.declared.order.Flow.{Flow}
 use Rattle.capn_program.specs.declared.order.Flow.TheVariants as flows
 use Rattle.capn_program.specs.declared.order.Only.{Only}
@@ -254,7 +254,7 @@ listed rows p q (f, w, usual, a, b, none) (g, v, usually, list) =
     let bad : None ≡ Some q.list.now = sym none ∙ list.0 in absurd cc
 
 -- a style is known by its flags
-style_one : (rows : List Row) (s t : Style) → StyleIs rows s → StyleIs rows t → s ≡ t
+pub style_one : (rows : List Row) (s t : Style) → StyleIs rows s → StyleIs rows t → s ≡ t
 style_one rows styles.Lines styles.Lines a b = refl
 style_one rows styles.Lines styles.Quoted a b =
     absurd (let bad : false ≡ true = flag_one rows (codes "text") false true a.0 b.0 in cc)
@@ -285,7 +285,7 @@ style_one rows styles.JsonText styles.Json a b =
 style_one rows styles.JsonText styles.JsonText a b = refl
 
 -- and a way by the value of `--at`
-way_one : (rows : List Row) (f g : Style) (v w : Option (Bor Text)) → WayIs rows f v → WayIs rows g w → IsSameWay v w
+way_one : (rows : List Row) (f g : Bool) (v w : Option (Bor Text)) → WayIs rows f v → WayIs rows g w → IsSameWay v w
 way_one rows f g None None is also = tt
 way_one rows f g None (Some w) is also = let bad : None ≡ Some w.now = sym is.0 ∙ also.0 in absurd cc
 way_one rows f g (Some v) None is also = let bad : Some v.now ≡ None = sym is.0 ∙ also.0 in absurd cc
@@ -293,11 +293,13 @@ way_one rows f g (Some v) (Some w) is also =
     ap (λ (o : Option Text). unwrap_or o (codes "")) (sym is.0 ∙ also.0)
 
 show_one : (rows : List Row) (s t : Show) → ShowIs rows s → ShowIs rows t → AreSame (orders.Show s) (orders.Show t)
-show_one rows s t (f, l, style, way) (g, m, other, also) = (
+show_one rows s t (f, l, style, (offsets, ways, fit), way) (g, m, other, (too, more, fits), also) = (
   form_one s.form t.form (sym f ∙ g),
   limits_one rows s.limits t.limits l m,
   style_one rows s.style t.style style other,
-  way_one rows s.style t.style s.way t.way way also,
+  flag_one rows (codes "offsets") s.offsets t.offsets offsets too,
+  flag_one rows (codes "ways") s.ways t.ways ways more,
+  way_one rows (is_plain s.style s.offsets s.ways) (is_plain t.style t.offsets t.ways) s.way t.way way also,
 )
 
 -- the value of `--number` is one number
@@ -323,14 +325,23 @@ explain_one rows x y (f, l, n) (g, m, k) =
 
 -- ---- two orders of two kinds
 
--- words without `--at` and without a style order no part and no other style
-no_show : (rows : List Row) (style : Style) (way : Option (Bor Text)) → first_of (codes "at") rows ≡ None
-    → StyleIs rows styles.Lines → StyleIs rows style → WayIs rows style way → ⊥
-no_show rows style None none lines is other = other.1 (style_one rows style styles.Lines is lines)
-no_show rows style (Some way) none lines is other = let bad : None ≡ Some way.now = sym none ∙ other.0 in absurd cc
+-- words without `--at` and any flag order no part, no other style and no marks
+no_show : (rows : List Row) (plain : Bool) (way : Option (Bor Text)) → first_of (codes "at") rows ≡ None
+    → plain ≡ true → WayIs rows plain way → ⊥
+no_show rows plain None none is other = let bad : true ≡ false = sym is ∙ other.1 in absurd cc
+no_show rows plain (Some way) none is other = let bad : None ≡ Some way.now = sym none ∙ other.0 in absurd cc
+
+-- the style and the marks are those of a plain `show`
+plainly : (rows : List Row) (s : Show) → StyleIs rows styles.Lines → MarksAre rows styles.Lines false false
+    → ShowIs rows s → is_plain s.style s.offsets s.ways ≡ true
+plainly rows s lines (bare, still, fit) (f, l, style, (offsets, ways, fits), way) =
+    ap (λ (x : Style). is_plain x s.offsets s.ways) (style_one rows s.style styles.Lines style lines)
+    ∙ ap (λ (x : Bool). is_plain styles.Lines x s.ways) (flag_one rows (codes "offsets") s.offsets false offsets bare)
+    ∙ ap (λ (x : Bool). is_plain styles.Lines false x) (flag_one rows (codes "ways") s.ways false ways still)
 
 shows : (rows : List Row) (c : Command) (s : Show) → tell_command c ≡ 326 → HasNoFlag rows c → ShowIs rows s → ⊥
-shows rows (commands.Show f l) s e none is = no_show rows s.style s.way none.0 none.1 is.2 is.3
+shows rows (commands.Show f l) s e none is =
+    no_show rows (is_plain s.style s.offsets s.ways) s.way none.0 (plainly rows s none.1 none.2 is) is.4
 shows rows (commands.Check f l) s e none is = omega arith
 shows rows commands.Pack s e none is = omega arith
 shows rows (commands.Unpack m) s e none is = omega arith

@@ -48,9 +48,20 @@ text_rule = flag_rule (codes "text")
 abbrev pub json_rule : Rule
 json_rule = flag_rule (codes "json")
 
--- `show` takes what a command over messages takes, and `--at`, `--text` and `--json`
+-- whether before each line stands the byte of what it is about, and whether the way to it does
+abbrev pub offsets_rule : Rule
+offsets_rule = flag_rule (codes "offsets")
+
+abbrev pub ways_rule : Rule
+ways_rule = flag_rule (codes "ways")
+
+-- `show` with all but its marks takes what a command over messages takes, and `--at`, `--text` and `--json`
+abbrev pub unmarked_line : App
+unmarked_line = with_rule (with_rule (with_rule (message_line (codes "show")) way_rule) text_rule) json_rule
+
+-- `show` takes these, and `--offsets` and `--ways`
 abbrev pub show_line : App
-show_line = with_rule (with_rule (with_rule (message_line (codes "show")) way_rule) text_rule) json_rule
+show_line = with_rule (with_rule unmarked_line offsets_rule) ways_rule
 
 -- `canonical` takes what a command over messages takes, and `--framed` and `--keep-going`
 abbrev pub canonical_line : App

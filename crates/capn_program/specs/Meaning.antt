@@ -1,5 +1,5 @@
 -- What a subcommand and the values of its options order. (Own.)
-use Rattle.std.specs.Prelude.{ℕ, ◌≡◌, ◌≢◌, ◌≤◌, List, Bool, true, false, Option, Some, None, codes, ⊤, find, IsSome}
+use Rattle.std.specs.Prelude.{ℕ, ◌≡◌, ◌≤◌, ◌||◌, not, List, Bool, true, false, Option, Some, None, codes, ⊤, find, IsSome}
 use Rattle.std.specs.Prelude.{option_and_then}
 use Rattle.std.specs.Borrow.{Bor}
 use Rattle.std.specs.Str.{bytes_eq}
@@ -127,20 +127,41 @@ StyleIs rows styles.Quoted = FlagIs rows (codes "text") true × FlagIs rows (cod
 StyleIs rows styles.Json = FlagIs rows (codes "text") false × FlagIs rows (codes "json") true
 StyleIs rows styles.JsonText = FlagIs rows (codes "text") true × FlagIs rows (codes "json") true
 
--- `--at` is given, and its value is a way; or it isn't, and the style is another than that of a plain `show`
-abbrev pub WayIs : List Row → Style → Option (Bor Text) → Type 0
-WayIs rows style None = (first_of (codes "at") rows ≡ None) × (style ≢ styles.Lines)
-WayIs rows style (Some way) = (first_of (codes "at") rows ≡ Some way.now) × IsSome (way_of way.now)
+-- a text in this style has lines, before which marks can stand: JSON has none
+abbrev pub has_lines : Style → Bool
+has_lines styles.Lines = true
+has_lines styles.Quoted = true
+has_lines styles.Json = false
+has_lines styles.JsonText = false
 
--- the options of `show` have these values: one of `--at`, `--text` and `--json` is given
+-- each mark is asked for or isn't; JSON goes without them
+abbrev pub MarksAre : List Row → Style → Bool → Bool → Type 0
+MarksAre rows style offsets ways = FlagIs rows (codes "offsets") offsets × FlagIs rows (codes "ways") ways
+    × (has_lines style || not (offsets || ways) ≡ true)
+
+-- lines without marks, as a plain `show` writes them
+abbrev pub is_plain : Style → Bool → Bool → Bool
+is_plain styles.Lines offsets ways = not (offsets || ways)
+is_plain styles.Quoted offsets ways = false
+is_plain styles.Json offsets ways = false
+is_plain styles.JsonText offsets ways = false
+
+-- `--at` is given, and its value is a way; or it isn't, and the text is not that of a plain `show`
+abbrev pub WayIs : List Row → Bool → Option (Bor Text) → Type 0
+WayIs rows plain None = (first_of (codes "at") rows ≡ None) × (plain ≡ false)
+WayIs rows plain (Some way) = (first_of (codes "at") rows ≡ Some way.now) × IsSome (way_of way.now)
+
+-- the options of `show` have these values: one of `--at`, `--text`, `--json`, `--offsets` and `--ways` is given
 abbrev pub ShowIs : List Row → Show → Type 0
-ShowIs rows show = FormIs rows show.form × LimitsAre rows show.limits
-    × StyleIs rows show.style × WayIs rows show.style show.way
+ShowIs rows show = FormIs rows show.form × LimitsAre rows show.limits × StyleIs rows show.style
+    × MarksAre rows show.style show.offsets show.ways
+    × WayIs rows (is_plain show.style show.offsets show.ways) show.way
 
 -- `canonical`, `pack` and `unpack` are commands over one input where none of their flags is given, and `show` where
 -- neither a flag nor `--at` is; no other command over messages has such an option
 abbrev pub HasNoFlag : List Row → Command → Type 0
 HasNoFlag rows (commands.Show form limits) = (first_of (codes "at") rows ≡ None) × StyleIs rows styles.Lines
+    × MarksAre rows styles.Lines false false
 HasNoFlag rows (commands.Check form limits) = ⊤
 HasNoFlag rows commands.Pack = FlagIs rows (codes "streaming") false
 HasNoFlag rows (commands.Unpack most) = FlagIs rows (codes "streaming") false
@@ -172,7 +193,8 @@ IsSameWay (Some way) (Some other) = way.now ≡ other.now
 -- a list are picked, so are the texts of the lists
 abbrev pub AreSame : Order → Order → Type 0
 AreSame (orders.Show s) (orders.Show t) =
-    (s.form ≡ t.form) × (s.limits ≡ t.limits) × (s.style ≡ t.style) × IsSameWay s.way t.way
+    (s.form ≡ t.form) × (s.limits ≡ t.limits) × (s.style ≡ t.style) × (s.offsets ≡ t.offsets) × (s.ways ≡ t.ways)
+    × IsSameWay s.way t.way
 AreSame (orders.Only s) (orders.Only t) = (s.form ≡ t.form) × (s.limits ≡ t.limits) × (s.list.now ≡ t.list.now)
 AreSame o p = o ≡ p
 

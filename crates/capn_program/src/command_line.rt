@@ -21,6 +21,7 @@ use crate::order::{Flow, Only, Order};
 use crate::range_list::is_range_list;
 use crate::show_options::show_of;
 use crate::subcommands::{mistake, program_command};
+use crate::way::is_way;
 use capn_archive::{Archive, Task, Uniq};
 use capn_serve::Pick;
 use capn_tool::{Command, Usage, help as tool_help, parts};
@@ -228,9 +229,26 @@ fn said_of_pick(matches: &ArgMatches) -> &'static str {
     }
 }
 
+/// The message for options of `show` that mean nothing, whose form and limits are fine: what `--at` takes, or else what
+/// JSON goes without.
+fn said_of_show(matches: &ArgMatches) -> &'static str {
+    match text_in(matches, "at") {
+        Some(way) => {
+            if !is_way(way) {
+                return option_help::NO_WAY;
+            }
+        }
+        None => {}
+    }
+    match flag_of(matches, "offsets") {
+        Some(true) => option_help::WITHOUT_OFFSETS,
+        _ => option_help::WITHOUT_WAYS,
+    }
+}
+
 /// The message for options of this command that mean nothing: for `pick`, that of its own; for `unpack`, which two
-/// don't go together; for the others, that on `--form`, or else on `--tariff`, or else on `--at` of `show`, on
-/// `--number` of `explain`, and on `--keep-going` of `canonical`.
+/// don't go together; for the others, that on `--form`, or else on `--tariff`, or else on `--at` and `--json` of
+/// `show`, on `--number` of `explain`, and on `--keep-going` of `canonical`.
 fn said_of(name: &str, matches: &ArgMatches) -> &'static str {
     if name == "pick" {
         return said_of_pick(matches);
@@ -245,7 +263,7 @@ fn said_of(name: &str, matches: &ArgMatches) -> &'static str {
         return tool_help::NO_SUCH_TARIFF;
     }
     match name {
-        "show" => option_help::NO_WAY,
+        "show" => said_of_show(matches),
         "explain" => option_help::NO_NUMBER,
         _ => option_help::ONLY_FRAMED,
     }
@@ -274,8 +292,9 @@ fn meaningless(alloc: Global, matches: &ArgMatches) -> Usage
 /// the tariff and the flags that its options have, given or usual. A request for help or for the version, a word, an
 /// option or a value that is not known, a number out of its range, a form or a tariff that the command does not take,
 /// a value of `--at` that is no way, one of `--number` that is no number of a message, one of `--only` that is no list,
-/// `--only` with `--from` or `--to`, `--keep-going` of `canonical` without `--framed`, `--message-words` of `unpack`
-/// with `--streaming`, and refused memory are answered as `Usage`, with the text for the user.
+/// `--json` with `--offsets` or `--ways`, `--only` with `--from` or `--to`, `--keep-going` of `canonical` without
+/// `--framed`, `--message-words` of `unpack` with `--streaming`, and refused memory are answered as `Usage`, with the
+/// text for the user.
 pub fn order_of<'a, S: AsStr>(alloc: Global, words: &'a [S]) -> Result<Order<'a>, Usage>
     // An order that is given is what the words mean.
     ensures means { IfOk result (MeansOrder (subcommand_of program_line (map S.text words.now))) }

@@ -49,6 +49,10 @@ its own, or the line `none` if nothing stands there. The place is a way from the
 root, numbers below 2^64 parted by dots: in a struct the number of a pointer, in
 a list of pointers that of an element, in a list of structs that of a struct,
 each counted from 0. With `--json` the line is empty if nothing stands there.
+With `--offsets` and `--ways` each line begins with marks, and a tab after each:
+at which byte of the stream lies what the line is about, counted from 0, in form
+packed in what the input unpacks to; and the way to it, which `--at` takes, or
+`root`. The line `end` has the byte after the message. JSON goes without marks.
 The whole message is checked first.
 
 Exit status:
@@ -56,14 +60,15 @@ Exit status:
   1  A message was refused; those before it have been written
   2  The command line is wrong
   3  Reading or writing failed, the input is longer than 2^32 bytes, or with
-     `--at`, `--text` or `--json` than 2^64 - 1, or memory ran out
+     `--at`, `--text`, `--json` or marks than 2^64 - 1, or memory ran out
 With 1 and 3 one line on standard error says why; the manual page explains it
 under DIAGNOSTICS.
 
 Examples:
   capn show < message
   capn show --at 0.3.1 < message
-  capn show --json < messages",
+  capn show --json < messages
+  capn show --offsets --ways < message",
 };
 
 /// `explain`.

@@ -24,6 +24,10 @@ pub struct Show<'a> {
     pub limits: Limits,
     /// How the text is written.
     pub style: Style,
+    /// Whether before each line stands the byte of what it is about.
+    pub offsets: bool,
+    /// Whether before each line, after its byte, stands the way to what it is about.
+    pub ways: bool,
     /// The way: numbers parted by dots. Without one, all of the message is shown.
     pub way: Option<&'a str>,
 }

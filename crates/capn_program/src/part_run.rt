@@ -34,8 +34,11 @@ pub fn show_parts<R: Read, W: Write, A: Allocator + Copy>(
     let most = show.limits.message_words();
     let mut run = Run::new(PartTexts {
         way: &way,
-        style: show.style,
+        form: show.form,
         limits: show.limits,
+        style: show.style,
+        offsets: show.offsets,
+        ways: show.ways,
     });
     serve_form(alloc, show.form, most, &mut run, reader, writer)?;
     Ok(())

@@ -1,19 +1,23 @@
-//! The service of `show`: parts of messages in a style.
+//! The service of `show`: parts of messages in a style, or with marks.
 
-ghost use Rattle.std.specs.Prelude.{◌≡◌, ◌≢◌, ◌⊎◌, List, ℕ, false};
+ghost use Rattle.std.specs.Prelude.{◌≡◌, [], ◌∷◌, IfErr, IfOk, if◌then◌else◌, false, string_bytes};
 ghost use Rattle.capn_words.specs.Watched.{has_failed};
-ghost use Rattle.capn_target.specs.declared.target.Fault.TheVariants as walk_faults;
-ghost use Rattle.capn_canon.specs.declared.refusal.Refusal.TheVariants as refusals;
+ghost use Rattle.capn_report.specs.Reports as reports;
+ghost use Rattle.capn_show.specs.MarkedPart.{marked_at};
 ghost use Rattle.capn_show.specs.Outgoing.{outgoing};
+ghost use Rattle.capn_show.specs.Styled.{styled};
+ghost use Rattle.capn_show.specs.declared.fault.ShowFault.TheVariants as ends;
+ghost use Rattle.capn_words.specs.Message.{total};
 ghost use Rattle.capn_serve.specs.declared.fault.ServeFault.TheVariants as serve_faults;
 ghost use Rattle.capn_program.specs.PartRun as spec;
-ghost use Rattle.capn_program.specs.inner.PartTexts.{AddsEnd, AddsPart};
+ghost use Rattle.capn_program.specs.inner.PartTexts.{AddsEnd, AddsPart, IsFaultOf};
 
 use capn_canon::Refusal;
 use capn_serve::{Position, ServeFault, Service, flush_long};
-use capn_show::{ShowFault, Style, show_part};
+use capn_show::{Marks, ShowFault, Style, show_marked, show_part};
+use capn_tool::Form;
 use capn_walk::{Fault, Limits, Stopped};
-use capn_words::{Space, Watched};
+use capn_words::{Space, Watched, total_words};
 use std::alloc::Allocator;
 use std::io::Write;
 
@@ -22,20 +26,36 @@ use std::io::Write;
 pub struct PartTexts<'w> {
     /// The numbers of the way.
     pub way: &'w [u64],
-    /// How the text is written.
-    pub style: Style,
+    /// How the stream holds its messages.
+    pub form: Form,
     /// The limits of a message.
     pub limits: Limits,
+    /// How the text is written.
+    pub style: Style,
+    /// Whether before each line stands the byte of what it is about. JSON goes without.
+    pub offsets: bool,
+    /// Whether before each line, after its byte, stands the way to what it is about. JSON goes without.
+    pub ways: bool,
 }
 
 /// How a message ends whose survey has stopped.
 fn stop_of(stopped: Stopped) -> ServeFault
-    ensures { ((stopped.fault ≡ walk_faults.Memory) × (result ≡ serve_faults.Memory))
-        ⊎ ((stopped.fault ≢ walk_faults.Memory) × (result ≡ serve_faults.Refused (refusals.Walk stopped))) }
+    ensures { IsFaultOf (ends.Stopped stopped) result }
 {
     match stopped.fault {
         Fault::Memory => ServeFault::Memory,
         _ => ServeFault::Refused(Refusal::Walk(stopped)),
+    }
+}
+
+/// How a message ends that is refused, or whose text breaks off.
+fn fault_of(fault: ShowFault) -> ServeFault
+    ensures { IsFaultOf fault result }
+{
+    match fault {
+        ShowFault::Stopped(stopped) => stop_of(stopped),
+        ShowFault::Io => ServeFault::Io,
+        ShowFault::Memory => ServeFault::Memory,
     }
 }
 
@@ -46,6 +66,71 @@ fn end_of(style: Style) -> &'static [u8]
     match style {
         Style::Lines | Style::Quoted => b"end\n",
         Style::Json | Style::JsonText => b"",
+    }
+}
+
+/// The words of a message's table: none of a bare segment.
+fn table_words<S: Space>(form: Form, message: &S) -> u32
+    ensures { result ≡ reports.table_words form (S.message message.now) }
+{
+    match form {
+        Form::Bare => 0,
+        Form::Stream | Form::Packed => message.segments() / 2 + 1,
+    }
+}
+
+/// Whether lists of bytes that are texts stand between quotes in a style of lines.
+fn is_quoted(style: Style) -> bool
+    ensures { result ≡ spec.is_quoted style }
+{
+    match style {
+        Style::Quoted => true,
+        Style::Lines | Style::Json | Style::JsonText => false,
+    }
+}
+
+/// The marks of a message at a position.
+fn marks_of<S: Space>(texts: &PartTexts, at: Position, message: &S) -> Marks
+    ensures { result ≡ spec.marks_of texts.now at (S.message message.now) }
+{
+    Marks {
+        offsets: texts.offsets,
+        ways: texts.ways,
+        quoted: is_quoted(texts.style),
+        offset: at.offset,
+        table: table_words(texts.form, message),
+    }
+}
+
+/// The byte after a message of so many words.
+fn byte_after(marks: Marks, words: u32) -> u128
+    ensures { result ≡ spec.byte_after marks words }
+{
+    u128::from(marks.offset) + 8 * (u128::from(marks.table) + u128::from(words))
+}
+
+/// A tab, if ways are asked for: the line `end` is at none.
+fn way_tab(ways: bool) -> &'static str
+    ensures { result.now ≡ (if ways then 9 ∷ [] else []) }
+{
+    if ways { "\t" } else { "" }
+}
+
+/// The line `end` with marks, of a message of so many words.
+fn marked_end<A: Allocator>(alloc: A, marks: Marks, words: u32) -> Result<String<A>, ServeFault>
+    ensures found { IfOk result (λ line. string_bytes line ≡ spec.marked_end marks words) }
+    ensures only { IfErr result (λ e. e ≡ serve_faults.Memory) }
+{
+    let tab = way_tab(marks.ways);
+    let line = if marks.offsets {
+        let after = byte_after(marks, words);
+        format!(in alloc; "{after}\t{tab}end\n")
+    } else {
+        format!(in alloc; "{tab}end\n")
+    };
+    match line {
+        Ok(line) => Ok(line),
+        Err(_) => Err(ServeFault::Memory),
     }
 }
 
@@ -77,14 +162,59 @@ fn add_part<S: Space, W: Write, A: Allocator + Copy>(
     writer: &mut Watched<W>,
 ) -> Result<(), ServeFault>
     requires fine { has_failed writer.old ≡ false }
-    ensures { AddsPart (S.message message.now) limits style way.now (outgoing W.contents writer.old text.old.items)
-        (outgoing W.contents writer.new text.new.items) result }
+    ensures { AddsPart (S.message message.now) limits (styled style way.now) (spec.end_of style)
+        (outgoing W.contents writer.old text.old.items) (outgoing W.contents writer.new text.new.items) result }
 {
     match show_part(alloc, text, writer, message, limits, style, way) {
         Ok(()) => add_end(end_of(style), text, writer),
-        Err(ShowFault::Stopped(stopped)) => Err(stop_of(stopped)),
-        Err(ShowFault::Io) => Err(ServeFault::Io),
-        Err(ShowFault::Memory) => Err(ServeFault::Memory),
+        Err(fault) => Err(fault_of(fault)),
+    }
+}
+
+/// The same with marks.
+fn add_marked<S: Space, W: Write, A: Allocator + Copy>(
+    alloc: A,
+    message: &S,
+    limits: Limits,
+    marks: Marks,
+    way: &[u64],
+    text: &mut Vec<u8, A>,
+    writer: &mut Watched<W>,
+) -> Result<(), ServeFault>
+    requires fine { has_failed writer.old ≡ false }
+    ensures { AddsPart (S.message message.now) limits (marked_at (S.message message.now) marks way.now)
+        (spec.marked_end marks (total (S.message message.now))) (outgoing W.contents writer.old text.old.items)
+        (outgoing W.contents writer.new text.new.items) result }
+{
+    match show_marked(alloc, text, writer, message, limits, marks, way) {
+        Ok(()) => {
+            let end = marked_end(alloc, marks, total_words(message))?;
+            add_end(end.as_bytes(), text, writer)
+        }
+        Err(fault) => Err(fault_of(fault)),
+    }
+}
+
+/// The same with marks where any is asked for, and else in a style.
+fn add_text<S: Space, W: Write, A: Allocator + Copy>(
+    alloc: A,
+    texts: &PartTexts,
+    at: Position,
+    message: &S,
+    text: &mut Vec<u8, A>,
+    writer: &mut Watched<W>,
+) -> Result<(), ServeFault>
+    requires fine { has_failed writer.old ≡ false }
+    ensures { AddsPart (S.message message.now) texts.now.limits (spec.part_of texts.now at (S.message message.now))
+        (spec.part_end texts.now at (S.message message.now)) (outgoing W.contents writer.old text.old.items)
+        (outgoing W.contents writer.new text.new.items) result }
+{
+    let (limits, way) = (texts.limits, texts.way);
+    if texts.offsets || texts.ways {
+        let marks = marks_of(texts, at, message);
+        add_marked(alloc, message, limits, marks, way, text, writer)
+    } else {
+        add_part(alloc, message, limits, texts.style, way, text, writer)
     }
 }
 
@@ -106,13 +236,12 @@ impl<'w> Service for PartTexts<'w> {
     fn serve<S: Space, W: Write, A: Allocator + Copy>(
         &mut self,
         alloc: A,
-        _at: Position,
+        at: Position,
         _frame: &[u8],
         message: &S,
         text: &mut Vec<u8, A>,
         writer: &mut Watched<W>,
     ) -> Result<(), ServeFault> {
-        let (limits, style) = (self.limits, self.style);
-        add_part(alloc, message, limits, style, self.way, text, writer)
+        add_text(alloc, self, at, message, text, writer)
     }
 }

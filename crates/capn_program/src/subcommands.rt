@@ -8,7 +8,7 @@ ghost use Rattle.capn_program.specs.CommandLine.{archive_line, bytes_line, canon
 ghost use Rattle.capn_program.specs.CommandLine.{explain_line, flag_rule, number_rule};
 ghost use Rattle.capn_program.specs.CommandLine.{flagged_line, make_line, messages_line, packing_line, pick_line};
 ghost use Rattle.capn_program.specs.CommandLine.{place_rule, program_line, reading_line, surveying_line, top_line};
-ghost use Rattle.capn_program.specs.CommandLine.{only_rule, show_line, unpacking_line, way_rule};
+ghost use Rattle.capn_program.specs.CommandLine.{only_rule, show_line, unmarked_line, unpacking_line, way_rule};
 ghost use Rattle.capn_tool.specs.CommandLine.{words_rule};
 
 use crate::{help, option_help};
@@ -72,14 +72,23 @@ fn way_option<'a>(alloc: Global) -> Arg<'a>
 }
 
 /// `show`, with `--at`, `--text` and `--json`.
-fn show_command<'a>(alloc: Global) -> Result<Command<'a>, AllocError>
-    ensures { IfOk result (λ c. HasLine c show_line) }
+fn unmarked_command<'a>(alloc: Global) -> Result<Command<'a>, AllocError>
+    ensures { IfOk result (λ c. HasLine c unmarked_line) }
 {
     let forms = tool_help::FORMS_OF_MESSAGES;
     let command = parts::message_command(alloc, "show", help::SHOW, forms)?;
     let with_at = command.arg(way_option(alloc))?;
     let with_text = with_at.arg(flag(alloc, "text", option_help::TEXT))?;
     with_text.arg(flag(alloc, "json", option_help::JSON))
+}
+
+/// The same with `--offsets` and `--ways`.
+fn show_command<'a>(alloc: Global) -> Result<Command<'a>, AllocError>
+    ensures { IfOk result (λ c. HasLine c show_line) }
+{
+    let command = unmarked_command(alloc)?;
+    let with_offsets = command.arg(flag(alloc, "offsets", option_help::OFFSETS))?;
+    with_offsets.arg(flag(alloc, "ways", option_help::WAYS))
 }
 
 /// `--number`, whose value is the number of the message that is explained.

@@ -20,7 +20,23 @@ fn is_shown(alloc: Global, words: &[&str], style: Style, way: Option<&str>) -> b
         Ok(Order::Show(show)) => show.form == Form::Packed
             && show.limits == Limits::usual()
             && show.style == style
+            && !show.offsets
+            && !show.ways
             && show.way == way,
+        _ => false,
+    }
+}
+
+/// Whether the words order to show, in a style and with these marks, all of each message of a packed stream.
+fn is_marked(alloc: Global, words: &[&str], style: Style, offsets: bool, ways: bool) -> bool {
+    let told = order_of(alloc, words);
+    match &told {
+        Ok(Order::Show(show)) => show.form == Form::Packed
+            && show.limits == Limits::usual()
+            && show.style == style
+            && show.offsets == offsets
+            && show.ways == ways
+            && show.way.is_none(),
         _ => false,
     }
 }
@@ -129,6 +145,43 @@ fn parts_are_shown_at_a_way(rt: HostRuntime) {
     ] {
         expect_usage(&rt, rt.alloc(), &["capn", "show", "--at", way], 2);
         expect_usage(&rt, rt.alloc(), &["capn", "show", "--json", "--at", way], 2);
+    }
+}
+
+#[test]
+fn messages_are_shown_with_marks(rt: HostRuntime) {
+    for (option, style) in [("--text", Style::Quoted), ("--form=packed", Style::Lines)] {
+        let rest = if style == Style::Lines {
+            "--depth=64"
+        } else {
+            "--form=packed"
+        };
+        let words = ["capn", "show", option, rest, "--offsets"];
+        assert!(rt;
+            is_marked(rt.alloc(), &words, style, true, false),
+            "{words:?}"
+        );
+        let words = ["capn", "show", "--ways", option, rest];
+        assert!(rt;
+            is_marked(rt.alloc(), &words, style, false, true),
+            "{words:?}"
+        );
+        let words = ["capn", "show", "--ways", option, "--offsets", rest];
+        assert!(rt;
+            is_marked(rt.alloc(), &words, style, true, true),
+            "{words:?}"
+        );
+    }
+    for words in [
+        &["capn", "show", "--json", "--offsets"][..],
+        &["capn", "show", "--ways", "--json"][..],
+        &["capn", "show", "--ways", "--json", "--text", "--at=0"][..],
+        &["capn", "show", "--offsets", "--offsets"][..],
+        &["capn", "show", "--ways=1"][..],
+        &["capn", "check", "--offsets"][..],
+        &["capn", "list", "--ways"][..],
+    ] {
+        expect_usage(&rt, rt.alloc(), words, 2);
     }
 }
 
