@@ -3,7 +3,7 @@ use Rattle.std.proofs.Common.{◌≡◌, ℕ, Bool, List, not, eqb, ap}
 use Rattle.std.proofs.lemmas.Bool.{ne_eqb}
 use Rattle.capn_show.specs.JsonTexts.{text_or_digits}
 use Rattle.capn_show.specs.inner.JsonPlaces.{bytes_json_of}
-use Rattle.capn_show.specs.inner.ReadyPlaces.{bytes_of}
+use Rattle.capn_show.specs.ReadyPlaces.{bytes_of}
 
 -- by the bits of the parameter, whether a text is written between quotes
 abbrev pub by_bits : ℕ → ℕ → List ℕ → List ℕ

@@ -16,11 +16,11 @@ use Rattle.capn_target.specs.Target.{target}
 use Rattle.capn_walk.specs.ShownValue.{Shows, ViewsShow}
 use Rattle.std.specs.Prelude.{Ok}
 use Rattle.capn_show.specs.Json.{member, quoted, with_commas, number_text, json_by, each_json_by, each_row_by}
-use Rattle.capn_show.specs.inner.ReadyPlaces.{NumbersShown, BitsShown}
+use Rattle.capn_show.specs.ReadyPlaces.{NumbersShown, BitsShown}
 use Rattle.capn_show.specs.inner.JsonPlaces.{IsInJson, IsFoundInJson, IsRowInJson, AreInJson, RowsInJson, WordsInJson}
 use Rattle.capn_show.specs.inner.JsonPlaces.{values_text, words_front, items_text}
-use Rattle.capn_show.proofs.FoundKinds.{as-nil, as-cap, as-voids, as-bits, as-numbers}
-use Rattle.capn_show.proofs.FoundKinds.{as-node, as-links, as-rows}
+use Rattle.capn_show.proofs.shared.FoundKinds.{as-nil, as-cap, as-voids, as-bits, as-numbers}
+use Rattle.capn_show.proofs.shared.FoundKinds.{as-node, as-links, as-rows}
 use Rattle.capn_show.proofs.JsonTexts.{struct-parts, closed}
 
 module _ (by : List ℕ → List ℕ) (m : List (List ℕ)) (s w n : ℕ) (width : Width) (Says : List ℕ → Type 0) where

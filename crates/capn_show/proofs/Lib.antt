@@ -4,17 +4,10 @@ mod LineTexts
 mod TextBytes
 mod ClearTexts
 mod Grown
-mod Within
 mod RowFront
 mod Chosen
 mod SlotTexts
-mod FoundKinds
-mod Steps
 mod ListTexts
-mod FoundTexts
-mod Ends
-mod PlainTexts
-mod ReadBytes
 mod PartSteps
 mod BlockDigits
 mod BitDigits

@@ -4,7 +4,7 @@ use Rattle.std.proofs.Common.{refl, ◌∙◌, sym, ap, arith, append_assoc, cod
 use Rattle.std.specs.Fmt.{decimal}
 use Rattle.std.proofs.lemmas.List.{replicate-append-replicate, take-replicate}
 use Rattle.capn_value.specs.Text.{line, named, body_line, hex16}
-use Rattle.capn_show.specs.inner.ReadyPlaces.{quoted_front}
+use Rattle.capn_show.specs.ReadyPlaces.{quoted_front}
 use Rattle.capn_show.specs.declared.fault.Broken.{Broken}
 use Rattle.capn_show.specs.Outgoing.{Outgoing, Adds, BreaksOff}
 use Rattle.capn_show.proofs.shared.Appended.{both, otherwise, otherwise-broken, then-broken, broken-before}

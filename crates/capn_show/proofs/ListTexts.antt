@@ -11,8 +11,8 @@ use Rattle.capn_target.specs.declared.target.Target.TheVariants as targets
 use Rattle.capn_target.specs.declared.target.Shape.TheVariants as shapes
 use Rattle.capn_target.specs.Target.{list_width}
 use Rattle.capn_walk.specs.ShownValue.{Shows}
-use Rattle.capn_show.specs.inner.ReadyPlaces.{AreNumbers, IsFoundShown, NumbersShown, BitsShown}
-use Rattle.capn_show.proofs.FoundKinds.{as-voids, as-bits, as-numbers}
+use Rattle.capn_show.specs.ReadyPlaces.{AreNumbers, IsFoundShown, NumbersShown, BitsShown}
+use Rattle.capn_show.proofs.shared.FoundKinds.{as-voids, as-bits, as-numbers}
 
 module _ (by : ℕ → List ℕ → List ℕ) where
   module _ (m : List (List ℕ)) (s w n level : ℕ) (width : Width) (Says : List ℕ → Type 0) where

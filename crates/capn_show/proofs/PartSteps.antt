@@ -19,12 +19,17 @@ use Rattle.capn_walk.specs.ValueAt.{IsAt}
 use Rattle.capn_target.specs.Shapes.{RowsFit}
 use Rattle.capn_walk.specs.ShownValue.{Shows, words_of_row, slots_of_row}
 use Rattle.capn_show.specs.Part.{nth_tree, nth_row, step_down, follow}
-use Rattle.capn_show.specs.inner.ReadyPlaces.{HasValue, Holds, LeadsTo, struct_at}
+use Rattle.capn_show.specs.ReadyPlaces.{HasValue, Holds, LeadsTo, struct_at}
 use Rattle.capn_value.specs.NumberWidth.{bit, byte, pair, quad, oct}
-use Rattle.capn_show.proofs.FoundKinds.{as-nil, as-cap, as-voids, as-numbers}
-use Rattle.capn_show.proofs.FoundKinds.{as-node, as-links, as-rows}
+use Rattle.capn_show.proofs.shared.FoundKinds.{as-nil, as-cap, as-voids, as-numbers}
+use Rattle.capn_show.proofs.shared.FoundKinds.{as-node, as-links, as-rows}
 use Rattle.capn_show.proofs.SlotTexts.{low-at, row-low}
-use Rattle.capn_show.proofs.Steps.{found}
+use Rattle.capn_show.proofs.shared.Steps.{found}
+
+-- what is there, by its shape
+pub here : (found : Target) (s w pads : ℕ) (shape other : Shape) → found ≡ targets.Content s w shape pads
+    → shape ≡ other → found ≡ targets.Content s w other pads
+here found s w pads shape other e f = e ∙ ap (λ (x : Shape). targets.Content s w x pads) f
 
 nth-there : (ts : Trees) (i : ℕ) → i < count ts → nth_tree ts i ≡ Some (tree_at ts i)
 nth-there no_trees i h = absurd (omega arith)

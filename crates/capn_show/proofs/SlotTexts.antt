@@ -7,7 +7,7 @@ use Rattle.capn_value.specs.Cost.{height, greatest, greatest_in_rows}
 use Rattle.capn_value.specs.Text.{body_line, word_lines}
 use Rattle.capn_show.specs.Quoting.{shown_by, shown_each_by, shown_rows_by}
 use Rattle.capn_walk.specs.ShownValue.{words_of_row, slots_of_row}
-use Rattle.capn_show.specs.inner.ReadyPlaces.{shown_body}
+use Rattle.capn_show.specs.ReadyPlaces.{shown_body}
 use Rattle.capn_show.proofs.RowFront.{front_rows}
 use Rattle.capn_show.specs.declared.fault.Broken.{Broken}
 use Rattle.capn_show.specs.Outgoing.{Outgoing, Adds, BreaksOff}

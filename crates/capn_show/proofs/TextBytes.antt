@@ -3,7 +3,7 @@ use Rattle.std.proofs.Common.{◌≡◌, ℕ, zero, suc, ◌+◌, ◌<◌, ◌==
 use Rattle.std.proofs.Common.{if◌then◌else◌, length, take, drop, get_or, ap, ap₂, sym, refl, ◌∙◌, arith, append_assoc}
 use Rattle.std.proofs.lemmas.List.{append-nil, take_more}
 use Rattle.capn_show.specs.Quoting.{is_printable, is_text, escapes_by}
-use Rattle.capn_show.specs.inner.ReadyPlaces.{escaped_of, is_escaped}
+use Rattle.capn_show.specs.ReadyPlaces.{escaped_of, is_escaped}
 
 -- the bytes from one on that is not the last
 text-from : (xs : List ℕ) (i : ℕ) → suc i < length xs

@@ -1,2 +1,9 @@
 -- Lemmas that other crates may cite.
 pub mod Appended
+pub mod Ends
+pub mod FoundKinds
+pub mod FoundTexts
+pub mod PlainTexts
+pub mod ReadBytes
+pub mod Steps
+pub mod Within

@@ -1,9 +1,11 @@
 pub mod inner
+pub mod Descent
 pub mod Json
 pub mod JsonTexts
 pub mod Laws
 pub mod Outgoing
 pub mod Part
 pub mod Quoting
+pub mod ReadyPlaces
 pub mod Styled
 pub mod Written

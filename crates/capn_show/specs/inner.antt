@@ -1,3 +1,2 @@
 -- What no public clause cites.
 pub mod JsonPlaces
-pub mod ReadyPlaces

@@ -6,7 +6,7 @@ ghost use Rattle.capn_words.specs.declared.pointer.Width.TheVariants as widths;
 ghost use Rattle.capn_value.specs.Text as form;
 ghost use Rattle.capn_target.specs.Shapes.{IsContent};
 ghost use Rattle.capn_target.specs.Target.{content_words};
-ghost use Rattle.capn_show.specs.inner.ReadyPlaces.{BitsShown};
+ghost use Rattle.capn_show.specs.ReadyPlaces.{BitsShown};
 ghost use Rattle.capn_show.specs.Outgoing.{Adds, BreaksOff, outgoing};
 
 use crate::fault::Broken;

@@ -7,8 +7,8 @@ ghost use Rattle.capn_target.specs.Shapes.{IsContent};
 ghost use Rattle.capn_target.specs.Target.{content_words};
 ghost use Rattle.capn_show.specs.Outgoing.{Adds, BreaksOff, outgoing};
 ghost use Rattle.capn_show.specs.Quoting as quoting;
-ghost use Rattle.capn_show.specs.inner.ReadyPlaces as places;
-ghost use Rattle.capn_show.specs.inner.ReadyPlaces.{NumbersShown};
+ghost use Rattle.capn_show.specs.ReadyPlaces as places;
+ghost use Rattle.capn_show.specs.ReadyPlaces.{NumbersShown};
 
 use crate::byte_digits::show_bytes;
 use crate::escapes::put_escapes;
@@ -34,7 +34,7 @@ fn ends_text(byte: u8) -> bool
 }
 
 /// Whether bytes are a text: each is printable, except that the last may be zero.
-fn is_text(bytes: &[u8]) -> bool
+pub fn is_text(bytes: &[u8]) -> bool
     ensures { result ≡ quoting.is_text bytes.now }
 {
     if bytes.is_empty() {
@@ -68,7 +68,7 @@ fn quoted_front<W: Write, A: Allocator>(
 }
 
 /// The one line of a list of bytes that is a text.
-fn show_quoted<W: Write, A: Allocator>(
+pub fn show_quoted<W: Write, A: Allocator>(
     text: &mut Vec<u8, A>,
     writer: &mut Watched<W>,
     bytes: &[u8],

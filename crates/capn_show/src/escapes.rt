@@ -5,8 +5,8 @@ ghost use Rattle.capn_show.specs.JsonTexts as json;
 ghost use Rattle.capn_show.specs.Outgoing.{Adds, BreaksOff, outgoing};
 ghost use Rattle.capn_show.specs.Quoting as quoting;
 ghost use Rattle.capn_show.specs.Quoting.{escapes_by};
-ghost use Rattle.capn_show.specs.inner.ReadyPlaces as places;
-ghost use Rattle.capn_show.specs.inner.ReadyPlaces.{escaped_of};
+ghost use Rattle.capn_show.specs.ReadyPlaces as places;
+ghost use Rattle.capn_show.specs.ReadyPlaces.{escaped_of};
 
 use crate::fault::Broken;
 use crate::output::put;

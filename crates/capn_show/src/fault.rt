@@ -2,7 +2,7 @@
 
 ghost use Rattle.std.specs.Prelude.{◌≡◌};
 ghost use Rattle.capn_show.specs.declared.fault.ShowFault.TheVariants as faults;
-ghost use Rattle.capn_show.specs.inner.ReadyPlaces.{as_fault};
+ghost use Rattle.capn_show.specs.ReadyPlaces.{as_fault};
 
 use capn_walk::Stopped;
 use thiserror::Error;

@@ -5,7 +5,7 @@ ghost use Rattle.capn_words.specs.Message.{IsMessage, IsPlace};
 ghost use Rattle.capn_target.specs.Shapes.{IsContent};
 ghost use Rattle.capn_target.specs.Shapes.{IsInMessage};
 ghost use Rattle.capn_show.specs.Outgoing.{Adds, BreaksOff, outgoing};
-ghost use Rattle.capn_show.specs.inner.ReadyPlaces.{IsReady, IsFound, IsBody, AreReady, AreRows};
+ghost use Rattle.capn_show.specs.ReadyPlaces.{IsReady, IsFound, IsBody, AreReady, AreRows};
 ghost use Rattle.capn_show.specs.inner.JsonPlaces.{IsInJson, IsFoundInJson, IsRowInJson, AreInJson, RowsInJson};
 ghost use Rattle.capn_show.specs.inner.JsonPlaces.{bytes_json_of};
 

@@ -10,7 +10,7 @@ ghost use Rattle.capn_target.specs.declared.target.Target.TheVariants as targets
 ghost use Rattle.capn_target.specs.declared.target.Shape.TheVariants as shapes;
 ghost use Rattle.capn_target.specs.Shapes.{IsContent, IsPlain};
 ghost use Rattle.capn_target.specs.Target.{content_words};
-ghost use Rattle.capn_show.specs.inner.ReadyPlaces.{HasNumbers, NumbersShown, BitsShown};
+ghost use Rattle.capn_show.specs.ReadyPlaces.{HasNumbers, NumbersShown, BitsShown};
 ghost use Rattle.capn_show.specs.inner.JsonPlaces.{WordsInJson, IsFoundInJson, bytes_json_of, values_text};
 ghost use Rattle.capn_show.specs.Outgoing.{Adds, BreaksOff, outgoing};
 

@@ -10,7 +10,7 @@ ghost use Rattle.capn_show.specs.Json.{digits_json};
 ghost use Rattle.capn_show.specs.JsonTexts as texts;
 ghost use Rattle.capn_show.specs.JsonTexts.{text_json, text_or_digits};
 ghost use Rattle.capn_show.specs.inner.JsonPlaces.{bytes_json_of};
-ghost use Rattle.capn_show.specs.inner.ReadyPlaces.{NumbersShown};
+ghost use Rattle.capn_show.specs.ReadyPlaces.{NumbersShown};
 ghost use Rattle.capn_show.specs.Outgoing.{Adds, BreaksOff, outgoing};
 
 use crate::byte_digits::push_bytes;

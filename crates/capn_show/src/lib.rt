@@ -19,6 +19,7 @@
 mod bits;
 mod byte_digits;
 mod bytes;
+mod descent;
 mod digits;
 mod escapes;
 mod fault;
@@ -40,3 +41,14 @@ pub use fault::ShowFault;
 pub use message::show_message;
 pub use part::show_part;
 pub use style::Style;
+
+// What texts of other forms are made of: a text on its way, lines and lists in it, and the steps of a way.
+pub use bits::show_bits;
+pub use byte_digits::show_bytes;
+pub use bytes::{is_text, show_quoted};
+pub use descent::{Part, named, step_down};
+pub use digits::per_word;
+pub use fault::{Broken, fault_of};
+pub use lines::{body_line, named_line, number_line, plain_line, put_number, word_line};
+pub use numbers::number_at;
+pub use output::put;

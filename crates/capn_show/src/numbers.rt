@@ -8,7 +8,7 @@ ghost use Rattle.capn_walk.specs.ValueAt.{words_from};
 ghost use Rattle.capn_target.specs.Shapes.{IsContent};
 ghost use Rattle.capn_target.specs.Target.{content_words};
 ghost use Rattle.capn_walk.specs.View as seen;
-ghost use Rattle.capn_show.specs.inner.ReadyPlaces.{HasNumbers, WordsShown, NumbersShown};
+ghost use Rattle.capn_show.specs.ReadyPlaces.{HasNumbers, WordsShown, NumbersShown};
 ghost use Rattle.capn_show.specs.Outgoing.{Adds, BreaksOff, outgoing};
 
 use crate::digits::{digit, per_word};

@@ -4,21 +4,21 @@ ghost use Rattle.std.specs.Prelude.{◌≡◌, ℕ, ◌+◌, ◌*◌, ◌<◌, �
 ghost use Rattle.capn_words.specs.Message.{IsMessage, IsPlace};
 ghost use Rattle.capn_value.specs.Tree.{Tree};
 ghost use Rattle.capn_target.specs.Shapes.{IsInMessage};
-ghost use Rattle.capn_walk.specs.ValueAt.{IsAt};
 ghost use Rattle.capn_walk.specs.ShownValue.{Shows};
 ghost use Rattle.capn_walk.specs.Accepted.{root};
 ghost use Rattle.capn_show.specs.Outgoing.{Adds, BreaksOff, outgoing};
 ghost use Rattle.capn_show.specs.Part as parts;
-ghost use Rattle.capn_show.specs.inner.ReadyPlaces.{IsReady, Holds, HasValue, LeadsTo, IsPartShown};
+ghost use Rattle.capn_show.specs.ReadyPlaces.{IsReady, Holds, HasValue, LeadsTo, IsPartShown};
 ghost use Rattle.capn_show.specs.Styled.{styled};
 ghost use Rattle.capn_show.specs.Written.{IsWritten, IsUnwritten};
 
+use crate::descent::{named, step_down};
 use crate::fault::{Broken, ShowFault, fault_of};
 use crate::style::Style;
 use crate::styled::{show_nothing, show_there};
-use capn_walk::laws::{values, views_show_values};
-use capn_walk::{Limits, Shape, Target, resolve, survey};
-use capn_words::{Place, Space, Watched, Width};
+use capn_walk::laws::values;
+use capn_walk::{Limits, Target, survey};
+use capn_words::{Place, Space, Watched};
 use std::alloc::Allocator;
 use std::io::Write;
 
@@ -92,88 +92,9 @@ fn follow<S: Space>(space: &S, found: Target, way: &[u64]) -> Option<Target>
     let mut here = found;
     for i in 0..way.len() {
         match step_down(space, here, way[i]) {
-            Some(next) => here = next,
+            Some(next) => here = next.found,
             None => return None,
         }
     }
     Some(here)
-}
-
-/// What is one step below what a pointer names, if anything is there.
-fn step_down<S: Space>(space: &S, found: Target, number: u64) -> Option<Target>
-    requires message { IsMessage (S.message space.now) }
-    requires inside { IsInMessage (S.message space.now) found }
-    requires value { HasValue (S.message space.now) found }
-    ensures inside { IfSome result (λ t. IsInMessage (S.message space.now) t) }
-    ensures there { IfSome result (λ t. (v : Tree) → Shows (S.message space.now) found v
-        → LeadsTo (S.message space.now) v (parts.step_down v number) t) }
-    ensures none { IfNone result ((v : Tree) → Shows (S.message space.now) found v → parts.step_down v number ≡ None) }
-{
-    match found {
-        Target::Nil => None,
-        Target::Cap(_) => None,
-        Target::Content {
-            segment,
-            start,
-            shape,
-            pads: _,
-        } => match shape {
-            Shape::Node { words, slots } => {
-                if number >= slots as u64 {
-                    return None;
-                }
-                let at = Place {
-                    segment,
-                    word: start + words as u32 + number as u32,
-                };
-                Some(named(space, at))
-            }
-            Shape::Many { width, count } => match width {
-                Width::Link => {
-                    if number >= count as u64 {
-                        return None;
-                    }
-                    let at = Place {
-                        segment,
-                        word: start + number as u32,
-                    };
-                    Some(named(space, at))
-                }
-                _ => None,
-            },
-            Shape::Rows {
-                count,
-                words,
-                slots,
-                span: _,
-            } => {
-                if number >= count as u64 {
-                    return None;
-                }
-                let first = start + 1 + number as u32 * (words as u32 + slots as u32);
-                Some(Target::Content {
-                    segment,
-                    start: first,
-                    shape: Shape::Node { words, slots },
-                    pads: 0,
-                })
-            }
-        },
-    }
-}
-
-/// What the pointer at a place names, where a value is.
-fn named<S: Space>(space: &S, at: Place) -> Target
-    requires message { IsMessage (S.message space.now) }
-    requires place { IsPlace (S.message space.now) at }
-    requires value { Holds (S.message space.now) at }
-    ensures inside { IsInMessage (S.message space.now) result }
-    ensures shown { (v : Tree) → IsAt (S.message space.now) at v → Shows (S.message space.now) result v }
-{
-    views_show_values();
-    match resolve(space, at) {
-        Ok(found) => found,
-        // A value is here, so the pointer names something.
-        Err(_) => unreachable!(),
-    }
 }

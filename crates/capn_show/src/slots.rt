@@ -8,8 +8,8 @@ ghost use Rattle.capn_target.specs.Target.{content_words};
 ghost use Rattle.capn_target.specs.Shapes.{IsContent, IsPlain};
 ghost use Rattle.capn_target.specs.Shapes.{IsInMessage};
 ghost use Rattle.capn_show.specs.Outgoing.{Adds, BreaksOff, outgoing};
-ghost use Rattle.capn_show.specs.inner.ReadyPlaces.{IsReady, IsFound, IsBody, AreReady, AreRows, bytes_of};
-ghost use Rattle.capn_show.specs.inner.ReadyPlaces.{IsShown, IsFoundShown, IsBodyShown, AreShown, RowsShown};
+ghost use Rattle.capn_show.specs.ReadyPlaces.{IsReady, IsFound, IsBody, AreReady, AreRows, bytes_of};
+ghost use Rattle.capn_show.specs.ReadyPlaces.{IsShown, IsFoundShown, IsBodyShown, AreShown, RowsShown};
 
 use crate::bits::show_bits;
 use crate::bytes::show_byte_list;

@@ -5,7 +5,7 @@ ghost use Rattle.capn_words.specs.Message.{IsMessage};
 ghost use Rattle.capn_target.specs.Shapes.{IsInMessage};
 ghost use Rattle.capn_show.specs.Outgoing.{Adds, BreaksOff, outgoing};
 ghost use Rattle.capn_show.specs.Styled.{part_in};
-ghost use Rattle.capn_show.specs.inner.ReadyPlaces.{IsFound, IsThereShown, json_style};
+ghost use Rattle.capn_show.specs.ReadyPlaces.{IsFound, IsThereShown, json_style};
 
 use crate::fault::Broken;
 use crate::json::json_found;

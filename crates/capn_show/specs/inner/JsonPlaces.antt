@@ -11,7 +11,7 @@ use Rattle.capn_walk.specs.ValueAt.{IsAt}
 use Rattle.capn_walk.specs.ShownValue.{Shows, ShowsStruct}
 use Rattle.capn_show.specs.Json.{with_commas, word_text, number_text, digits_json, json_by, each_json_by, each_row_by}
 use Rattle.capn_show.specs.JsonTexts.{text_or_digits}
-use Rattle.capn_show.specs.inner.ReadyPlaces.{struct_at, AreDataWords, AreSlots, AreRowsAt}
+use Rattle.capn_show.specs.ReadyPlaces.{struct_at, AreDataWords, AreSlots, AreRowsAt}
 
 -- what comes before an item
 abbrev pub comma : ℕ → List ℕ

@@ -3,7 +3,7 @@ use Rattle.capn_show.specs.Outgoing.{Adds, outgoing}
 use Rattle.std.specs.Int.{from_bool}
 use Rattle.capn_value.specs.Text.{digits_of}
 use Rattle.capn_words.specs.declared.pointer.Width.TheVariants as widths
-use Rattle.capn_show.specs.inner.ReadyPlaces.{AreNumbers}
+use Rattle.capn_show.specs.ReadyPlaces.{AreNumbers}
 use Rattle.capn_show.proofs.bits.push_bits.Given as goal
 
 abbrev pub invariant-loop-i : goal.invariant-loop-i

@@ -2,7 +2,7 @@ use Rattle.std.proofs.Common.{◌≡◌, ◌*◌, ℕ, List, length, take}
 use Rattle.capn_show.specs.Outgoing.{Adds, outgoing}
 use Rattle.hex.specs.Hex.{encode_lower}
 use Rattle.capn_words.specs.declared.pointer.Width.TheVariants as widths
-use Rattle.capn_show.specs.inner.ReadyPlaces.{AreNumbers}
+use Rattle.capn_show.specs.ReadyPlaces.{AreNumbers}
 use Rattle.capn_show.proofs.byte_digits.push_bytes.Given as goal
 
 abbrev pub invariant-loop-i : goal.invariant-loop-i

@@ -1,7 +1,7 @@
 use Rattle.std.proofs.Common.{[], ◌∷◌, ◌++◌, ◌*◌, codes, refl, replicate}
 use Rattle.std.proofs.lemmas.Result.{on_ok_weaker, IfErr-weaker}
 use Rattle.std.specs.Fmt.{decimal}
-use Rattle.capn_show.specs.inner.ReadyPlaces.{quoted_front}
+use Rattle.capn_show.specs.ReadyPlaces.{quoted_front}
 use Rattle.capn_show.specs.Outgoing.{outgoing}
 use Rattle.capn_show.proofs.shared.Appended.{passed, otherwise, otherwise-broken, both, then-broken, broken-before}
 use Rattle.capn_show.proofs.bytes.quoted_front.Goals as goal

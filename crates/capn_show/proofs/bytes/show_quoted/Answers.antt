@@ -2,7 +2,7 @@ use Rattle.std.proofs.Common.{[], ◌∷◌, ◌++◌, length}
 use Rattle.std.proofs.lemmas.Result.{on_ok_weaker, IfErr-weaker}
 use Rattle.capn_show.specs.Outgoing.{outgoing}
 use Rattle.capn_show.specs.Quoting.{escapes}
-use Rattle.capn_show.specs.inner.ReadyPlaces.{quoted_front}
+use Rattle.capn_show.specs.ReadyPlaces.{quoted_front}
 use Rattle.capn_show.proofs.LineTexts.{quoted-lined}
 use Rattle.capn_show.proofs.shared.Appended.{both, otherwise, otherwise-broken, then-broken, broken-before, passed}
 use Rattle.capn_show.proofs.bytes.show_quoted.Goals as goal

@@ -2,7 +2,7 @@ use Rattle.std.proofs.Common.{◌≡◌, ◌∙◌, ℕ, List, Bool, true, false
 use Rattle.std.proofs.lemmas.Result.{on_ok_weaker, IfErr-weaker}
 use Rattle.capn_show.specs.Outgoing.{outgoing}
 use Rattle.capn_show.specs.Quoting.{is_text, plain_bytes, quoted_line, quoted_bytes}
-use Rattle.capn_show.proofs.ReadBytes.{read-bytes}
+use Rattle.capn_show.proofs.shared.ReadBytes.{read-bytes}
 use Rattle.capn_show.proofs.shared.Appended.{otherwise, otherwise-broken}
 use Rattle.capn_show.proofs.bytes.show_text_or_digits.Goals as goal
 

@@ -3,7 +3,7 @@ use Rattle.std.specs.Prelude.{slice_index}
 use Rattle.std.proofs.lemmas.List.{get_or-drop, take_all}
 use Rattle.capn_show.specs.Outgoing.{outgoing}
 use Rattle.capn_show.specs.Quoting.{escapes_by}
-use Rattle.capn_show.specs.inner.ReadyPlaces.{escaped_of}
+use Rattle.capn_show.specs.ReadyPlaces.{escaped_of}
 use Rattle.capn_show.proofs.Grown.{escapes-more, escapes-cut, escapes-all, bare-more, bare-cut}
 use Rattle.capn_show.proofs.shared.Appended.{otherwise, passed}
 use Rattle.capn_show.proofs.escapes.put_escapes.Goals as goal

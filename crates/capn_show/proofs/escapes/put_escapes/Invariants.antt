@@ -1,7 +1,7 @@
 use Rattle.std.proofs.Common.{◌≤◌, ◌-◌, length, take}
 use Rattle.capn_show.specs.Outgoing.{Adds, outgoing}
 use Rattle.capn_show.specs.Quoting.{escapes_by}
-use Rattle.capn_show.specs.inner.ReadyPlaces.{escaped_of}
+use Rattle.capn_show.specs.ReadyPlaces.{escaped_of}
 use Rattle.capn_show.proofs.escapes.put_escapes.Given as goal
 
 abbrev pub invariant-loop-done : goal.invariant-loop-done

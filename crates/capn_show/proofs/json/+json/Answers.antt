@@ -11,10 +11,10 @@ use Rattle.capn_walk.proofs.shared.RowWalks.{row-inside}
 use Rattle.capn_target.proofs.shared.Segments.{segment-room}
 use Rattle.capn_show.specs.Json.{with_commas, struct_text, json_by, each_json_by, each_row_by}
 use Rattle.capn_show.specs.Outgoing.{Adds, BreaksOff, outgoing}
-use Rattle.capn_show.specs.inner.ReadyPlaces.{IsBody, struct_at}
+use Rattle.capn_show.specs.ReadyPlaces.{IsBody, struct_at}
 use Rattle.capn_show.proofs.shared.Appended.{passed, same, both, then-broken, broken-before}
-use Rattle.capn_show.proofs.Steps.{no-fault, found-ready, slot-ready, row-ready, slots-ready}
-use Rattle.capn_show.proofs.FoundTexts.{inside, deep, node-ready, links-ready, rows-ready}
+use Rattle.capn_show.proofs.shared.Steps.{no-fault, found-ready, slot-ready, row-ready, slots-ready}
+use Rattle.capn_show.proofs.shared.FoundTexts.{inside, deep, node-ready, links-ready, rows-ready}
 use Rattle.capn_show.proofs.Chosen.{json_bits_of}
 use Rattle.capn_show.proofs.JsonItems.{item-more, items-end, cut-comma, cut-item, cut-end}
 use Rattle.capn_show.proofs.JsonTexts.{slot-at, slots-length, row-at, rows-length}

@@ -2,7 +2,7 @@ use Rattle.std.proofs.Common.{◌≡◌, ◌+◌, ◌*◌, take}
 use Rattle.capn_show.specs.Outgoing.{Adds, outgoing}
 use Rattle.capn_value.specs.Tree.{Trees, Bodies, count, count_rows}
 use Rattle.capn_show.specs.Json.{with_commas, each_json_by, each_row_by}
-use Rattle.capn_show.specs.inner.ReadyPlaces.{AreSlots, AreRowsAt}
+use Rattle.capn_show.specs.ReadyPlaces.{AreSlots, AreRowsAt}
 use Rattle.capn_show.proofs.Chosen.{json_bits_of}
 use Rattle.capn_show.proofs.json.+json.Given as goal
 

@@ -4,7 +4,7 @@ use Rattle.std.proofs.lemmas.List.{length-map}
 use Rattle.capn_show.specs.Outgoing.{outgoing}
 use Rattle.capn_show.specs.Json.{with_commas}
 use Rattle.capn_show.specs.inner.JsonPlaces.{is_quoted, number_item}
-use Rattle.capn_show.proofs.Within.{element-within}
+use Rattle.capn_show.proofs.shared.Within.{element-within}
 use Rattle.capn_show.proofs.shared.Appended.{passed, same, both, broken-before}
 use Rattle.capn_show.proofs.JsonItems.{item-more, items-end, cut-comma, cut-item, cut-end}
 use Rattle.capn_show.proofs.JsonTexts.{item-at}

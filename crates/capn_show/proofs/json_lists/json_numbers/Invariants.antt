@@ -1,7 +1,7 @@
 use Rattle.std.proofs.Common.{◌≡◌, ℕ, List, length, take, map}
 use Rattle.capn_show.specs.Outgoing.{Adds, outgoing}
 use Rattle.capn_show.specs.Json.{with_commas}
-use Rattle.capn_show.specs.inner.ReadyPlaces.{AreNumbers}
+use Rattle.capn_show.specs.ReadyPlaces.{AreNumbers}
 use Rattle.capn_show.specs.inner.JsonPlaces.{is_quoted, number_item}
 use Rattle.capn_show.proofs.json_lists.json_numbers.Given as goal
 

@@ -1,7 +1,7 @@
 use Rattle.std.proofs.Common.{◌≡◌, ℕ, List, length, take, map}
 use Rattle.capn_show.specs.Outgoing.{Adds, outgoing}
 use Rattle.capn_show.specs.Json.{with_commas, word_text}
-use Rattle.capn_show.specs.inner.ReadyPlaces.{AreDataWords}
+use Rattle.capn_show.specs.ReadyPlaces.{AreDataWords}
 use Rattle.capn_show.proofs.json_lists.json_words.Given as goal
 
 abbrev pub invariant-loop-i : goal.invariant-loop-i

@@ -1,7 +1,7 @@
 use Rattle.std.proofs.Common.{ℕ, List, IfErr, sym, subst}
 use Rattle.capn_words.specs.declared.pointer.Width.TheVariants.{W8}
 use Rattle.capn_show.specs.Outgoing.{BreaksOff, outgoing}
-use Rattle.capn_show.specs.inner.ReadyPlaces.{NumbersShown}
+use Rattle.capn_show.specs.ReadyPlaces.{NumbersShown}
 use Rattle.capn_show.proofs.Chosen.{texts-chosen}
 use Rattle.capn_show.proofs.json_texts.json_byte_list.Goals as goal
 

@@ -3,7 +3,7 @@ use Rattle.std.proofs.lemmas.Result.{on_ok_weaker, IfErr-weaker}
 use Rattle.capn_show.specs.Outgoing.{outgoing}
 use Rattle.capn_show.specs.Json.{digits_json}
 use Rattle.capn_show.specs.JsonTexts.{is_json_text, text_json, text_or_digits}
-use Rattle.capn_show.proofs.ReadBytes.{read-bytes}
+use Rattle.capn_show.proofs.shared.ReadBytes.{read-bytes}
 use Rattle.capn_show.proofs.shared.Appended.{otherwise, otherwise-broken}
 use Rattle.capn_show.proofs.json_texts.json_text_or_digits.Goals as goal
 

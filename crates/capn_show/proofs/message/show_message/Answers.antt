@@ -1,8 +1,8 @@
 use Rattle.std.proofs.Common.{arith}
 use Rattle.capn_show.specs.Outgoing.{outgoing}
 use Rattle.capn_value.specs.Text.{show_text}
-use Rattle.capn_show.proofs.Ends.{unwritten}
-use Rattle.capn_show.proofs.PlainTexts.{plain-shown}
+use Rattle.capn_show.proofs.shared.Ends.{unwritten}
+use Rattle.capn_show.proofs.shared.PlainTexts.{plain-shown}
 use Rattle.capn_show.proofs.shared.Appended.{otherwise, otherwise-broken}
 use Rattle.capn_show.proofs.message.show_message.Goals as goal
 

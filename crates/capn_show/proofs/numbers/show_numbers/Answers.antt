@@ -1,6 +1,6 @@
 use Rattle.std.proofs.Common.{◌<◌, length, arith, ◌∙◌}
 use Rattle.capn_show.specs.Outgoing.{outgoing}
-use Rattle.capn_show.proofs.Within.{element-within}
+use Rattle.capn_show.proofs.shared.Within.{element-within}
 use Rattle.capn_show.proofs.Grown.{number-more, number-cut, numbers-all}
 use Rattle.capn_show.proofs.shared.Appended.{passed, same}
 use Rattle.capn_show.proofs.numbers.show_numbers.Goals as goal

@@ -1,7 +1,7 @@
 use Rattle.std.proofs.Common.{◌≡◌, ℕ, List, length, take}
 use Rattle.capn_show.specs.Outgoing.{Adds, outgoing}
 use Rattle.capn_value.specs.Text.{number_lines}
-use Rattle.capn_show.specs.inner.ReadyPlaces.{AreNumbers}
+use Rattle.capn_show.specs.ReadyPlaces.{AreNumbers}
 use Rattle.capn_show.proofs.numbers.show_numbers.Given as goal
 
 abbrev pub invariant-loop-i : goal.invariant-loop-i

@@ -1,7 +1,7 @@
 use Rattle.std.proofs.Common.{◌≡◌, ℕ, List, length, take}
 use Rattle.capn_show.specs.Outgoing.{Adds, outgoing}
 use Rattle.capn_value.specs.Text.{word_lines}
-use Rattle.capn_show.specs.inner.ReadyPlaces.{AreDataWords}
+use Rattle.capn_show.specs.ReadyPlaces.{AreDataWords}
 use Rattle.capn_show.proofs.numbers.show_words.Given as goal
 
 abbrev pub invariant-loop-i : goal.invariant-loop-i

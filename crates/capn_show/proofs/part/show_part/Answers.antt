@@ -1,7 +1,7 @@
 use Rattle.std.proofs.Common.{arith}
 use Rattle.capn_show.specs.Outgoing.{outgoing}
 use Rattle.capn_show.specs.Styled.{styled}
-use Rattle.capn_show.proofs.Ends.{unwritten}
+use Rattle.capn_show.proofs.shared.Ends.{unwritten}
 use Rattle.capn_show.proofs.part.show_part.Goals as goal
 
 pub write_part-requires-clause-ready : goal.write_part-requires-clause-ready

@@ -12,12 +12,12 @@ use Rattle.capn_words.specs.declared.pointer.Width.{Width}
 use Rattle.capn_value.specs.Tree.{count, count_rows}
 use Rattle.std.specs.Prelude.{⊤}
 use Rattle.capn_show.specs.Outgoing.{Adds, BreaksOff, outgoing}
-use Rattle.capn_show.specs.inner.ReadyPlaces.{IsBody, struct_at}
+use Rattle.capn_show.specs.ReadyPlaces.{IsBody, struct_at}
 use Rattle.capn_show.proofs.shared.Appended.{passed, same, both, then-broken, broken-before}
-use Rattle.capn_show.proofs.Steps.{no-fault, found-ready, found-shown, slot-ready, row-ready, slots-ready}
+use Rattle.capn_show.proofs.shared.Steps.{no-fault, found-ready, found-shown, slot-ready, row-ready, slots-ready}
 use Rattle.capn_show.proofs.SlotTexts.{each-more, each-all, each-cut, rows-more, rows-all, row-cut}
-use Rattle.capn_show.proofs.FoundTexts.{body-shown, nil-shown, cap-shown, node-shown, list-shown, links-shown}
-use Rattle.capn_show.proofs.FoundTexts.{rows-shown, inside, deep, node-ready, links-ready, rows-ready}
+use Rattle.capn_show.proofs.shared.FoundTexts.{body-shown, nil-shown, cap-shown, node-shown, list-shown, links-shown}
+use Rattle.capn_show.proofs.shared.FoundTexts.{rows-shown, inside, deep, node-ready, links-ready, rows-ready}
 use Rattle.capn_show.proofs.slots.+slots.Goals as goal
 use Rattle.capn_show.proofs.Chosen.{by_bits}
 

@@ -3,7 +3,7 @@ use Rattle.capn_show.specs.Outgoing.{Adds, outgoing}
 use Rattle.capn_value.specs.Tree.{Trees, Bodies, count, count_rows, front}
 use Rattle.capn_show.specs.Quoting.{shown_each_by, shown_rows_by}
 use Rattle.capn_show.proofs.Chosen.{by_bits}
-use Rattle.capn_show.specs.inner.ReadyPlaces.{AreSlots, AreRowsAt}
+use Rattle.capn_show.specs.ReadyPlaces.{AreSlots, AreRowsAt}
 use Rattle.capn_show.proofs.RowFront.{front_rows}
 use Rattle.capn_show.proofs.slots.+slots.Given as goal
 

@@ -5,7 +5,7 @@ use Rattle.capn_value.specs.Tree.{Tree}
 use Rattle.capn_show.specs.Json.{json_by, json_line_by}
 use Rattle.capn_show.specs.Styled.{part_in}
 use Rattle.capn_show.specs.inner.JsonPlaces.{bytes_json_of}
-use Rattle.capn_show.specs.inner.ReadyPlaces.{json_style}
+use Rattle.capn_show.specs.ReadyPlaces.{json_style}
 use Rattle.capn_show.proofs.Chosen.{json_bits_of}
 use Rattle.capn_show.specs.Outgoing.{outgoing}
 use Rattle.capn_show.proofs.shared.Appended.{both, otherwise, otherwise-broken, then-broken, broken-before, passed}

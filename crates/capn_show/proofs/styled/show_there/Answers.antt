@@ -7,7 +7,7 @@ use Rattle.capn_show.specs.Quoting.{plain_bytes, quoted_bytes, shown_by}
 use Rattle.capn_show.specs.Styled.{part_in}
 use Rattle.capn_show.specs.declared.style.Style.{Style}
 use Rattle.capn_show.specs.declared.style.Style.TheVariants as styles
-use Rattle.capn_show.proofs.PlainTexts.{plain-shown}
+use Rattle.capn_show.proofs.shared.PlainTexts.{plain-shown}
 use Rattle.capn_show.proofs.shared.Appended.{otherwise, otherwise-broken}
 use Rattle.capn_show.proofs.styled.show_there.Goals as goal
 

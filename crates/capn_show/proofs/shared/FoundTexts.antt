@@ -13,9 +13,9 @@ use Rattle.capn_target.specs.declared.target.Shape.TheVariants as shapes
 use Rattle.capn_target.specs.Shapes.{IsContent, IsPlain, RowsFit, extent}
 use Rattle.capn_target.specs.Shapes.{IsInMessage}
 use Rattle.capn_walk.specs.ShownValue.{Shows}
-use Rattle.capn_show.specs.inner.ReadyPlaces.{IsFound, IsBody, AreReady, AreRows}
-use Rattle.capn_show.specs.inner.ReadyPlaces.{IsFoundShown, IsBodyShown, AreShown, RowsShown, WordsShown}
-use Rattle.capn_show.proofs.FoundKinds.{as-nil, as-cap, as-node, as-links, as-rows}
+use Rattle.capn_show.specs.ReadyPlaces.{IsFound, IsBody, AreReady, AreRows}
+use Rattle.capn_show.specs.ReadyPlaces.{IsFoundShown, IsBodyShown, AreShown, RowsShown, WordsShown}
+use Rattle.capn_show.proofs.shared.FoundKinds.{as-nil, as-cap, as-node, as-links, as-rows}
 
 module _ (by : ℕ → List ℕ → List ℕ) where
   -- a struct, by its three parts

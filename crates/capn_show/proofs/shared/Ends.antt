@@ -7,7 +7,7 @@ use Rattle.capn_show.specs.declared.fault.Broken.{Broken}
 use Rattle.capn_show.specs.declared.fault.Broken.TheVariants as broken
 use Rattle.capn_show.specs.Outgoing.{Outgoing}
 use Rattle.capn_show.specs.Written.{IsBegun, IsUnwritten}
-use Rattle.capn_show.specs.inner.ReadyPlaces.{as_fault}
+use Rattle.capn_show.specs.ReadyPlaces.{as_fault}
 
 module _ (m : List (List ℕ)) (limits : Bounds) (text_of : Tree → List ℕ) (p q : Outgoing) where
   pub unwritten : (e : Broken) (fault : ShowFault) → fault ≡ as_fault e → IsBegun m limits text_of p q e

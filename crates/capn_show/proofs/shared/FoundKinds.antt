@@ -17,7 +17,7 @@ use Rattle.capn_walk.specs.declared.kind.Kind.TheVariants as kinds
 use Rattle.capn_target.specs.Target.{list_width}
 use Rattle.capn_walk.specs.View.{kind_of_list, kind_of}
 use Rattle.capn_walk.specs.ShownValue.{Shows, ShowsStruct}
-use Rattle.capn_show.specs.inner.ReadyPlaces.{struct_at, AreNumbers, AreSlots, AreRowsAt}
+use Rattle.capn_show.specs.ReadyPlaces.{struct_at, AreNumbers, AreSlots, AreRowsAt}
 
 -- the kind of a value
 abbrev kind_in : Tree → Kind

@@ -1,10 +1,10 @@
 -- An element of a list is in one of its content words.
-use Rattle.std.proofs.Common.{ℕ, ◌+◌, ◌/◌, ◌<◌, ◌≤◌, arith}
+use Rattle.std.proofs.Common.{ℕ, ◌+◌, ◌*◌, ◌/◌, ◌<◌, ◌≤◌, arith}
 use Rattle.capn_words.specs.declared.pointer.Width.{Width}
 use Rattle.capn_words.specs.declared.pointer.Width.TheVariants.{W0, W1, W8, W16, W32, W64, Link, Rows}
 use Rattle.capn_target.specs.Target.{content_words}
 use Rattle.capn_walk.specs.View.{per_word}
-use Rattle.capn_show.specs.inner.ReadyPlaces.{HasNumbers}
+use Rattle.capn_show.specs.ReadyPlaces.{HasNumbers}
 
 pub element-within : (width : Width) (n i : ℕ) → HasNumbers width → i < n
     → i / per_word width + 1 ≤ content_words width n
@@ -16,3 +16,15 @@ element-within W32 n i h below = omega arith
 element-within W64 n i h below = omega arith
 element-within Link n i h below = absurd h
 element-within Rows n i h below = absurd h
+
+-- the bytes before an element are within the words of its list
+pub bytes-within : (width : Width) (n i : ℕ) → HasNumbers width → i < n
+    → i * (8 / per_word width) < 8 * content_words width n
+bytes-within W0 n i h below = absurd h
+bytes-within W1 n i h below = omega arith
+bytes-within W8 n i h below = omega arith
+bytes-within W16 n i h below = omega arith
+bytes-within W32 n i h below = omega arith
+bytes-within W64 n i h below = omega arith
+bytes-within Link n i h below = absurd h
+bytes-within Rows n i h below = absurd h

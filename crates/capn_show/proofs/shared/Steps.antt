@@ -9,7 +9,7 @@ use Rattle.capn_target.specs.declared.target.Fault.{Fault}
 use Rattle.capn_target.specs.Target.{target}
 use Rattle.capn_walk.specs.ValueAt.{IsAt}
 use Rattle.capn_walk.specs.ShownValue.{ViewsShow, words_of_row, slots_of_row}
-use Rattle.capn_show.specs.inner.ReadyPlaces.{IsReady, IsFound, IsBody, AreReady, AreRows, IsShown, IsFoundShown}
+use Rattle.capn_show.specs.ReadyPlaces.{IsReady, IsFound, IsBody, AreReady, AreRows, IsShown, IsFoundShown}
 use Rattle.capn_show.proofs.SlotTexts.{low-at, row-low}
 
 module _ (m : List (List ℕ)) where

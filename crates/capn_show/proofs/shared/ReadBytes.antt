@@ -5,7 +5,7 @@ use Rattle.capn_words.specs.Message.{segment_at, bytes_at}
 use Rattle.capn_words.specs.declared.space.Place.{Place}
 use Rattle.capn_words.specs.declared.pointer.Width.TheVariants.{W8}
 use Rattle.capn_walk.proofs.shared.Elements.{length-read, are-bytes}
-use Rattle.capn_show.specs.inner.ReadyPlaces.{AreNumbers}
+use Rattle.capn_show.specs.ReadyPlaces.{AreNumbers}
 
 pub read-bytes : (m : List (List ℕ)) (at : Place) (n : ℕ) (bs xs : List ℕ) → bs ≡ bytes_at m at n
     → 8 * at.word + n ≤ 8 * length (segment_at m at.segment) → AreNumbers m at.segment at.word W8 xs → length xs ≡ n
