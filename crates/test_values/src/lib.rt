@@ -18,6 +18,8 @@ mod layouts;
 #[cfg(test)]
 mod making;
 #[cfg(test)]
+mod marked_texts;
+#[cfg(test)]
 mod measures;
 #[cfg(test)]
 mod steps;

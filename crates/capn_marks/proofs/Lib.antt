@@ -1,0 +1,7 @@
+mod Before
+mod ItemTexts
+mod LedSteps
+mod MarkedItems
+mod MarkedTexts
+mod Sequels
+mod WithoutMarks

@@ -1,0 +1,60 @@
+use Rattle.std.proofs.Common.{◌+◌, ◌*◌, ◌/◌, ◌<◌, ◌++◌, ℕ, length, arith, ap, ap₂, ◌∙◌}
+use Rattle.capn_walk.specs.View as seen
+use Rattle.capn_marks.specs.Marked.{mark, number_line}
+use Rattle.capn_show.specs.Outgoing.{outgoing}
+use Rattle.capn_marks.proofs.ItemTexts.{item-more, item-cut, items-all}
+use Rattle.capn_show.proofs.shared.Within.{element-within}
+use Rattle.capn_marks.proofs.MarkedItems.{line_item, lines-items}
+use Rattle.capn_show.proofs.shared.Appended.{passed, same, otherwise, otherwise-broken}
+use Rattle.capn_marks.proofs.marked_lists.mark_numbers.Goals as goal
+
+pub loop-i-init : goal.loop-i-init
+loop-i-init g c xs h n = same (outgoing g.W.Write.contents c.args.writer.now c.args.text.now.items)
+
+pub loop-i-preserved : goal.loop-i-preserved
+loop-i-preserved g c xs h n =
+    let i = c.loop-i.i in
+    let below : i < length xs = omega arith in
+    let p = (outgoing g.W.Write.contents c.args.writer.now c.args.text.now.items) in
+    let q = (outgoing g.W.Write.contents c.loop-i.writer c.loop-i.text.items) in
+    let r = (outgoing g.W.Write.contents c.mark_number.new.writer c.mark_number.new.text.items) in
+    item-more (line_item c.args.marks (8 / seen.per_word c.args.width)
+    (number_line c.args.level) c.args.way.now c.args.first) 0 p q xs i r below
+    (c.loop-i.invariant xs h n)
+    (otherwise q r _ _ (ap₂ (λ (k x : ℕ). mark c.args.marks k c.args.way.now ++ number_line c.args.level x)
+    (ap (λ (k : ℕ). c.args.first + i * k) c.element_bytes-size.ensures.is) (c.number_at-number.ensures
+    ∙ h i below)) c.in_ok-mark_number.ensures.shown)
+
+pub returns-clause-shown : goal.returns-clause-shown
+returns-clause-shown g c xs h n =
+    let p = (outgoing g.W.Write.contents c.args.writer.now c.args.text.now.items) in
+    let q = (outgoing g.W.Write.contents c.loop-i.writer c.loop-i.text.items) in
+    otherwise p q _ _
+    (lines-items c.args.marks (8 / seen.per_word c.args.width)
+    (number_line c.args.level) c.args.way.now c.args.first xs)
+    (items-all (line_item c.args.marks (8 / seen.per_word c.args.width)
+    (number_line c.args.level) c.args.way.now c.args.first) 0 p q xs c.loop-i.i (omega arith)
+    (c.loop-i.invariant xs h n))
+
+pub returns-in_err-mark_number-clause-cut : goal.returns-in_err-mark_number-clause-cut
+returns-in_err-mark_number-clause-cut g c =
+    passed c.from_residual.result c.in_err-mark_number.field-0.0 _ c.from_residual.ensures.1
+    (λ xs h n. let i = c.loop-i.i in
+    let below : i < length xs = omega arith in
+    let p = (outgoing g.W.Write.contents c.args.writer.now c.args.text.now.items) in
+    let q = (outgoing g.W.Write.contents c.loop-i.writer c.loop-i.text.items) in
+    let r = (outgoing g.W.Write.contents c.mark_number.new.writer c.mark_number.new.text.items) in
+    otherwise-broken p r _ _ _
+    (lines-items c.args.marks (8 / seen.per_word c.args.width)
+    (number_line c.args.level) c.args.way.now c.args.first xs)
+    (item-cut (line_item c.args.marks (8 / seen.per_word c.args.width)
+    (number_line c.args.level) c.args.way.now c.args.first) 0 p q xs i r _ below (c.loop-i.invariant xs h n)
+    (otherwise-broken q r _ _ _ (ap₂ (λ (k x : ℕ). mark c.args.marks k c.args.way.now ++ number_line c.args.level x)
+    (ap (λ (k : ℕ). c.args.first + i * k) c.element_bytes-size.ensures.is) (c.number_at-number.ensures
+    ∙ h i below)) c.in_err-mark_number.ensures.cut)))
+
+pub number_at-number-requires-clause-there : goal.number_at-number-requires-clause-there
+number_at-number-requires-clause-there g c =
+    let within = c.requires.content.within in
+    let k = element-within c.args.width c.args.count c.loop-i.i c.requires.plain (omega arith) in
+    record { exists = c.requires.content.exists; within = omega arith }

@@ -1,0 +1,74 @@
+use Rattle.std.proofs.Common.{◌≡◌, ◌∙◌, ℕ, List, Bool, true, false, ap, sym, arith, if◌then◌else◌}
+use Rattle.std.proofs.lemmas.Result.{on_ok_weaker, IfErr-weaker}
+use Rattle.capn_show.specs.Outgoing.{outgoing}
+use Rattle.capn_show.specs.Quoting.{is_text, quoted_line}
+use Rattle.capn_marks.specs.Marked.{digit_lines, text_or_digits}
+use Rattle.capn_marks.specs.declared.marks.Marks.{Marks}
+use Rattle.capn_show.proofs.shared.ReadBytes.{read-bytes}
+use Rattle.capn_show.proofs.shared.Appended.{otherwise, otherwise-broken}
+use Rattle.capn_marks.proofs.marked_lists.mark_text_or_digits.Goals as goal
+
+module _ (marks : Marks) (level : ℕ) (way : List ℕ) (first : ℕ) (bs xs : List ℕ) (e : bs ≡ xs) where
+  -- the lines of a list, by the answer whether the bytes that were read are a text
+  text-lines : is_text bs ≡ true → quoted_line level bs ≡ text_or_digits marks level way first xs
+  text-lines t =
+      ap (λ (b : Bool). if b then quoted_line level bs else digit_lines marks level way first bs) (sym t)
+      ∙ ap (text_or_digits marks level way first) e
+
+  digit-lines : is_text bs ≡ false → digit_lines marks level way first xs ≡ text_or_digits marks level way first xs
+  digit-lines t =
+      ap (λ (b : Bool). if b then quoted_line level xs else digit_lines marks level way first xs)
+      (sym t ∙ ap is_text e)
+
+pub returns-then-is_text-clause-shown : goal.returns-then-is_text-clause-shown
+returns-then-is_text-clause-shown g c =
+    let m = g.S.Space.message c.args.space.now in
+    let bs = c.bytes-bytes.result.now in
+    let p = outgoing g.W.Write.contents c.args.writer.now c.args.text.now.items in
+    let q = outgoing g.W.Write.contents c.show_quoted.new.writer c.show_quoted.new.text.items in
+    let within = c.requires.content.within in
+    on_ok_weaker c.show_quoted.result
+    (λ k xs h n. let same = read-bytes m c.args.start c.args.count bs xs c.bytes-bytes.ensures (omega arith) h n in
+    otherwise p q _ _ (text-lines c.args.marks c.args.level c.args.way.now c.args.first bs xs same
+    (sym c.is_text.ensures ∙ c.if-is_text.true)) k)
+    c.show_quoted.ensures.shown
+
+pub returns-then-is_text-clause-cut : goal.returns-then-is_text-clause-cut
+returns-then-is_text-clause-cut g c =
+    let m = g.S.Space.message c.args.space.now in
+    let bs = c.bytes-bytes.result.now in
+    let p = outgoing g.W.Write.contents c.args.writer.now c.args.text.now.items in
+    let q = outgoing g.W.Write.contents c.show_quoted.new.writer c.show_quoted.new.text.items in
+    let within = c.requires.content.within in
+    IfErr-weaker c.show_quoted.result _ _
+    (λ e k xs h n. let same = read-bytes m c.args.start c.args.count bs xs c.bytes-bytes.ensures (omega arith) h n in
+    otherwise-broken p q e _ _ (text-lines c.args.marks c.args.level c.args.way.now c.args.first bs xs same
+    (sym c.is_text.ensures ∙ c.if-is_text.true)) k)
+    c.show_quoted.ensures.cut
+
+pub returns-else-is_text-clause-shown : goal.returns-else-is_text-clause-shown
+returns-else-is_text-clause-shown g c =
+    let m = g.S.Space.message c.args.space.now in
+    let bs = c.bytes-bytes.result.now in
+    let p = outgoing g.W.Write.contents c.args.writer.now c.args.text.now.items in
+    let q = outgoing g.W.Write.contents c.mark_digit_lines.new.writer c.mark_digit_lines.new.text.items in
+    let within = c.requires.content.within in
+    on_ok_weaker c.mark_digit_lines.result
+    (λ k xs h n. let same = read-bytes m c.args.start c.args.count bs xs c.bytes-bytes.ensures (omega arith) h n in
+    otherwise p q _ _ (digit-lines c.args.marks c.args.level c.args.way.now c.args.first bs xs same
+    (sym c.is_text.ensures ∙ c.if-is_text.false)) (k xs h n))
+    c.mark_digit_lines.ensures.shown
+
+pub returns-else-is_text-clause-cut : goal.returns-else-is_text-clause-cut
+returns-else-is_text-clause-cut g c =
+    let m = g.S.Space.message c.args.space.now in
+    let bs = c.bytes-bytes.result.now in
+    let p = outgoing g.W.Write.contents c.args.writer.now c.args.text.now.items in
+    let q = outgoing g.W.Write.contents c.mark_digit_lines.new.writer c.mark_digit_lines.new.text.items in
+    let within = c.requires.content.within in
+    IfErr-weaker c.mark_digit_lines.result _ _
+    (λ e k xs h n. let same = read-bytes m c.args.start c.args.count bs xs c.bytes-bytes.ensures (omega arith) h n in
+    otherwise-broken p q e _ _ (digit-lines c.args.marks c.args.level c.args.way.now c.args.first bs xs same
+    (sym c.is_text.ensures ∙ c.if-is_text.false))
+    (k xs h n))
+    c.mark_digit_lines.ensures.cut

@@ -1,0 +1,4 @@
+pub mod Laws
+pub mod Marked
+pub mod MarkedPart
+pub mod MarkedPlaces

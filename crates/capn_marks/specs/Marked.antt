@@ -1,0 +1,185 @@
+-- The text of a message with marks: before each line stands where what it is about lies, and the way to it. (Own.)
+use Rattle.std.specs.Prelude.{◌≡◌, ℕ, zero, suc, ◌+◌, ◌*◌, ◌/◌, Bool, true, false, List, [], ◌∷◌, ◌++◌}
+use Rattle.std.specs.Prelude.{length, take, map, codes, if◌then◌else◌, refl}
+use Rattle.std.specs.Fmt.{decimal, digits}
+use Rattle.hex.specs.Hex.{encode_lower, encode_with}
+use Rattle.capn_words.specs.Message.{total}
+use Rattle.capn_words.specs.Pointers.{pointer_of}
+use Rattle.capn_words.specs.declared.space.Place.{Place}
+use Rattle.capn_value.specs.NumberWidth.{NumberWidth, bit, byte, pair, is_set, bits_in}
+use Rattle.capn_value.specs.Tree.{Tree, nil, node, voids, numbers, links, rows, cap, Trees}
+use Rattle.capn_value.specs.Tree.{no_trees, tree, Bodies, no_bodies, body, count, count_rows}
+use Rattle.capn_value.specs.Text.{line, named, hex16, digits_of, body_line, numbers_name}
+use Rattle.capn_target.specs.declared.target.Target.{Target}
+use Rattle.capn_target.specs.Target.{target}
+use Rattle.capn_walk.specs.Accepted.{root}
+use Rattle.capn_walk.specs.View.{step_place, row_of}
+use Rattle.capn_show.specs.Descent.{begin, named_by}
+use Rattle.capn_show.specs.Quoting.{is_text, quoted_line}
+use Rattle.capn_marks.specs.declared.marks.Marks.{Marks}
+
+-- ---- ways and places
+
+-- the text of a way, by that of the way above it and the last number
+abbrev pub below : List ℕ → ℕ → List ℕ
+below [] i = decimal i
+below (c ∷ way) i = (c ∷ way) ++ 46 ∷ decimal i
+
+-- what a way is called
+abbrev pub way_name : List ℕ → List ℕ
+way_name [] = codes "root"
+way_name (c ∷ way) = c ∷ way
+
+-- the byte of the first word of a message: its table lies between that and the bytes before the message
+abbrev pub first_byte : Marks → ℕ
+first_byte marks = marks.offset + 8 * marks.table
+
+-- the byte of a word of a message whose words begin at a byte: the segments lie one after the other
+abbrev pub byte_of : ℕ → List (List ℕ) → Place → ℕ
+byte_of start m at = start + 8 * (total (take at.segment m) + at.word)
+
+-- ---- marks
+
+-- the byte of what a line is about
+abbrev pub offset_mark : Bool → ℕ → List ℕ
+offset_mark offsets lies = if offsets then decimal lies ++ 9 ∷ [] else []
+
+-- the way to it
+abbrev pub way_mark : Bool → List ℕ → List ℕ
+way_mark ways way = if ways then way_name way ++ 9 ∷ [] else []
+
+-- what stands before a line about what lies at a byte, at a way
+abbrev pub mark : Marks → ℕ → List ℕ → List ℕ
+mark marks lies way = offset_mark marks.offsets lies ++ way_mark marks.ways way
+
+-- ---- lines with marks
+
+-- the line of a data word
+abbrev pub word_line : ℕ → ℕ → List ℕ
+word_line level w = line level (codes "word " ++ hex16 w)
+
+-- the line of an element
+abbrev pub number_line : ℕ → ℕ → List ℕ
+number_line level n = line level (decimal n)
+
+module _ (marks : Marks) where
+  -- a line for each number, of which the first lies at a byte, and each takes so many
+  abbrev pub marked_lines : ℕ → (ℕ → List ℕ) → List ℕ → ℕ → List ℕ → List ℕ
+  marked_lines size line_of way first [] = []
+  marked_lines size line_of way first (x ∷ xs) =
+      mark marks first way ++ (line_of x ++ marked_lines size line_of way (first + size) xs)
+
+  -- the digits of a list whose first element lies at a byte: one line, unless the list is empty
+  abbrev pub marked_digits : ℕ → List ℕ → ℕ → ℕ → List ℕ → List ℕ
+  marked_digits level way first zero digits = []
+  marked_digits level way first (suc n) digits = mark marks first way ++ line level digits
+
+  -- the lines of a list of bytes in digits: of the first one, what stands behind the mark
+  abbrev pub digit_lines : ℕ → List ℕ → ℕ → List ℕ → List ℕ
+  digit_lines level way first xs =
+      line level (named (codes "bytes") (length xs))
+      ++ marked_digits (level + 1) way first (length xs) (encode_lower xs)
+
+  -- a text on one line, or the digits of what is none
+  abbrev pub text_or_digits : ℕ → List ℕ → ℕ → List ℕ → List ℕ
+  text_or_digits level way first xs =
+      if is_text xs then quoted_line level xs else digit_lines level way first xs
+
+  -- the lines of a list of numbers: of the first one, what stands behind the mark
+  abbrev pub marked_numbers : NumberWidth → ℕ → List ℕ → ℕ → List ℕ → List ℕ
+  marked_numbers bit level way first xs =
+      line level (named (codes "bits") (length xs))
+      ++ marked_digits (level + 1) way first (length xs) (digits_of (map is_set xs))
+  marked_numbers byte level way first xs =
+      if marks.quoted then text_or_digits level way first xs else digit_lines level way first xs
+  marked_numbers a level way first xs =
+      line level (named (numbers_name a) (length xs))
+      ++ marked_lines (bits_in a / 8) (number_line (level + 1)) way first xs
+
+-- ---- the text
+
+module _ (m : List (List ℕ)) (marks : Marks) where
+  -- the byte of a word
+  abbrev pub byte_at : Place → ℕ
+  byte_at at = byte_of (first_byte marks) m at
+
+  abbrev mutual
+    -- what a pointer names, at a level and a way: of its first line, what stands behind the mark, and all lines below
+    pub unmarked : ℕ → List ℕ → Target → Tree → List ℕ
+    unmarked level way found nil = line level (codes "null")
+    unmarked level way found (node ws ss) =
+        body_line level (length ws) (count ss)
+        ++ (marked_lines marks 8 (word_line (level + 1)) way (byte_at (begin found)) ws
+        ++ marked_slots (level + 1) way (step_place found) 0 ss)
+    unmarked level way found (voids n) = line level (named (codes "void") n)
+    unmarked level way found (numbers a xs) = marked_numbers marks a level way (byte_at (begin found)) xs
+    unmarked level way found (links ts) =
+        line level (named (codes "pointers") (count ts)) ++ marked_slots (level + 1) way (step_place found) 0 ts
+    unmarked level way found (rows bs) =
+        line level (named (codes "rows") (count_rows bs)) ++ marked_rows (level + 1) way (row_of found) 0 bs
+    unmarked level way found (cap k) = line level (named (codes "capability") k)
+
+    -- slots at these places, from one number on: the mark is that of the slot
+    pub marked_slots : ℕ → List ℕ → (ℕ → Place) → ℕ → Trees → List ℕ
+    marked_slots level way place i no_trees = []
+    marked_slots level way place i (tree t ts) =
+        (mark marks (byte_at (place i)) (below way i)
+        ++ unmarked level (below way i) (named_by (target m (place i))) t)
+        ++ marked_slots level way place (suc i) ts
+
+    -- these rows, from one number on: the mark says where the row begins
+    pub marked_rows : ℕ → List ℕ → (ℕ → Target) → ℕ → Bodies → List ℕ
+    marked_rows level way row i no_bodies = []
+    marked_rows level way row i (body ws ss bs) =
+        (mark marks (byte_at (begin (row i))) (below way i)
+        ++ (body_line level (length ws) (count ss)
+        ++ (marked_lines marks 8 (word_line (level + 1)) (below way i) (byte_at (begin (row i))) ws
+        ++ marked_slots (level + 1) (below way i) (step_place (row i)) 0 ss)))
+        ++ marked_rows level way row (suc i) bs
+
+  -- a struct, behind its mark
+  abbrev pub unmarked_body : ℕ → List ℕ → Target → List ℕ → Trees → List ℕ
+  unmarked_body level way found ws ss = unmarked level way found (node ws ss)
+
+  -- the value in a slot
+  abbrev pub marked_slot : ℕ → List ℕ → Place → Tree → List ℕ
+  marked_slot level way at t =
+      mark marks (byte_at at) way ++ unmarked level way (named_by (target m at)) t
+
+  -- the value at the root
+  abbrev pub marked_text : Tree → List ℕ
+  marked_text t = marked_slot 0 [] root t
+
+-- ---- examples: marks, and a struct of one word and one slot that is null, in a message whose words begin at byte 8
+
+both_marks : mark (record { offsets = true; ways = true; quoted = false; offset = 0; table = 0 }) 40
+    (below (codes "0") 3)
+    ≡ codes "40\t0.3\t"
+unfolding digits
+both_marks = refl
+
+the_root : way_mark true [] ≡ codes "root\t"
+the_root = refl
+
+no_marks : mark (record { offsets = false; ways = false; quoted = false; offset = 0; table = 0 }) 40 (codes "0") ≡ []
+no_marks = refl
+
+second_segment : byte_of 16 ((1 ∷ 2 ∷ 3 ∷ []) ∷ (4 ∷ 5 ∷ []) ∷ []) (record { segment = 1; word = 1 }) ≡ 48
+second_segment = refl
+
+elements : marked_numbers (record { offsets = true; ways = false; quoted = false; offset = 0; table = 0 }) pair 0
+    [] 16 (7 ∷ 9 ∷ [])
+    ≡ codes "u16 2\n16\t  7\n18\t  9\n"
+unfolding line digits
+elements = refl
+
+a_struct : marked_text ((281479271677952 ∷ 5 ∷ 0 ∷ []) ∷ []) (record {
+  offsets = true;
+  ways = true;
+  quoted = false;
+  offset = 0;
+  table = 1;
+}) (node (5 ∷ []) (tree nil no_trees))
+    ≡ codes "8\troot\tstruct 1 1\n16\troot\t  word 0000000000000005\n24\t0\t  null\n"
+unfolding line digits target pointer_of encode_with
+a_struct = refl

@@ -1,0 +1,15 @@
+//! The text of a message with marks: before each line stand the byte of what it is about, the way to it, or both.
+//!
+//! [`show_marked`] surveys a message and adds its text, or that of what is at a way, as `capn_show::show_part` does.
+//! The byte of a line is that of a stream in which the message begins at [`Marks::offset`], behind a table.
+#![tactic(auto)]
+
+pub mod laws;
+mod marked;
+mod marked_lists;
+mod marked_part;
+mod marks;
+mod starts;
+
+pub use marked_part::show_marked;
+pub use marks::Marks;

@@ -1,0 +1,392 @@
+//! The text of a message's slots, with marks, and all below them.
+
+ghost use Rattle.std.specs.Prelude.{◌≡◌, ℕ, ◌<◌, ◌+◌, ◌*◌, ◌^◌, IfErr, OnOk};
+ghost use Rattle.capn_words.specs.Message.{IsMessage, IsPlace};
+ghost use Rattle.capn_target.specs.Shapes.{IsContent, IsInMessage};
+ghost use Rattle.capn_marks.specs.Marked as spec;
+ghost use Rattle.capn_show.specs.Outgoing.{Adds, BreaksOff, outgoing};
+ghost use Rattle.capn_marks.specs.MarkedPlaces.{AreMarked, IsBodyMarked, IsFoundMarked, IsMarked, IsRowMarked};
+ghost use Rattle.capn_marks.specs.MarkedPlaces.{CountsBefore, RowsMarked};
+ghost use Rattle.capn_show.specs.ReadyPlaces.{AreReady, AreRows, IsBody, IsFound, IsReady};
+
+use crate::marked_lists::{mark_list, mark_words};
+use crate::marks::{Marks, push_number, put_mark, way_length};
+use crate::starts::byte_of;
+use capn_show::{Broken, body_line, named_line, plain_line};
+use capn_walk::laws::views_show_values;
+use capn_walk::{Shape, Target, resolve};
+use capn_words::{Place, Space, Watched, Width};
+use std::alloc::Allocator;
+use std::io::Write;
+
+/// The text of the value at a place.
+#[cycle(marked)]
+pub fn mark_slot<S: Space, W: Write, A: Allocator>(
+    text: &mut Vec<u8, A>,
+    writer: &mut Watched<W>,
+    way: &mut Vec<u8, A>,
+    space: &S,
+    before: &[u32],
+    marks: Marks,
+    at: Place,
+    level: u32,
+    depth: u32,
+) -> Result<(), Broken>
+    requires message { IsMessage (S.message space.now) }
+    requires counts { CountsBefore (S.message space.now) before.now }
+    requires place { IsPlace (S.message space.now) at }
+    requires ready { IsReady (S.message space.now) at depth }
+    requires room { level + 2 * depth < 2 ^ 32 }
+    ensures shown { OnOk result (IsMarked (S.message space.now) marks level way.old.items at
+        (Adds (outgoing W.contents writer.old text.old.items)
+        (outgoing W.contents writer.new text.new.items))) }
+    ensures cut { IfErr result (λ e. IsMarked (S.message space.now) marks level way.old.items at
+        (BreaksOff (outgoing W.contents writer.old text.old.items)
+        (outgoing W.contents writer.new text.new.items) e)) }
+    ensures kept { OnOk result (way.new.items ≡ way.old.items) }
+{
+    let byte = byte_of(space, marks, before, at);
+    put_mark(text, writer, marks, way.as_slice(), byte)?;
+    views_show_values();
+    match resolve(space, at) {
+        Ok(found) => mark_found(text, writer, way, space, before, marks, found, level, depth),
+        // A value is here, so the pointer names something.
+        Err(_) => unreachable!(),
+    }
+}
+
+/// The text of the value that a pointer names, behind its first mark.
+#[cycle(marked)]
+pub fn mark_found<S: Space, W: Write, A: Allocator>(
+    text: &mut Vec<u8, A>,
+    writer: &mut Watched<W>,
+    way: &mut Vec<u8, A>,
+    space: &S,
+    before: &[u32],
+    marks: Marks,
+    found: Target,
+    level: u32,
+    depth: u32,
+) -> Result<(), Broken>
+    requires message { IsMessage (S.message space.now) }
+    requires counts { CountsBefore (S.message space.now) before.now }
+    requires inside { IsInMessage (S.message space.now) found }
+    requires ready { IsFound (S.message space.now) found depth }
+    requires room { level + 2 * depth < 2 ^ 32 }
+    ensures shown { OnOk result (IsFoundMarked (S.message space.now) marks level way.old.items found
+        (Adds (outgoing W.contents writer.old text.old.items)
+        (outgoing W.contents writer.new text.new.items))) }
+    ensures cut { IfErr result (λ e. IsFoundMarked (S.message space.now) marks level way.old.items found
+        (BreaksOff (outgoing W.contents writer.old text.old.items)
+        (outgoing W.contents writer.new text.new.items) e)) }
+    ensures kept { OnOk result (way.new.items ≡ way.old.items) }
+{
+    match found {
+        Target::Nil => plain_line(text, writer, level, "null"),
+        Target::Cap(index) => named_line(text, writer, level, "capability", index),
+        Target::Content {
+            segment,
+            start,
+            shape,
+            pads: _,
+        } => {
+            let start = Place {
+                segment,
+                word: start,
+            };
+            match shape {
+                Shape::Node { words, slots } => mark_body(
+                    text,
+                    writer,
+                    way,
+                    space,
+                    before,
+                    marks,
+                    start,
+                    words,
+                    slots,
+                    level,
+                    depth - 1,
+                ),
+                Shape::Many { width, count } => match width {
+                    Width::Link => {
+                        named_line(text, writer, level, "pointers", count)?;
+                        mark_slots(
+                            text,
+                            writer,
+                            way,
+                            space,
+                            before,
+                            marks,
+                            start,
+                            count,
+                            level + 1,
+                            depth - 1,
+                        )
+                    }
+                    _ => mark_list(
+                        text,
+                        writer,
+                        space,
+                        before,
+                        marks,
+                        way.as_slice(),
+                        start,
+                        width,
+                        count,
+                        level,
+                    ),
+                },
+                Shape::Rows {
+                    count,
+                    words,
+                    slots,
+                    span: _,
+                } => {
+                    named_line(text, writer, level, "rows", count)?;
+                    let first = Place {
+                        segment,
+                        word: start.word + 1,
+                    };
+                    mark_rows(
+                        text,
+                        writer,
+                        way,
+                        space,
+                        before,
+                        marks,
+                        first,
+                        count,
+                        words,
+                        slots,
+                        level + 1,
+                        depth - 1,
+                    )
+                }
+            }
+        }
+    }
+}
+
+/// The text of a struct, behind its first mark.
+#[cycle(marked)]
+fn mark_body<S: Space, W: Write, A: Allocator>(
+    text: &mut Vec<u8, A>,
+    writer: &mut Watched<W>,
+    way: &mut Vec<u8, A>,
+    space: &S,
+    before: &[u32],
+    marks: Marks,
+    start: Place,
+    words: u16,
+    slots: u16,
+    level: u32,
+    depth: u32,
+) -> Result<(), Broken>
+    requires message { IsMessage (S.message space.now) }
+    requires counts { CountsBefore (S.message space.now) before.now }
+    requires content { IsContent (S.message space.now) start (words + slots) }
+    requires ready { IsBody (S.message space.now) start.segment start.word words slots depth }
+    requires room { level + 1 + 2 * depth < 2 ^ 32 }
+    ensures shown { OnOk result (IsBodyMarked (S.message space.now) marks level way.old.items start.segment
+        start.word words slots
+        (Adds (outgoing W.contents writer.old text.old.items)
+        (outgoing W.contents writer.new text.new.items))) }
+    ensures cut { IfErr result (λ e. IsBodyMarked (S.message space.now) marks level way.old.items start.segment
+        start.word words slots
+        (BreaksOff (outgoing W.contents writer.old text.old.items)
+        (outgoing W.contents writer.new text.new.items) e)) }
+    ensures kept { OnOk result (way.new.items ≡ way.old.items) }
+{
+    let byte = byte_of(space, marks, before, start);
+    body_line(text, writer, level, words, slots)?;
+    mark_words(
+        text,
+        writer,
+        space,
+        marks,
+        way.as_slice(),
+        byte,
+        start,
+        words,
+        level + 1,
+    )?;
+    let first = Place {
+        segment: start.segment,
+        word: start.word + words as u32,
+    };
+    mark_slots(
+        text,
+        writer,
+        way,
+        space,
+        before,
+        marks,
+        first,
+        slots as u32,
+        level + 1,
+        depth,
+    )
+}
+
+/// The text of what is in slots, one after the other.
+#[cycle(marked)]
+fn mark_slots<S: Space, W: Write, A: Allocator>(
+    text: &mut Vec<u8, A>,
+    writer: &mut Watched<W>,
+    way: &mut Vec<u8, A>,
+    space: &S,
+    before: &[u32],
+    marks: Marks,
+    first: Place,
+    count: u32,
+    level: u32,
+    depth: u32,
+) -> Result<(), Broken>
+    requires message { IsMessage (S.message space.now) }
+    requires counts { CountsBefore (S.message space.now) before.now }
+    requires content { IsContent (S.message space.now) first count }
+    requires ready { AreReady (S.message space.now) first.segment first.word count depth }
+    requires room { level + 2 * depth < 2 ^ 32 }
+    ensures shown { OnOk result (AreMarked (S.message space.now) marks level way.old.items first.segment first.word
+        count
+        (Adds (outgoing W.contents writer.old text.old.items)
+        (outgoing W.contents writer.new text.new.items))) }
+    ensures cut { IfErr result (λ e. AreMarked (S.message space.now) marks level way.old.items first.segment
+        first.word count
+        (BreaksOff (outgoing W.contents writer.old text.old.items)
+        (outgoing W.contents writer.new text.new.items) e)) }
+    ensures kept { OnOk result (way.new.items ≡ way.old.items) }
+{
+    for i in 0..count {
+        let at = Place {
+            segment: first.segment,
+            word: first.word + i,
+        };
+        mark_below(text, writer, way, space, before, marks, i, at, level, depth)?;
+    }
+    Ok(())
+}
+
+/// The text of what is in the slot of a number.
+#[cycle(marked)]
+fn mark_below<S: Space, W: Write, A: Allocator>(
+    text: &mut Vec<u8, A>,
+    writer: &mut Watched<W>,
+    way: &mut Vec<u8, A>,
+    space: &S,
+    before: &[u32],
+    marks: Marks,
+    number: u32,
+    at: Place,
+    level: u32,
+    depth: u32,
+) -> Result<(), Broken>
+    requires message { IsMessage (S.message space.now) }
+    requires counts { CountsBefore (S.message space.now) before.now }
+    requires place { IsPlace (S.message space.now) at }
+    requires ready { IsReady (S.message space.now) at depth }
+    requires room { level + 2 * depth < 2 ^ 32 }
+    ensures shown { OnOk result (IsMarked (S.message space.now) marks level (spec.below way.old.items number) at
+        (Adds (outgoing W.contents writer.old text.old.items)
+        (outgoing W.contents writer.new text.new.items))) }
+    ensures cut { IfErr result (λ e. IsMarked (S.message space.now) marks level (spec.below way.old.items number) at
+        (BreaksOff (outgoing W.contents writer.old text.old.items)
+        (outgoing W.contents writer.new text.new.items) e)) }
+    ensures kept { OnOk result (way.new.items ≡ way.old.items) }
+{
+    let above = way_length(way);
+    push_number(way, number as u64)?;
+    mark_slot(text, writer, way, space, before, marks, at, level, depth)?;
+    way.truncate(above);
+    Ok(())
+}
+
+/// The text of rows, one after the other.
+#[cycle(marked)]
+fn mark_rows<S: Space, W: Write, A: Allocator>(
+    text: &mut Vec<u8, A>,
+    writer: &mut Watched<W>,
+    way: &mut Vec<u8, A>,
+    space: &S,
+    before: &[u32],
+    marks: Marks,
+    first: Place,
+    count: u32,
+    words: u16,
+    slots: u16,
+    level: u32,
+    depth: u32,
+) -> Result<(), Broken>
+    requires message { IsMessage (S.message space.now) }
+    requires counts { CountsBefore (S.message space.now) before.now }
+    requires content { IsContent (S.message space.now) first (count * (words + slots)) }
+    requires ready { AreRows (S.message space.now) first.segment first.word count words slots depth }
+    requires room { level + 1 + 2 * depth < 2 ^ 32 }
+    ensures shown { OnOk result (RowsMarked (S.message space.now) marks level way.old.items first.segment first.word
+        count words slots
+        (Adds (outgoing W.contents writer.old text.old.items)
+        (outgoing W.contents writer.new text.new.items))) }
+    ensures cut { IfErr result (λ e. RowsMarked (S.message space.now) marks level way.old.items first.segment
+        first.word count words slots
+        (BreaksOff (outgoing W.contents writer.old text.old.items)
+        (outgoing W.contents writer.new text.new.items) e)) }
+    ensures kept { OnOk result (way.new.items ≡ way.old.items) }
+{
+    let mut next = first.word;
+    for row in 0..count {
+        let start = Place {
+            segment: first.segment,
+            word: next,
+        };
+        mark_row(
+            text, writer, way, space, before, marks, row, start, words, slots, level, depth,
+        )?;
+        next += words as u32 + slots as u32;
+    }
+    Ok(())
+}
+
+/// The text of the row of a number.
+#[cycle(marked)]
+fn mark_row<S: Space, W: Write, A: Allocator>(
+    text: &mut Vec<u8, A>,
+    writer: &mut Watched<W>,
+    way: &mut Vec<u8, A>,
+    space: &S,
+    before: &[u32],
+    marks: Marks,
+    number: u32,
+    start: Place,
+    words: u16,
+    slots: u16,
+    level: u32,
+    depth: u32,
+) -> Result<(), Broken>
+    requires message { IsMessage (S.message space.now) }
+    requires counts { CountsBefore (S.message space.now) before.now }
+    requires content { IsContent (S.message space.now) start (words + slots) }
+    requires ready { IsBody (S.message space.now) start.segment start.word words slots depth }
+    requires room { level + 1 + 2 * depth < 2 ^ 32 }
+    ensures shown { OnOk result (IsRowMarked (S.message space.now) marks level
+        (spec.below way.old.items number) start.segment start.word words
+        slots
+        (Adds (outgoing W.contents writer.old text.old.items)
+        (outgoing W.contents writer.new text.new.items))) }
+    ensures cut { IfErr result (λ e. IsRowMarked (S.message space.now) marks level
+        (spec.below way.old.items number) start.segment start.word words
+        slots
+        (BreaksOff (outgoing W.contents writer.old text.old.items)
+        (outgoing W.contents writer.new text.new.items) e)) }
+    ensures kept { OnOk result (way.new.items ≡ way.old.items) }
+{
+    let above = way_length(way);
+    push_number(way, number as u64)?;
+    let byte = byte_of(space, marks, before, start);
+    put_mark(text, writer, marks, way.as_slice(), byte)?;
+    mark_body(
+        text, writer, way, space, before, marks, start, words, slots, level, depth,
+    )?;
+    way.truncate(above);
+    Ok(())
+}

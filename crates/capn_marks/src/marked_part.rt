@@ -1,0 +1,208 @@
+//! The text with marks of a message's part, at a way.
+
+ghost use Rattle.std.specs.Prelude.{◌≡◌, [], ◌∷◌, ◌+◌, ◌*◌, ◌<◌, ◌^◌, IfErr, IfOk, IfSome, OnOk, if◌then◌else◌};
+ghost use Rattle.capn_words.specs.Message.{IsMessage, IsPlace};
+ghost use Rattle.capn_value.specs.Tree.{Tree};
+ghost use Rattle.capn_walk.specs.Accepted.{root};
+ghost use Rattle.capn_walk.specs.ValueAt.{IsAt};
+ghost use Rattle.capn_target.specs.Shapes.{IsContent, IsInMessage};
+ghost use Rattle.capn_show.specs.declared.fault.Broken.TheVariants as broken;
+ghost use Rattle.capn_marks.specs.MarkedPart.{marked_at, none_line};
+ghost use Rattle.capn_show.specs.Outgoing.{Adds, BreaksOff, outgoing};
+ghost use Rattle.capn_show.specs.Written.{IsWritten, IsUnwritten};
+ghost use Rattle.capn_marks.specs.MarkedPlaces.{IsLed, IsLedMarked, IsPartMarked, IsThereMarked, CountsBefore};
+ghost use Rattle.capn_show.specs.ReadyPlaces.{Holds, IsFound, IsReady};
+
+use crate::marked::mark_found;
+use crate::marks::{Marks, push_number, put_mark};
+use crate::starts::{byte_of, words_before};
+use capn_show::{Broken, Part, ShowFault, fault_of, named, plain_line, put, step_down};
+use capn_walk::laws::values;
+use capn_walk::{Limits, survey};
+use capn_words::{Place, Space, Watched};
+use std::alloc::Allocator;
+use std::io::Write;
+
+/// Adds the text of what is at a way of numbers from the root of a message, with marks before each line.
+///
+/// The text without its marks is that of `capn_show::show_part`, as lines, and the message is surveyed, and the text
+/// added, kept and written as there. Beside that it takes memory for the words before each segment, 4 bytes for each,
+/// and for the way to where it is.
+pub fn show_marked<S: Space, W: Write, A: Allocator + Copy>(
+    alloc: A,
+    text: &mut Vec<u8, A>,
+    writer: &mut Watched<W>,
+    message: &S,
+    limits: Limits,
+    marks: Marks,
+    way: &[u64],
+) -> Result<(), ShowFault>
+    // An answer: the message is accepted, and the text of what is there is added.
+    ensures shown { OnOk result (IsWritten (S.message message.now) limits
+        (marked_at (S.message message.now) marks way.now)
+        (outgoing W.contents writer.old text.old.items) (outgoing W.contents writer.new text.new.items)) }
+    // A refusal is as that of `capn_show::show_message`.
+    ensures refused { IfErr result (λ fault. IsUnwritten (S.message message.now) limits
+        (marked_at (S.message message.now) marks way.now) fault
+        (outgoing W.contents writer.old text.old.items) (outgoing W.contents writer.new text.new.items)) }
+{
+    values();
+    let _bounds = message.segments();
+    survey(alloc, message, limits)?;
+    match mark_part(alloc, text, writer, message, marks, way, limits.depth()) {
+        Ok(()) => Ok(()),
+        Err(broken) => Err(fault_of(broken)),
+    }
+}
+
+/// The text of what is at a way from the root.
+fn mark_part<S: Space, W: Write, A: Allocator + Copy>(
+    alloc: A,
+    text: &mut Vec<u8, A>,
+    writer: &mut Watched<W>,
+    space: &S,
+    marks: Marks,
+    numbers: &[u64],
+    depth: u32,
+) -> Result<(), Broken>
+    requires message { IsMessage (S.message space.now) }
+    requires place { IsPlace (S.message space.now) root }
+    requires ready { IsReady (S.message space.now) root depth }
+    requires room { 2 * depth < 2 ^ 32 }
+    ensures shown { OnOk result (IsPartMarked (S.message space.now) marks numbers.now (Adds
+        (outgoing W.contents writer.old text.old.items) (outgoing W.contents writer.new text.new.items))) }
+    ensures cut { IfErr result (λ e. IsPartMarked (S.message space.now) marks numbers.now (BreaksOff
+        (outgoing W.contents writer.old text.old.items) (outgoing W.contents writer.new text.new.items) e)) }
+{
+    let Ok(before) = words_before(alloc, space) else {
+        return Err(Broken::Memory);
+    };
+    let mut way = Vec::new(alloc);
+    match lead(&mut way, space, numbers) {
+        Ok(found) => mark_led(text, writer, &mut way, space, &before, marks, found, depth),
+        Err(broken) => Err(broken),
+    }
+}
+
+/// The text of what is somewhere at a way, or the line where nothing is.
+fn mark_led<S: Space, W: Write, A: Allocator>(
+    text: &mut Vec<u8, A>,
+    writer: &mut Watched<W>,
+    way: &mut Vec<u8, A>,
+    space: &S,
+    before: &[u32],
+    marks: Marks,
+    found: Option<Part>,
+    depth: u32,
+) -> Result<(), Broken>
+    requires message { IsMessage (S.message space.now) }
+    requires counts { CountsBefore (S.message space.now) before.now }
+    requires place { IfSome found (λ p. IsContent (S.message space.now) p.at 0) }
+    requires inside { IfSome found (λ p. IsInMessage (S.message space.now) p.found) }
+    requires ready { IfSome found (λ p. IsFound (S.message space.now) p.found depth) }
+    requires room { 2 * depth < 2 ^ 32 }
+    ensures shown { OnOk result (IsLedMarked (S.message space.now) marks way.old.items found (Adds
+        (outgoing W.contents writer.old text.old.items) (outgoing W.contents writer.new text.new.items))) }
+    ensures cut { IfErr result (λ e. IsLedMarked (S.message space.now) marks way.old.items found (BreaksOff
+        (outgoing W.contents writer.old text.old.items) (outgoing W.contents writer.new text.new.items) e)) }
+{
+    match found {
+        Some(part) => mark_there(text, writer, way, space, before, marks, part, depth),
+        None => mark_none(text, writer, marks),
+    }
+}
+
+/// What is at a way of numbers from the root, if anything is there; its way is added to one that is empty.
+fn lead<S: Space, A: Allocator>(
+    way: &mut Vec<u8, A>,
+    space: &S,
+    numbers: &[u64],
+) -> Result<Option<Part>, Broken>
+    requires message { IsMessage (S.message space.now) }
+    requires place { IsPlace (S.message space.now) root }
+    requires value { Holds (S.message space.now) root }
+    requires empty { way.old.items ≡ [] }
+    ensures inside { IfOk result (λ found. IfSome found (λ p. IsInMessage (S.message space.now) p.found)) }
+    ensures counts { IfOk result (λ found. IfSome found (λ p. IsContent (S.message space.now) p.at 0)) }
+    ensures there { IfOk result (λ found. (v : Tree) → IsAt (S.message space.now) root v
+        → IsLed (S.message space.now) numbers.now v way.new.items found) }
+    ensures memory { IfErr result (λ e. e ≡ broken.Memory) }
+{
+    let found = named(space, Place::ROOT);
+    let mut part = Part {
+        at: Place::ROOT,
+        found,
+    };
+    for i in 0..numbers.len() {
+        match step_down(space, part.found, numbers[i]) {
+            Some(next) => part = next,
+            None => return Ok(None),
+        }
+        push_number(way, numbers[i])?;
+    }
+    Ok(Some(part))
+}
+
+/// The text of what is somewhere, at a way.
+fn mark_there<S: Space, W: Write, A: Allocator>(
+    text: &mut Vec<u8, A>,
+    writer: &mut Watched<W>,
+    way: &mut Vec<u8, A>,
+    space: &S,
+    before: &[u32],
+    marks: Marks,
+    part: Part,
+    depth: u32,
+) -> Result<(), Broken>
+    requires message { IsMessage (S.message space.now) }
+    requires counts { CountsBefore (S.message space.now) before.now }
+    requires place { IsContent (S.message space.now) part.at 0 }
+    requires inside { IsInMessage (S.message space.now) part.found }
+    requires ready { IsFound (S.message space.now) part.found depth }
+    requires room { 2 * depth < 2 ^ 32 }
+    ensures shown { OnOk result (IsThereMarked (S.message space.now) marks way.old.items part.at part.found (Adds
+        (outgoing W.contents writer.old text.old.items) (outgoing W.contents writer.new text.new.items))) }
+    ensures cut { IfErr result (λ e. IsThereMarked (S.message space.now) marks way.old.items part.at part.found
+        (BreaksOff
+        (outgoing W.contents writer.old text.old.items) (outgoing W.contents writer.new text.new.items) e)) }
+{
+    let byte = byte_of(space, marks, before, part.at);
+    put_mark(text, writer, marks, way.as_slice(), byte)?;
+    mark_found(
+        text, writer, way, space, before, marks, part.found, 0, depth,
+    )
+}
+
+/// A tab, if a mark is asked for.
+fn put_tab<W: Write, A: Allocator>(
+    text: &mut Vec<u8, A>,
+    writer: &mut Watched<W>,
+    marked: bool,
+) -> Result<(), Broken>
+    ensures shown { OnOk result (Adds (outgoing W.contents writer.old text.old.items)
+        (outgoing W.contents writer.new text.new.items) (if marked then 9 ∷ [] else [])) }
+    ensures cut { IfErr result (λ e. BreaksOff (outgoing W.contents writer.old text.old.items)
+        (outgoing W.contents writer.new text.new.items) e (if marked then 9 ∷ [] else [])) }
+{
+    if marked {
+        put(text, writer, b"\t")
+    } else {
+        Ok(())
+    }
+}
+
+/// The line where nothing is.
+fn mark_none<W: Write, A: Allocator>(
+    text: &mut Vec<u8, A>,
+    writer: &mut Watched<W>,
+    marks: Marks,
+) -> Result<(), Broken>
+    ensures shown { OnOk result (Adds (outgoing W.contents writer.old text.old.items)
+        (outgoing W.contents writer.new text.new.items) (none_line marks)) }
+    ensures cut { IfErr result (λ e. BreaksOff (outgoing W.contents writer.old text.old.items)
+        (outgoing W.contents writer.new text.new.items) e (none_line marks)) }
+{
+    put_tab(text, writer, marks.offsets)?;
+    put_tab(text, writer, marks.ways)?;
+    plain_line(text, writer, 0, "none")
+}

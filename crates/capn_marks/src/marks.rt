@@ -1,0 +1,166 @@
+//! Marks before the lines of a text.
+
+ghost use Rattle.std.specs.Prelude.{◌≡◌, [], ◌∷◌, ◌++◌, IfErr, OnOk, length};
+ghost use Rattle.std.specs.Fmt.{decimal};
+ghost use Rattle.capn_show.specs.declared.fault.Broken.TheVariants as broken;
+ghost use Rattle.capn_marks.specs.Marked as spec;
+ghost use Rattle.capn_show.specs.Outgoing.{Adds, BreaksOff, outgoing};
+
+use capn_show::{Broken, put, put_number};
+use capn_words::Watched;
+use itoa::Buffer;
+use std::alloc::Allocator;
+use std::io::Write;
+
+/// What stands before each line of a text, and how lists of bytes are written.
+#[derive(Clone, Copy, Debug, PartialEq, Eq)]
+pub struct Marks {
+    /// Before each line stands the byte of what it is about, in decimal digits, and a tab.
+    pub offsets: bool,
+    /// Before each line, after its offset, stands the way to what it is about, and a tab.
+    pub ways: bool,
+    /// A list of bytes that is a text is written between quotes, as in `capn_show::Style::Quoted`.
+    pub quoted: bool,
+    /// How many bytes of the stream are before the message's table.
+    pub offset: u64,
+    /// How many words the table has: none where it is a message without one.
+    pub table: u32,
+}
+
+/// The digits of a byte past 2^64, and a tab.
+#[cold]
+fn put_wide<W: Write, A: Allocator>(
+    text: &mut Vec<u8, A>,
+    writer: &mut Watched<W>,
+    byte: u128,
+) -> Result<(), Broken>
+    ensures shown { OnOk result (Adds (outgoing W.contents writer.old text.old.items)
+        (outgoing W.contents writer.new text.new.items) (decimal byte ++ 9 ∷ [])) }
+    ensures cut { IfErr result (λ e. BreaksOff (outgoing W.contents writer.old text.old.items)
+        (outgoing W.contents writer.new text.new.items) e (decimal byte ++ 9 ∷ [])) }
+{
+    let mut buffer = Buffer::new();
+    let digits = buffer.format(byte);
+    put(text, writer, digits.as_bytes())?;
+    put(text, writer, b"\t")
+}
+
+/// The digits of a byte, and a tab.
+fn put_byte<W: Write, A: Allocator>(
+    text: &mut Vec<u8, A>,
+    writer: &mut Watched<W>,
+    byte: u128,
+) -> Result<(), Broken>
+    ensures shown { OnOk result (Adds (outgoing W.contents writer.old text.old.items)
+        (outgoing W.contents writer.new text.new.items) (decimal byte ++ 9 ∷ [])) }
+    ensures cut { IfErr result (λ e. BreaksOff (outgoing W.contents writer.old text.old.items)
+        (outgoing W.contents writer.new text.new.items) e (decimal byte ++ 9 ∷ [])) }
+{
+    if byte < 1 << 64 {
+        put_number(text, writer, byte as u64, b'\t')
+    } else {
+        put_wide(text, writer, byte)
+    }
+}
+
+/// The byte of what a line is about, and a tab, if that is asked for.
+fn put_offset<W: Write, A: Allocator>(
+    text: &mut Vec<u8, A>,
+    writer: &mut Watched<W>,
+    offsets: bool,
+    byte: u128,
+) -> Result<(), Broken>
+    ensures shown { OnOk result (Adds (outgoing W.contents writer.old text.old.items)
+        (outgoing W.contents writer.new text.new.items) (spec.offset_mark offsets byte)) }
+    ensures cut { IfErr result (λ e. BreaksOff (outgoing W.contents writer.old text.old.items)
+        (outgoing W.contents writer.new text.new.items) e (spec.offset_mark offsets byte)) }
+{
+    if offsets {
+        put_byte(text, writer, byte)
+    } else {
+        Ok(())
+    }
+}
+
+/// What a way is called: that of the root has no numbers.
+fn way_name(way: &[u8]) -> &[u8]
+    ensures { result.now ≡ spec.way_name way.now }
+{
+    if way.is_empty() { b"root" } else { way }
+}
+
+/// What a way is called, and a tab.
+fn put_named<W: Write, A: Allocator>(
+    text: &mut Vec<u8, A>,
+    writer: &mut Watched<W>,
+    way: &[u8],
+) -> Result<(), Broken>
+    ensures shown { OnOk result (Adds (outgoing W.contents writer.old text.old.items)
+        (outgoing W.contents writer.new text.new.items) (spec.way_name way.now ++ 9 ∷ [])) }
+    ensures cut { IfErr result (λ e. BreaksOff (outgoing W.contents writer.old text.old.items)
+        (outgoing W.contents writer.new text.new.items) e (spec.way_name way.now ++ 9 ∷ [])) }
+{
+    put(text, writer, way_name(way))?;
+    put(text, writer, b"\t")
+}
+
+/// The way to what a line is about, and a tab, if that is asked for.
+fn put_way<W: Write, A: Allocator>(
+    text: &mut Vec<u8, A>,
+    writer: &mut Watched<W>,
+    ways: bool,
+    way: &[u8],
+) -> Result<(), Broken>
+    ensures shown { OnOk result (Adds (outgoing W.contents writer.old text.old.items)
+        (outgoing W.contents writer.new text.new.items) (spec.way_mark ways way.now)) }
+    ensures cut { IfErr result (λ e. BreaksOff (outgoing W.contents writer.old text.old.items)
+        (outgoing W.contents writer.new text.new.items) e (spec.way_mark ways way.now)) }
+{
+    if ways {
+        put_named(text, writer, way)
+    } else {
+        Ok(())
+    }
+}
+
+/// The marks of a line about what lies at a byte, at a way.
+pub fn put_mark<W: Write, A: Allocator>(
+    text: &mut Vec<u8, A>,
+    writer: &mut Watched<W>,
+    marks: Marks,
+    way: &[u8],
+    byte: u128,
+) -> Result<(), Broken>
+    ensures shown { OnOk result (Adds (outgoing W.contents writer.old text.old.items)
+        (outgoing W.contents writer.new text.new.items) (spec.mark marks byte way.now)) }
+    ensures cut { IfErr result (λ e. BreaksOff (outgoing W.contents writer.old text.old.items)
+        (outgoing W.contents writer.new text.new.items) e (spec.mark marks byte way.now)) }
+{
+    put_offset(text, writer, marks.offsets, byte)?;
+    put_way(text, writer, marks.ways, way)
+}
+
+/// The bytes of a way.
+pub fn way_length<A: Allocator>(way: &Vec<u8, A>) -> usize
+    ensures { result ≡ length way.now.items }
+{
+    way.len()
+}
+
+/// The way to what has this number below what is at a way.
+pub fn push_number<A: Allocator>(way: &mut Vec<u8, A>, number: u64) -> Result<(), Broken>
+    ensures below { OnOk result (way.new.items ≡ spec.below way.old.items number) }
+    ensures memory { IfErr result (λ e. e ≡ broken.Memory) }
+{
+    if !way.is_empty() {
+        let Ok(()) = way.push(b'.') else {
+            return Err(Broken::Memory);
+        };
+    }
+    let mut digits = [0; 20];
+    let start = itoa::write_digits(number, &mut digits, 20);
+    match way.extend_from_slice(&digits[start..]) {
+        Ok(()) => Ok(()),
+        Err(_) => Err(Broken::Memory),
+    }
+}
