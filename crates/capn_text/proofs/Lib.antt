@@ -1,3 +1,4 @@
+pub mod shared
 pub mod Loops
 pub mod Steps
 pub mod TokenText
@@ -24,3 +25,11 @@ pub mod FirstWrong
 pub mod WrongOrDeep
 pub mod LostTexts
 pub mod WhateverFollows
+pub mod Quotes
+pub mod QuotedLines
+pub mod PlainTexts
+pub mod Beginnings
+pub mod PlainLines
+pub mod ShownPlain
+pub mod OwnLines
+pub mod Unquotings

@@ -34,7 +34,7 @@ pub strip_again : (front rest : List ℕ) → strip front (front ++ rest) ≡ So
 strip_again [] rest = refl
 strip_again (c ∷ cs) rest = rw (eq-eqb c c refl) (strip_again cs rest)
 
-two_more : (level : ℕ) → replicate {A = ℕ} (2 * suc level) 32 ≡ 32 ∷ 32 ∷ replicate (2 * level) 32
+pub two_more : (level : ℕ) → replicate {A = ℕ} (2 * suc level) 32 ≡ 32 ∷ 32 ∷ replicate (2 * level) 32
 two_more level = let e : 2 * suc level ≡ suc (suc (2 * level)) = omega arith in ap (λ (k : ℕ). replicate {A = ℕ} k 32) e
 
 pub indent_takes : (level : ℕ) (t rest : List ℕ) → indent_at level t ≡ Some rest → t ≡ replicate (2 * level) 32 ++ rest

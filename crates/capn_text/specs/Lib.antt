@@ -2,3 +2,8 @@ pub mod inner
 pub mod Showable
 pub mod Streams
 pub mod Laws
+pub mod Quoted
+pub mod Beginnings
+pub mod PlainForm
+pub mod Unquoting
+pub mod PlainLaws

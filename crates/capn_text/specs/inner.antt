@@ -2,3 +2,4 @@
 pub mod Stops
 pub mod Tokens
 pub mod Values
+pub mod QuotedLines

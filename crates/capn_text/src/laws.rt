@@ -1,8 +1,9 @@
-//! The laws of texts, as a function that does nothing.
+//! The laws of texts, as functions that do nothing.
 
 ghost use Rattle.capn_text.specs.Laws.{TextsAreApart, FittingIsShowable, OneValue, OneStream, StreamGoesOn};
 ghost use Rattle.capn_text.specs.Laws.{OneWrongLine, WrongIsNotDeep, DeepIsHigh};
 ghost use Rattle.capn_text.specs.Laws.{WrongLineStays, NoTextGoesOn, DeepStays, NoBeginningComes};
+ghost use Rattle.capn_text.specs.PlainLaws.{QuotedIsPlain, OnePlain, PlainIsFound, OwnLineIsFound};
 
 /// Values whose texts begin one text are equal, and so is what comes after them: no text of a value begins that of
 /// another. So one text has one value that fits and is in range.
@@ -34,4 +35,13 @@ pub fn whole_lines()
     ensures none { NoTextGoesOn }
     ensures deep { DeepStays }
     ensures first { NoBeginningComes }
+{}
+
+/// What is shown of values with texts between quotes has as its plain form what is shown of them without. A text has
+/// one plain form, and each line of that is of one line of the text.
+pub fn plain_forms()
+    ensures shown { QuotedIsPlain }
+    ensures one { OnePlain }
+    ensures found { PlainIsFound }
+    ensures own { OwnLineIsFound }
 {}

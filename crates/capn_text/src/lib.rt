@@ -2,7 +2,8 @@
 //!
 //! The text has no grammar of its own: it is that of a tree if and only if `show` writes it for the tree. [`read`]
 //! answers the tree of a text. It refuses any other text, at the first line that doesn't go on with the text of a
-//! value. [`Texts`] reads texts one after the other, each followed by its line `end`.
+//! value. [`Texts`] reads texts one after the other, each followed by its line `end`. [`plain_text`] turns lists of
+//! bytes between quotes into the lines that `show` writes of them.
 //!
 //! Memory grows with the lines that are read, and never by a number that a line announces.
 #![tactic(auto)]
@@ -14,10 +15,15 @@ pub mod laws;
 mod leaves;
 mod lines;
 mod one_text;
+mod plain_form;
+mod quoted_line;
 mod texts;
 mod tokens;
+mod unquoter;
 
 pub use fault::TextFault;
 pub use lines::lines_in;
 pub use one_text::read;
+pub use plain_form::{count_to, next_line, plain_text, push_plain};
 pub use texts::Texts;
+pub use unquoter::Unquoter;

@@ -83,7 +83,8 @@ fn digits_at(text: &[u8]) -> Result<(u64, &[u8]), Stop>
     Ok((number, rest))
 }
 
-fn is_digit(c: u8) -> bool
+/// Whether it is a decimal digit.
+pub fn is_digit(c: u8) -> bool
     ensures { result ≡ tokens.is_digit c }
 {
     b'0' <= c && c <= b'9'

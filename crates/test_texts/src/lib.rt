@@ -10,6 +10,8 @@ mod making;
 #[cfg(test)]
 mod pieces;
 #[cfg(test)]
+mod quoted;
+#[cfg(test)]
 mod reading;
 #[cfg(test)]
 mod streaming;

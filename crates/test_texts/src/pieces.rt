@@ -8,9 +8,9 @@ use std::test::Fail;
 
 /// A reader that gives at most this many bytes a call.
 #[derive(Drop)]
-struct Pieces<'a> {
-    rest: &'a [u8],
-    most: usize,
+pub(crate) struct Pieces<'a> {
+    pub(crate) rest: &'a [u8],
+    pub(crate) most: usize,
 }
 
 impl Read for Pieces<'_> {

@@ -1,0 +1,151 @@
+//! The plain form of a text with lists between quotes.
+
+ghost use Rattle.std.specs.Prelude.{◌≡◌, ◌≢◌, ◌≤◌, ◌<◌, ◌+◌, ◌*◌, ◌^◌, [], ◌∷◌, ◌++◌, length, replicate};
+ghost use Rattle.std.specs.Prelude.{IfOk, OnOk, OnErr, MatchOption};
+ghost use Rattle.std.specs.Fmt.{decimal};
+ghost use Rattle.hex.specs.Hex.{encode_lower};
+ghost use Rattle.capn_show.specs.Quoting.{plain_bytes};
+ghost use Rattle.capn_text.specs.Quoted.{IsPlain};
+ghost use Rattle.capn_text.specs.PlainForm as form;
+ghost use Rattle.capn_text.specs.Streams.{ended_lines};
+
+use crate::fault::Stop;
+use crate::quoted_line::quoted_at;
+use std::alloc::{AllocError, Allocator};
+
+/// The spaces of a level.
+fn push_indent<A: Allocator>(out: &mut Vec<u8, A>, level: usize) -> Result<(), AllocError>
+    ensures { OnOk result (out.new.items ≡ out.old.items ++ replicate (2 * level) 32) }
+{
+    for _i in 0..level {
+        out.extend_from_slice(b"  ")?;
+    }
+    Ok(())
+}
+
+/// A number and the end of its line.
+fn push_number<A: Allocator>(out: &mut Vec<u8, A>, n: u64) -> Result<(), AllocError>
+    ensures { OnOk result (out.new.items ≡ out.old.items ++ (decimal n ++ 10 ∷ [])) }
+{
+    let mut digits = [b'\n'; 21];
+    let start = itoa::write_digits(n, &mut digits, 20);
+    out.extend_from_slice(&digits[start..])
+}
+
+/// Two digits of a byte.
+fn push_byte<A: Allocator>(out: &mut Vec<u8, A>, byte: u8) -> Result<(), AllocError>
+    ensures { OnOk result (out.new.items ≡ out.old.items ++ encode_lower (byte ∷ [])) }
+{
+    let mut digits = [0u8; 2];
+    // Two digits have room, so nothing is refused.
+    let _done = hex::encode_to_slice([byte], &mut digits);
+    out.extend_from_slice(&digits)
+}
+
+/// Two digits of each byte.
+#[tactic(auto, using(std::proofs::lemmas::Grind::common_steps, crate::proofs::PlainLines::digits))]
+fn push_digits<A: Allocator>(out: &mut Vec<u8, A>, bytes: &[u8]) -> Result<(), AllocError>
+    ensures { OnOk result (out.new.items ≡ out.old.items ++ encode_lower bytes.now) }
+{
+    for byte in bytes {
+        push_byte(out, *byte)?;
+    }
+    Ok(())
+}
+
+/// The lines of some bytes.
+fn push_bytes<A: Allocator>(
+    out: &mut Vec<u8, A>,
+    level: usize,
+    bytes: &[u8],
+) -> Result<(), AllocError>
+    requires some { 0 < length bytes.now }
+    requires room { level + 1 < 2 ^ 64 }
+    ensures { OnOk result (out.new.items ≡ out.old.items ++ plain_bytes level bytes.now) }
+{
+    push_indent(out, level)?;
+    out.extend_from_slice(b"bytes ")?;
+    push_number(out, bytes.len() as u64)?;
+    push_indent(out, level + 1)?;
+    push_digits(out, bytes)?;
+    out.push(b'\n')?;
+    Ok(())
+}
+
+/// Adds the plain form of a line, which stands here without its end, and answers whether that is of bytes between
+/// quotes. Memory: the lines that are added, and those bytes.
+pub fn push_plain<A: Allocator + Copy>(
+    alloc: A,
+    out: &mut Vec<u8, A>,
+    line: &[u8],
+) -> Result<bool, AllocError>
+    ensures added { OnOk result (out.new.items ≡ out.old.items ++ form.plain_line line.now) }
+    ensures quoted { IfOk result (λ quoted. quoted ≡ form.is_quoted line.now) }
+{
+    match quoted_at(alloc, line) {
+        Ok((level, bytes)) => {
+            push_bytes(out, level, &bytes)?;
+            Ok(true)
+        }
+        Err(Stop::Memory) => Err(AllocError),
+        Err(Stop::Left(_) | Stop::Cut(_) | Stop::Deep) => {
+            out.extend_from_slice(line)?;
+            out.push(b'\n')?;
+            Ok(false)
+        }
+    }
+}
+
+/// The first line, without its end, and what comes after that; or none if no line ends here. Takes no memory.
+pub fn next_line(text: &[u8]) -> Option<(&[u8], &[u8])>
+    ensures { MatchOption result (ended_lines text.now ≡ 0)
+        (λ x. (text.now ≡ x.0.now ++ 10 ∷ x.1.now) × (ended_lines x.0.now ≡ 0)) }
+{
+    for i in 0..text.len() {
+        if text[i] == b'\n' {
+            return Some((&text[..i], &text[i + 1..]));
+        }
+    }
+    None
+}
+
+/// The plain form of a text in which a list of bytes may stand between quotes: that of each such line, `bytes N "T"` or
+/// `bytes "T"`, is the lines that [`capn_value::show`] writes of the bytes of T, and any other line stays as it is.
+/// Those bytes are from 0x20 to 0x7e, except that the last may be zero; there is one at least. In T a quote is `\"`, a
+/// backslash `\\`, a last zero `\0`. (Own.)
+///
+/// Linear in the text. Memory: the plain form, up to twice as it grows, and the bytes of one line.
+pub fn plain_text<A: Allocator + Copy>(alloc: A, text: &[u8]) -> Result<Vec<u8, A>, AllocError>
+    ensures found { IfOk result (λ plain. IsPlain text.now plain.items) }
+    // Memory is needed only for some bytes.
+    ensures memory { OnErr result (text.now ≢ []) }
+{
+    if text.is_empty() {
+        return Ok(Vec::new(alloc));
+    }
+    let mut out = Vec::with_capacity(alloc, text.len())?;
+    let mut rest = text;
+    while let Some((line, after)) = next_line(rest) {
+        let _quoted = push_plain(alloc, &mut out, line)?;
+        rest = after;
+    }
+    out.extend_from_slice(rest)?;
+    Ok(out)
+}
+
+/// How many of these numbers are at most n. Takes no memory.
+#[tactic(auto, using(crate::proofs::OwnLines::count_within))]
+pub fn count_to(lines: &[u64], n: u64) -> u64
+    ensures exact { result ≡ form.count_to n lines.now }
+    ensures within { result ≤ length lines.now }
+{
+    let mut count: u64 = 0;
+    let mut rest = lines;
+    while let [line, after @ ..] = rest {
+        if *line <= n {
+            count += 1;
+        }
+        rest = after;
+    }
+    count
+}

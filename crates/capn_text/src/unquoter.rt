@@ -1,0 +1,224 @@
+//! The plain form of a text that comes in pieces.
+
+ghost use Rattle.std.specs.Prelude.{◌≡◌, ◌≢◌, ◌≤◌, ◌+◌, ◌++◌, ℕ, List, [], ◌∷◌, length, drop, take, true, OnOk, OnErr};
+ghost use Rattle.capn_text.specs.Streams.{ended_lines};
+ghost use Rattle.capn_text.specs.Beginnings as beginnings;
+ghost use Rattle.capn_text.specs.PlainForm as form;
+ghost use Rattle.capn_text.specs.Unquoting as spec;
+ghost use Rattle.capn_text.specs.Unquoting.{Unquotes, Forgets, StartFrom};
+
+use crate::plain_form::{count_to, next_line, push_plain};
+use crate::quoted_line::{looked_at, may_begin};
+use std::alloc::{AllocError, Allocator};
+use std::marker::Model;
+
+/// Takes a text with lists of bytes between quotes, which comes in pieces, cut anywhere, and gives its plain form.
+///
+/// It keeps the line that is unfinished, while by its first 1,024 bytes that may be one between quotes, and, to tell
+/// which line of the text a line of the plain form is of, eight bytes for each line between quotes, up to those that
+/// it may forget.
+#[derive(Debug, Drop)]
+pub struct Unquoter<A: Allocator + Copy> {
+    alloc: A,
+    front: Vec<u8, A>,
+    line: u64,
+    digits: Vec<u64, A>,
+    passed: u64,
+    through: bool,
+}
+
+impl<A: Allocator + Copy> Model for Unquoter<A> {
+    ghost use Rattle.std.specs.Prelude.{◌≡◌, ◌+◌, ◌<◌, length};
+    ghost use Rattle.capn_text.specs.Streams.{ended_lines};
+    ghost use Rattle.capn_text.specs.Unquoting.{Unquoting};
+
+    ghost Value = { Unquoting };
+
+    ghost view = { λ u.
+        record {
+          front = u.front.items;
+          line = u.line;
+          digits = u.digits.items;
+          passed = u.passed;
+          through = u.through;
+        } };
+
+    ghost invariant = { λ u. (ended_lines u.front.items ≡ 0) × (u.passed + length u.digits.items < u.line) };
+}
+
+/// How many lines of digits at the front are before a line.
+#[tactic(auto, using(crate::proofs::Unquotings::starts_here, crate::proofs::Unquotings::none_starts))]
+fn gone_before(digits: &[u64], line: u64) -> usize
+    ensures within { result ≤ length digits.now }
+    ensures before { (n : ℕ) → line ≤ n → form.count_to n (take result digits.now) ≡ result }
+    ensures next { StartFrom line (drop result digits.now) }
+{
+    for i in 0..digits.len() {
+        if digits[i] >= line {
+            return i;
+        }
+    }
+    digits.len()
+}
+
+/// Drops the first numbers.
+fn drop_front<A: Allocator>(digits: &mut Vec<u64, A>, count: usize)
+    requires { count ≤ length digits.old.items }
+    ensures { digits.new.items ≡ drop count digits.old.items }
+{
+    let len = digits.len();
+    digits.copy_within(count..len, 0);
+    digits.truncate(len - count);
+}
+
+impl<A: Allocator + Copy> Unquoter<A> {
+    /// At the beginning of a text. It takes no memory.
+    pub fn new(alloc: A) -> Unquoter<A>
+        ensures { result ≡ spec.first_unquoting }
+    {
+        Unquoter {
+            alloc,
+            front: Vec::new(alloc),
+            line: 1,
+            digits: Vec::new(alloc),
+            passed: 0,
+            through: false,
+        }
+    }
+
+    /// Keeps bytes that end no line with the one that is unfinished.
+    fn keep(&mut self, part: &[u8]) -> Result<(), AllocError>
+        requires { ended_lines part.now ≡ 0 }
+        ensures quiet { ended_lines self.new.front ≡ 0 }
+        ensures front { OnOk result (self.new.front ≡ self.old.front ++ part.now) }
+        ensures line { self.new.line ≡ self.old.line }
+        ensures digits { self.new.digits ≡ self.old.digits }
+        ensures passed { self.new.passed ≡ self.old.passed }
+        ensures through { self.new.through ≡ self.old.through }
+    {
+        self.front.extend_from_slice(part)
+    }
+
+    /// Takes bytes that end no line.
+    fn take(&mut self, part: &[u8], out: &mut Vec<u8, A>) -> Result<(), AllocError>
+        requires { ended_lines part.now ≡ 0 }
+        ensures { OnOk result ((added : List ℕ) × (out.new.items ≡ out.old.items ++ added)
+            × Unquotes self.old self.new part.now added) }
+    {
+        if self.through {
+            out.extend_from_slice(part)?;
+            return Ok(());
+        }
+        self.keep(part)?;
+        Ok(())
+    }
+
+    /// Ends a line of which nothing was given: its plain form is added. Fails, too, for a text of 2^64 lines.
+    fn end_kept(&mut self, out: &mut Vec<u8, A>) -> Result<(), AllocError>
+        ensures front { OnOk result (self.new.front ≡ []) }
+        ensures line { OnOk result (self.new.line ≡ self.old.line + form.lines_of self.old.front) }
+        ensures digits { OnOk result
+            (self.new.digits ≡ self.old.digits ++ form.digits_of self.old.line self.old.front) }
+        ensures passed { OnOk result (self.new.passed ≡ self.old.passed) }
+        ensures through { OnOk result (self.new.through ≡ self.old.through) }
+        ensures added { OnOk result (out.new.items ≡ out.old.items ++ form.plain_line self.old.front) }
+    {
+        let quoted = push_plain(self.alloc, out, &self.front)?;
+        let Some(next) = self.line.checked_add(1 + u64::from(quoted)) else {
+            return Err(AllocError);
+        };
+        if quoted {
+            self.digits.push(self.line + 1)?;
+        }
+        self.line = next;
+        self.front.clear();
+        Ok(())
+    }
+
+    /// Ends the line that is unfinished. Fails, too, for a text of 2^64 lines.
+    fn end_line(&mut self, out: &mut Vec<u8, A>) -> Result<(), AllocError>
+        ensures { OnOk result ((added : List ℕ) × (out.new.items ≡ out.old.items ++ added)
+            × Unquotes self.old self.new (10 ∷ []) added) }
+    {
+        if self.through {
+            let Some(next) = self.line.checked_add(1) else {
+                return Err(AllocError);
+            };
+            out.push(b'\n')?;
+            self.line = next;
+            self.front.clear();
+            self.through = false;
+            return Ok(());
+        }
+        self.end_kept(out)?;
+        Ok(())
+    }
+
+    /// Gives the line that is unfinished as it is, if that can't be one between quotes.
+    fn pass_on(&mut self, out: &mut Vec<u8, A>) -> Result<(), AllocError>
+        ensures read { OnOk result ((added : List ℕ) × (out.new.items ≡ out.old.items ++ added)
+            × Unquotes self.old self.new [] added) }
+        ensures empty { OnOk result (self.new.through ≡ true → self.new.front ≡ []) }
+        ensures held { OnOk result (beginnings.may_begin (take beginnings.looked_at self.new.front) ≡ true) }
+        ensures quiet { ended_lines self.new.front ≡ 0 }
+    {
+        if self.through {
+            self.front.clear();
+            return Ok(());
+        }
+        if may_begin(looked_at(&self.front)) {
+            return Ok(());
+        }
+        out.extend_from_slice(&self.front)?;
+        self.front.clear();
+        self.through = true;
+        Ok(())
+    }
+
+    /// Takes the next piece, and adds the plain form of each line that is whole by now, and of the unfinished one what
+    /// came of it, if by its first 1,024 bytes that can't be one between quotes. After a failure nothing is known of
+    /// it.
+    pub fn push(&mut self, piece: &[u8], out: &mut Vec<u8, A>) -> Result<(), AllocError>
+        ensures quiet { OnOk result (ended_lines self.new.front ≡ 0) }
+        ensures empty { OnOk result (self.new.through ≡ true → self.new.front ≡ []) }
+        ensures held { OnOk result (beginnings.may_begin (take beginnings.looked_at self.new.front) ≡ true) }
+        ensures read { OnOk result ((added : List ℕ) × (out.new.items ≡ out.old.items ++ added)
+            × Unquotes self.old self.new piece.now added) }
+    {
+        let mut rest = piece;
+        while let Some((line, after)) = next_line(rest) {
+            self.take(line, out)?;
+            self.end_line(out)?;
+            rest = after;
+        }
+        self.take(rest, out)?;
+        self.pass_on(out)?;
+        Ok(())
+    }
+
+    /// Adds what is left of a text that ended: a line without its end.
+    pub fn finish(&self, out: &mut Vec<u8, A>) -> Result<(), AllocError>
+        ensures memory { OnErr result (self.now.front ≢ []) }
+        ensures added { OnOk result (out.new.items ≡ out.old.items ++ self.now.front) }
+    {
+        out.extend_from_slice(&self.front)
+    }
+
+    /// Forgets where lines of digits stand before this line of the plain form. Takes no memory.
+    pub fn forget(&mut self, line: u64)
+        ensures { Forgets line self.old self.new }
+    {
+        let gone = gone_before(&self.digits, line);
+        drop_front(&mut self.digits, gone);
+        self.passed += gone as u64;
+    }
+
+    /// The line of the text whose plain form has this line, if that is none of those before what was forgotten. Takes
+    /// no memory.
+    pub fn own_line(&self, line: u64) -> u64
+        ensures { result ≡ spec.own_at self.now line }
+    {
+        line.saturating_sub(self.passed)
+            .saturating_sub(count_to(&self.digits, line))
+    }
+}

@@ -1,0 +1,185 @@
+//! Messages made of texts between quotes: those of the plain form, refused at the line of the input.
+
+use crate::making::run;
+use crate::pieces::Pieces;
+use capn_make::{Form, MakeFault, Misfit, Watched, make_texts};
+use std::alloc::Global;
+
+/// How a run over an input with quotes ends that comes in pieces, and what it wrote.
+fn run_texts(
+    alloc: Global,
+    form: Form,
+    rest: &[u8],
+    most: usize,
+) -> (Result<(), MakeFault>, Vec<u8>) {
+    let mut reader = Watched::new(Pieces { rest, most });
+    let mut writer = Watched::new(Vec::new(alloc));
+    let outcome = make_texts(alloc, form, &mut reader, &mut writer);
+    let _ = reader.into_inner();
+    (outcome, writer.into_inner())
+}
+
+/// Whether a run over an input with quotes writes what one over another without them does, and ends so.
+fn is_same(
+    alloc: Global,
+    form: Form,
+    input: &[u8],
+    plain: &[u8],
+    ending: Result<(), MakeFault>,
+) -> bool {
+    let (_, written) = run(alloc, form, plain);
+    for most in [1, 7, 65_536] {
+        let (outcome, text) = run_texts(alloc, form, input, most);
+        if outcome != ending || text.as_slice() != written.as_slice() {
+            return false;
+        }
+    }
+    true
+}
+
+/// Inputs with quotes, and their plain forms.
+const QUOTED: [(&[u8], &[u8]); 7] = [
+    (b"bytes 3 \"abc\"\nend\n", b"bytes 3\n  616263\nend\n"),
+    (b"bytes \"abc\"\nend\n", b"bytes 3\n  616263\nend\n"),
+    (
+        b"bytes \"a\\\"b\\\\c\\0\"\nend\n",
+        b"bytes 6\n  6122625c6300\nend\n",
+    ),
+    (b"bytes 1 \"\\0\"\nend\n", b"bytes 1\n  00\nend\n"),
+    (
+        b"pointers 2\n  bytes 1 \"~\"\n  bytes 1\n    7f\nend\nbytes \" \"\nend\n",
+        b"pointers 2\n  bytes 1\n    7e\n  bytes 1\n    7f\nend\nbytes 1\n  20\nend\n",
+    ),
+    (b"", b""),
+    (b"null\nend\n", b"null\nend\n"),
+];
+
+#[test]
+fn each_quoted(rt: HostRuntime) {
+    for (input, plain) in QUOTED {
+        for form in [Form::Stream, Form::Packed] {
+            assert!(rt; is_same(rt.alloc(), form, input, plain, Ok(())));
+        }
+    }
+    assert!(rt; is_same(rt.alloc(), Form::Bare, QUOTED[0].0, QUOTED[0].1, Ok(())));
+}
+
+/// Inputs that are refused, in the form stream, and why, at the line of the input.
+const REFUSED: [(&[u8], MakeFault); 20] = [
+    (b"bytes \"\"\nend\n", MakeFault::NotText(1)),
+    (b"bytes 0 \"\"\nend\n", MakeFault::NotText(1)),
+    (b"bytes 2 \"abc\"\nend\n", MakeFault::NotText(1)),
+    (b"bytes 03 \"abc\"\nend\n", MakeFault::NotText(1)),
+    (b"bytes 3  \"abc\"\nend\n", MakeFault::NotText(1)),
+    (b"bytes 3 \"abc\" \nend\n", MakeFault::NotText(1)),
+    (b"bytes 3 \"abc\nend\n", MakeFault::NotText(1)),
+    (b"bytes 3 \"a\"c\"\nend\n", MakeFault::NotText(1)),
+    (b"bytes 2 \"a\\n\"\nend\n", MakeFault::NotText(1)),
+    (b"bytes 3 \"a\\0c\"\nend\n", MakeFault::NotText(1)),
+    (b"bytes 2 \"a\t\"\nend\n", MakeFault::NotText(1)),
+    (b"bytes 2 \"a\x7f\"\nend\n", MakeFault::NotText(1)),
+    (b"u16 1 \"a\"\nend\n", MakeFault::NotText(1)),
+    (b"bytes \"a\"\nnull\nend\n", MakeFault::NotText(2)),
+    (b"bytes \"a\"", MakeFault::NotText(1)),
+    (b"bytes \"a\"\n", MakeFault::NotText(2)),
+    (
+        b"pointers 3\n  bytes \"a\"\n  bytes 1 \"b\"\n  bytes 2 \"c\"\nend\n",
+        MakeFault::NotText(4),
+    ),
+    (
+        b"struct 1 1\n  bytes \"a\"\n  bytes \"b\"\nend\n",
+        MakeFault::NotText(2),
+    ),
+    (
+        b"pointers 2\n  bytes \"a\"\n    bytes \"b\"\nend\n",
+        MakeFault::NotText(3),
+    ),
+    (
+        b"pointers 2\n  bytes \"a\"\n  capability 7\nend\nnull\n",
+        MakeFault::Capability(1, 7),
+    ),
+];
+
+#[test]
+fn each_refusal_at_its_line(rt: HostRuntime) {
+    for (input, fault) in REFUSED {
+        assert!(rt;
+            is_same(rt.alloc(), Form::Stream, input, b"", Err(fault)),
+            "{fault}"
+        );
+    }
+}
+
+#[test]
+fn texts_before_a_refusal(rt: HostRuntime) {
+    let two = b"pointers 2\n  bytes \"a\"\n  bytes \"b\"\nend\nbytes \"c\"\nend\nbytes\nend\n";
+    let plain = b"pointers 2\n  bytes 1\n    61\n  bytes 1\n    62\nend\nbytes 1\n  63\nend\n";
+    let wrong = Err(MakeFault::NotText(7));
+    assert!(rt; is_same(rt.alloc(), Form::Stream, two, plain, wrong));
+    let another = Err(MakeFault::Another(5));
+    assert!(rt; is_same(rt.alloc(), Form::Bare, two, b"", another));
+}
+
+#[test]
+fn a_wrong_line_too_deep(rt: HostRuntime) -> Result<(), std::test::Fail> {
+    let mut input = Vec::new(rt.alloc());
+    for level in 0..256 {
+        for _ in 0..level {
+            input.extend_from_slice(b"  ")?;
+        }
+        input.extend_from_slice(b"pointers 1\n")?;
+    }
+    let mut deep = input.clone()?;
+    for _ in 0..256 {
+        input.extend_from_slice(b"  ")?;
+        deep.extend_from_slice(b"  ")?;
+    }
+    input.extend_from_slice(b"bytes 2 \"a\"\nend\n")?;
+    deep.extend_from_slice(b"bytes 1 \"a\"\nend\n")?;
+    let wrong = Err(MakeFault::NotText(257));
+    let tall = Err(MakeFault::Misfit(1, Misfit::Tall));
+    assert!(rt; is_same(rt.alloc(), Form::Stream, &input, b"", wrong));
+    assert!(rt; is_same(rt.alloc(), Form::Stream, &deep, b"", tall));
+    Ok(())
+}
+
+#[test]
+fn own_lines_after_many_texts(rt: HostRuntime) -> Result<(), std::test::Fail> {
+    let mut input = Vec::new(rt.alloc());
+    let mut plain = Vec::new(rt.alloc());
+    for _ in 0..300 {
+        input.extend_from_slice(b"pointers 2\n  bytes \"a\"\n  bytes 1 \"b\"\nend\n")?;
+        plain.extend_from_slice(b"pointers 2\n  bytes 1\n    61\n  bytes 1\n    62\nend\n")?;
+    }
+    input.extend_from_slice(b"pointers 2\n  bytes \"a\"\n  bytes 2 \"b\"\nend\n")?;
+    let wrong = Err(MakeFault::NotText(1203));
+    assert!(rt; is_same(rt.alloc(), Form::Stream, &input, &plain, wrong));
+    Ok(())
+}
+
+/// How many bytes of an input without a line end were not read when it was refused at its first line.
+fn left_of(alloc: Global, front: &[u8], filler: u8) -> Result<usize, std::test::Fail> {
+    let mut input = Vec::new(alloc);
+    input.extend_from_slice(front)?;
+    input.resize(400_000, filler)?;
+    let mut reader = Watched::new(Pieces {
+        rest: &input,
+        most: 65_536,
+    });
+    let mut writer = Watched::new(Vec::new(alloc));
+    let outcome = make_texts(alloc, Form::Stream, &mut reader, &mut writer);
+    let written = writer.into_inner();
+    if outcome == Err(MakeFault::NotText(1)) && written.is_empty() {
+        Ok(reader.into_inner().rest.len())
+    } else {
+        Ok(0)
+    }
+}
+
+#[test]
+fn endless_lines(rt: HostRuntime) -> Result<(), std::test::Fail> {
+    assert!(rt; left_of(rt.alloc(), b"", b'x')? >= 300_000);
+    assert!(rt; left_of(rt.alloc(), b"bytes ", b'x')? >= 300_000);
+    assert!(rt; left_of(rt.alloc(), b"  u16 ", b'1')? >= 300_000);
+    Ok(())
+}
