@@ -21,7 +21,7 @@ module _ (apart : TextsAreApart) (shows : FittingIsShowable) where
   one_deciding vs ws bytes rest left h s k t =
       same_firsts apart shows vs ws rest left h.each k.each s t (sym h.are ∙ k.are)
 
-  go_on : (vs ws : List Tree) (x y : List ℕ) → AllByRecursion IsMakeable vs → AllByRecursion IsMakeable ws
+  pub go_on : (vs ws : List Tree) (x y : List ℕ) → AllByRecursion IsMakeable vs → AllByRecursion IsMakeable ws
       → IsStuck y → stream_text vs ++ x ≡ stream_text ws ++ y → (us : List Tree) × (ws ≡ vs ++ us)
   go_on [] ws x y av aw sy e = (ws, refl)
   go_on (v ∷ vs) [] x y av aw sy e =

@@ -11,8 +11,12 @@ pub mod OneRefusal
 pub mod OneBare
 pub mod ShownTexts
 pub mod Decided
+pub mod AfterTexts
 pub mod WhateverFollows
 pub mod Endings
 pub mod TestedInput
 pub mod UnderWay
 pub mod FoundRefusal
+pub mod SeenTexts
+pub mod UnderTexts
+pub mod TextsEnds

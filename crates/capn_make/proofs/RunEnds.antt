@@ -16,12 +16,12 @@ use Rattle.capn_make.specs.declared.fault.MakeFault.TheVariants as faults
 use Rattle.capn_make.proofs.UnderWay.{ahead_on, all_begun, begun_on}
 
 -- neither the reader nor the writer is known to have failed
-nobody : (read wrote : Bool) → read ≡ false → wrote ≡ false → (read ≡ true) ⊎ (wrote ≡ true) → ⊥
+pub nobody : (read wrote : Bool) → read ≡ false → wrote ≡ false → (read ≡ true) ⊎ (wrote ≡ true) → ⊥
 nobody read wrote fine kept (inl r) = absurd cc
 nobody read wrote fine kept (inr w) = absurd cc
 
 -- what holds of the bytes that were read, whatever follows, holds of all
-known_whole : (a b : Option (List ℕ)) (bytes : List ℕ) (P : List ℕ → Type 0) → Consumes a b bytes
+pub known_whole : (a b : Option (List ℕ)) (bytes : List ℕ) (P : List ℕ → Type 0) → Consumes a b bytes
     → ((more : List ℕ) → P (bytes ++ more)) → IfSome a P
 known_whole None b bytes P consumed h = tt
 known_whole (Some x) None bytes P consumed h = absurd consumed
@@ -89,7 +89,7 @@ none_of_none : (n : ℕ) → take {A = ℕ} n [] ≡ []
 none_of_none zero = refl
 none_of_none (suc n) = refl
 
-text_begun : (form : Form) (input text : List ℕ) (c d : Option (List ℕ)) (r : Result (Unit {0}) MakeFault)
+pub text_begun : (form : Form) (input text : List ℕ) (c d : Option (List ℕ)) (r : Result (Unit {0}) MakeFault)
     → Makes form input text r → HasBegun c d text → HasBegunText form input c d
 text_begun forms.Stream input text c d r h begun = (h.0, h.1, text, h.2, h.3, begun)
 text_begun forms.Packed input text c d r h begun = (h.0, h.1, text, h.2, h.3, begun)
@@ -113,7 +113,7 @@ none_io input (inl none) = absurd cc
 none_io input (inr (inl refused)) = refused
 none_io input (inr (inr more)) = more.3
 
-not_io : (form : Form) (input text : List ℕ) → Makes form input text (Err faults.Io) → ⊥
+pub not_io : (form : Form) (input text : List ℕ) → Makes form input text (Err faults.Io) → ⊥
 not_io forms.Stream input text h = h.4
 not_io forms.Packed input text h = h.4
 not_io forms.Bare input text h = none_io input h.1

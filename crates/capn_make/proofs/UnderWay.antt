@@ -81,13 +81,13 @@ kept_none forms.Stream written made kept bare = absurd cc
 kept_none forms.Packed written made kept bare = absurd cc
 kept_none forms.Bare written made kept bare = kept
 
-kept_on : (form : Form) (written made text new : List ℕ) → IsKept form written made → IsKept form text new
+pub kept_on : (form : Form) (written made text new : List ℕ) → IsKept form written made → IsKept form text new
     → IsKept form (written ++ text) new
 kept_on forms.Stream written made text new old kept = kept
 kept_on forms.Packed written made text new old kept = kept
 kept_on forms.Bare written made text new old kept = ap₂ (λ x y. x ++ y) old kept
 
-served_by : (form : Form) (c d : Option (List ℕ)) (written made : List ℕ) (vs : List Tree)
+pub served_by : (form : Form) (c d : Option (List ℕ)) (written made : List ℕ) (vs : List Tree)
     → IsKept form written made → AreMade form vs (written ++ made) → (form ≡ forms.Bare → length vs ≤ 1)
     → Appends c d written → IsServed form vs c d
 served_by forms.Stream c d written made vs kept are few wrote =
@@ -96,7 +96,7 @@ served_by forms.Packed c d written made vs kept are few wrote =
     (written, subst (AreMade forms.Packed vs) (ap (λ t. written ++ t) kept ∙ append-nil written) are, wrote)
 served_by forms.Bare c d written made vs kept are few wrote = (few refl, subst (Appends c d) kept wrote)
 
-begun_by : (form : Form) (before piece : List ℕ) (c d : Option (List ℕ)) → HasServed form before c d
+pub begun_by : (form : Form) (before piece : List ℕ) (c d : Option (List ℕ)) → HasServed form before c d
     → HasBegunText form (before ++ piece) c d
 begun_by forms.Stream before piece c d h =
     (h.0, h.1 ++ piece, h.4.0, first_on h.0 before h.1 piece h.2, h.4.1, all_begun c d h.4.0 h.4.2)
@@ -104,7 +104,7 @@ begun_by forms.Packed before piece c d h =
     (h.0, h.1 ++ piece, h.4.0, first_on h.0 before h.1 piece h.2, h.4.1, all_begun c d h.4.0 h.4.2)
 begun_by forms.Bare before piece c d h = inl h.4.1
 
-begun_part : (form : Form) (bytes made : List ℕ) (place : Place) (c d : Option (List ℕ)) → (form ≡ forms.Bare → ⊥)
+pub begun_part : (form : Form) (bytes made : List ℕ) (place : Place) (c d : Option (List ℕ)) → (form ≡ forms.Bare → ⊥)
     → HasMade form bytes place made → HasBegun c d made → HasBegunText form bytes c d
 begun_part forms.Stream bytes made place c d framed m begun = (m.values, place.rest, made, m.first, m.are, begun)
 begun_part forms.Packed bytes made place c d framed m begun = (m.values, place.rest, made, m.first, m.are, begun)
@@ -127,7 +127,7 @@ pub record IsUnderWay (form : Form) (a b c d : Option (List ℕ)) (made rest : L
   pub short : length rest ≤ 4 * tested
   pub unended : IsUnended rest
 
-nothing_kept : (form : Form) → IsKept form [] []
+pub nothing_kept : (form : Form) → IsKept form [] []
 nothing_kept forms.Stream = refl
 nothing_kept forms.Packed = refl
 nothing_kept forms.Bare = refl

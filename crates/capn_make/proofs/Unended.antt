@@ -60,7 +60,7 @@ begins_none rest none v more shows low e =
 -- ---- more has come
 
 -- what ends before a place was there before
-front_of : (x y a b : List ℕ) → x ++ y ≡ a ++ b → length a ≤ length x → (left : List ℕ) × (x ≡ a ++ left)
+pub front_of : (x y a b : List ℕ) → x ++ y ≡ a ++ b → length a ≤ length x → (left : List ℕ) × (x ≡ a ++ left)
 front_of x y [] b e short = (x, refl)
 front_of [] y (c ∷ a) b e short = absurd (omega arith)
 front_of (d ∷ x) y (c ∷ a) b e short =

@@ -41,3 +41,14 @@ IsRefusedForGood form input = (fault : MakeFault) × Ends form input (Err fault)
 -- whatever follows an input, it ends with one fault
 abbrev pub IsLostForGood : Form → List ℕ → Type 0
 IsLostForGood form input = (fault : MakeFault) × ((more : List ℕ) → Ends form (input ++ more) (Err fault))
+
+-- a fault names no line before this one
+abbrev pub IsFrom : ℕ → MakeFault → Type 0
+IsFrom line faults.Memory = ⊤
+IsFrom line faults.Io = ⊤
+IsFrom line faults.InputTooLong = ⊤
+IsFrom line (faults.NotText n) = line ≤ n
+IsFrom line (faults.Misfit n m) = line ≤ n
+IsFrom line (faults.Capability n index) = line ≤ n
+IsFrom line (faults.Another n) = line ≤ n
+IsFrom line faults.NoText = ⊤

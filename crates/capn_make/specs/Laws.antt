@@ -1,18 +1,21 @@
 -- What holds of the definitions alone. (Own.)
-use Rattle.std.specs.Prelude.{◌≡◌, ℕ, List, [], ◌∷◌, ◌++◌, Result, Ok, Err}
+use Rattle.std.specs.Prelude.{◌≡◌, ◌↔◌, ◌≤◌, ◌<◌, ◌^◌, ℕ, List, [], ◌∷◌, ◌++◌, length, Result, Ok, Err}
 use Rattle.std.specs.List.{AllByRecursion}
 use Rattle.capn_words.specs.Message.{IsBare}
 use Rattle.capn_stream.specs.Frames.{Frames}
 use Rattle.capn_value.specs.Tree.{Tree}
 use Rattle.capn_value.specs.Fits.{Fits}
 use Rattle.capn_value.specs.InRange.{InRange}
+use Rattle.capn_text.specs.Showable.{IsShowable}
 use Rattle.capn_text.specs.Streams.{stream_text}
+use Rattle.capn_text.specs.PlainForm.{plain}
+use Rattle.capn_text.specs.PlainLaws.{quoted_stream}
 use Rattle.capn_canon.specs.Layout.{canon}
 use Rattle.capn_canon.specs.declared.form.Form.{Form}
 use Rattle.capn_canon.specs.declared.form.Form.TheVariants as forms
 use Rattle.capn_make.specs.WrittenValue.{IsMakeable, AreMade, framed}
-use Rattle.capn_make.specs.MadeInput.{AreFirst, IsStuck, IsUnended, Makes, MakesEach, MakesOne}
-use Rattle.capn_make.specs.Endings.{Ends, IsWhole, IsRefusedForGood}
+use Rattle.capn_make.specs.MadeInput.{AreFirst, IsStuck, IsUnended, Makes, MakesEach, MakesOne, line_after}
+use Rattle.capn_make.specs.Endings.{Ends, IsFrom, IsWhole, IsRefusedForGood}
 use Rattle.capn_make.specs.declared.fault.MakeFault.{MakeFault}
 
 -- of the texts that `show` writes of values that can be made, all are made
@@ -77,6 +80,16 @@ abbrev pub RefusedIsStuck : Type 0
 RefusedIsStuck = (form : Form) (vs : List Tree) (input rest more : List ℕ) → (form ≡ forms.Bare → ⊥)
     → IsRefusedForGood form input → AreFirst vs input rest → IsStuck rest → IsStuck (rest ++ more)
 
+-- an input is refused at no line before the end of texts that are made
+abbrev pub RefusedAfter : Type 0
+RefusedAfter = (form : Form) (vs : List Tree) (input rest text : List ℕ) (fault : MakeFault) → AreFirst vs input rest
+    → (form ≡ forms.Bare → length vs ≤ 1) → Makes form input text (Err fault) → IsFrom (line_after vs) fault
+
+-- and where no text of any value is next with its end, no other texts that are made end later
+abbrev pub UnendedIsLast : Type 0
+UnendedIsLast = (vs ws : List Tree) (input rest left : List ℕ) → AreFirst vs input rest → AreFirst ws input left
+    → IsUnended left → line_after vs ≤ line_after ws
+
 -- an input ends in one way
 abbrev pub OneEnding : Type 0
 OneEnding = (form : Form) (input : List ℕ) (r s : Result (Unit {0}) MakeFault) → Ends form input r → Ends form input s
@@ -96,3 +109,9 @@ FramedAreFrames = (v : Tree) → Fits v → InRange v
 abbrev pub OneTextInFrames : Type 0
 OneTextInFrames = (vs : List Tree) (text other : List ℕ) → AreMade forms.Stream vs text
     → AreMade forms.Stream vs other → text ≡ other
+
+-- what is shown of values with texts between quotes is made as what is shown of them without
+abbrev pub QuotedAreMade : Type 0
+QuotedAreMade = (form : Form) (vs : List Tree) (text : List ℕ) (r : Result (Unit {0}) MakeFault)
+    → AllByRecursion IsShowable vs → length (quoted_stream vs) < 2 ^ 64
+    → (Makes form (plain (quoted_stream vs)) text r ↔ Makes form (stream_text vs) text r)

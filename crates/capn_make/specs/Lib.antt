@@ -4,4 +4,5 @@ pub mod WrittenValue
 pub mod MadeInput
 pub mod Endings
 pub mod MakeRun
+pub mod MadeTexts
 pub mod Laws

@@ -3,10 +3,11 @@
 ghost use Rattle.capn_make.specs.Laws.{ShownAreMade, ShownAreMadeOnly, OneShownIsMade, OneShownIsMadeOnly};
 ghost use Rattle.capn_make.specs.Laws.{FramedAreFrames, OneMaking, OneBareMaking, OneTextInFrames};
 ghost use Rattle.capn_make.specs.Laws.{FaultStays, RefusalStays, OneEnding, MakingEnds};
+ghost use Rattle.capn_make.specs.Laws.{QuotedAreMade, RefusedAfter, UnendedIsLast};
 ghost use Rattle.capn_make.specs.Laws.{OneDeciding, DecidedStay, UnendedIsStuck, RefusedIsStuck};
 
 use capn_canon::laws::canonicity;
-use capn_text::laws::{refusals, texts, whole_lines};
+use capn_text::laws::{plain_forms, refusals, texts, whole_lines};
 
 /// The texts that [`capn_value::show`] writes, each with its line `end`, are made again: of values that fit and have no
 /// capability nothing but their canonical bytes, in order.
@@ -61,9 +62,25 @@ pub fn stuck()
     whole_lines();
 }
 
+/// What comes after texts that are made is at no line before their end.
+pub fn following()
+    ensures after { RefusedAfter }
+    ensures last { UnendedIsLast }
+{
+    texts();
+    refusals();
+}
+
 /// What is written of a value in [`crate::Form::Stream`] is a frame of one segment, as [`capn_canon`] reads it.
 pub fn framing()
     ensures { FramedAreFrames }
 {
     canonicity();
+}
+
+/// What is shown of values with texts between quotes is made as what is shown of them without.
+pub fn quoting()
+    ensures { QuotedAreMade }
+{
+    plain_forms();
 }

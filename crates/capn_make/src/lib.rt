@@ -13,11 +13,14 @@ mod make_run;
 mod next_text;
 mod output;
 mod progress;
+mod texts_input;
+mod texts_run;
 mod whole_texts;
 mod written_value;
 
 pub use fault::MakeFault;
 pub use make_run::make;
+pub use texts_run::make_texts;
 
 // What the signatures above name.
 pub use capn_canon::Form;
