@@ -9,12 +9,12 @@ use Rattle.capn_serve.specs.declared.fault.RunFault.{RunFault}
 use Rattle.capn_serve.specs.declared.fault.RunFault.TheVariants as run_faults
 use Rattle.capn_archive.specs.declared.fault.ArchiveFault.{ArchiveFault}
 use Rattle.capn_archive.specs.declared.fault.ArchiveFault.TheVariants as faults
-use Rattle.capn_archive.specs.declared.tally.Skipped.{Skipped}
+use Rattle.capn_archive.specs.declared.tally.SkippedSoFar.{SkippedSoFar}
 use Rattle.capn_archive.specs.Finish.{fault_of, outcome_by}
 use Rattle.capn_archive.specs.inner.Closing.{PutsClosing}
 use Rattle.capn_archive.specs.ArchiveRun.{closing_by}
-use Rattle.capn_archive.specs.UniqRun as sieves
-use Rattle.capn_archive.specs.declared.needs.Needs.{Needs}
+use Rattle.capn_archive.specs.UniqRun as uniqs
+use Rattle.capn_archive.specs.declared.limits_report.Needs.{Needs}
 use Rattle.capn_archive.specs.declared.task.Task.{Task}
 use Rattle.capn_archive.specs.declared.task.Task.TheVariants as tasks
 
@@ -96,17 +96,17 @@ limits_some tasks.Digests needs is = absurd (cc)
 limits_some tasks.Canonical needs is = absurd (cc)
 limits_some tasks.Limits needs is = λ h. absurd (omega (arith, ap length h))
 
-pub count_some : (count : Bool) (kept served : ℕ) → count ≡ true → sieves.closing_by count kept served ≢ []
+pub count_some : (count : Bool) (kept served : ℕ) → count ≡ true → uniqs.closing_by count kept served ≢ []
 count_some false kept served is = absurd (cc)
 count_some true kept served is =
     some_after (decimal kept) (codes " of " ++ (decimal served ++ codes "\n"))
     (λ h. absurd (omega (arith, ap length h)))
 
-pub not_io : (skipped : Option Skipped) (messages : ℕ) → outcome_by skipped messages ≡ Err faults.Io → ⊥
+pub not_io : (skipped : Option SkippedSoFar) (messages : ℕ) → outcome_by skipped messages ≡ Err faults.Io → ⊥
 not_io None messages is = absurd (cc)
 not_io (Some s) messages is = absurd (cc)
 
-pub not_memory : (skipped : Option Skipped) (messages : ℕ) → outcome_by skipped messages ≡ Err faults.Memory → ⊥
+pub not_memory : (skipped : Option SkippedSoFar) (messages : ℕ) → outcome_by skipped messages ≡ Err faults.Memory → ⊥
 not_memory None messages is = absurd (cc)
 not_memory (Some s) messages is = absurd (cc)
 

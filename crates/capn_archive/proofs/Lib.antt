@@ -1,9 +1,9 @@
 pub mod FramesAdded
-pub mod Archivists
+pub mod ArchiveServed
 pub mod LineParts
 pub mod Closings
 pub mod Finishes
-pub mod Sieves
+pub mod UniqServed
 pub mod OneArchive
-pub mod OneSieve
+pub mod OneUniq
 pub mod OneWhole

@@ -1,5 +1,5 @@
 -- What a run over an archive does with a message, in one way.
-use Rattle.std.proofs.Common.{◌≡◌, ◌↔◌, inl, inr, ℕ, ◌≤◌, List, Bool, true, false, Option, Some, None, refl, ap, sym}
+use Rattle.std.proofs.Common.{◌≡◌, ◌↔◌, inl, inr, ℕ, List, Bool, true, false, Option, Some, None, refl, ap, sym}
 use Rattle.std.proofs.Common.{subst, ◌∙◌, arith}
 use Rattle.std.proofs.lemmas.Bool.{cases_lt}
 use Rattle.std.specs.Bool.{IsTrue}
@@ -20,20 +20,19 @@ use Rattle.capn_canon.specs.declared.surveyed_bare.SurveyedBare.{SurveyedBare}
 use Rattle.capn_canon.proofs.shared.NotRefused.{accepted-not_refused}
 use Rattle.capn_canon.proofs.shared.OneRefusal.{message_part, one_message_refusal}
 use Rattle.capn_serve.specs.declared.position.Position.{Position}
-use Rattle.capn_serve.specs.declared.service.Run.{Run}
 use Rattle.capn_serve.proofs.shared.OneServing.{IsOneWay}
 use Rattle.capn_archive.specs.CanonicalFrame.{framed}
 use Rattle.capn_canon.specs.Measure.{IsCanonicalOf, IsChecked}
 use Rattle.capn_archive.specs.Findings.{AreFindings, head_of}
 use Rattle.capn_archive.specs.Digest.{IsDigest, IsDigestIfAny}
 use Rattle.capn_archive.specs.Lines.{digests_line, list_line}
-use Rattle.capn_archive.specs.Tally.{counted, one_more, skipped}
-use Rattle.capn_archive.specs.Tasks.{IsRefusedBy, IsServedBy, IsSkippedBy, refuses, serves, skipped_text}
+use Rattle.capn_archive.specs.Tally.{counted}
+use Rattle.capn_archive.specs.Tasks.{IsRefusedBy, IsServedBy, refuses, serves, skipped_text}
 use Rattle.capn_archive.specs.ArchiveRun.{archive_fold}
-use Rattle.capn_archive.specs.declared.archivist.Archivist.{Archivist}
+use Rattle.capn_archive.specs.declared.archive_service.ArchiveService.{ArchiveService}
 use Rattle.capn_archive.specs.declared.findings.Findings.{Findings}
 use Rattle.capn_archive.specs.declared.tally.Tally.{Tally}
-use Rattle.capn_archive.specs.declared.task.Archive.{Archive}
+use Rattle.capn_archive.specs.declared.task.ArchiveOrder.{ArchiveOrder}
 use Rattle.capn_archive.specs.declared.task.Task.{Task}
 use Rattle.capn_archive.specs.declared.task.Task.TheVariants as tasks
 
@@ -157,8 +156,8 @@ module _ (m : List (List ℕ)) (limits : Bounds) where
   one_refused tasks.Limits r s (h, other) (k, another) = one_unaccepted r s h other k another
   one_refused tasks.Canonical r s (h, other) (k, another) = one_message_refusal m limits r s other another h k
 
-module _ (s : Archivist) (at : Position) (frame : List ℕ) (m : List (List ℕ)) where
-  one_tally : (t u : List ℕ) (p q : Archivist) → serves s at frame m t p → serves s at frame m u q
+module _ (s : ArchiveService) (at : Position) (frame : List ℕ) (m : List (List ℕ)) where
+  one_tally : (t u : List ℕ) (p q : ArchiveService) → serves s at frame m t p → serves s at frame m u q
       → (t ≡ u) × (p.tally ≡ q.tally)
   one_tally t u p q (o, inl h) (e, inl k) =
       one_served m s.order.limits s.tally at frame s.order.task t u p.tally q.tally h k
@@ -170,21 +169,21 @@ module _ (s : Archivist) (at : Position) (frame : List ℕ) (m : List (List ℕ)
       let same = one_refused m s.order.limits s.order.task r g refused also in
       (line ∙ ap (λ (x : Refusal). skipped_text s.order.task at frame m x) same ∙ sym text, a ∙ sym b)
 
-  one_step : (t u : List ℕ) (p q : Archivist) → serves s at frame m t p → serves s at frame m u q
+  one_step : (t u : List ℕ) (p q : ArchiveService) → serves s at frame m t p → serves s at frame m u q
       → (t ≡ u) × (p ≡ q)
   one_step t u p q h k =
       let same = one_tally t u p q h k in
       let order : p.order ≡ q.order = h.0 ∙ sym k.0 in
       (same.0, λ i. record { order = order i; tally = same.1 i })
 
-  not_both : (t : List ℕ) (p : Archivist) (r : Refusal) → serves s at frame m t p → refuses s at frame m r → ⊥
+  not_both : (t : List ℕ) (p : ArchiveService) (r : Refusal) → serves s at frame m t p → refuses s at frame m r → ⊥
   not_both t p r (o, inl h) (stays, refused) =
       served_refused m s.order.limits s.tally at frame s.order.task t p.tally r h refused
   not_both t p r (o, inr (going, other, why, line, a)) (stays, refused) = let bad : true ≡ false = sym going
       ∙ stays in cc
 
 -- an archive has one text and one ending
-pub archive_one_way : (order : Archive) → IsOneWay (archive_fold order)
+pub archive_one_way : (order : ArchiveOrder) → IsOneWay (archive_fold order)
 archive_one_way order = record {
   steps = λ x frame m t u y z h k.
       let same = one_step x.service x.at frame m t u y.service z.service h.0 k.0 in

@@ -7,24 +7,24 @@ use Rattle.capn_serve.specs.StreamRun.{start}
 use Rattle.capn_archive.specs.declared.fault.ArchiveFault.{ArchiveFault}
 use Rattle.capn_archive.specs.declared.task.Task.{Task}
 use Rattle.capn_archive.specs.declared.task.Task.TheVariants as tasks
-use Rattle.capn_archive.specs.declared.task.Archive.{Archive}
-use Rattle.capn_archive.specs.declared.archivist.Archivist.{Archivist}
-use Rattle.capn_archive.specs.declared.needs.Needs.{Needs}
+use Rattle.capn_archive.specs.declared.task.ArchiveOrder.{ArchiveOrder}
+use Rattle.capn_archive.specs.declared.archive_service.ArchiveService.{ArchiveService}
+use Rattle.capn_archive.specs.declared.limits_report.Needs.{Needs}
 use Rattle.capn_archive.specs.Finish.{Finish, Finished}
 use Rattle.capn_archive.specs.Lines.{limits_text}
 use Rattle.capn_archive.specs.Tally.{no_tally}
 use Rattle.capn_archive.specs.Tasks.{serves, refuses}
 
 -- the fold over the messages of an archive
-abbrev pub archive_fold : Archive → Fold (Run Archivist)
+abbrev pub archive_fold : ArchiveOrder → Fold (Run ArchiveService)
 archive_fold order = fold_of serves refuses order.limits.message_words
 
 -- nothing has been served
-abbrev pub first_run : Archive → Run Archivist
+abbrev pub first_run : ArchiveOrder → Run ArchiveService
 first_run order = record { service = record { order = order; tally = no_tally }; at = start }
 
 -- what the messages of a run need
-abbrev pub needs_of : Archive → Run Archivist → Needs
+abbrev pub needs_of : ArchiveOrder → Run ArchiveService → Needs
 needs_of order run = record {
   messages = run.at.index;
   tally = run.service.tally;
@@ -39,15 +39,15 @@ closing_by tasks.Limits needs = limits_text needs
 closing_by tasks.Canonical needs = []
 
 -- the same by an order
-abbrev pub closing : Archive → Run Archivist → List ℕ
+abbrev pub closing : ArchiveOrder → Run ArchiveService → List ℕ
 closing order run = closing_by order.task (needs_of order run)
 
 -- what a run does after its last message
-abbrev pub archive_finish : Archive → Finish (Run Archivist)
+abbrev pub archive_finish : ArchiveOrder → Finish (Run ArchiveService)
 archive_finish order = record { closing = λ y. closing order y; skipped = λ y. y.service.tally.skipped }
 
 -- what a run did, over a reader (from a to b) and a writer (from c to d)
-abbrev pub Archived : Archive → Option (List ℕ) → Option (List ℕ) → Option (List ℕ) → Option (List ℕ) → Bool → Bool
+abbrev pub Archived : ArchiveOrder → Option (List ℕ) → Option (List ℕ) → Option (List ℕ) → Option (List ℕ) → Bool → Bool
     → Result (Unit {0}) ArchiveFault → Type 0
 Archived order a b c d reader_failed writer_failed r =
     Finished (archive_fold order) (first_run order) (archive_finish order) order.form a b c d reader_failed

@@ -14,27 +14,27 @@ archive_text faults.Memory = codes "out of memory"
 archive_text faults.Io = codes "input or output failed"
 archive_text faults.InputTooLong = codes "input too long"
 archive_text (faults.Refused at refusal) = codes "message " ++ (place_text at ++ (codes ": " ++ refusal_text refusal))
-archive_text (faults.PassedOver passed) =
-    decimal passed.refused ++ (codes " of " ++ (decimal passed.messages
-    ++ (codes " messages refused, the first is " ++ place_text passed.first)))
+archive_text (faults.Skipped skipped) =
+    decimal skipped.refused ++ (codes " of " ++ (decimal skipped.messages
+    ++ (codes " messages refused, the first is " ++ place_text skipped.first)))
 
 -- the third message, at the offset 40
 abbrev third : Position
 third = record { index = 2; offset = 40 }
 
-passed_over : archive_text (faults.PassedOver (record { refused = 3; messages = 12; first = third }))
+skipped : archive_text (faults.Skipped (record { refused = 3; messages = 12; first = third }))
     ≡ codes "3 of 12 messages refused, the first is 3 at 40"
 unfolding digits
-passed_over = refl
+skipped = refl
 
 refused : archive_text (faults.Refused third (refusals.Capability 2)) ≡ codes "message 3 at 40: capability 2"
 unfolding digits
 refused = refl
 
--- 1 where a message is refused or was passed over, 3 where it could not be carried out
+-- 1 where a message is refused or was skipped, 3 where it could not be carried out
 abbrev pub status_of : ArchiveFault → ℕ
 status_of faults.Memory = 3
 status_of faults.Io = 3
 status_of faults.InputTooLong = 3
 status_of (faults.Refused at refusal) = 1
-status_of (faults.PassedOver passed) = 1
+status_of (faults.Skipped skipped) = 1

@@ -5,11 +5,11 @@ use Rattle.capn_walk.specs.Limits.{Bounds}
 use Rattle.capn_walk.specs.Depth.{IsDepth}
 use Rattle.capn_canon.specs.Measure.{IsChecked}
 use Rattle.capn_serve.specs.declared.position.Position.{Position}
-use Rattle.capn_archive.specs.declared.head.Head.{Head}
+use Rattle.capn_archive.specs.declared.message_head.MessageHead.{MessageHead}
 use Rattle.capn_archive.specs.declared.findings.Findings.{Findings}
 
 -- where the message is, the bytes of its frame, its segments, and the words of its contents in all
-abbrev pub head_of : Position → List ℕ → List (List ℕ) → Head
+abbrev pub head_of : Position → List ℕ → List (List ℕ) → MessageHead
 head_of at frame message = record {
   at = at;
   bytes = length frame;

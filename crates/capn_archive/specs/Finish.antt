@@ -9,15 +9,15 @@ use Rattle.capn_serve.specs.declared.fault.RunFault.{RunFault}
 use Rattle.capn_serve.specs.declared.fault.RunFault.TheVariants as run_faults
 use Rattle.capn_archive.specs.declared.fault.ArchiveFault.{ArchiveFault}
 use Rattle.capn_archive.specs.declared.fault.ArchiveFault.TheVariants as faults
-use Rattle.capn_archive.specs.declared.tally.Skipped.{Skipped}
+use Rattle.capn_archive.specs.declared.tally.SkippedSoFar.{SkippedSoFar}
 use Rattle.capn_serve.specs.Fold.{Fold}
 use Rattle.capn_serve.specs.FormRun.{AreMessages, HasWritten, IsReadSoFar, KeepsUp, MayNeedMemory}
 
--- how a run ends that has served all of its input: done, or with the numbers of the messages that it passed over
-abbrev pub outcome_by : Option Skipped → ℕ → Result (Unit {0}) ArchiveFault
+-- how a run ends that has served all of its input: done, or with the numbers of the messages that it skipped
+abbrev pub outcome_by : Option SkippedSoFar → ℕ → Result (Unit {0}) ArchiveFault
 outcome_by None messages = Ok tt
 outcome_by (Some s) messages =
-    Err (faults.PassedOver (record { refused = s.count; messages = messages; first = s.first }))
+    Err (faults.Skipped (record { refused = s.count; messages = messages; first = s.first }))
 
 -- the fault of a run over an archive, for one of a run over messages
 abbrev pub fault_of : RunFault → ArchiveFault
@@ -26,11 +26,11 @@ fault_of run_faults.Io = faults.Io
 fault_of run_faults.InputTooLong = faults.InputTooLong
 fault_of (run_faults.Refused at r) = faults.Refused at r
 
--- what a run does after its last message, by its state then: the text that it writes, and which messages it has passed
--- over
+-- what a run does after its last message, by its state then: the text that it writes, and which messages it has
+-- skipped
 pub record Finish (X : Type 0) : Type 0 where
   pub closing : X → List ℕ
-  pub skipped : X → Option Skipped
+  pub skipped : X → Option SkippedSoFar
 
 module _ {X : Type 0} (f : Fold X) (x : X) (finish : Finish X) where
   -- how a run ends that has served all of its input

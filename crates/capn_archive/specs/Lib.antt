@@ -7,7 +7,7 @@ pub mod Tally
 pub mod Tasks
 pub mod Finish
 pub mod ArchiveRun
-pub mod Sieve
+pub mod UniqMessages
 pub mod UniqRun
 pub mod FaultText
 pub mod Laws

@@ -8,13 +8,13 @@ use Rattle.capn_value.specs.declared.tariff.Tariff.TheVariants as tariffs
 use Rattle.capn_canon.specs.declared.refusal.Refusal.{Refusal}
 use Rattle.capn_canon.specs.declared.refusal.Refusal.TheVariants as refusals
 use Rattle.capn_canon.specs.Display.{refusal_text}
-use Rattle.capn_archive.specs.declared.head.Head.{Head}
+use Rattle.capn_archive.specs.declared.message_head.MessageHead.{MessageHead}
 use Rattle.capn_archive.specs.declared.findings.Findings.{Findings}
 use Rattle.capn_archive.specs.declared.tally.Greatest.{Greatest}
-use Rattle.capn_archive.specs.declared.needs.Needs.{Needs}
+use Rattle.capn_archive.specs.declared.limits_report.Needs.{Needs}
 
 -- the number of a message, counted from 1, and where and how large it is
-abbrev pub head_text : Head → List ℕ
+abbrev pub head_text : MessageHead → List ℕ
 head_text head =
     decimal (head.at.index + 1) ++ (codes " at " ++ (decimal head.at.offset ++ (codes " bytes "
     ++ (decimal head.bytes ++ (codes " segments " ++ (decimal head.segments ++ (codes " words "
@@ -39,7 +39,7 @@ findings_text findings =
     ++ answer_text findings.checked.is_canonical))))))))
 
 -- the line of a message that is accepted
-abbrev pub list_line : Head → Findings → List ℕ
+abbrev pub list_line : MessageHead → Findings → List ℕ
 list_line head findings = head_text head ++ (codes " " ++ (findings_text findings ++ codes "\n"))
 
 -- the digest of a message in 64 hexadecimal digits, or that there is none
@@ -48,13 +48,13 @@ digest_text (Some digest) = encode_lower digest
 digest_text None = codes "-"
 
 -- the line of a message that is accepted, with its digest
-abbrev pub digests_line : Head → Findings → Option (List ℕ) → List ℕ
+abbrev pub digests_line : MessageHead → Findings → Option (List ℕ) → List ℕ
 digests_line head findings digest =
     head_text head ++ (codes " " ++ (findings_text findings ++ (codes " sha256 " ++ (digest_text digest
     ++ codes "\n"))))
 
--- the line of a message that is passed over
-abbrev pub refused_line : Head → Refusal → List ℕ
+-- the line of a message that is skipped
+abbrev pub refused_line : MessageHead → Refusal → List ℕ
 refused_line head refusal = head_text head ++ (codes " refused " ++ (refusal_text refusal ++ codes "\n"))
 
 -- the greatest amount of a message and the number of the first that has it, counted from 1; zeros if there is none
@@ -95,7 +95,7 @@ limits_text needs = needs_text needs ++ (codes "\n" ++ (advice_text needs ++ cod
 -- ---- a line of each kind
 
 -- the second message of a stream, whose root has one word
-abbrev second : Head
+abbrev second : MessageHead
 second = record { at = record { index = 1; offset = 16 }; bytes = 24; segments = 1; words = 2 }
 
 abbrev its_findings : Findings

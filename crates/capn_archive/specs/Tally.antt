@@ -2,7 +2,7 @@
 use Rattle.std.specs.Prelude.{ℕ, ◌+◌, ◌-◌, ◌^◌, min, nat_lt, if◌then◌else◌, Option, Some, None}
 use Rattle.capn_serve.specs.declared.position.Position.{Position}
 use Rattle.capn_archive.specs.declared.tally.Greatest.{Greatest}
-use Rattle.capn_archive.specs.declared.tally.Skipped.{Skipped}
+use Rattle.capn_archive.specs.declared.tally.SkippedSoFar.{SkippedSoFar}
 use Rattle.capn_archive.specs.declared.tally.Tally.{Tally}
 
 -- the greater of what was greatest so far and an amount of the message of this index; the earlier of two that are equal
@@ -10,8 +10,8 @@ abbrev pub greater : Option Greatest → ℕ → ℕ → Greatest
 greater None amount index = record { amount = amount; index = index }
 greater (Some g) amount index = if nat_lt g.amount amount then record { amount = amount; index = index } else g
 
--- one more message is passed over, of which the first is kept; no count passes 2^64 - 1
-abbrev pub one_more : Option Skipped → Position → Skipped
+-- one more message is skipped, of which the first is kept; no count passes 2^64 - 1
+abbrev pub one_more : Option SkippedSoFar → Position → SkippedSoFar
 one_more None at = record { count = 1; first = at }
 one_more (Some s) at = record { count = min (s.count + 1) (2 ^ 64 - 1); first = s.first }
 
@@ -24,7 +24,7 @@ counted tally index words price depth = record {
   depth = Some (greater tally.depth depth index);
 }
 
--- a message is passed over
+-- a message is skipped
 abbrev pub skipped : Tally → Position → Tally
 skipped tally at = record {
   skipped = Some (one_more tally.skipped at);

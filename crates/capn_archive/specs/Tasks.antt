@@ -14,10 +14,10 @@ use Rattle.capn_serve.specs.declared.fault.ServeFault.TheVariants as faults
 use Rattle.capn_serve.specs.Outgoing.{Outgoing, Adds, AddsBeginning, BreaksWithin}
 use Rattle.capn_archive.specs.declared.task.Task.{Task}
 use Rattle.capn_archive.specs.declared.task.Task.TheVariants as tasks
-use Rattle.capn_archive.specs.declared.task.Archive.{Archive}
+use Rattle.capn_archive.specs.declared.task.ArchiveOrder.{ArchiveOrder}
 use Rattle.capn_archive.specs.declared.findings.Findings.{Findings}
 use Rattle.capn_archive.specs.declared.tally.Tally.{Tally}
-use Rattle.capn_archive.specs.declared.archivist.Archivist.{Archivist}
+use Rattle.capn_archive.specs.declared.archive_service.ArchiveService.{ArchiveService}
 use Rattle.capn_archive.specs.CanonicalFrame.{framed}
 use Rattle.capn_archive.specs.Findings.{head_of, AreFindings}
 use Rattle.capn_archive.specs.Digest.{IsDigestIfAny}
@@ -56,28 +56,28 @@ IsServedBy tasks.Limits limits tally at frame message text tally_after =
     (depth : ℕ) × IsAccepted message limits × IsDepth message limits depth × (text ≡ [])
     × (tally_after ≡ counted tally at.index (total message) (paid message limits) depth)
 
--- what a message that is passed over writes: its line, or nothing
+-- what a message that is skipped writes: its line, or nothing
 abbrev pub skipped_text : Task → Position → List ℕ → List (List ℕ) → Refusal → List ℕ
 skipped_text tasks.List at frame message r = refused_line (head_of at frame message) r
 skipped_text tasks.Digests at frame message r = refused_line (head_of at frame message) r
 skipped_text tasks.Limits at frame message r = []
 skipped_text tasks.Canonical at frame message r = []
 
--- a message is passed over: it is refused, and the run keeps going
-abbrev pub IsSkippedBy : Archive → Tally → Position → List ℕ → List (List ℕ) → List ℕ → Tally → Type 0
+-- a message is skipped: it is refused, and the run keeps going
+abbrev pub IsSkippedBy : ArchiveOrder → Tally → Position → List ℕ → List (List ℕ) → List ℕ → Tally → Type 0
 IsSkippedBy order tally at frame message text tally_after =
     (order.keep_going ≡ true) × (r : Refusal) × IsRefusedBy order.task message order.limits r
     × (text ≡ skipped_text order.task at frame message r) × (tally_after ≡ skipped tally at)
 
--- from one state to the next, a message is served or passed over
-abbrev pub serves : Archivist → Position → List ℕ → List (List ℕ) → List ℕ → Archivist → Type 0
+-- from one state to the next, a message is served or skipped
+abbrev pub serves : ArchiveService → Position → List ℕ → List (List ℕ) → List ℕ → ArchiveService → Type 0
 serves s at frame message text t =
     (t.order ≡ s.order)
     × (IsServedBy s.order.task s.order.limits s.tally at frame message text t.tally
     ⊎ IsSkippedBy s.order s.tally at frame message text t.tally)
 
 -- a message that is refused ends a run that does not keep going
-abbrev pub refuses : Archivist → Position → List ℕ → List (List ℕ) → Refusal → Type 0
+abbrev pub refuses : ArchiveService → Position → List ℕ → List (List ℕ) → Refusal → Type 0
 refuses s at frame message r = (s.order.keep_going ≡ false) × IsRefusedBy s.order.task message s.order.limits r
 
 -- a message was served; or it is refused, or memory was, and the text and the tally are as they were
@@ -105,7 +105,7 @@ AddsServed task limits tally at frame message old new failed (Err faults.Io) tal
 AddsServed task limits tally at frame message old new failed (Err (faults.Refused r)) tally_after =
     IsRefusedBy task message limits r × (new ≡ old) × (tally_after ≡ tally) × (failed ≡ false)
 
--- a message was passed over; or memory was refused, and the text is as it was
+-- a message was skipped; or memory was refused, and the text is as it was
 abbrev pub Skips : Task → Tally → Position → List ℕ → List (List ℕ) → Refusal → List ℕ → List ℕ
     → Result (Unit {0}) ServeFault → Tally → Type 0
 Skips task tally at frame message r old new (Ok u) tally_after =

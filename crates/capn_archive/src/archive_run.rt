@@ -6,21 +6,21 @@ ghost use Rattle.capn_archive.specs.ArchiveRun as spec;
 ghost use Rattle.capn_archive.specs.ArchiveRun.{Archived};
 ghost use Rattle.capn_serve.specs.FormRun.{ServesMessages};
 
-use crate::archivist::Archivist;
+use crate::archive_service::ArchiveService;
 use crate::end_of_archive::{fault_of, outcome, write_closing};
 use crate::fault::ArchiveFault;
 use crate::tally::no_tally;
-use crate::task::Archive;
+use crate::task::ArchiveOrder;
 use capn_serve::{Run, RunFault, serve_form};
 use capn_words::Watched;
 use std::alloc::Allocator;
 use std::io::{Read, Write};
 
 /// The run of an order, before its first message.
-fn first_run(order: Archive) -> Run<Archivist>
+fn first_run(order: ArchiveOrder) -> Run<ArchiveService>
     ensures { result ≡ spec.first_run order }
 {
-    Run::new(Archivist {
+    Run::new(ArchiveService {
         order,
         tally: no_tally(),
     })
@@ -29,8 +29,8 @@ fn first_run(order: Archive) -> Run<Archivist>
 /// Serves the messages of an input in its form.
 fn serve_messages<R: Read, W: Write, A: Allocator + Copy>(
     alloc: A,
-    order: &Archive,
-    run: &mut Run<Archivist>,
+    order: &ArchiveOrder,
+    run: &mut Run<ArchiveService>,
     reader: &mut Watched<R>,
     writer: &mut Watched<W>,
 ) -> Result<(), RunFault>
@@ -49,14 +49,14 @@ fn serve_messages<R: Read, W: Write, A: Allocator + Copy>(
 
 /// Reads the messages of an archive, and writes what its task says: of each message, and at the end.
 ///
-/// It reads as [`serve_form`] does. The run ends as done; as `PassedOver` after all of its input, if messages were
-/// passed over; or with the first fault: a frame, a group or a message that is refused, at its position;
+/// It reads as [`serve_form`] does. The run ends as done; as `Skipped` after all of its input, if messages were
+/// skipped; or with the first fault: a frame, a group or a message that is refused, at its position;
 /// `InputTooLong`; `Io` if and only if the reader or the writer failed; `Memory` if a growth was refused. The texts of
 /// the messages before a fault have been written, and nothing after these. It holds what its loop holds, the canonical
 /// bytes of one message, and a tally.
 pub fn run_archive<R: Read, W: Write, A: Allocator + Copy>(
     alloc: A,
-    order: Archive,
+    order: ArchiveOrder,
     reader: &mut Watched<R>,
     writer: &mut Watched<W>,
 ) -> Result<(), ArchiveFault>

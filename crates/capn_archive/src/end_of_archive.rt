@@ -6,11 +6,11 @@ ghost use Rattle.capn_archive.specs.ArchiveRun as spec;
 ghost use Rattle.capn_archive.specs.inner.Closing.{PutsClosing};
 ghost use Rattle.capn_archive.specs.Finish as finish;
 
-use crate::archivist::Archivist;
-use crate::fault::{ArchiveFault, Passed};
-use crate::needs::{Needs, limits_text};
-use crate::tally::Skipped;
-use crate::task::{Archive, Task};
+use crate::archive_service::ArchiveService;
+use crate::fault::{ArchiveFault, Skipped};
+use crate::limits_report::{Needs, limits_text};
+use crate::tally::SkippedSoFar;
+use crate::task::{ArchiveOrder, Task};
 use capn_serve::{Run, RunFault, write_all};
 use capn_words::Watched;
 use std::alloc::Allocator;
@@ -28,12 +28,12 @@ pub(crate) fn fault_of(fault: RunFault) -> ArchiveFault
     }
 }
 
-/// How a run ends that has served all of its input, this number of messages, and has passed these over.
-pub(crate) fn outcome(skipped: Option<Skipped>, messages: u64) -> Result<(), ArchiveFault>
+/// How a run ends that has served all of its input, this number of messages, and has skipped these.
+pub(crate) fn outcome(skipped: Option<SkippedSoFar>, messages: u64) -> Result<(), ArchiveFault>
     ensures { result ≡ finish.outcome_by skipped messages }
 {
     match skipped {
-        Some(skipped) => Err(ArchiveFault::PassedOver(Passed {
+        Some(skipped) => Err(ArchiveFault::Skipped(Skipped {
             refused: skipped.count,
             messages,
             first: skipped.first,
@@ -43,7 +43,7 @@ pub(crate) fn outcome(skipped: Option<Skipped>, messages: u64) -> Result<(), Arc
 }
 
 /// What the messages of a run need.
-fn needs_of(order: &Archive, run: &Run<Archivist>) -> Needs
+fn needs_of(order: &ArchiveOrder, run: &Run<ArchiveService>) -> Needs
     ensures { result ≡ spec.needs_of order.now run.now }
 {
     Needs {
@@ -56,8 +56,8 @@ fn needs_of(order: &Archive, run: &Run<Archivist>) -> Needs
 /// Writes what is written after the last message.
 pub(crate) fn write_closing<W: Write, A: Allocator + Copy>(
     alloc: A,
-    order: &Archive,
-    run: &Run<Archivist>,
+    order: &ArchiveOrder,
+    run: &Run<ArchiveService>,
     writer: &mut Watched<W>,
 ) -> Result<(), RunFault>
     requires { has_failed writer.old ≡ false }

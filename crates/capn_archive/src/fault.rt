@@ -6,14 +6,14 @@ use capn_serve::{Position, say_place, say_refusal};
 use capn_words::Watched;
 use std::io::Write;
 
-/// The messages that were passed over in a run.
+/// The messages that were skipped in a run.
 #[derive(Clone, Copy, Debug, PartialEq, Eq)]
-pub struct Passed {
-    /// How many messages were passed over.
+pub struct Skipped {
+    /// How many messages were skipped.
     pub refused: u64,
     /// How many messages there were in all.
     pub messages: u64,
-    /// Where the first of those passed over is.
+    /// Where the first of those skipped is.
     pub first: Position,
 }
 
@@ -28,8 +28,8 @@ pub enum ArchiveFault {
     InputTooLong,
     /// The message at this position is refused, or no message can begin there.
     Refused(Position, Refusal),
-    /// All of the input was served, except for messages that were passed over.
-    PassedOver(Passed),
+    /// All of the input was served, except for messages that were skipped.
+    Skipped(Skipped),
 }
 
 impl Ending for ArchiveFault {
@@ -50,18 +50,18 @@ impl Ending for ArchiveFault {
                 line.put(b": ", errors);
                 say_refusal(refusal, line, errors);
             }
-            ArchiveFault::PassedOver(passed) => {
-                line.put_number(passed.refused, errors);
-                line.put_named(b" of ", passed.messages, errors);
+            ArchiveFault::Skipped(skipped) => {
+                line.put_number(skipped.refused, errors);
+                line.put_named(b" of ", skipped.messages, errors);
                 line.put(b" messages refused, the first is ", errors);
-                say_place(&passed.first, line, errors);
+                say_place(&skipped.first, line, errors);
             }
         }
     }
 
     fn exit_status(&self) -> u8 {
         match self {
-            ArchiveFault::Refused(_, _) | ArchiveFault::PassedOver(_) => 1,
+            ArchiveFault::Refused(_, _) | ArchiveFault::Skipped(_) => 1,
             ArchiveFault::Memory | ArchiveFault::Io | ArchiveFault::InputTooLong => 3,
         }
     }

@@ -1,37 +1,37 @@
 //! The program's commands over an archive.
 //! An archive is a stream of messages, or a bare input.
 //!
-//! [`run_archive`] carries an order out, an [`Archive`]: by its service, the [`Archivist`], it lists messages, says
-//! what limits they need, or writes their canonical bytes as frames. [`run_uniq`] carries out a [`Uniq`] by a
-//! [`Sieve`]: it leaves out messages whose canonical bytes one before them had. The loops over the messages are those
-//! of [`capn_serve`].
+//! [`run_archive`] carries an order out, an [`ArchiveOrder`]: by its service, the [`ArchiveService`], it lists
+//! messages, says what limits they need, or writes their canonical bytes as frames. [`run_uniq`] carries out a
+//! [`UniqOrder`] by a [`UniqService`]: it leaves out messages whose canonical bytes one before them had. The loops over
+//! the messages are those of [`capn_serve`].
 #![tactic(auto)]
 
 mod archive_run;
-mod archivist;
+mod archive_service;
 mod canonical_frame;
 mod digest;
 mod end_of_archive;
 mod fault;
 mod findings;
-mod head;
 pub mod laws;
+mod limits_report;
 mod line;
 mod lines;
-mod needs;
-mod sieve;
+mod message_head;
 mod tally;
 mod task;
-mod uniq;
+mod uniq_order;
 mod uniq_run;
+mod uniq_service;
 
 pub use archive_run::run_archive;
-pub use archivist::Archivist;
+pub use archive_service::ArchiveService;
 pub use capn_serve::{
     Position, Run, RunFault, ServeFault, Service, run_bare, run_packed, run_stream,
 };
-pub use fault::{ArchiveFault, Passed};
-pub use sieve::Sieve;
-pub use task::{Archive, Task};
-pub use uniq::Uniq;
+pub use fault::{ArchiveFault, Skipped};
+pub use task::{ArchiveOrder, Task};
+pub use uniq_order::UniqOrder;
 pub use uniq_run::run_uniq;
+pub use uniq_service::UniqService;

@@ -6,7 +6,7 @@ ghost use Rattle.capn_archive.specs.Lines as spec;
 ghost use Rattle.capn_archive.specs.inner.LineRoom.{most_line};
 
 use crate::findings::Findings;
-use crate::head::Head;
+use crate::message_head::MessageHead;
 use capn_serve::number_of;
 use std::marker::Model;
 
@@ -79,7 +79,7 @@ impl Line {
     }
 
     /// Writes before it where a message is, and how large.
-    pub(crate) fn put_head(&mut self, head: &Head)
+    pub(crate) fn put_head(&mut self, head: &MessageHead)
         requires { 148 + length self.old ≤ most_line }
         ensures { self.new ≡ spec.head_text head.now ++ self.old }
     {

@@ -1,4 +1,4 @@
-//! The lines of messages, accepted or passed over.
+//! The lines of messages, accepted or skipped.
 
 ghost use Rattle.std.specs.Prelude.{◌≡◌, ◌++◌, codes, IfOk, IfErr, string_bytes};
 ghost use Rattle.capn_canon.specs.Display.{refusal_text};
@@ -7,14 +7,14 @@ ghost use Rattle.capn_archive.specs.Lines as spec;
 ghost use Rattle.capn_serve.specs.declared.fault.ServeFault.TheVariants as faults;
 
 use crate::findings::Findings;
-use crate::head::Head;
 use crate::line::Line;
+use crate::message_head::MessageHead;
 use capn_canon::Refusal;
 use capn_serve::ServeFault;
 use std::alloc::{AllocError, Allocator};
 
 /// The line of a message that is accepted.
-fn list_line(head: &Head, findings: &Findings) -> Line
+fn list_line(head: &MessageHead, findings: &Findings) -> Line
     ensures { result ≡ spec.list_line head.now findings.now }
 {
     let mut line = Line::new();
@@ -26,7 +26,7 @@ fn list_line(head: &Head, findings: &Findings) -> Line
 }
 
 /// The line of a message that is accepted, with its digest.
-fn digests_line(head: &Head, findings: &Findings, digest: Option<[u8; 32]>) -> Line
+fn digests_line(head: &MessageHead, findings: &Findings, digest: Option<[u8; 32]>) -> Line
     ensures { result ≡ spec.digests_line head.now findings.now digest }
 {
     let mut line = Line::new();
@@ -40,7 +40,7 @@ fn digests_line(head: &Head, findings: &Findings, digest: Option<[u8; 32]>) -> L
 }
 
 /// Where a message is, and how large.
-fn head_text(head: &Head) -> Line
+fn head_text(head: &MessageHead) -> Line
     ensures { result ≡ spec.head_text head.now }
 {
     let mut line = Line::new();
@@ -48,7 +48,7 @@ fn head_text(head: &Head) -> Line
     line
 }
 
-/// The end of the line of a message that is passed over: why it is refused.
+/// The end of the line of a message that is skipped: why it is refused.
 fn refusal_end<A: Allocator>(alloc: A, refusal: &Refusal) -> Result<String<A>, ServeFault>
     ensures found { IfOk result (λ text. string_bytes text ≡ codes " refused " ++ (refusal_text refusal.now
         ++ codes "\n")) }
@@ -100,7 +100,7 @@ fn put_both<A: Allocator>(
 
 /// Appends the line of a message that is accepted, or nothing where memory is refused.
 pub(crate) fn put_list_line<A: Allocator>(
-    head: &Head,
+    head: &MessageHead,
     findings: &Findings,
     text: &mut Vec<u8, A>,
 ) -> Result<(), ServeFault>
@@ -111,7 +111,7 @@ pub(crate) fn put_list_line<A: Allocator>(
 
 /// Appends the line of a message that is accepted, with its digest, or nothing where memory is refused.
 pub(crate) fn put_digests_line<A: Allocator>(
-    head: &Head,
+    head: &MessageHead,
     findings: &Findings,
     digest: Option<[u8; 32]>,
     text: &mut Vec<u8, A>,
@@ -121,10 +121,10 @@ pub(crate) fn put_digests_line<A: Allocator>(
     put_bytes(text, digests_line(head, findings, digest).as_bytes())
 }
 
-/// Appends the line of a message that is passed over, or nothing where memory is refused.
+/// Appends the line of a message that is skipped, or nothing where memory is refused.
 pub(crate) fn put_refused_line<A: Allocator + Copy>(
     alloc: A,
-    head: &Head,
+    head: &MessageHead,
     refusal: &Refusal,
     text: &mut Vec<u8, A>,
 ) -> Result<(), ServeFault>

@@ -14,9 +14,9 @@ pub struct Greatest {
     pub index: u64,
 }
 
-/// The messages that were passed over so far.
+/// The messages that were skipped so far.
 #[derive(Clone, Copy, Debug, PartialEq, Eq)]
-pub struct Skipped {
+pub struct SkippedSoFar {
     /// How many.
     pub count: u64,
     /// Where the first of them is.
@@ -26,8 +26,8 @@ pub struct Skipped {
 /// What a run keeps of the messages that it has served.
 #[derive(Clone, Copy, Debug, PartialEq, Eq)]
 pub struct Tally {
-    /// The messages that were passed over, if any was.
-    pub skipped: Option<Skipped>,
+    /// The messages that were skipped, if any was.
+    pub skipped: Option<SkippedSoFar>,
     /// The greatest number of words, if any message was counted.
     pub words: Option<Greatest>,
     /// The greatest price.
@@ -53,16 +53,16 @@ fn greater(so_far: Option<Greatest>, amount: u32, index: u64) -> Greatest
     }
 }
 
-/// One more message that is passed over.
-pub(crate) fn one_more(so_far: Option<Skipped>, at: Position) -> Skipped
+/// One more message that is skipped.
+pub(crate) fn one_more(so_far: Option<SkippedSoFar>, at: Position) -> SkippedSoFar
     ensures { result ≡ spec.one_more so_far at }
 {
     match so_far {
-        Some(skipped) => Skipped {
+        Some(skipped) => SkippedSoFar {
             count: skipped.count.saturating_add(1),
             first: skipped.first,
         },
-        None => Skipped {
+        None => SkippedSoFar {
             count: 1,
             first: at,
         },
@@ -90,7 +90,7 @@ pub(crate) fn count(tally: &mut Tally, index: u64, words: u32, price: u32, depth
     tally.depth = Some(greater(tally.depth, depth, index));
 }
 
-/// Counts a message that is passed over.
+/// Counts a message that is skipped.
 pub(crate) fn skip(tally: &mut Tally, at: Position)
     ensures { tally.new ≡ spec.skipped tally.old at }
 {

@@ -17,13 +17,13 @@ pub enum Task {
 
 /// What a run does with an archive.
 #[derive(Clone, Copy, Debug, PartialEq, Eq)]
-pub struct Archive {
+pub struct ArchiveOrder {
     /// What is done with each message.
     pub task: Task,
     /// How the input holds the messages.
     pub form: Form,
     /// The limits of each message.
     pub limits: Limits,
-    /// Whether a message that is refused is passed over, and the next one served.
+    /// Whether a message that is refused is skipped, and the next one served.
     pub keep_going: bool,
 }

@@ -5,23 +5,23 @@ ghost use Rattle.capn_words.specs.Watched.{inner_of, has_failed};
 ghost use Rattle.capn_archive.specs.inner.Closing.{PutsClosing};
 ghost use Rattle.capn_archive.specs.Finish.{outcome_by};
 ghost use Rattle.capn_archive.specs.UniqRun as spec;
-ghost use Rattle.capn_archive.specs.UniqRun.{Sieved};
+ghost use Rattle.capn_archive.specs.UniqRun.{Deduplicated};
 ghost use Rattle.capn_serve.specs.declared.fault.RunFault.TheVariants as faults;
 
 use crate::end_of_archive::{fault_of, outcome};
 use crate::fault::ArchiveFault;
-use crate::sieve::Sieve;
-use crate::uniq::Uniq;
+use crate::uniq_order::UniqOrder;
+use crate::uniq_service::UniqService;
 use capn_serve::{Run, RunFault, serve_form, write_all};
 use capn_words::Watched;
 use std::alloc::Allocator;
 use std::io::{Read, Write};
 
 /// The run of an order, before its first message.
-fn first_run<A: Allocator>(alloc: A, order: Uniq) -> Run<Sieve<A>>
+fn first_run<A: Allocator>(alloc: A, order: UniqOrder) -> Run<UniqService<A>>
     ensures { result ≡ spec.first_run order }
 {
-    Run::new(Sieve::new(alloc, order))
+    Run::new(UniqService::new(alloc, order))
 }
 
 /// The line of a count: how many messages are kept, of how many.
@@ -38,40 +38,40 @@ fn count_line<A: Allocator>(alloc: A, kept: usize, served: u64) -> Result<String
 /// Writes what is written after the last message.
 fn write_count<W: Write, A: Allocator + Copy>(
     alloc: A,
-    run: &Run<Sieve<A>>,
+    run: &Run<UniqService<A>>,
     writer: &mut Watched<W>,
 ) -> Result<(), RunFault>
     requires { has_failed writer.old ≡ false }
     ensures { PutsClosing (spec.closing run.now.service) (W.contents (inner_of writer.old))
         (W.contents (inner_of writer.new)) (has_failed writer.new) result }
 {
-    let sieve = &run.service;
-    if !sieve.order().count {
+    let service = &run.service;
+    if !service.order().count {
         return Ok(());
     }
-    let line = count_line(alloc, sieve.kept(), sieve.served())?;
+    let line = count_line(alloc, service.kept(), service.served())?;
     write_all(writer, line.as_bytes())
 }
 
 /// How a run ends that has served all of its input.
-fn outcome_of<A: Allocator>(run: &Run<Sieve<A>>) -> Result<(), ArchiveFault>
+fn outcome_of<A: Allocator>(run: &Run<UniqService<A>>) -> Result<(), ArchiveFault>
     ensures { result ≡ outcome_by run.now.service.skipped run.now.at.index }
 {
     outcome(run.service.skipped(), run.at.index)
 }
 
-/// Has a sieve serve all of an input, and writes what is written after that.
-fn run_sieve<R: Read, W: Write, A: Allocator + Copy>(
+/// Has the service serve all of an input, and writes what is written after that.
+fn run_service<R: Read, W: Write, A: Allocator + Copy>(
     alloc: A,
-    order: &Uniq,
-    run: &mut Run<Sieve<A>>,
+    order: &UniqOrder,
+    run: &mut Run<UniqService<A>>,
     reader: &mut Watched<R>,
     writer: &mut Watched<W>,
 ) -> Result<(), ArchiveFault>
     requires fresh { run.old ≡ spec.first_run order.now }
     requires reader_fine { has_failed reader.old ≡ false }
     requires writer_fine { has_failed writer.old ≡ false }
-    ensures { Sieved order.now (R.remaining (inner_of reader.old)) (R.remaining (inner_of reader.new))
+    ensures { Deduplicated order.now (R.remaining (inner_of reader.old)) (R.remaining (inner_of reader.new))
         (W.contents (inner_of writer.old)) (W.contents (inner_of writer.new)) (has_failed reader.new)
         (has_failed writer.new) result }
 {
@@ -90,23 +90,23 @@ fn run_sieve<R: Read, W: Write, A: Allocator + Copy>(
 /// it. If the order is to count, it writes nothing but at the end a line `U of N`: how many are kept, and how many were
 /// served.
 ///
-/// It reads as [`serve_form`] does. The run ends as done; as `PassedOver` after all of its input, if messages were
-/// passed over; or with the first fault: a frame, a group or a message that is refused, at its position;
+/// It reads as [`serve_form`] does. The run ends as done; as `Skipped` after all of its input, if messages were
+/// skipped; or with the first fault: a frame, a group or a message that is refused, at its position;
 /// `InputTooLong`; `Io` if and only if the reader or the writer failed; `Memory` if a growth was refused. The frames
 /// kept before a fault have been written, and nothing after these. It holds what its loop holds, the canonical bytes of
 /// one message, and the digests of those kept.
 pub fn run_uniq<R: Read, W: Write, A: Allocator + Copy>(
     alloc: A,
-    order: Uniq,
+    order: UniqOrder,
     reader: &mut Watched<R>,
     writer: &mut Watched<W>,
 ) -> Result<(), ArchiveFault>
     requires reader_fine { has_failed reader.old ≡ false }
     requires writer_fine { has_failed writer.old ≡ false }
-    ensures { Sieved order (R.remaining (inner_of reader.old)) (R.remaining (inner_of reader.new))
+    ensures { Deduplicated order (R.remaining (inner_of reader.old)) (R.remaining (inner_of reader.new))
         (W.contents (inner_of writer.old)) (W.contents (inner_of writer.new)) (has_failed reader.new)
         (has_failed writer.new) result }
 {
     let mut run = first_run(alloc, order);
-    run_sieve(alloc, &order, &mut run, reader, writer)
+    run_service(alloc, &order, &mut run, reader, writer)
 }

@@ -7,7 +7,7 @@ use crate::words::{bytes_at, digits_of};
 use anyhow::{Result, anyhow};
 use capn_archive::{run_archive, run_uniq};
 use capn_flow::{FlowFault, pack_stream, unpack_stream};
-use capn_make::{MakeFault, make};
+use capn_make::{MakeFault, make, make_texts};
 use capn_program::{
     ArchiveFault, Flow, Order, RunFault, archive_text, order_of, pick_only, show_parts,
     status_of_archive,
@@ -111,7 +111,15 @@ pub(crate) fn archive_answer(alloc: Global, heap: &Heap, words: &[&str]) -> Resu
             let outcome = unpack_stream(heap, &mut reader, &mut writer);
             flow_told(alloc, outcome, writer.into_inner().as_slice())
         }
-        _ => Err(anyhow!("no run over an archive")),
+        Order::Make(order) => {
+            let outcome = if order.quoted {
+                make_texts(heap, order.form, &mut reader, &mut writer)
+            } else {
+                make(heap, order.form, &mut reader, &mut writer)
+            };
+            made_told(alloc, outcome, writer.into_inner().as_slice())
+        }
+        Order::Message(_) => Err(anyhow!("no run over an archive")),
     }
 }
 
@@ -134,11 +142,15 @@ pub(crate) fn make_answer(alloc: Global, heap: &Heap, words: &[&str]) -> Result<
     let mut reader = Watched::new(input.as_slice());
     let mut writer = Watched::new(Vec::new(alloc));
     let outcome = make(heap, form, &mut reader, &mut writer);
-    let written = writer.into_inner();
-    let digits = digits_of(alloc, written.as_slice())?;
+    made_told(alloc, outcome, writer.into_inner().as_slice())
+}
+
+/// How a run over texts ended: the status, what is written, and the line on standard error.
+fn made_told(alloc: Global, outcome: Result<(), MakeFault>, written: &[u8]) -> Result<String> {
+    let digits = digits_of(alloc, written)?;
     match outcome {
         Ok(()) => Ok(format!(in alloc; "status 0, {digits}")?),
-        Err(MakeFault::Memory) => cut_short(alloc, written.as_slice()),
+        Err(MakeFault::Memory) => cut_short(alloc, written),
         Err(fault) => {
             let status = fault.status();
             Ok(format!(in alloc; "status {status}, {digits}, capn: {fault}")?)

@@ -2,13 +2,13 @@
 
 use crate::orders::expect_usage;
 use capn_program::{
-    Archive, Form, Limits, Only, Order, Pick, StreamForm, Tariff, Task, Uniq, order_of,
+    ArchiveOrder, Form, Limits, Only, Order, Pick, StreamForm, Tariff, Task, UniqOrder, order_of,
 };
 use std::alloc::Global;
 use std::process::Abort;
 
 /// Whether the words order this run over an archive.
-fn is_archive(alloc: Global, words: &[&str], want: Archive) -> bool {
+fn is_archive(alloc: Global, words: &[&str], want: ArchiveOrder) -> bool {
     let told = order_of(alloc, words);
     match &told {
         Ok(Order::Archive(archive)) => *archive == want,
@@ -17,7 +17,7 @@ fn is_archive(alloc: Global, words: &[&str], want: Archive) -> bool {
 }
 
 /// Whether the words order this run without duplicates.
-fn is_uniq(alloc: Global, words: &[&str], want: Uniq) -> bool {
+fn is_uniq(alloc: Global, words: &[&str], want: UniqOrder) -> bool {
     let told = order_of(alloc, words);
     match &told {
         Ok(Order::Uniq(uniq)) => *uniq == want,
@@ -46,8 +46,8 @@ fn is_only(alloc: Global, words: &[&str], want: &Only) -> bool {
 }
 
 /// A run over a stream with usual limits.
-fn over(task: Task, keep_going: bool) -> Archive {
-    Archive {
+fn over(task: Task, keep_going: bool) -> ArchiveOrder {
+    ArchiveOrder {
         task,
         form: Form::Stream,
         limits: Limits::usual(),
@@ -112,7 +112,7 @@ fn options_of_runs_over_archives(rt: HostRuntime) {
                 "--depth=3",
                 "--tariff=plain",
             ];
-            let want = Archive {
+            let want = ArchiveOrder {
                 task,
                 form: value,
                 limits: limits.with_tariff(Tariff::Plain),
@@ -126,7 +126,7 @@ fn options_of_runs_over_archives(rt: HostRuntime) {
 #[test]
 fn doubles_are_left_out_or_counted(rt: HostRuntime) {
     for (flag, keep_going, count) in [("--keep-going", true, false), ("--count", false, true)] {
-        let want = Uniq {
+        let want = UniqOrder {
             form: Form::Bare,
             limits: Limits::usual(),
             keep_going,

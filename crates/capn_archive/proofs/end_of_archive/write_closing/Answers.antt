@@ -1,7 +1,7 @@
 use Rattle.std.proofs.Common.{ap, refl, sym, ◌∙◌}
 use Rattle.capn_archive.specs.ArchiveRun.{closing, closing_by, needs_of}
 use Rattle.capn_archive.specs.Lines.{limits_text}
-use Rattle.capn_archive.specs.declared.needs.Needs.{Needs}
+use Rattle.capn_archive.specs.declared.limits_report.Needs.{Needs}
 use Rattle.capn_archive.specs.declared.task.Task.{Task}
 use Rattle.capn_archive.proofs.Closings.{closing_refused, closing_wrote, limits_some}
 use Rattle.capn_archive.proofs.end_of_archive.write_closing.Goals as goal

@@ -1,7 +1,7 @@
 use Rattle.capn_archive.specs.ArchiveRun as archives
-use Rattle.capn_archive.specs.UniqRun as sieves
+use Rattle.capn_archive.specs.UniqRun as uniqs
 use Rattle.capn_archive.proofs.OneArchive.{archive_one_way}
-use Rattle.capn_archive.proofs.OneSieve.{sieve_one_way}
+use Rattle.capn_archive.proofs.OneUniq.{uniq_one_way}
 use Rattle.capn_archive.proofs.OneWhole.{one_whole}
 use Rattle.capn_archive.proofs.laws.one_text.Goals as goal
 
@@ -12,5 +12,5 @@ returns-clause-archive c order input t u r s h k =
 
 pub returns-clause-uniq : goal.returns-clause-uniq
 returns-clause-uniq c order input t u r s h k =
-    one_whole (sieves.sieve_fold order) (sieve_one_way order) (sieves.first_run order) sieves.sieve_finish order.form
+    one_whole (uniqs.uniq_fold order) (uniq_one_way order) (uniqs.first_run order) uniqs.uniq_finish order.form
     input t u r s h k

@@ -15,7 +15,7 @@ returns-in-Refused g c =
     rw c.in-Refused.is (both _ _ _ _ _ c.put-in-Refused.ensures
     (both _ _ _ _ _ c.say_place.ensures (both _ _ _ _ _ c.put-in-Refused-2.ensures c.say_refusal.ensures)))
 
-pub returns-in-PassedOver : goal.returns-in-PassedOver
-returns-in-PassedOver g c =
-    rw c.in-PassedOver.is (both _ _ _ _ _ c.put_number.ensures
-    (both _ _ _ _ _ c.put_named.ensures (both _ _ _ _ _ c.put-in-PassedOver.ensures c.say_place-in-PassedOver.ensures)))
+pub returns-in-Skipped : goal.returns-in-Skipped
+returns-in-Skipped g c =
+    rw c.in-Skipped.is (both _ _ _ _ _ c.put_number.ensures
+    (both _ _ _ _ _ c.put_named.ensures (both _ _ _ _ _ c.put-in-Skipped.ensures c.say_place-in-Skipped.ensures)))

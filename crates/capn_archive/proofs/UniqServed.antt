@@ -1,0 +1,92 @@
+-- A message that the service serves.
+use Rattle.std.proofs.Common.{◌≡◌, inl, inr, ℕ, List, [], Bool, true, false, Option, Some, Result, Ok, Err, refl}
+use Rattle.std.proofs.Common.{IsErrAnd}
+use Rattle.std.proofs.Common.{ap, sym, subst, ◌∙◌}
+use Rattle.std.specs.BTreeSet.{BTreeSet}
+use Rattle.capn_canon.specs.declared.refusal.Refusal.{Refusal}
+use Rattle.capn_serve.specs.declared.fault.ServeFault.{ServeFault}
+use Rattle.capn_serve.specs.declared.fault.ServeFault.TheVariants as faults
+use Rattle.capn_serve.specs.declared.position.Position.{Position}
+use Rattle.capn_serve.specs.Outgoing.{Outgoing, Adds}
+use Rattle.capn_serve.specs.Service.{DoesService}
+use Rattle.capn_serve.proofs.shared.Adding.{added_none}
+use Rattle.capn_archive.specs.CanonicalFrame.{AddsText}
+use Rattle.capn_archive.specs.declared.tally.SkippedSoFar.{SkippedSoFar}
+use Rattle.capn_archive.specs.declared.uniq_order.UniqOrder.{UniqOrder}
+use Rattle.capn_archive.specs.Tally.{one_more}
+use Rattle.capn_archive.specs.Digest.{IsDigest, IsUndigested}
+use Rattle.capn_archive.specs.UniqMessages.{UniqState, IsSkipped, Deduplicates, and_one, has, one_served}
+use Rattle.capn_archive.specs.UniqMessages.{refuses, serves, kept_text, TriesToDeduplicate}
+
+-- a state of these parts
+abbrev pub state : UniqOrder → BTreeSet (List ℕ) → ℕ → Option SkippedSoFar → UniqState
+state order digests served skipped =
+    record { order = order; digests = digests; served = served; skipped = skipped }
+
+module _ (order : UniqOrder) (digests : BTreeSet (List ℕ)) (served : ℕ) (skipped : Option SkippedSoFar) where
+  -- a message whose digest was inserted is served
+  pub deduplicates : (s : UniqState) → state order digests served skipped ≡ s → (frame digest : List ℕ)
+      (message : List (List ℕ)) → IsDigest message order.limits digest → (is_duplicate : Bool)
+      → is_duplicate ≡ has digests digest → (inserted : BTreeSet (List ℕ)) → inserted ≡ and_one digests digest
+      → (more : ℕ) → more ≡ one_served served
+      → Deduplicates s frame message (kept_text order.count is_duplicate frame) (state order inserted more skipped)
+  deduplicates s same frame digest message is is_duplicate double inserted note more one =
+      subst (λ (t : UniqState). Deduplicates t frame message (kept_text order.count is_duplicate frame)
+      (state order inserted more skipped)) same (
+        digest,
+        is,
+        ap (λ (b : Bool). kept_text order.count b frame) double,
+        ap (λ (n : BTreeSet (List ℕ)). state order n more skipped) note
+            ∙ ap (λ (m : ℕ). state order (and_one digests digest) m skipped) one,
+      )
+
+  -- a message that has no digest is skipped
+  pub is_skipped : (s : UniqState) → state order digests served skipped ≡ s → (at : Position) (message : List (List ℕ))
+      (r : Refusal) → IsUndigested message order.limits r → order.keep_going ≡ true → (more : SkippedSoFar)
+      → more ≡ one_more skipped at → IsSkipped s at message [] (state order digests served (Some more))
+  is_skipped s same at message r undigested going more one =
+      subst (λ (t : UniqState). IsSkipped t at message [] (state order digests served (Some more))) same
+      (going, r, undigested, refl, ap (λ (k : SkippedSoFar). state order digests served (Some k)) one)
+
+abbrev Ending : Type 0
+Ending = Result (Unit {0}) ServeFault
+
+abbrev stopped : ServeFault → Ending
+stopped fault = Err fault
+
+module _ (s : UniqState) (frame : List ℕ) (message : List (List ℕ)) (a b : Outgoing) (failed : Bool) where
+  -- what a message that is served writes was added, or a beginning of it
+  pub kept_added : (t : UniqState) (text : List ℕ) → Deduplicates s frame message text t → (r : Ending)
+      → AddsText text a b failed r → TriesToDeduplicate s frame message a b failed r t
+  kept_added t text is (Ok u) (adds, fine, short) = (text, is, adds, fine, short)
+  kept_added t text is (Err faults.Memory) ((count, adds), fine) = (inr (text, t, count, is, adds), fine)
+  kept_added t text is (Err faults.Io) ((count, breaks), broken) = ((text, t, count, is, breaks), broken)
+  kept_added t text is (Err (faults.Refused r)) none = absurd none
+
+  -- it was served, or is refused and ends the run, or what was added ends within its text
+  pub tried_does : (t : UniqState) (at : Position) (r : Ending) → TriesToDeduplicate s frame message a b failed r t
+      → ((e : Refusal) → r ≡ stopped (faults.Refused e) → s.order.keep_going ≡ false)
+      → DoesService serves refuses s at frame message a b failed r t
+  tried_does t at (Ok u) (text, is, adds, fine, short) ends = ((text, inl is, adds, fine), short)
+  tried_does t at (Err faults.Memory) (inl none, fine) ends = (inl none, fine)
+  tried_does t at (Err faults.Memory) (inr (text, u, count, is, adds), fine) ends =
+      (inr (text, u, count, inl is, adds), fine)
+  tried_does t at (Err faults.Io) ((text, u, count, is, breaks), broken) ends =
+      ((text, u, count, inl is, breaks), broken)
+  tried_does t at (Err (faults.Refused e)) (undigested, same, kept, fine) ends =
+      ((ends e refl, undigested), subst (λ (x : Outgoing). Adds a x []) (sym same) (added_none a), fine)
+
+  -- what is known of a message that was not served since it has no digest
+  pub undigested : (t : UniqState) (fault : ServeFault) (r : Refusal) → fault ≡ faults.Refused r
+      → TriesToDeduplicate s frame message a b failed (stopped fault) t
+      → IsUndigested message s.order.limits r × (b ≡ a) × (t ≡ s) × (failed ≡ false)
+  undigested t fault r same tried =
+      subst (λ (e : ServeFault). TriesToDeduplicate s frame message a b failed (stopped e) t) same tried
+
+  -- memory was refused before anything was added
+  pub memory_refused : (t : UniqState) (fault : ServeFault) (r : Ending) → IsErrAnd r (λ e. e ≡ fault)
+      → fault ≡ faults.Memory → Adds a b [] → failed ≡ false → TriesToDeduplicate s frame message a b failed r t
+  memory_refused t fault (Ok u) told is none fine = absurd told
+  memory_refused t fault (Err faults.Memory) told is none fine = (inl none, fine)
+  memory_refused t fault (Err faults.Io) told is none fine = absurd (cc)
+  memory_refused t fault (Err (faults.Refused r)) told is none fine = absurd (cc)

@@ -1,0 +1,97 @@
+-- Which messages `uniq` keeps: those whose canonical bytes no message before them had, by their SHA-256. (Own.)
+use Rattle.std.specs.Prelude.{◌≡◌, ◌⊎◌, ℕ, ◌+◌, ◌-◌, ◌^◌, ◌<◌, min, List, [], length, Bool, true, false, Option, None}
+use Rattle.std.specs.Prelude.{Some, Result, Ok, Err}
+use Rattle.std.specs.BTreeSet.{BTreeSet, contains, insert_key}
+use Rattle.std.specs.Cmp.Lexicographic.{slice_cmp}
+use Rattle.std.specs.Ordering.{nat_cmp}
+use Rattle.capn_canon.specs.declared.refusal.Refusal.{Refusal}
+use Rattle.capn_serve.specs.declared.position.Position.{Position}
+use Rattle.capn_serve.specs.declared.fault.ServeFault.{ServeFault}
+use Rattle.capn_serve.specs.declared.fault.ServeFault.TheVariants as faults
+use Rattle.capn_serve.specs.Outgoing.{Outgoing, Adds, AddsBeginning, BreaksWithin}
+use Rattle.capn_archive.specs.declared.tally.SkippedSoFar.{SkippedSoFar}
+use Rattle.capn_archive.specs.declared.uniq_order.UniqOrder.{UniqOrder}
+use Rattle.capn_archive.specs.Digest.{IsDigest, IsUndigested}
+use Rattle.capn_archive.specs.Tally.{one_more}
+
+-- what `uniq` has kept: its order, the digests of the messages that it has kept, how many it has served, and those
+-- that it has skipped
+pub record UniqState : Type 0 where
+  pub order : UniqOrder
+  pub digests : BTreeSet (List ℕ)
+  pub served : ℕ
+  pub skipped : Option SkippedSoFar
+
+-- nothing has been kept
+abbrev pub first_state : UniqOrder → UniqState
+first_state order = record { order = order; digests = record { keys = [] }; served = 0; skipped = None }
+
+-- whether a digest is among these
+abbrev pub has : BTreeSet (List ℕ) → List ℕ → Bool
+has digests digest = contains (slice_cmp nat_cmp) digests digest
+
+-- these digests, and one more, unless it is among them
+abbrev pub and_one : BTreeSet (List ℕ) → List ℕ → BTreeSet (List ℕ)
+and_one digests digest = record { keys = insert_key (slice_cmp nat_cmp) digests.keys digest }
+
+-- one message more; no number passes 2^64 - 1
+abbrev pub one_served : ℕ → ℕ
+one_served served = min (served + 1) (2 ^ 64 - 1)
+
+-- what a message writes, by whether messages are only counted and whether one before had its digest: its frame, as it
+-- stands, or nothing
+abbrev pub kept_text : Bool → Bool → List ℕ → List ℕ
+kept_text true is_duplicate frame = []
+kept_text false true frame = []
+kept_text false false frame = frame
+
+-- a message with its frame is served: it writes its frame unless it is a duplicate, and its digest is inserted
+abbrev pub Deduplicates : UniqState → List ℕ → List (List ℕ) → List ℕ → UniqState → Type 0
+Deduplicates s frame message text t =
+    (digest : List ℕ) × IsDigest message s.order.limits digest
+    × (text ≡ kept_text s.order.count (has s.digests digest) frame)
+    × (t ≡ record {
+      order = s.order;
+      digests = and_one s.digests digest;
+      served = one_served s.served;
+      skipped = s.skipped;
+    })
+
+-- a message at a position is skipped: it has no digest, and the run keeps going; it writes nothing, and is not
+-- among those served
+abbrev pub IsSkipped : UniqState → Position → List (List ℕ) → List ℕ → UniqState → Type 0
+IsSkipped s at message text t =
+    (s.order.keep_going ≡ true) × (r : Refusal) × IsUndigested message s.order.limits r × (text ≡ [])
+    × (t ≡ record {
+      order = s.order;
+      digests = s.digests;
+      served = s.served;
+      skipped = Some (one_more s.skipped at);
+    })
+
+-- from one state to the next, a message is served or skipped
+abbrev pub serves : UniqState → Position → List ℕ → List (List ℕ) → List ℕ → UniqState → Type 0
+serves s at frame message text t = Deduplicates s frame message text t ⊎ IsSkipped s at message text t
+
+-- a message that has no digest ends a run that does not keep going
+abbrev pub refuses : UniqState → Position → List ℕ → List (List ℕ) → Refusal → Type 0
+refuses s at frame message r = (s.order.keep_going ≡ false) × IsUndigested message s.order.limits r
+
+-- a digest was inserted, and was not among those before, or was; or memory was refused
+abbrev pub InsertsDigest : BTreeSet (List ℕ) → BTreeSet (List ℕ) → List ℕ → Result Bool ServeFault → Type 0
+InsertsDigest old new digest (Ok is_duplicate) = (is_duplicate ≡ has old digest) × (new ≡ and_one old digest)
+InsertsDigest old new digest (Err fault) = fault ≡ faults.Memory
+
+-- A message was served; or it has no digest, and what goes out and the state are as they were. Or memory was refused,
+-- before what it writes or within it; or the writer failed within it.
+abbrev pub TriesToDeduplicate : UniqState → List ℕ → List (List ℕ) → Outgoing → Outgoing → Bool
+    → Result (Unit {0}) ServeFault → UniqState → Type 0
+TriesToDeduplicate s frame message old new failed (Ok u) t =
+    (text : List ℕ) × Deduplicates s frame message text t × Adds old new text × (failed ≡ false)
+    × (length old.kept < 65536 → length new.kept < 65536)
+TriesToDeduplicate s frame message old new failed (Err faults.Memory) t =
+    AddsBeginning (Deduplicates s frame message) old new × (failed ≡ false)
+TriesToDeduplicate s frame message old new failed (Err faults.Io) t =
+    BreaksWithin (Deduplicates s frame message) old new × (failed ≡ true)
+TriesToDeduplicate s frame message old new failed (Err (faults.Refused r)) t =
+    IsUndigested message s.order.limits r × (new ≡ old) × (t ≡ s) × (failed ≡ false)
