@@ -96,8 +96,8 @@ interop: $(if $(CAPN),,program library)
 	./tests/pages/callers
 	./tests/reference/run
 	./tests/reference/differences
-	@if command -v python3 > /dev/null; then ./tests/program/archives && ./tests/program/texts && ./tests/program/memory; \
-	else echo "archives, texts, memory: skipped, since there is no python3"; fi
+	@if command -v python3 > /dev/null; then ./tests/program/archives && ./tests/program/marks && ./tests/program/texts \
+		&& ./tests/program/memory; else echo "archives, marks, texts, memory: skipped, since there is no python3"; fi
 	./contrib/dask/run
 	@if command -v python3 > /dev/null; then ./tests/python/run && ./tests/reference/hostile; \
 	else echo "python, hostile: skipped, since there is no python3"; fi

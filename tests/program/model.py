@@ -326,6 +326,107 @@ def shown(value, level=0, with_texts=False):
     return head + "".join(f"{pad}  {item}\n" for item in items)
 
 
+class Marked:
+    """The lines of an accepted message with what stands before them: offsets, ways or both. The words of its first
+    segment begin at a byte. It reads the message anew, pointer by pointer."""
+
+    def __init__(self, segments, begin, offsets, ways, with_texts=False):
+        self.walk = Walk(segments, 1 << 60, 1 << 30, "plain")
+        self.begins = [begin + sum(map(len, segments[:i])) for i in range(len(segments))]
+        self.offsets, self.ways, self.with_texts = offsets, ways, with_texts
+
+    def line(self, byte, way, level, text):
+        offset = f"{'' if byte is None else byte}\t" if self.offsets else ""
+        name = "" if way is None else ".".join(map(str, way)) or "root"
+        return offset + (f"{name}\t" if self.ways else "") + "  " * level + text + "\n"
+
+    def leads(self, segment, at):
+        """Where what the word's pointer names begins, and the word that describes it."""
+        word = self.walk.word(segment, at)
+        if word & 3 != 2:
+            return segment, start(word, at), word
+        there, pad = word >> 32, word >> 3 & 0x1FFFFFFF
+        first = self.walk.word(there, pad)
+        if not word & 4:
+            return there, start(first, pad), first
+        return first >> 32, first >> 3 & 0x1FFFFFFF, self.walk.word(there, pad + 1)
+
+    def slot(self, segment, at, way, level):
+        word, byte = self.walk.word(segment, at), self.begins[segment] + 8 * at
+        if word == 0 or word & 3 == 3:
+            return self.line(byte, way, level, f"capability {word >> 32}" if word else "null")
+        there, begin, word = self.leads(segment, at)
+        first, code, count = self.begins[there] + 8 * begin, word >> 32 & 7, word >> 35
+        if not word & 1:
+            return self.body(byte, there, begin, word >> 32 & 0xFFFF, word >> 48, way, level)
+        if code == 7:
+            tag = self.walk.word(there, begin)
+            rows, words, slots = (tag & 0xFFFFFFFF) >> 2, tag >> 32 & 0xFFFF, tag >> 48
+            text = self.line(byte, way, level, f"rows {rows}")
+            for i in range(rows):
+                at = begin + 1 + i * (words + slots)
+                text += self.body(self.begins[there] + 8 * at, there, at, words, slots, way + (i,), level + 1)
+            return text
+        if code == 6:
+            head = self.line(byte, way, level, f"pointers {count}")
+            return head + "".join(self.slot(there, begin + i, way + (i,), level + 1) for i in range(count))
+        if code == 0:
+            return self.line(byte, way, level, f"void {count}")
+        raw = self.walk.segments[there][8 * begin:]
+        if code == 1:
+            text = self.line(byte, way, level, f"bits {count}")
+            bits = "".join(str(raw[i // 8] >> i % 8 & 1) for i in range(count))
+            return text + (self.line(first, way, level + 1, bits) if count else "")
+        if code == 2:
+            items = raw[:count]
+            inside = quoted(items) if self.with_texts else None
+            if inside is not None:
+                return self.line(byte, way, level, f'bytes {count} "{inside}"')
+            text = self.line(byte, way, level, f"bytes {count}")
+            return text + (self.line(first, way, level + 1, items.hex()) if count else "")
+        wide = WIDTH_BITS[code] // 8
+        text = self.line(byte, way, level, f"u{8 * wide} {count}")
+        for i in range(count):
+            text += self.line(first + wide * i, way, level + 1, str(number(raw, wide * i, wide)))
+        return text
+
+    def below(self, there, step):
+        """What is one step below a slot, or below a row: that of a number, or None."""
+        segment, at, row = there
+        if row is None:
+            word = self.walk.word(segment, at)
+            if word == 0 or word & 3 == 3:
+                return None
+            segment, at, word = self.leads(segment, at)
+            if word & 1 and word >> 32 & 7 == 6:
+                return (segment, at + step, None) if step < word >> 35 else None
+            if word & 1 and word >> 32 & 7 == 7:
+                tag = self.walk.word(segment, at)
+                row = tag >> 32 & 0xFFFF, tag >> 48
+                return (segment, at + 1 + step * sum(row), row) if step < (tag & 0xFFFFFFFF) >> 2 else None
+            row = (0, 0) if word & 1 else (word >> 32 & 0xFFFF, word >> 48)
+        return (segment, at + row[0] + step, None) if step < row[1] else None
+
+    def part(self, way):
+        """The lines of what is at a way from the root, or the line `none`."""
+        there = (0, 0, None)
+        for step in way:
+            there = there and self.below(there, step)
+        if there is None:
+            return self.line(None, None, 0, "none")
+        segment, at, row = there
+        if row is None:
+            return self.slot(segment, at, way, 0)
+        return self.body(self.begins[segment] + 8 * at, segment, at, *row, way, 0)
+
+    def body(self, byte, segment, begin, words, slots, way, level):
+        text = self.line(byte, way, level, f"struct {words} {slots}")
+        for i in range(words):
+            word = self.walk.word(segment, begin + i)
+            text += self.line(self.begins[segment] + 8 * (begin + i), way, level + 1, f"word {word:016x}")
+        return text + "".join(self.slot(segment, begin + words + i, way + (i,), level + 1) for i in range(slots))
+
+
 def text_of(items):
     """The text that a list of bytes is in JSON, or None: UTF-8 without control characters, and a zero after it."""
     if not items or items[-1] != 0:
@@ -378,16 +479,23 @@ def styled(value, style):
     return ("none\n" if value is None else shown(value, 0, style == "text")) + "end\n"
 
 
-def show(data, form="stream", message_words=8388608, budget=8388608, depth=64, tariff="strict", style="plain", way=()):
-    """What `show` writes in a style, at a way or of all, the line on standard error, and its exit status."""
+def show(data, form="stream", message_words=8388608, budget=8388608, depth=64, tariff="strict", style="plain", way=(),
+         offsets=False, ways=False):
+    """What `show` writes in a style, at a way or of all, the line on standard error, and its exit status. With offsets
+    or ways the style is "plain" or "text"."""
     found, fault = messages(data, form, message_words)
     out = []
-    for _, _, segments in found:
+    for at, frame, segments in found:
         try:
             walk = Walk(segments, budget, depth, tariff)
         except Refused as refused:
             return "".join(out).encode(), f"capn: {refused}\n", 1
-        out.append(styled(stands(walk.value, way), style))
+        if not offsets and not ways:
+            out.append(styled(stands(walk.value, way), style))
+            continue
+        begin = at + len(frame) - sum(map(len, segments))
+        out.append(Marked(segments, begin, offsets, ways, style == "text").part(way))
+        out.append((f"{at + len(frame)}\t" if offsets else "") + ("\t" if ways else "") + "end\n")
     return "".join(out).encode(), f"capn: {fault[0]}\n" if fault else "", 1 if fault else 0
 
 

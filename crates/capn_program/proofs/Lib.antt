@@ -4,6 +4,3 @@ pub mod Shown
 pub mod Sources
 pub mod Ways
 pub mod RangeLists
-pub mod PartServed
-pub mod PartRuns
-pub mod OneShown

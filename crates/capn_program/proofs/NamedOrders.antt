@@ -7,14 +7,14 @@ use Rattle.capn_canon.specs.declared.form.Form.{Form}
 use Rattle.capn_tool.specs.Meaning.{FormIs, LimitsAre, Means}
 use Rattle.capn_tool.specs.declared.command.Command.{Command}
 use Rattle.capn_tool.specs.declared.command.Command.TheVariants as commands
-use Rattle.capn_archive.specs.declared.task.Archive.{Archive}
+use Rattle.capn_archive.specs.declared.task.ArchiveOrder.{ArchiveOrder}
 use Rattle.capn_archive.specs.declared.task.Task.{Task}
 use Rattle.capn_archive.specs.declared.task.Task.TheVariants as tasks
 use Rattle.capn_show.specs.declared.style.Style.{Style}
 use Rattle.capn_show.specs.declared.style.Style.TheVariants as styles
 use Rattle.capn_report.specs.declared.explain.Explain.{Explain}
 use Rattle.capn_program.specs.Meaning.{AreOptions, ExplainIs, FlagIs, IsTask, IsUsual, MeansOrder, OnlyIs, PickIs}
-use Rattle.capn_program.specs.Meaning.{StyleIs, WayIs}
+use Rattle.capn_program.specs.Meaning.{MarksAre, StyleIs, WayIs, is_plain}
 use Rattle.capn_program.specs.Way.{way_of}
 use Rattle.capn_serve.specs.declared.pick.Pick.{Pick}
 use Rattle.capn_program.specs.declared.order.Flow.TheVariants as flows
@@ -25,7 +25,7 @@ use Rattle.capn_program.proofs.OneOrder.{never_command, tell_of, tell_task, told
 
 -- what `list` orders is over an archive, with or without digests
 abbrev pub ListMeans : List Row → Type 0
-ListMeans rows = (a : Archive) × ((digest : Bool) × FlagIs rows (codes "digest") digest) × AreOptions rows a
+ListMeans rows = (a : ArchiveOrder) × ((digest : Bool) × FlagIs rows (codes "digest") digest) × AreOptions rows a
 
 pub list_means : (rows : List Row) (o : Order) → MeansOrder (Some (codes "list", rows)) o → ListMeans rows
 list_means rows (orders.Message c) m =
@@ -60,7 +60,7 @@ abbrev pub CanonicalMeans : List Row → Type 0
 CanonicalMeans rows =
     ((form : Form) × (limits : Bounds) × FormIs rows form × LimitsAre rows limits
     × FlagIs rows (codes "framed") false × FlagIs rows (codes "keep-going") false)
-    ⊎ ((a : Archive) × FlagIs rows (codes "framed") true × AreOptions rows a)
+    ⊎ ((a : ArchiveOrder) × FlagIs rows (codes "framed") true × AreOptions rows a)
 
 pub canonical_means : (rows : List Row) (o : Order) → MeansOrder (Some (codes "canonical", rows)) o
     → CanonicalMeans rows
@@ -231,22 +231,25 @@ unpack_means rows o m = go o m (told (codes "unpack", rows) o m)
     go (orders.Flow flows.Unpack) m e = inr (m.1, m.2)
     go (orders.Flow flows.Pack) m e = absurd (omega arith)
 
--- what `show` orders has a form, limits, a style, and no way or a way
+-- what `show` orders has a form, limits, a style, marks, and no way or a way
 pub record ShowMeans (rows : List Row) : Type 0 where
   pub form : Form
   pub limits : Bounds
   pub style : Style
+  pub offsets : Bool
+  pub ways : Bool
   pub form_is : FormIs rows form
   pub limits_are : LimitsAre rows limits
   pub style_is : StyleIs rows style
+  pub marks_are : MarksAre rows style offsets ways
   pub way : (first_of (codes "at") rows ≡ None)
       ⊎ ((text : Text) × (first_of (codes "at") rows ≡ Some text) × IsSome (way_of text))
 
-way_means : (rows : List Row) (style : Style) (way : Option (Bor Text)) → WayIs rows style way
+way_means : (rows : List Row) (plain : Bool) (way : Option (Bor Text)) → WayIs rows plain way
     → (first_of (codes "at") rows ≡ None)
     ⊎ ((text : Text) × (first_of (codes "at") rows ≡ Some text) × IsSome (way_of text))
-way_means rows style None is = inl is.0
-way_means rows style (Some way) is = inr (way.now, is.0, is.1)
+way_means rows plain None is = inl is.0
+way_means rows plain (Some way) is = inr (way.now, is.0, is.1)
 
 pub show_means : (rows : List Row) (o : Order) → MeansOrder (Some (codes "show", rows)) o → ShowMeans rows
 show_means rows o m = go o m (told (codes "show", rows) o m)
@@ -262,9 +265,12 @@ show_means rows o m = go o m (told (codes "show", rows) o m)
       form = f;
       limits = l;
       style = styles.Lines;
+      offsets = false;
+      ways = false;
       form_is = m.0.1;
       limits_are = m.0.2;
       style_is = m.1.1;
+      marks_are = m.1.2;
       way = inl m.1.0;
     }
     go (orders.Message (commands.Check f l)) m e = absurd (omega arith)
@@ -276,10 +282,13 @@ show_means rows o m = go o m (told (codes "show", rows) o m)
       form = s.form;
       limits = s.limits;
       style = s.style;
+      offsets = s.offsets;
+      ways = s.ways;
       form_is = m.1.0;
       limits_are = m.1.1;
       style_is = m.1.2;
-      way = way_means rows s.style s.way m.1.3;
+      marks_are = m.1.3;
+      way = way_means rows (is_plain s.style s.offsets s.ways) s.way m.1.4;
     }
     go (orders.Explain x) m e = absurd (omega arith)
     go (orders.Uniq u) m e = absurd (omega arith)

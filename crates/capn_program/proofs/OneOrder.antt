@@ -11,10 +11,10 @@ use Rattle.capn_tool.specs.Meaning.{Means}
 use Rattle.capn_tool.proofs.shared.OneMeaning.{form_one, limits_one, means_one, number_one}
 use Rattle.capn_tool.specs.declared.command.Command.{Command}
 use Rattle.capn_tool.specs.declared.command.Command.TheVariants as commands
-use Rattle.capn_archive.specs.declared.task.Archive.{Archive}
+use Rattle.capn_archive.specs.declared.task.ArchiveOrder.{ArchiveOrder}
 use Rattle.capn_archive.specs.declared.task.Task.{Task}
 use Rattle.capn_archive.specs.declared.task.Task.TheVariants as tasks
-use Rattle.capn_archive.specs.declared.uniq.Uniq.{Uniq}
+use Rattle.capn_archive.specs.declared.uniq_order.UniqOrder.{UniqOrder}
 use Rattle.capn_report.specs.declared.explain.Explain.{Explain}
 use Rattle.capn_serve.specs.declared.pick.Pick.{Pick}
 use Rattle.capn_serve.specs.declared.pick.StreamForm.{StreamForm}
@@ -22,10 +22,12 @@ use Rattle.capn_serve.specs.declared.pick.StreamForm.TheVariants as stream_forms
 use Rattle.capn_program.specs.MessageNumber.{number_of}
 use Rattle.capn_program.specs.Meaning.{AreOptions, AreSame, ExplainIs, FlagIs, HasNoFlag, IsFlow, IsNumbered}
 use Rattle.capn_program.specs.Meaning.{IsSameWay, IsTask}
-use Rattle.capn_program.specs.Meaning.{MeansOneOrder, MeansOrder, OnlyIs, PickIs, ShowIs, StyleIs, UniqIs, WayIs}
-use Rattle.capn_program.specs.Meaning.{flag_text, form_of, usual_with}
+use Rattle.capn_program.specs.Meaning.{MakeIs, MeansOneOrder, MeansOrder, OnlyIs, PickIs}
+use Rattle.capn_program.specs.Meaning.{ShowIs, StyleIs, UniqIs, WayIs}
+use Rattle.capn_program.specs.Meaning.{MarksAre, flag_text, form_of, is_plain, usual_with}
 use Rattle.capn_program.specs.declared.order.Flow.{Flow}
 use Rattle.capn_program.specs.declared.order.Flow.TheVariants as flows
+use Rattle.capn_program.specs.declared.order.Make.{Make}
 use Rattle.capn_program.specs.declared.order.Only.{Only}
 use Rattle.capn_program.specs.declared.order.Show.{Show}
 use Rattle.capn_program.specs.declared.order.Order.{Order}
@@ -182,7 +184,8 @@ task_one name rows tasks.Canonical tasks.Digests e is also = absurd (omega arith
 task_one name rows tasks.Canonical tasks.Limits e is also = absurd (omega arith)
 task_one name rows tasks.Canonical tasks.Canonical e is also = refl
 
-archive_same : (a b : Archive) → a.task ≡ b.task → a.form ≡ b.form → a.limits ≡ b.limits → a.keep_going ≡ b.keep_going
+archive_same : (a b : ArchiveOrder) → a.task ≡ b.task → a.form ≡ b.form → a.limits ≡ b.limits
+    → a.keep_going ≡ b.keep_going
     → a ≡ b
 archive_same a b t f l k =
     ap (λ (x : Task). record { task = x; form = a.form; limits = a.limits; keep_going = a.keep_going }) t
@@ -190,13 +193,13 @@ archive_same a b t f l k =
     ∙ ap (λ (x : Bounds). record { task = b.task; form = b.form; limits = x; keep_going = a.keep_going }) l
     ∙ ap (λ (x : Bool). record { task = b.task; form = b.form; limits = b.limits; keep_going = x }) k
 
-archive_one : (name : Text) (rows : List Row) (a b : Archive) → tell_task a.task ≡ tell_task b.task
+archive_one : (name : Text) (rows : List Row) (a b : ArchiveOrder) → tell_task a.task ≡ tell_task b.task
     → IsTask name rows a.task → AreOptions rows a → IsTask name rows b.task → AreOptions rows b → a ≡ b
 archive_one name rows a b e s (f, l, k) t (g, m, j) =
     archive_same a b (task_one name rows a.task b.task e s t) (form_one a.form b.form (sym f ∙ g))
     (limits_one rows a.limits b.limits l m) (flag_one rows (codes "keep-going") a.keep_going b.keep_going k j)
 
-uniq_same : (u v : Uniq) → u.form ≡ v.form → u.limits ≡ v.limits → u.keep_going ≡ v.keep_going → u.count ≡ v.count
+uniq_same : (u v : UniqOrder) → u.form ≡ v.form → u.limits ≡ v.limits → u.keep_going ≡ v.keep_going → u.count ≡ v.count
     → u ≡ v
 uniq_same u v f l k c =
     ap (λ (x : Form). record { form = x; limits = u.limits; keep_going = u.keep_going; count = u.count }) f
@@ -204,11 +207,17 @@ uniq_same u v f l k c =
     ∙ ap (λ (x : Bool). record { form = v.form; limits = v.limits; keep_going = x; count = u.count }) k
     ∙ ap (λ (x : Bool). record { form = v.form; limits = v.limits; keep_going = v.keep_going; count = x }) c
 
-uniq_one : (rows : List Row) (u v : Uniq) → UniqIs rows u → UniqIs rows v → u ≡ v
+uniq_one : (rows : List Row) (u v : UniqOrder) → UniqIs rows u → UniqIs rows v → u ≡ v
 uniq_one rows u v (f, l, k, c) (g, m, j, d) =
     uniq_same u v (form_one u.form v.form (sym f ∙ g)) (limits_one rows u.limits v.limits l m)
     (flag_one rows (codes "keep-going") u.keep_going v.keep_going k j)
     (flag_one rows (codes "count") u.count v.count c d)
+
+make_one : (rows : List Row) (p q : Make) → MakeIs rows p → MakeIs rows q → p ≡ q
+make_one rows p q (f, b) (g, c) =
+    let form : p.form ≡ q.form = form_one p.form q.form (sym f ∙ g) in
+    let quoted : p.quoted ≡ q.quoted = flag_one rows (codes "text") p.quoted q.quoted b c in
+    λ i. record { form = form i; quoted = quoted i }
 
 pick_same : (p q : Pick) → p.form ≡ q.form → p.limits ≡ q.limits → p.from ≡ q.from → p.to ≡ q.to → p ≡ q
 pick_same p q f l a b =
@@ -254,7 +263,7 @@ listed rows p q (f, w, usual, a, b, none) (g, v, usually, list) =
     let bad : None ≡ Some q.list.now = sym none ∙ list.0 in absurd cc
 
 -- a style is known by its flags
-style_one : (rows : List Row) (s t : Style) → StyleIs rows s → StyleIs rows t → s ≡ t
+pub style_one : (rows : List Row) (s t : Style) → StyleIs rows s → StyleIs rows t → s ≡ t
 style_one rows styles.Lines styles.Lines a b = refl
 style_one rows styles.Lines styles.Quoted a b =
     absurd (let bad : false ≡ true = flag_one rows (codes "text") false true a.0 b.0 in cc)
@@ -285,7 +294,7 @@ style_one rows styles.JsonText styles.Json a b =
 style_one rows styles.JsonText styles.JsonText a b = refl
 
 -- and a way by the value of `--at`
-way_one : (rows : List Row) (f g : Style) (v w : Option (Bor Text)) → WayIs rows f v → WayIs rows g w → IsSameWay v w
+way_one : (rows : List Row) (f g : Bool) (v w : Option (Bor Text)) → WayIs rows f v → WayIs rows g w → IsSameWay v w
 way_one rows f g None None is also = tt
 way_one rows f g None (Some w) is also = let bad : None ≡ Some w.now = sym is.0 ∙ also.0 in absurd cc
 way_one rows f g (Some v) None is also = let bad : Some v.now ≡ None = sym is.0 ∙ also.0 in absurd cc
@@ -293,11 +302,13 @@ way_one rows f g (Some v) (Some w) is also =
     ap (λ (o : Option Text). unwrap_or o (codes "")) (sym is.0 ∙ also.0)
 
 show_one : (rows : List Row) (s t : Show) → ShowIs rows s → ShowIs rows t → AreSame (orders.Show s) (orders.Show t)
-show_one rows s t (f, l, style, way) (g, m, other, also) = (
+show_one rows s t (f, l, style, (offsets, ways, fit), way) (g, m, other, (too, more, fits), also) = (
   form_one s.form t.form (sym f ∙ g),
   limits_one rows s.limits t.limits l m,
   style_one rows s.style t.style style other,
-  way_one rows s.style t.style s.way t.way way also,
+  flag_one rows (codes "offsets") s.offsets t.offsets offsets too,
+  flag_one rows (codes "ways") s.ways t.ways ways more,
+  way_one rows (is_plain s.style s.offsets s.ways) (is_plain t.style t.offsets t.ways) s.way t.way way also,
 )
 
 -- the value of `--number` is one number
@@ -323,14 +334,23 @@ explain_one rows x y (f, l, n) (g, m, k) =
 
 -- ---- two orders of two kinds
 
--- words without `--at` and without a style order no part and no other style
-no_show : (rows : List Row) (style : Style) (way : Option (Bor Text)) → first_of (codes "at") rows ≡ None
-    → StyleIs rows styles.Lines → StyleIs rows style → WayIs rows style way → ⊥
-no_show rows style None none lines is other = other.1 (style_one rows style styles.Lines is lines)
-no_show rows style (Some way) none lines is other = let bad : None ≡ Some way.now = sym none ∙ other.0 in absurd cc
+-- words without `--at` and any flag order no part, no other style and no marks
+no_show : (rows : List Row) (plain : Bool) (way : Option (Bor Text)) → first_of (codes "at") rows ≡ None
+    → plain ≡ true → WayIs rows plain way → ⊥
+no_show rows plain None none is other = let bad : true ≡ false = sym is ∙ other.1 in absurd cc
+no_show rows plain (Some way) none is other = let bad : None ≡ Some way.now = sym none ∙ other.0 in absurd cc
+
+-- the style and the marks are those of a plain `show`
+plainly : (rows : List Row) (s : Show) → StyleIs rows styles.Lines → MarksAre rows styles.Lines false false
+    → ShowIs rows s → is_plain s.style s.offsets s.ways ≡ true
+plainly rows s lines (bare, still, fit) (f, l, style, (offsets, ways, fits), way) =
+    ap (λ (x : Style). is_plain x s.offsets s.ways) (style_one rows s.style styles.Lines style lines)
+    ∙ ap (λ (x : Bool). is_plain styles.Lines x s.ways) (flag_one rows (codes "offsets") s.offsets false offsets bare)
+    ∙ ap (λ (x : Bool). is_plain styles.Lines false x) (flag_one rows (codes "ways") s.ways false ways still)
 
 shows : (rows : List Row) (c : Command) (s : Show) → tell_command c ≡ 326 → HasNoFlag rows c → ShowIs rows s → ⊥
-shows rows (commands.Show f l) s e none is = no_show rows s.style s.way none.0 none.1 is.2 is.3
+shows rows (commands.Show f l) s e none is =
+    no_show rows (is_plain s.style s.offsets s.ways) s.way none.0 (plainly rows s none.1 none.2 is) is.4
 shows rows (commands.Check f l) s e none is = omega arith
 shows rows commands.Pack s e none is = omega arith
 shows rows (commands.Unpack m) s e none is = omega arith
@@ -409,7 +429,7 @@ same s (orders.Archive a) (orders.Message d) e m n = absurd (apart s.0 s.1 d a.t
 same s (orders.Archive a) (orders.Show t) e m n = absurd (never_task a.task 326 refl e)
 same s (orders.Archive a) (orders.Explain y) e m n = absurd (never_task a.task 344 refl e)
 same s (orders.Archive a) (orders.Archive b) e m n =
-    ap (λ (x : Archive). orders.Archive x) (archive_one s.0 s.1 a b e m.0 m.1 n.0 n.1)
+    ap (λ (x : ArchiveOrder). orders.Archive x) (archive_one s.0 s.1 a b e m.0 m.1 n.0 n.1)
 same s (orders.Archive a) (orders.Uniq v) e m n = absurd (never_task a.task 320 refl e)
 same s (orders.Archive a) (orders.Pick k) e m n = absurd (never_task a.task 303 refl e)
 same s (orders.Archive a) (orders.Only k) e m n = absurd (never_task a.task 303 refl e)
@@ -419,7 +439,7 @@ same s (orders.Uniq u) (orders.Message d) e m n = absurd (never_command d 320 re
 same s (orders.Uniq u) (orders.Show t) e m n = absurd (omega arith)
 same s (orders.Uniq u) (orders.Explain y) e m n = absurd (omega arith)
 same s (orders.Uniq u) (orders.Archive b) e m n = absurd (never_task b.task 320 refl (sym e))
-same s (orders.Uniq u) (orders.Uniq v) e m n = ap (λ (x : Uniq). orders.Uniq x) (uniq_one s.1 u v m.1 n.1)
+same s (orders.Uniq u) (orders.Uniq v) e m n = ap (λ (x : UniqOrder). orders.Uniq x) (uniq_one s.1 u v m.1 n.1)
 same s (orders.Uniq u) (orders.Pick k) e m n = absurd (omega arith)
 same s (orders.Uniq u) (orders.Only k) e m n = absurd (omega arith)
 same s (orders.Uniq u) (orders.Flow w) e m n = absurd (never_flow w 320 refl (sym e))
@@ -459,7 +479,7 @@ same s (orders.Make f) (orders.Uniq v) e m n = absurd (omega arith)
 same s (orders.Make f) (orders.Pick k) e m n = absurd (omega arith)
 same s (orders.Make f) (orders.Only k) e m n = absurd (omega arith)
 same s (orders.Make f) (orders.Flow w) e m n = absurd (never_flow w 311 refl (sym e))
-same s (orders.Make f) (orders.Make g) e m n = ap (λ (x : Form). orders.Make x) (form_one f g (sym m.1 ∙ n.1))
+same s (orders.Make f) (orders.Make g) e m n = ap (λ (x : Make). orders.Make x) (make_one s.1 f g m.1 n.1)
 
 pub means_one_order : MeansOneOrder
 means_one_order None o p m n = absurd m

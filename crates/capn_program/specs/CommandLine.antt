@@ -48,9 +48,20 @@ text_rule = flag_rule (codes "text")
 abbrev pub json_rule : Rule
 json_rule = flag_rule (codes "json")
 
--- `show` takes what a command over messages takes, and `--at`, `--text` and `--json`
+-- whether before each line stands the byte of what it is about, and whether the way to it does
+abbrev pub offsets_rule : Rule
+offsets_rule = flag_rule (codes "offsets")
+
+abbrev pub ways_rule : Rule
+ways_rule = flag_rule (codes "ways")
+
+-- `show` with all but its marks takes what a command over messages takes, and `--at`, `--text` and `--json`
+abbrev pub unmarked_line : App
+unmarked_line = with_rule (with_rule (with_rule (message_line (codes "show")) way_rule) text_rule) json_rule
+
+-- `show` takes these, and `--offsets` and `--ways`
 abbrev pub show_line : App
-show_line = with_rule (with_rule (with_rule (message_line (codes "show")) way_rule) text_rule) json_rule
+show_line = with_rule (with_rule unmarked_line offsets_rule) ways_rule
 
 -- `canonical` takes what a command over messages takes, and `--framed` and `--keep-going`
 abbrev pub canonical_line : App
@@ -115,9 +126,9 @@ pick_line =
 abbrev pub messages_line : App
 messages_line = with_subcommand (with_subcommand canonical_bytes_line uniq_line.top) pick_line.top
 
--- `make` takes the form of what it writes
+-- `make` takes the form of what it writes, and `--text`
 abbrev pub make_line : App
-make_line = with_rule (new_app (codes "make")) form_rule
+make_line = with_rule (with_rule (new_app (codes "make")) form_rule) text_rule
 
 -- `pack` takes `--streaming`
 abbrev pub packing_line : App

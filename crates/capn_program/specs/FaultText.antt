@@ -12,13 +12,13 @@ use Rattle.capn_make.specs.declared.fault.MakeFault.{MakeFault}
 use Rattle.capn_flow.specs.FaultText as flowing
 use Rattle.capn_flow.specs.declared.fault.FlowFault.{FlowFault}
 
-passed_over : fault_text_line (archive_text (faults.PassedOver (record {
+skipped : fault_text_line (archive_text (faults.Skipped (record {
   refused = 3;
   messages = 12;
   first = record { index = 2; offset = 40 };
 }))) ≡ codes "capn: 3 of 12 messages refused, the first is 3 at 40\n"
 unfolding digits
-passed_over = refl
+skipped = refl
 
 -- the ending of a run over an archive was written
 abbrev pub WritesArchiveEnding : Result (Unit {0}) ArchiveFault → Option (List ℕ) → Option (List ℕ) → Bool → Type 0

@@ -1,6 +1,6 @@
 -- What a subcommand and the values of its options order. (Own.)
-use Rattle.std.specs.Prelude.{ℕ, ◌≡◌, ◌≢◌, ◌≤◌, List, Bool, true, false, Option, Some, None, codes, ⊤, find, IsSome}
-use Rattle.std.specs.Prelude.{option_and_then}
+use Rattle.std.specs.Prelude.{ℕ, ◌≡◌, ◌≤◌, ◌||◌, not, List, Bool, true, false, Option, Some, None, codes, ⊤, find}
+use Rattle.std.specs.Prelude.{option_and_then, IsSome}
 use Rattle.std.specs.Borrow.{Bor}
 use Rattle.std.specs.Str.{bytes_eq}
 use Rattle.clap.specs.Words.{Row, Text, first_of, one_of}
@@ -14,10 +14,10 @@ use Rattle.capn_canon.specs.declared.form.Form.TheVariants as forms
 use Rattle.capn_tool.specs.Meaning.{FormIs, LimitsAre, Means, NumberIs}
 use Rattle.capn_tool.specs.declared.command.Command.{Command}
 use Rattle.capn_tool.specs.declared.command.Command.TheVariants as commands
-use Rattle.capn_archive.specs.declared.task.Archive.{Archive}
+use Rattle.capn_archive.specs.declared.task.ArchiveOrder.{ArchiveOrder}
 use Rattle.capn_archive.specs.declared.task.Task.{Task}
 use Rattle.capn_archive.specs.declared.task.Task.TheVariants as tasks
-use Rattle.capn_archive.specs.declared.uniq.Uniq.{Uniq}
+use Rattle.capn_archive.specs.declared.uniq_order.UniqOrder.{UniqOrder}
 use Rattle.capn_show.specs.declared.style.Style.{Style}
 use Rattle.capn_show.specs.declared.style.Style.TheVariants as styles
 use Rattle.capn_serve.specs.declared.pick.Pick.{Pick}
@@ -30,6 +30,7 @@ use Rattle.capn_program.specs.RangeList.{ranges_in}
 use Rattle.capn_program.specs.Way.{way_of}
 use Rattle.capn_program.specs.declared.order.Flow.{Flow}
 use Rattle.capn_program.specs.declared.order.Flow.TheVariants as flows
+use Rattle.capn_program.specs.declared.order.Make.{Make}
 use Rattle.capn_program.specs.declared.order.Only.{Only}
 use Rattle.capn_program.specs.declared.order.Show.{Show}
 use Rattle.capn_program.specs.declared.order.Order.{Order}
@@ -45,12 +46,12 @@ abbrev pub FlagIs : List Row → Text → Bool → Type 0
 FlagIs rows option given = one_of option rows ≡ Some (flag_text given)
 
 -- the options over an archive have these values
-abbrev pub AreOptions : List Row → Archive → Type 0
+abbrev pub AreOptions : List Row → ArchiveOrder → Type 0
 AreOptions rows archive = FormIs rows archive.form × LimitsAre rows archive.limits
     × FlagIs rows (codes "keep-going") archive.keep_going
 
 -- the options of `uniq` have these values
-abbrev pub UniqIs : List Row → Uniq → Type 0
+abbrev pub UniqIs : List Row → UniqOrder → Type 0
 UniqIs rows uniq = FormIs rows uniq.form × LimitsAre rows uniq.limits
     × FlagIs rows (codes "keep-going") uniq.keep_going × FlagIs rows (codes "count") uniq.count
 
@@ -114,6 +115,10 @@ IsNumbered rows (Some n) = (text : Text) × (first_of (codes "number") rows ≡ 
 abbrev pub ExplainIs : List Row → Explain → Type 0
 ExplainIs rows explain = FormIs rows explain.form × LimitsAre rows explain.limits × IsNumbered rows explain.number
 
+-- the options of `make` have these values
+abbrev pub MakeIs : List Row → Make → Type 0
+MakeIs rows make = FormIs rows make.form × FlagIs rows (codes "text") make.quoted
+
 -- the subcommand of this name lets bytes flow this way: `--streaming` is given, and `--message-words` is not
 abbrev pub IsFlow : Text → List Row → Flow → Type 0
 IsFlow name rows flows.Pack = (name ≡ codes "pack") × FlagIs rows (codes "streaming") true
@@ -127,20 +132,41 @@ StyleIs rows styles.Quoted = FlagIs rows (codes "text") true × FlagIs rows (cod
 StyleIs rows styles.Json = FlagIs rows (codes "text") false × FlagIs rows (codes "json") true
 StyleIs rows styles.JsonText = FlagIs rows (codes "text") true × FlagIs rows (codes "json") true
 
--- `--at` is given, and its value is a way; or it isn't, and the style is another than that of a plain `show`
-abbrev pub WayIs : List Row → Style → Option (Bor Text) → Type 0
-WayIs rows style None = (first_of (codes "at") rows ≡ None) × (style ≢ styles.Lines)
-WayIs rows style (Some way) = (first_of (codes "at") rows ≡ Some way.now) × IsSome (way_of way.now)
+-- a text in this style has lines, before which marks can stand: JSON has none
+abbrev pub has_lines : Style → Bool
+has_lines styles.Lines = true
+has_lines styles.Quoted = true
+has_lines styles.Json = false
+has_lines styles.JsonText = false
 
--- the options of `show` have these values: one of `--at`, `--text` and `--json` is given
+-- each mark is asked for or isn't; JSON goes without them
+abbrev pub MarksAre : List Row → Style → Bool → Bool → Type 0
+MarksAre rows style offsets ways = FlagIs rows (codes "offsets") offsets × FlagIs rows (codes "ways") ways
+    × (has_lines style || not (offsets || ways) ≡ true)
+
+-- lines without marks, as a plain `show` writes them
+abbrev pub is_plain : Style → Bool → Bool → Bool
+is_plain styles.Lines offsets ways = not (offsets || ways)
+is_plain styles.Quoted offsets ways = false
+is_plain styles.Json offsets ways = false
+is_plain styles.JsonText offsets ways = false
+
+-- `--at` is given, and its value is a way; or it isn't, and the text is not that of a plain `show`
+abbrev pub WayIs : List Row → Bool → Option (Bor Text) → Type 0
+WayIs rows plain None = (first_of (codes "at") rows ≡ None) × (plain ≡ false)
+WayIs rows plain (Some way) = (first_of (codes "at") rows ≡ Some way.now) × IsSome (way_of way.now)
+
+-- the options of `show` have these values: one of `--at`, `--text`, `--json`, `--offsets` and `--ways` is given
 abbrev pub ShowIs : List Row → Show → Type 0
-ShowIs rows show = FormIs rows show.form × LimitsAre rows show.limits
-    × StyleIs rows show.style × WayIs rows show.style show.way
+ShowIs rows show = FormIs rows show.form × LimitsAre rows show.limits × StyleIs rows show.style
+    × MarksAre rows show.style show.offsets show.ways
+    × WayIs rows (is_plain show.style show.offsets show.ways) show.way
 
 -- `canonical`, `pack` and `unpack` are commands over one input where none of their flags is given, and `show` where
 -- neither a flag nor `--at` is; no other command over messages has such an option
 abbrev pub HasNoFlag : List Row → Command → Type 0
 HasNoFlag rows (commands.Show form limits) = (first_of (codes "at") rows ≡ None) × StyleIs rows styles.Lines
+    × MarksAre rows styles.Lines false false
 HasNoFlag rows (commands.Check form limits) = ⊤
 HasNoFlag rows commands.Pack = FlagIs rows (codes "streaming") false
 HasNoFlag rows (commands.Unpack most) = FlagIs rows (codes "streaming") false
@@ -159,7 +185,7 @@ MeansOrder (Some s) (orders.Uniq uniq) = (s.0 ≡ codes "uniq") × UniqIs s.1 un
 MeansOrder (Some s) (orders.Pick pick) = (s.0 ≡ codes "pick") × PickIs s.1 pick
 MeansOrder (Some s) (orders.Only only) = (s.0 ≡ codes "pick") × OnlyIs s.1 only
 MeansOrder (Some s) (orders.Flow flow) = IsFlow s.0 s.1 flow
-MeansOrder (Some s) (orders.Make form) = (s.0 ≡ codes "make") × FormIs s.1 form
+MeansOrder (Some s) (orders.Make make) = (s.0 ≡ codes "make") × MakeIs s.1 make
 
 -- no way, or two whose texts are equal, wherever these are
 abbrev pub IsSameWay : Option (Bor Text) → Option (Bor Text) → Type 0
@@ -172,7 +198,8 @@ IsSameWay (Some way) (Some other) = way.now ≡ other.now
 -- a list are picked, so are the texts of the lists
 abbrev pub AreSame : Order → Order → Type 0
 AreSame (orders.Show s) (orders.Show t) =
-    (s.form ≡ t.form) × (s.limits ≡ t.limits) × (s.style ≡ t.style) × IsSameWay s.way t.way
+    (s.form ≡ t.form) × (s.limits ≡ t.limits) × (s.style ≡ t.style) × (s.offsets ≡ t.offsets) × (s.ways ≡ t.ways)
+    × IsSameWay s.way t.way
 AreSame (orders.Only s) (orders.Only t) = (s.form ≡ t.form) × (s.limits ≡ t.limits) × (s.list.now ≡ t.list.now)
 AreSame o p = o ≡ p
 

@@ -12,7 +12,7 @@ use Rattle.capn_tool.specs.FaultText.{ReportsEnding}
 use Rattle.capn_tool.specs.declared.fault.ToolFault.{ToolFault}
 use Rattle.capn_tool.specs.declared.fault.ToolFault.TheVariants as tool_faults
 use Rattle.capn_archive.specs.ArchiveRun.{Archived}
-use Rattle.capn_archive.specs.declared.task.Archive.{Archive}
+use Rattle.capn_archive.specs.declared.task.ArchiveOrder.{ArchiveOrder}
 use Rattle.capn_archive.specs.declared.fault.ArchiveFault.{ArchiveFault}
 use Rattle.capn_archive.specs.declared.fault.ArchiveFault.TheVariants as faults
 use Rattle.capn_serve.specs.declared.fault.RunFault.{RunFault}
@@ -21,14 +21,15 @@ use Rattle.capn_serve.specs.PickRun.{Picks}
 use Rattle.capn_report.specs.ExplainRun.{Explained}
 use Rattle.capn_report.specs.declared.explain.Explain.{Explain}
 use Rattle.capn_serve.specs.declared.pick.Pick.{Pick}
-use Rattle.capn_archive.specs.UniqRun.{Sieved}
-use Rattle.capn_archive.specs.declared.uniq.Uniq.{Uniq}
+use Rattle.capn_archive.specs.UniqRun.{Deduplicated}
+use Rattle.capn_archive.specs.declared.uniq_order.UniqOrder.{UniqOrder}
 use Rattle.capn_flow.specs.Flow.{Runs}
 use Rattle.capn_flow.specs.PackRun.{packing}
 use Rattle.capn_flow.specs.UnpackRun.{unpacking}
 use Rattle.capn_flow.specs.declared.fault.FlowFault.{FlowFault}
 use Rattle.capn_flow.specs.declared.fault.FlowFault.TheVariants as flow_faults
 use Rattle.capn_canon.specs.declared.form.Form.{Form}
+use Rattle.capn_make.specs.MadeTexts.{MadeTexts}
 use Rattle.capn_make.specs.MakeRun.{Made}
 use Rattle.capn_make.specs.declared.fault.MakeFault.{MakeFault}
 use Rattle.capn_make.specs.declared.fault.MakeFault.TheVariants as make_faults
@@ -41,6 +42,7 @@ use Rattle.capn_program.specs.ExitStatus.{archive_status, flow_status, make_stat
 use Rattle.capn_program.specs.FaultText.{WritesArchiveEnding, WritesFlowEnding, WritesMakeEnding, WritesPickEnding}
 use Rattle.capn_program.specs.declared.order.Flow.{Flow}
 use Rattle.capn_program.specs.declared.order.Flow.TheVariants as flows
+use Rattle.capn_program.specs.declared.order.Make.{Make}
 use Rattle.capn_program.specs.declared.order.Only.{Only}
 use Rattle.capn_program.specs.declared.order.Show.{Show}
 use Rattle.capn_program.specs.declared.order.Order.{Order}
@@ -77,16 +79,21 @@ abbrev pub ExplainsMessage : Explain → Course → Course → Result (Unit {0})
 ExplainsMessage explain = RunsFlushed run_faults.Io (Explained explain)
 
 -- a run went over an archive
-abbrev pub RunsOver : Archive → Course → Course → Result (Unit {0}) ArchiveFault → Type 0
+abbrev pub RunsOver : ArchiveOrder → Course → Course → Result (Unit {0}) ArchiveFault → Type 0
 RunsOver archive = RunsFlushed faults.Io (Archived archive)
 
 -- a run left out duplicates, or counted
-abbrev pub LeavesDoublesOut : Uniq → Course → Course → Result (Unit {0}) ArchiveFault → Type 0
-LeavesDoublesOut uniq = RunsFlushed faults.Io (Sieved uniq)
+abbrev pub LeavesDoublesOut : UniqOrder → Course → Course → Result (Unit {0}) ArchiveFault → Type 0
+LeavesDoublesOut uniq = RunsFlushed faults.Io (Deduplicated uniq)
+
+-- messages were made from texts, where lists of bytes may stand between quotes, or may not
+abbrev pub MadeBy : Bool → Form → RunOver MakeFault
+MadeBy true form = MadeTexts form
+MadeBy false form = Made form
 
 -- a run made what texts say
-abbrev pub MakesTexts : Form → Course → Course → Result (Unit {0}) MakeFault → Type 0
-MakesTexts form = RunsFlushed make_faults.Io (Made form)
+abbrev pub MakesTexts : Make → Course → Course → Result (Unit {0}) MakeFault → Type 0
+MakesTexts make = RunsFlushed make_faults.Io (MadeBy make.quoted make.form)
 
 -- a run picked messages
 abbrev pub PicksMessages : Pick → Course → Course → Result (Unit {0}) RunFault → Type 0
@@ -153,7 +160,7 @@ EndsFlow = EndsOrder (λ flow. orders.Flow flow) LetsFlow WritesFlowEnding flow_
 
 -- the words order that messages are made from texts
 abbrev pub EndsMake : List Text → Course → Course → Course → ℕ → Type 0
-EndsMake = EndsOrder (λ form. orders.Make form) MakesTexts WritesMakeEnding make_status
+EndsMake = EndsOrder (λ make. orders.Make make) MakesTexts WritesMakeEnding make_status
 
 -- The version was shown on the output, and that ended so: its line was written, and the output has not failed; or a
 -- beginning of it, and it has failed.

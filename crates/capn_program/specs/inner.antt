@@ -1,3 +1,2 @@
 -- What no public clause cites.
-pub mod PartTexts
 pub mod Styles

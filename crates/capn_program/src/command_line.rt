@@ -1,44 +1,44 @@
 //! The order given by the words of the command line.
 
-ghost use Rattle.std.specs.Prelude.{◌≡◌, ◌⊎◌, true, codes, map};
+ghost use Rattle.std.specs.Prelude.{◌≡◌, true, codes, map};
 ghost use Rattle.std.specs.Prelude.{IfErr, IfOk, IfSome, IsSome, Some};
 ghost use Rattle.clap.specs.Words.{Text, found_of, kind_of, rows_of, subcommand_of, takes};
-ghost use Rattle.clap.specs.declared.error.ErrorKind.TheVariants as kinds;
 ghost use Rattle.capn_tool.specs.Usage.{error_of};
-ghost use Rattle.capn_archive.specs.declared.task.Archive.{Archive};
-ghost use Rattle.capn_archive.specs.declared.uniq.Uniq.{Uniq};
+ghost use Rattle.capn_archive.specs.declared.task.ArchiveOrder.{ArchiveOrder};
+ghost use Rattle.capn_archive.specs.declared.uniq_order.UniqOrder.{UniqOrder};
 ghost use Rattle.capn_serve.specs.declared.pick.Pick.{Pick};
 ghost use Rattle.capn_program.specs.CommandLine.{program_line};
-ghost use Rattle.capn_program.specs.Meaning.{AreOptions, ListIs, MeansOrder, OnlyIs, PickIs, UniqIs};
+ghost use Rattle.capn_program.specs.Meaning.{AreOptions, ListIs, MakeIs, MeansOrder, OnlyIs, PickIs, UniqIs};
 ghost use Rattle.capn_program.specs.Usage.{IsReason, Orders};
+ghost use Rattle.capn_program.specs.declared.order.Make.{Make};
 ghost use Rattle.capn_program.specs.declared.order.Only.{Only};
 ghost use Rattle.capn_program.specs.declared.order.Order.{Order};
 
 use crate::explain_options::explain_of;
-use crate::option_help;
+use crate::mistakes::meaningless;
 use crate::option_values::{flag_of, is_usual, limits_with, number_in, stream_form_of, text_in};
-use crate::order::{Flow, Only, Order};
+use crate::order::{Flow, Make, Only, Order};
 use crate::range_list::is_range_list;
 use crate::show_options::show_of;
-use crate::subcommands::{mistake, program_command};
-use capn_archive::{Archive, Task, Uniq};
+use crate::subcommands::program_command;
+use capn_archive::{ArchiveOrder, Task, UniqOrder};
 use capn_serve::Pick;
-use capn_tool::{Command, Usage, help as tool_help, parts};
+use capn_tool::{Command, Usage, parts};
 use capn_words::MOST_MESSAGE_WORDS;
 use clap::ArgMatches;
 use std::alloc::Global;
 use std::convert::AsStr;
 
 /// The run over an archive that is for this task and has these options, if they mean one.
-fn archive_of(task: Task, matches: &ArgMatches) -> Option<Archive>
+fn archive_of(task: Task, matches: &ArgMatches) -> Option<ArchiveOrder>
     ensures task { IfSome result (λ archive. archive.task ≡ task) }
     ensures options { IfSome result (AreOptions (rows_of (found_of matches.now))) }
-    ensures served { (archive : Archive) → AreOptions (rows_of (found_of matches.now)) archive → IsSome result }
+    ensures served { (archive : ArchiveOrder) → AreOptions (rows_of (found_of matches.now)) archive → IsSome result }
 {
     let form = parts::form_of(matches)?;
     let limits = parts::limits_of(matches)?;
     let keep_going = flag_of(matches, "keep-going")?;
-    Some(Archive {
+    Some(ArchiveOrder {
         task,
         form,
         limits,
@@ -61,15 +61,26 @@ fn list_of<'a>(matches: &ArgMatches<'a>) -> Option<Order<'a>>
 }
 
 /// The run of `uniq` that has these options, if they mean one.
-fn uniq_of(matches: &ArgMatches) -> Option<Uniq>
+fn uniq_of(matches: &ArgMatches) -> Option<UniqOrder>
     ensures are { IfSome result (UniqIs (rows_of (found_of matches.now))) }
-    ensures served { (uniq : Uniq) → UniqIs (rows_of (found_of matches.now)) uniq → IsSome result }
+    ensures served { (uniq : UniqOrder) → UniqIs (rows_of (found_of matches.now)) uniq → IsSome result }
 {
-    Some(Uniq {
+    Some(UniqOrder {
         form: parts::form_of(matches)?,
         limits: parts::limits_of(matches)?,
         keep_going: flag_of(matches, "keep-going")?,
         count: flag_of(matches, "count")?,
+    })
+}
+
+/// The run of `make` that has these options, if they mean one.
+fn make_of(matches: &ArgMatches) -> Option<Make>
+    ensures are { IfSome result (MakeIs (rows_of (found_of matches.now))) }
+    ensures served { (make : Make) → MakeIs (rows_of (found_of matches.now)) make → IsSome result }
+{
+    Some(Make {
+        form: parts::form_of(matches)?,
+        quoted: flag_of(matches, "text")?,
     })
 }
 
@@ -200,7 +211,7 @@ fn named_order<'a>(name: &str, matches: &ArgMatches<'a>) -> Option<Order<'a>>
         "pick" => pick_order(matches),
         "pack" => pack_of(matches),
         "unpack" => unpack_of(matches),
-        "make" => Some(Order::Make(parts::form_of(matches)?)),
+        "make" => Some(Order::Make(make_of(matches)?)),
         "hash" => {
             let form = parts::form_of(matches)?;
             let limits = parts::limits_of(matches)?;
@@ -210,72 +221,13 @@ fn named_order<'a>(name: &str, matches: &ArgMatches<'a>) -> Option<Order<'a>>
     }
 }
 
-/// The message for options of `pick` that mean nothing: what its `--form` takes, or else what `--only` takes, or else
-/// what goes without that.
-fn said_of_pick(matches: &ArgMatches) -> &'static str {
-    if stream_form_of(matches).is_none() {
-        return option_help::NO_FRAMED_FORM;
-    }
-    match text_in(matches, "only") {
-        Some(list) => {
-            if is_range_list(list) {
-                option_help::WITHOUT_FROM_AND_TO
-            } else {
-                option_help::NO_LIST
-            }
-        }
-        None => option_help::NO_FRAMED_FORM,
-    }
-}
-
-/// The message for options of this command that mean nothing: for `pick`, that of its own; for `unpack`, which two
-/// don't go together; for the others, that on `--form`, or else on `--tariff`, or else on `--at` of `show`, on
-/// `--number` of `explain`, and on `--keep-going` of `canonical`.
-fn said_of(name: &str, matches: &ArgMatches) -> &'static str {
-    if name == "pick" {
-        return said_of_pick(matches);
-    }
-    if name == "unpack" {
-        return option_help::WITHOUT_MESSAGE_WORDS;
-    }
-    if parts::form_of(matches).is_none() {
-        return tool_help::NO_SUCH_FORM;
-    }
-    if parts::limits_of(matches).is_none() {
-        return tool_help::NO_SUCH_TARIFF;
-    }
-    match name {
-        "show" => option_help::NO_WAY,
-        "explain" => option_help::NO_NUMBER,
-        _ => option_help::ONLY_FRAMED,
-    }
-}
-
-/// The command whose options mean nothing, and the message for them.
-fn mistake_of<'a>(matches: &'a ArgMatches) -> (&'a str, &'static str) {
-    match matches.subcommand() {
-        Some((name, found)) => (name, said_of(name, found)),
-        None => ("", tool_help::NO_SUCH_FORM),
-    }
-}
-
-/// What is answered where the options of a command mean nothing.
-fn meaningless(alloc: Global, matches: &ArgMatches) -> Usage
-    ensures { (kind_of (error_of result) ≡ kinds.OutOfMemory) ⊎ (kind_of (error_of result) ≡ kinds.InvalidValue) }
-{
-    let (name, text) = mistake_of(matches);
-    match mistake(alloc, name, text) {
-        Ok(error) => error.into(),
-        Err(error) => error.into(),
-    }
-}
-
 /// What the words order, the first of them being the program's name: the subcommand's work, with the form, the limits,
 /// the tariff and the flags that its options have, given or usual. A request for help or for the version, a word, an
 /// option or a value that is not known, a number out of its range, a form or a tariff that the command does not take,
 /// a value of `--at` that is no way, one of `--number` that is no number of a message, one of `--only` that is no list,
-/// `--only` with `--from` or `--to`, `--keep-going` of `canonical` without `--framed`, `--message-words` of `unpack`
-/// with `--streaming`, and refused memory are answered as `Usage`, with the text for the user.
+/// `--json` with `--offsets` or `--ways`, `--only` with `--from` or `--to`, `--keep-going` of `canonical` without
+/// `--framed`, `--message-words` of `unpack` with `--streaming`, and refused memory are answered as `Usage`, with the
+/// text for the user.
 pub fn order_of<'a, S: AsStr>(alloc: Global, words: &'a [S]) -> Result<Order<'a>, Usage>
     // An order that is given is what the words mean.
     ensures means { IfOk result (MeansOrder (subcommand_of program_line (map S.text words.now))) }

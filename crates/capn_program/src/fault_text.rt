@@ -40,9 +40,9 @@ impl fmt::Display for Text {
             ArchiveFault::Io => write!(f, "input or output failed"),
             ArchiveFault::InputTooLong => write!(f, "input too long"),
             ArchiveFault::Refused(at, refusal) => write!(f, "message {}: {refusal}", Place(*at)),
-            ArchiveFault::PassedOver(passed) => {
-                let (refused, messages) = (passed.refused, passed.messages);
-                let first = Place(passed.first);
+            ArchiveFault::Skipped(skipped) => {
+                let (refused, messages) = (skipped.refused, skipped.messages);
+                let first = Place(skipped.first);
                 write!(
                     f,
                     "{refused} of {messages} messages refused, the first is {first}"

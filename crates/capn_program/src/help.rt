@@ -49,6 +49,10 @@ its own, or the line `none` if nothing stands there. The place is a way from the
 root, numbers below 2^64 parted by dots: in a struct the number of a pointer, in
 a list of pointers that of an element, in a list of structs that of a struct,
 each counted from 0. With `--json` the line is empty if nothing stands there.
+With `--offsets` and `--ways` each line begins with marks, and a tab after each:
+at which byte of the stream lies what the line is about, counted from 0, in form
+packed in what the input unpacks to; and the way to it, which `--at` takes, or
+`root`. The line `end` has the byte after the message. JSON goes without marks.
 The whole message is checked first.
 
 Exit status:
@@ -56,14 +60,15 @@ Exit status:
   1  A message was refused; those before it have been written
   2  The command line is wrong
   3  Reading or writing failed, the input is longer than 2^32 bytes, or with
-     `--at`, `--text` or `--json` than 2^64 - 1, or memory ran out
+     `--at`, `--text`, `--json` or marks than 2^64 - 1, or memory ran out
 With 1 and 3 one line on standard error says why; the manual page explains it
 under DIAGNOSTICS.
 
 Examples:
   capn show < message
   capn show --at 0.3.1 < message
-  capn show --json < messages",
+  capn show --json < messages
+  capn show --offsets --ways < message",
 };
 
 /// `explain`.
@@ -74,6 +79,9 @@ pub const EXPLAIN: Page = Page {
 refused. If its walk is refused, they also say the way from the root to the
 pointer, the byte at which that lies, and what it says. Bytes are counted from
 the beginning of the input; with `--form packed`, in what it unpacks to.
+Of a message that is accepted they say what reading it costs, and whether it is
+canonical; if not, its segments, its first capability, or the first word that
+differs from its canonical bytes, and whose that word is.
 If no message is refused, the only one is explained; of more, or of none, the
 line is `N messages, none refused`.
 With `--number` that message is explained, refused or accepted. If one before it
@@ -236,65 +244,4 @@ under DIAGNOSTICS.
 Examples:
   capn pick --from 3 --to 3 < messages > message
   capn pick --only 3,7,9-12 < messages > some",
-};
-
-/// `pack`, with `--streaming`.
-pub const PACK: Page = Page {
-    usage: "capn pack [OPTIONS] < INPUT",
-    about: "Packs the input, whose bytes are whole words",
-    more: "Exit status:
-  0  Done
-  1  The number of bytes is no multiple of 8; only with `--streaming` something
-     was written
-  2  The command line is wrong
-  3  Reading or writing failed, the input is longer than 2^32 bytes, or with
-     `--streaming` than 2^64 - 1, or memory ran out
-With 1 and 3 one line on standard error says why; the manual page explains it
-under DIAGNOSTICS.
-
-Example:
-  capn pack < message > message.packed",
-};
-
-/// `unpack`, with `--streaming`.
-pub const UNPACK: Page = Page {
-    usage: "capn unpack [OPTIONS] < INPUT",
-    about: "Unpacks the input, which is packed",
-    more: "Exit status:
-  0  Done
-  1  The input is cut or holds too many words; only with `--streaming` something
-     was written
-  2  The command line is wrong
-  3  Reading or writing failed, the input is longer than 2^32 bytes, or with
-     `--streaming` than 2^64 - 1, or memory ran out
-With 1 and 3 one line on standard error says why; the manual page explains it
-under DIAGNOSTICS.
-
-Example:
-  capn unpack < message.packed > message",
-};
-
-/// `make`.
-pub const MAKE: Page = Page {
-    usage: "capn make [OPTIONS] < TEXTS",
-    about: "Makes messages from texts: the inverse of `show`",
-    more: "Each text is the value of one message, in the very form in which `show` writes
-it, with its line `end`. What is written are the canonical bytes of the value:
-as a message of one segment after its segment table, as that message packed, or
-as they are. A message is written once its text is whole, and with
-`--form bare` at the end of the input. A line that is wrong is named by its
-number, counted from 1. A count takes no memory by itself.
-
-Exit status:
-  0  Done
-  1  A text was refused, or its value; those before it have been written, but
-     with `--form bare` nothing
-  2  The command line is wrong
-  3  Reading or writing failed, the input is longer than 2^64 - 1 bytes, or
-     memory ran out
-With 1 and 3 one line on standard error says why; the manual page explains it
-under DIAGNOSTICS.
-
-Example:
-  printf 'struct 1 0\\n  word 0000000000000005\\nend\\n' | capn make > message",
 };

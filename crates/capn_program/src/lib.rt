@@ -13,19 +13,21 @@
 //! ```
 #![tactic(auto)]
 
+mod bytes_help;
 mod command_line;
 mod endings;
 mod explain_options;
 mod fault_text;
+mod flushed_runs;
 mod help;
 pub mod laws;
 mod message_number;
+mod mistakes;
 mod only_run;
 mod option_help;
 mod option_values;
 mod order;
 mod part_run;
-mod part_texts;
 mod program_run;
 mod range_list;
 mod show_options;
@@ -36,13 +38,13 @@ pub use command_line::order_of;
 pub use endings::{end_archive, end_flow, end_make, end_pick, status_of_archive};
 pub use fault_text::archive_text;
 pub use only_run::pick_only;
-pub use order::{Flow, Only, Order, Show};
+pub use order::{Flow, Make, Only, Order, Show};
 pub use part_run::show_parts;
 pub use program_run::program;
 pub use subcommands::program_command;
 
 // What the signatures above name.
-pub use capn_archive::{Archive, ArchiveFault, Passed, Position, RunFault, Task, Uniq};
+pub use capn_archive::{ArchiveFault, ArchiveOrder, Position, RunFault, Skipped, Task, UniqOrder};
 pub use capn_flow::FlowFault;
 pub use capn_make::{MakeFault, Misfit};
 pub use capn_report::Explain;

@@ -13,12 +13,31 @@ pub const JSON: &str = "Write each message as a line of JSON";
 /// The message for a value that `--at` does not take.
 pub const NO_WAY: &str = "--at takes numbers below 2^64, parted by dots";
 
+/// `--offsets`.
+pub const OFFSETS: &str = "Begin each line with the byte of what it is about,
+and a tab";
+
+/// `--ways`.
+pub const WAYS: &str = "Begin each line with the way to what it is about, and
+a tab; with `--offsets` the byte comes first";
+
+/// The message for `--json` together with `--offsets`.
+pub const WITHOUT_OFFSETS: &str = "--json goes without --offsets";
+
+/// The message for `--json` together with `--ways`.
+pub const WITHOUT_WAYS: &str = "--json goes without --ways";
+
 /// `--number`.
 pub const NUMBER: &str = "The number of the message to explain, from 1; usually
 the first one that is refused";
 
 /// The message for a value that `--number` does not take.
 pub const NO_NUMBER: &str = "--number takes 1 to 2^64 - 1, without a sign or leading zeros";
+
+/// `--text` of `make`.
+pub const MADE_TEXT: &str = "Take a list of bytes on one line, too, as `show
+--text` writes it: `bytes 3 \"ab\\0\"`, or without its
+count";
 
 /// `--form` of `make`.
 pub const FORMS_OF_MADE: &str = "How messages are written: `stream`, each after its

@@ -1,6 +1,6 @@
 //! The orders of the program.
 
-use capn_archive::{Archive, Uniq};
+use capn_archive::{ArchiveOrder, UniqOrder};
 use capn_report::Explain;
 use capn_serve::{Pick, StreamForm};
 use capn_show::Style;
@@ -24,6 +24,10 @@ pub struct Show<'a> {
     pub limits: Limits,
     /// How the text is written.
     pub style: Style,
+    /// Whether before each line stands the byte of what it is about.
+    pub offsets: bool,
+    /// Whether before each line, after its byte, stands the way to what it is about.
+    pub ways: bool,
     /// The way: numbers parted by dots. Without one, all of the message is shown.
     pub way: Option<&'a str>,
 }
@@ -39,6 +43,15 @@ pub struct Only<'a> {
     pub list: &'a str,
 }
 
+/// What is made of the texts of an input.
+#[derive(Clone, Copy, Debug, PartialEq, Eq)]
+pub struct Make {
+    /// How the messages are written.
+    pub form: Form,
+    /// Whether a list of bytes may stand between quotes.
+    pub quoted: bool,
+}
+
 /// What a run of the program does with its input.
 #[derive(Clone, Copy, Debug, PartialEq, Eq)]
 pub enum Order<'a> {
@@ -49,9 +62,9 @@ pub enum Order<'a> {
     /// Explains one message of an input, which may have any length: the first that is refused, or one by its number.
     Explain(Explain),
     /// A run over an archive, which may have any length.
-    Archive(Archive),
+    Archive(ArchiveOrder),
     /// Writes the messages of an archive without duplicates, or counts them.
-    Uniq(Uniq),
+    Uniq(UniqOrder),
     /// Writes the messages of a stream from one number to another, as they stand.
     Pick(Pick),
     /// Writes the messages of a stream that are in a list, as they stand.
@@ -59,5 +72,5 @@ pub enum Order<'a> {
     /// Packs or unpacks bytes while they come in, in bounded memory.
     Flow(Flow),
     /// Writes what is made of the texts of an input, in a form.
-    Make(Form),
+    Make(Make),
 }

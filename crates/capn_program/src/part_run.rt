@@ -5,19 +5,14 @@ ghost use Rattle.capn_words.specs.Watched.{inner_of, has_failed};
 ghost use Rattle.capn_program.specs.PartRun.{PartsShown};
 
 use crate::order::Show;
-use crate::part_texts::PartTexts;
 use crate::way::numbers_of;
-use capn_serve::{Run, serve_form};
+use capn_parts::{PartTexts, run_show};
 use capn_tool::{ToolFault, Watched};
 use std::alloc::Allocator;
 use std::io::{Read, Write};
 
-/// Writes of each message of an input, in a style, the text of what is at a way from its root, or of all of it.
-///
-/// Then comes the line `end`, but not after JSON. Where nothing is at the way, the text is the line `none`, or in
-/// JSON an empty line. A message is answered as soon as it is complete. The run ends as done, or with the first fault:
-/// a frame, a group or a message that is refused; `InputTooLong`; `Io` if and only if the reader or the writer failed;
-/// `Memory` if a growth was refused. A message is refused as by `show`, since all of it is surveyed first.
+/// Writes of each message of an input, in a style or with marks, the text of what is at a way from its root, or of all
+/// of it, as [`run_show`] does. A way that is given takes memory for its numbers.
 pub fn show_parts<R: Read, W: Write, A: Allocator + Copy>(
     alloc: A,
     show: &Show,
@@ -31,12 +26,14 @@ pub fn show_parts<R: Read, W: Write, A: Allocator + Copy>(
         (has_failed writer.new) result }
 {
     let way = numbers_of(alloc, show.way)?;
-    let most = show.limits.message_words();
-    let mut run = Run::new(PartTexts {
+    let texts = PartTexts {
         way: &way,
-        style: show.style,
+        form: show.form,
         limits: show.limits,
-    });
-    serve_form(alloc, show.form, most, &mut run, reader, writer)?;
+        style: show.style,
+        offsets: show.offsets,
+        ways: show.ways,
+    };
+    run_show(alloc, &texts, reader, writer)?;
     Ok(())
 }

@@ -8,10 +8,10 @@ ghost use Rattle.capn_program.specs.CommandLine.{archive_line, bytes_line, canon
 ghost use Rattle.capn_program.specs.CommandLine.{explain_line, flag_rule, number_rule};
 ghost use Rattle.capn_program.specs.CommandLine.{flagged_line, make_line, messages_line, packing_line, pick_line};
 ghost use Rattle.capn_program.specs.CommandLine.{place_rule, program_line, reading_line, surveying_line, top_line};
-ghost use Rattle.capn_program.specs.CommandLine.{only_rule, show_line, unpacking_line, way_rule};
+ghost use Rattle.capn_program.specs.CommandLine.{only_rule, show_line, unmarked_line, unpacking_line, way_rule};
 ghost use Rattle.capn_tool.specs.CommandLine.{words_rule};
 
-use crate::{help, option_help};
+use crate::{bytes_help, help, option_help};
 use capn_tool::help::Page;
 use capn_tool::{help as tool_help, parts};
 use capn_words::MOST_MESSAGE_WORDS;
@@ -39,9 +39,9 @@ fn page_of(name: &str) -> Page {
         "canonical" => help::CANONICAL,
         "uniq" => help::UNIQ,
         "pick" => help::PICK,
-        "pack" => help::PACK,
-        "unpack" => help::UNPACK,
-        "make" => help::MAKE,
+        "pack" => bytes_help::PACK,
+        "unpack" => bytes_help::UNPACK,
+        "make" => bytes_help::MAKE,
         "show" => help::SHOW,
         "check" => tool_help::CHECK,
         "explain" => help::EXPLAIN,
@@ -72,14 +72,23 @@ fn way_option<'a>(alloc: Global) -> Arg<'a>
 }
 
 /// `show`, with `--at`, `--text` and `--json`.
-fn show_command<'a>(alloc: Global) -> Result<Command<'a>, AllocError>
-    ensures { IfOk result (λ c. HasLine c show_line) }
+fn unmarked_command<'a>(alloc: Global) -> Result<Command<'a>, AllocError>
+    ensures { IfOk result (λ c. HasLine c unmarked_line) }
 {
     let forms = tool_help::FORMS_OF_MESSAGES;
     let command = parts::message_command(alloc, "show", help::SHOW, forms)?;
     let with_at = command.arg(way_option(alloc))?;
     let with_text = with_at.arg(flag(alloc, "text", option_help::TEXT))?;
     with_text.arg(flag(alloc, "json", option_help::JSON))
+}
+
+/// The same with `--offsets` and `--ways`.
+fn show_command<'a>(alloc: Global) -> Result<Command<'a>, AllocError>
+    ensures { IfOk result (λ c. HasLine c show_line) }
+{
+    let command = unmarked_command(alloc)?;
+    let with_offsets = command.arg(flag(alloc, "offsets", option_help::OFFSETS))?;
+    with_offsets.arg(flag(alloc, "ways", option_help::WAYS))
 }
 
 /// `--number`, whose value is the number of the message that is explained.
@@ -231,19 +240,20 @@ fn messages_command<'a>(alloc: Global) -> Result<Command<'a>, AllocError>
     parts::with_command(with_uniq, pick_command(alloc))
 }
 
-/// `make`, with the form of what it writes.
+/// `make`, with the form of what it writes and `--text`.
 fn make_command<'a>(alloc: Global) -> Result<Command<'a>, AllocError>
     ensures { IfOk result (λ c. HasLine c make_line) }
 {
     let form = parts::usual_option(alloc, "form", "FORM", option_help::FORMS_OF_MADE, "stream");
-    parts::plain_command(alloc, "make", help::MAKE).arg(form)
+    let command = parts::plain_command(alloc, "make", bytes_help::MAKE).arg(form)?;
+    command.arg(flag(alloc, "text", option_help::MADE_TEXT))
 }
 
 /// `pack`, with `--streaming`.
 fn pack_command<'a>(alloc: Global) -> Result<Command<'a>, AllocError>
     ensures { IfOk result (λ c. HasLine c packing_line) }
 {
-    let command = parts::plain_command(alloc, "pack", help::PACK);
+    let command = parts::plain_command(alloc, "pack", bytes_help::PACK);
     command.arg(flag(alloc, "streaming", option_help::PACK_STREAMING))
 }
 
@@ -251,7 +261,7 @@ fn pack_command<'a>(alloc: Global) -> Result<Command<'a>, AllocError>
 fn unpack_command<'a>(alloc: Global) -> Result<Command<'a>, AllocError>
     ensures { IfOk result (λ c. HasLine c unpacking_line) }
 {
-    let command = parts::unpack_command(alloc, help::UNPACK)?;
+    let command = parts::unpack_command(alloc, bytes_help::UNPACK)?;
     command.arg(flag(alloc, "streaming", option_help::UNPACK_STREAMING))
 }
 

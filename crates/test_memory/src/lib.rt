@@ -25,6 +25,8 @@ mod room_asked;
 #[cfg(test)]
 mod short_runs;
 #[cfg(test)]
+mod short_shows;
+#[cfg(test)]
 mod short_streams;
 #[cfg(test)]
 mod short_texts;

@@ -2,7 +2,7 @@
 //! A run holds a piece and the message in hand.
 
 use crate::subject::MOST;
-use capn_archive::{Archive, Task, Uniq, run_archive, run_uniq};
+use capn_archive::{ArchiveOrder, Task, UniqOrder, run_archive, run_uniq};
 use capn_canon::Form;
 use capn_flow::{pack_stream, unpack_stream};
 use capn_serve::{Pick, StreamForm, run_pick};
@@ -111,7 +111,7 @@ fn taken(alloc: Global, order: Order, form: Form, row: &[u8], left: u64) -> Opti
     let mut writer = Watched::new(Counted { bytes: 0 });
     let is_done = match order {
         Order::Archive(task) => {
-            let archive = Archive {
+            let archive = ArchiveOrder {
                 task,
                 form,
                 limits,
@@ -120,7 +120,7 @@ fn taken(alloc: Global, order: Order, form: Form, row: &[u8], left: u64) -> Opti
             run_archive(&heap, archive, &mut reader, &mut writer).is_ok()
         }
         Order::Uniq(count) => {
-            let uniq = Uniq {
+            let uniq = UniqOrder {
                 form,
                 limits,
                 keep_going: false,

@@ -1,6 +1,7 @@
 //! Calls with each growth refused in turn.
 
 use crate::short_runs::*;
+use crate::short_shows::*;
 use crate::short_streams::*;
 use crate::short_texts::*;
 use crate::short_values::*;
@@ -77,11 +78,13 @@ pub(crate) enum Call {
     Check,
     Account(Form),
     Text,
+    Marked,
+    MakeTexts,
     Run(Order),
 }
 
 /// Calls that take memory. A list that is constant costs its users nothing to check.
-pub(crate) const CALLS: [(&str, Call); 32] = [
+pub(crate) const CALLS: [(&str, Call); 34] = [
     ("first", Call::First),
     ("frame", Call::Frame),
     ("feed", Call::Feed),
@@ -108,6 +111,8 @@ pub(crate) const CALLS: [(&str, Call); 32] = [
     ("account of packed bytes", Call::Account(Form::Packed)),
     ("account of bare bytes", Call::Account(Form::Bare)),
     ("fault_text", Call::Text),
+    ("show_marked", Call::Marked),
+    ("make_texts", Call::MakeTexts),
     ("run of show", Call::Run(Order::Show)),
     ("run of check", Call::Run(Order::Check)),
     ("run of canonical", Call::Run(Order::Canonical)),
@@ -155,6 +160,8 @@ pub(crate) fn answer(of: &Subject, short: &Refusing<Global>, call: Call) -> Answ
         Call::Check => check_answer(of, short),
         Call::Account(form) => account_answer(of, short, form),
         Call::Text => text_answer(short),
+        Call::Marked => marked_answer(of, short),
+        Call::MakeTexts => made_answer(of, short),
         Call::Run(order) => run_answer(of, short, command_of(order)),
     }
 }

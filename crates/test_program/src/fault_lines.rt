@@ -3,8 +3,8 @@
 use crate::broken::Short;
 use capn_endings::Line;
 use capn_program::{
-    ArchiveFault, FlowFault, MakeFault, Passed, Position, Refusal, RunFault, Watched, archive_text,
-    end_archive, end_flow, end_make, end_pick,
+    ArchiveFault, FlowFault, MakeFault, Position, Refusal, RunFault, Skipped, Watched,
+    archive_text, end_archive, end_flow, end_make, end_pick,
 };
 use std::io::{self, Write};
 use std::process::Abort;
@@ -16,15 +16,15 @@ const LAST: Position = Position {
     offset: u64::MAX,
 };
 
-/// Messages that were passed over, as many as can be.
-const PASSED: Passed = Passed {
+/// Messages that were skipped, as many as can be.
+const SKIPPED: Skipped = Skipped {
     refused: u64::MAX,
     messages: u64::MAX,
     first: LAST,
 };
 
-/// The line of a run that passed them over.
-const PASSED_LINE: &str = "capn: 18446744073709551615 of 18446744073709551615 messages refused, \
+/// The line of a run that skipped them.
+const SKIPPED_LINE: &str = "capn: 18446744073709551615 of 18446744073709551615 messages refused, \
     the first is 18446744073709551616 at 18446744073709551615\n";
 
 /// A writer that counts the calls.
@@ -96,7 +96,7 @@ fn a_run_over_bytes_ends_with_its_line(rt: HostRuntime) {
 fn a_run_over_an_archive_ends_with_its_line(rt: HostRuntime) {
     for (outcome, status, line) in [
         (Ok(()), 0, ""),
-        (Err(ArchiveFault::PassedOver(PASSED)), 1, PASSED_LINE),
+        (Err(ArchiveFault::Skipped(SKIPPED)), 1, SKIPPED_LINE),
     ] {
         let mut errors = Watched::new(Vec::new(rt.alloc()));
         assert!(rt;
@@ -132,7 +132,7 @@ fn lines_of_faults(rt: HostRuntime) {
         index: 2,
         offset: 40,
     };
-    let passed = Passed {
+    let skipped = Skipped {
         refused: 3,
         messages: 12,
         first,
@@ -146,7 +146,7 @@ fn lines_of_faults(rt: HostRuntime) {
             "message 3 at 40: capability 2",
         ),
         (
-            ArchiveFault::PassedOver(passed),
+            ArchiveFault::Skipped(skipped),
             "3 of 12 messages refused, the first is 3 at 40",
         ),
     ] {
@@ -160,8 +160,8 @@ fn a_line_asks_for_no_memory(rt: HostRuntime) {
     let short = Refusing::nth(rt.alloc(), 0);
     short.refuse_each();
     let mut errors = Watched::new(Vec::new(rt.alloc()));
-    assert!(rt; end_archive(&short, &Err(ArchiveFault::PassedOver(PASSED)), &mut errors) == 1);
-    assert!(rt; errors.into_inner().as_slice() == PASSED_LINE.as_bytes());
+    assert!(rt; end_archive(&short, &Err(ArchiveFault::Skipped(SKIPPED)), &mut errors) == 1);
+    assert!(rt; errors.into_inner().as_slice() == SKIPPED_LINE.as_bytes());
     let mut errors = Watched::new(Vec::new(rt.alloc()));
     let fault = RunFault::Refused(LAST, Refusal::Capability(u32::MAX));
     let line =
@@ -181,7 +181,7 @@ fn a_line_asks_for_no_memory(rt: HostRuntime) {
 
 #[test]
 fn a_beginning_of_a_line_stays_where_the_errors_fail(rt: HostRuntime) {
-    let line = PASSED_LINE.as_bytes();
+    let line = SKIPPED_LINE.as_bytes();
     for room in 0..line.len() {
         let mut errors = Watched::new(Short {
             bytes: Vec::new(rt.alloc()),
@@ -189,7 +189,7 @@ fn a_beginning_of_a_line_stays_where_the_errors_fail(rt: HostRuntime) {
         });
         let status = end_archive(
             rt.alloc(),
-            &Err(ArchiveFault::PassedOver(PASSED)),
+            &Err(ArchiveFault::Skipped(SKIPPED)),
             &mut errors,
         );
         assert!(rt; status == 1 && errors.failed(), "{room}");
@@ -208,12 +208,12 @@ fn a_line_is_one_write(rt: HostRuntime) {
     });
     let status = end_archive(
         rt.alloc(),
-        &Err(ArchiveFault::PassedOver(PASSED)),
+        &Err(ArchiveFault::Skipped(SKIPPED)),
         &mut errors,
     );
     let counted = errors.into_inner();
     assert!(rt; status == 1 && counted.calls == 1);
-    assert!(rt; counted.bytes.as_slice() == PASSED_LINE.as_bytes());
+    assert!(rt; counted.bytes.as_slice() == SKIPPED_LINE.as_bytes());
 }
 
 #[test]

@@ -1,6 +1,6 @@
 //! Orders of command lines.
 
-use capn_program::{Command, Explain, Flow, Form, Limits, Order, Style, Tariff, order_of};
+use capn_program::{Command, Explain, Flow, Form, Limits, Make, Order, Style, Tariff, order_of};
 use std::alloc::Global;
 use std::process::Abort;
 
@@ -20,7 +20,23 @@ fn is_shown(alloc: Global, words: &[&str], style: Style, way: Option<&str>) -> b
         Ok(Order::Show(show)) => show.form == Form::Packed
             && show.limits == Limits::usual()
             && show.style == style
+            && !show.offsets
+            && !show.ways
             && show.way == way,
+        _ => false,
+    }
+}
+
+/// Whether the words order to show, in a style and with these marks, all of each message of a packed stream.
+fn is_marked(alloc: Global, words: &[&str], style: Style, offsets: bool, ways: bool) -> bool {
+    let told = order_of(alloc, words);
+    match &told {
+        Ok(Order::Show(show)) => show.form == Form::Packed
+            && show.limits == Limits::usual()
+            && show.style == style
+            && show.offsets == offsets
+            && show.ways == ways
+            && show.way.is_none(),
         _ => false,
     }
 }
@@ -43,11 +59,11 @@ fn is_flow(alloc: Global, words: &[&str], want: Flow) -> bool {
     }
 }
 
-/// Whether the words have messages made in this form.
-fn is_made(alloc: Global, words: &[&str], want: Form) -> bool {
+/// Whether the words have messages made in this form, of texts between quotes or not.
+fn is_made(alloc: Global, words: &[&str], form: Form, quoted: bool) -> bool {
     let told = order_of(alloc, words);
     match &told {
-        Ok(Order::Make(form)) => *form == want,
+        Ok(Order::Make(make)) => *make == Make { form, quoted },
         _ => false,
     }
 }
@@ -129,6 +145,43 @@ fn parts_are_shown_at_a_way(rt: HostRuntime) {
     ] {
         expect_usage(&rt, rt.alloc(), &["capn", "show", "--at", way], 2);
         expect_usage(&rt, rt.alloc(), &["capn", "show", "--json", "--at", way], 2);
+    }
+}
+
+#[test]
+fn messages_are_shown_with_marks(rt: HostRuntime) {
+    for (option, style) in [("--text", Style::Quoted), ("--form=packed", Style::Lines)] {
+        let rest = if style == Style::Lines {
+            "--depth=64"
+        } else {
+            "--form=packed"
+        };
+        let words = ["capn", "show", option, rest, "--offsets"];
+        assert!(rt;
+            is_marked(rt.alloc(), &words, style, true, false),
+            "{words:?}"
+        );
+        let words = ["capn", "show", "--ways", option, rest];
+        assert!(rt;
+            is_marked(rt.alloc(), &words, style, false, true),
+            "{words:?}"
+        );
+        let words = ["capn", "show", "--ways", option, "--offsets", rest];
+        assert!(rt;
+            is_marked(rt.alloc(), &words, style, true, true),
+            "{words:?}"
+        );
+    }
+    for words in [
+        &["capn", "show", "--json", "--offsets"][..],
+        &["capn", "show", "--ways", "--json"][..],
+        &["capn", "show", "--ways", "--json", "--text", "--at=0"][..],
+        &["capn", "show", "--offsets", "--offsets"][..],
+        &["capn", "show", "--ways=1"][..],
+        &["capn", "check", "--offsets"][..],
+        &["capn", "list", "--ways"][..],
+    ] {
+        expect_usage(&rt, rt.alloc(), words, 2);
     }
 }
 
@@ -319,7 +372,7 @@ fn bytes_flow_without_a_most(rt: HostRuntime) {
 #[test]
 fn make_takes_the_form_of_what_it_writes(rt: HostRuntime) {
     assert!(rt;
-        is_made(rt.alloc(), &["capn", "make"], Form::Stream),
+        is_made(rt.alloc(), &["capn", "make"], Form::Stream, false),
         "make"
     );
     for (name, form) in [
@@ -328,8 +381,11 @@ fn make_takes_the_form_of_what_it_writes(rt: HostRuntime) {
         ("bare", Form::Bare),
     ] {
         let words = ["capn", "make", "--form", name];
-        assert!(rt; is_made(rt.alloc(), &words, form), "{words:?}");
+        assert!(rt; is_made(rt.alloc(), &words, form, false), "{words:?}");
+        let words = ["capn", "make", "--text", "--form", name];
+        assert!(rt; is_made(rt.alloc(), &words, form, true), "{words:?}");
     }
+    expect_usage(&rt, rt.alloc(), &["capn", "make", "--text", "--text"], 2);
     expect_usage(&rt, rt.alloc(), &["capn", "make", "--form", "text"], 2);
     expect_usage(&rt, rt.alloc(), &["capn", "make", "--budget", "3"], 2);
 }

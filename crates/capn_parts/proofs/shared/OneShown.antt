@@ -1,5 +1,7 @@
 -- What is shown of an input, in one way.
-use Rattle.std.proofs.Common.{◌≡◌, ◌⊎◌, inl, inr, ℕ, List, [], ◌∷◌, Option, Ok, Err, refl, ap, sym, subst, ◌∙◌}
+use Rattle.std.proofs.Common.{◌≡◌, ◌⊎◌, inl, inr, ℕ, Bool, List, [], ◌∷◌, ◌++◌, Option, Result, Ok, Err, refl, ap, sym}
+use Rattle.std.proofs.Common.{subst, ◌∙◌}
+use Rattle.std.specs.Prelude.{◌||◌, if◌then◌else◌}
 use Rattle.capn_value.specs.Tree.{Tree}
 use Rattle.capn_walk.specs.Limits.{Bounds}
 use Rattle.capn_walk.specs.Accepted.{IsValueOf, IsWalkRefused, root}
@@ -11,18 +13,21 @@ use Rattle.capn_canon.specs.declared.refusal.Refusal.{Refusal}
 use Rattle.capn_canon.specs.declared.refusal.Refusal.TheVariants as refusals
 use Rattle.capn_canon.proofs.shared.NotRefused.{accepted-not_refused}
 use Rattle.capn_canon.proofs.shared.OneRefusal.{one_message_refusal}
+use Rattle.capn_marks.specs.MarkedPart.{marked_at}
+use Rattle.capn_show.specs.Styled.{styled}
 use Rattle.capn_show.specs.declared.style.Style.{Style}
 use Rattle.capn_serve.specs.Fold.{AreServed, EndsRefused, EndsUnframed, Fold, IsFolded, Part}
 use Rattle.capn_serve.specs.BareRun.{EndsBare}
 use Rattle.capn_serve.specs.FormRun.{AreMessages}
+use Rattle.capn_serve.specs.StreamRun.{first_run}
 use Rattle.capn_serve.specs.declared.position.Position.{Position}
 use Rattle.capn_serve.specs.declared.service.Run.{Run}
 use Rattle.capn_serve.specs.declared.fault.RunFault.{RunFault}
-use Rattle.capn_serve.proofs.shared.OneServing.{Ending, IsOneWay}
-use Rattle.capn_program.specs.Laws.{Follows}
-use Rattle.capn_program.specs.PartRun.{ended_part, part_fold, refuses, serves}
-use Rattle.capn_program.specs.declared.order.Show.{Show}
-use Rattle.capn_program.specs.declared.part_texts.PartTexts.{PartTexts}
+use Rattle.capn_serve.proofs.shared.OneServing.{Ending, IsOneWay, one_serving}
+use Rattle.capn_parts.specs.MessageMarks.{marks_of}
+use Rattle.capn_parts.specs.PartTexts.{part_end, part_of, refuses, serves}
+use Rattle.capn_parts.specs.ShowRun.{part_fold}
+use Rattle.capn_parts.specs.declared.part_texts.PartTexts.{PartTexts}
 
 -- ---- with each message one thing is done
 
@@ -30,7 +35,7 @@ module _ (s : PartTexts) (at : Position) (frame : List ℕ) (m : List (List ℕ)
   one_part : (t u : List ℕ) (p q : PartTexts) → serves s at frame m t p → serves s at frame m u q
       → (t ≡ u) × (p ≡ q)
   one_part t u p q ((v, is, e), same) ((w, also, h), alike) = (
-    e ∙ ap (λ (x : Tree). ended_part s.style s.way.now x) (unique m v w root is.is also.is) ∙ sym h,
+    e ∙ ap (λ (x : Tree). part_of s at m x ++ part_end s at m) (unique m v w root is.is also.is) ∙ sym h,
     same ∙ sym alike,
   )
 
@@ -47,8 +52,8 @@ module _ (s : PartTexts) (at : Position) (frame : List ℕ) (m : List (List ℕ)
   not_both : (t : List ℕ) (p : PartTexts) (r : Refusal) → serves s at frame m t p → refuses s at frame m r → ⊥
   not_both t p r ((v, is, e), same) (stop, why, h) = accepted-not_refused m s.limits stop is.accepted h
 
-pub part_one_way : (show : Show) → IsOneWay (part_fold show)
-part_one_way show = record {
+pub part_one_way : (most : ℕ) → IsOneWay (part_fold most)
+part_one_way most = record {
   steps = λ x frame m t u y z h k.
       let same = one_part x.service x.at frame m t u y.service z.service h.0 k.0 in
       let at : y.at ≡ z.at = h.1 ∙ sym k.1 in
@@ -57,23 +62,49 @@ part_one_way show = record {
   never_both = λ x frame m t y r h k. not_both x.service x.at frame m t y.service r h.0 k;
 }
 
--- ---- services with the same numbers, style and limits do the same
+-- ---- orders of the same do the same
 
 pub record IsLike (p q : PartTexts) : Type 0 where
   pub numbers : p.way.now ≡ q.way.now
-  pub style : p.style ≡ q.style
+  pub form : p.form ≡ q.form
   pub limits : p.limits ≡ q.limits
+  pub style : p.style ≡ q.style
+  pub offsets : p.offsets ≡ q.offsets
+  pub ways : p.ways ≡ q.ways
 
-pub both_follow : (show : Show) (way : List ℕ) (p q : PartTexts) → Follows show way p → Follows show way q → IsLike p q
-both_follow show way p q h k = record {
-  numbers = h.numbers ∙ sym k.numbers;
-  style = h.style ∙ sym k.style;
-  limits = h.limits ∙ sym k.limits;
+-- an order with all of another but where its way lies
+abbrev alike : PartTexts → Form → Bounds → Style → Bool → Bool → PartTexts
+alike p form limits style offsets ways = record p {
+  form = form;
+  limits = limits;
+  style = style;
+  offsets = offsets;
+  ways = ways;
 }
 
-module _ (show : Show) (q : PartTexts) where
+-- what is written of a value, and what ends it
+abbrev text_of : PartTexts → Position → List (List ℕ) → Tree → List ℕ
+text_of s at m v = part_of s at m v ++ part_end s at m
+
+-- the same, by the numbers of the way
+abbrev text_at : List ℕ → PartTexts → Position → List (List ℕ) → Tree → List ℕ
+text_at numbers s at m v =
+    (if s.offsets || s.ways then marked_at m (marks_of s at m) numbers v else styled s.style numbers v)
+    ++ part_end s at m
+
+same_text : (p q : PartTexts) (at : Position) (m : List (List ℕ)) (v : Tree) → IsLike p q
+    → text_of p at m v ≡ text_of q at m v
+same_text p q at m v like =
+    ap (λ (f : Form). text_of (alike p f p.limits p.style p.offsets p.ways) at m v) like.form
+    ∙ ap (λ (l : Bounds). text_of (alike p q.form l p.style p.offsets p.ways) at m v) like.limits
+    ∙ ap (λ (s : Style). text_of (alike p q.form q.limits s p.offsets p.ways) at m v) like.style
+    ∙ ap (λ (b : Bool). text_of (alike p q.form q.limits q.style b p.ways) at m v) like.offsets
+    ∙ ap (λ (b : Bool). text_of (alike p q.form q.limits q.style q.offsets b) at m v) like.ways
+    ∙ ap (λ (numbers : List ℕ). text_at numbers q at m v) like.numbers
+
+module _ (most : ℕ) (q : PartTexts) where
   abbrev f : Fold (Run PartTexts)
-  f = part_fold show
+  f = part_fold most
 
   -- the same run, of this service
   abbrev pub by : Run PartTexts → Run PartTexts
@@ -86,8 +117,7 @@ module _ (show : Show) (q : PartTexts) where
       (
         v,
         subst (λ (l : Bounds). IsValueOf m l v) like.limits is,
-        e ∙ ap (λ (w : List ℕ). ended_part x.service.style w v) like.numbers
-            ∙ ap (λ (s : Style). ended_part s q.way.now v) like.style,
+        e ∙ same_text x.service q x.at m v like,
       ),
       refl,
     ),
@@ -158,3 +188,13 @@ module _ (show : Show) (q : PartTexts) where
   messages_by forms.Bare x y input text (Ok a) like (short, (words, bare, step)) =
       (short, (words, bare, step_by x y input text (words ∷ []) like step))
   messages_by forms.Bare x y input text (Err g) like (ends, none) = (bare_by x input g like ends, none)
+
+-- ---- by two orders that are alike one text is shown, and both runs end in one way
+
+pub one_shown : (most : ℕ) (form : Form) (p q : PartTexts) → IsLike p q → (input t u : List ℕ) (r s : Ending)
+    (y z : Run PartTexts) → AreMessages (part_fold most) (first_run p) form input t r y
+    → AreMessages (part_fold most) (first_run q) form input u s z → (t ≡ u) × (r ≡ s)
+one_shown most form p q like input t u r s y z a b =
+    let moved = messages_by most q form (first_run p) y input t r like a in
+    let same = one_serving (part_fold most) (part_one_way most) (first_run q) form input t u r s (by most q y) z moved b
+    in (same.0, same.1.0)

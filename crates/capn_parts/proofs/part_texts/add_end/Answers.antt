@@ -2,8 +2,8 @@ use Rattle.std.proofs.Common.{refl}
 use Rattle.capn_show.specs.Outgoing.{outgoing}
 use Rattle.capn_show.specs.declared.fault.Broken.TheVariants as broken
 use Rattle.capn_show.proofs.shared.Appended.{refused}
-use Rattle.capn_program.proofs.PartServed.{end_added}
-use Rattle.capn_program.proofs.part_texts.add_end.Goals as goal
+use Rattle.capn_parts.proofs.PartServed.{end_added}
+use Rattle.capn_parts.proofs.part_texts.add_end.Goals as goal
 
 pub returns-in-Ok : goal.returns-in-Ok
 returns-in-Ok g c =

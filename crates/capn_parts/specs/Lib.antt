@@ -1,0 +1,4 @@
+pub mod MessageMarks
+pub mod PartTexts
+pub mod ShowRun
+pub mod inner

@@ -1,0 +1,44 @@
+-- How the text of a part of a message is added to a text on its way to a writer.
+use Rattle.std.specs.Prelude.{◌≡◌, ◌≢◌, ◌⊎◌, ℕ, ◌<◌, ◌++◌, List, [], length, Result, Ok, Err}
+use Rattle.capn_value.specs.Tree.{Tree}
+use Rattle.capn_walk.specs.Accepted.{IsValueOf, IsWalkRefused}
+use Rattle.capn_walk.specs.Limits.{Bounds}
+use Rattle.capn_walk.specs.declared.walk_answer.Stopped.{Stopped}
+use Rattle.capn_target.specs.declared.target.Fault.TheVariants as walk_faults
+use Rattle.capn_canon.specs.declared.refusal.Refusal.TheVariants as refusals
+use Rattle.capn_show.specs.Outgoing.{Outgoing, Adds, BreaksOff}
+use Rattle.capn_show.specs.declared.fault.Broken.TheVariants as broken
+use Rattle.capn_show.specs.declared.fault.ShowFault.{ShowFault}
+use Rattle.capn_show.specs.declared.fault.ShowFault.TheVariants as ends
+use Rattle.capn_serve.specs.declared.fault.ServeFault.{ServeFault}
+use Rattle.capn_serve.specs.declared.fault.ServeFault.TheVariants as serve_faults
+
+-- an end was added, and little is kept; or it broke off
+abbrev pub AddsEnd : List ℕ → Outgoing → Outgoing → Result (Unit {0}) ServeFault → Type 0
+AddsEnd end old new (Ok u) = Adds old new end × (length new.kept < 65536)
+AddsEnd end old new (Err serve_faults.Memory) = BreaksOff old new broken.Memory end
+AddsEnd end old new (Err serve_faults.Io) = BreaksOff old new broken.Io end
+AddsEnd end old new (Err (serve_faults.Refused r)) = ⊥
+
+-- a text of the value of a message, and what ends it, were added, and little is kept; or they broke off; or the
+-- message is refused, or memory was, and nothing was added
+abbrev pub AddsPart : List (List ℕ) → Bounds → (Tree → List ℕ) → List ℕ → Outgoing → Outgoing
+    → Result (Unit {0}) ServeFault → Type 0
+AddsPart message limits of end old new (Ok u) =
+    (v : Tree) × IsValueOf message limits v × Adds old new (of v ++ end) × (length new.kept < 65536)
+AddsPart message limits of end old new (Err serve_faults.Memory) =
+    Adds old new []
+    ⊎ ((v : Tree) × IsValueOf message limits v × BreaksOff old new broken.Memory (of v ++ end))
+AddsPart message limits of end old new (Err serve_faults.Io) =
+    (v : Tree) × IsValueOf message limits v × BreaksOff old new broken.Io (of v ++ end)
+AddsPart message limits of end old new (Err (serve_faults.Refused r)) =
+    ((s : Stopped) × (r ≡ refusals.Walk s) × IsWalkRefused message limits s.fault s.place s.paid s.visits)
+    × Adds old new []
+
+-- how a message ends that is refused, or whose text breaks off
+abbrev pub IsFaultOf : ShowFault → ServeFault → Type 0
+IsFaultOf (ends.Stopped s) fault =
+    ((s.fault ≡ walk_faults.Memory) × (fault ≡ serve_faults.Memory))
+    ⊎ ((s.fault ≢ walk_faults.Memory) × (fault ≡ serve_faults.Refused (refusals.Walk s)))
+IsFaultOf ends.Io fault = fault ≡ serve_faults.Io
+IsFaultOf ends.Memory fault = fault ≡ serve_faults.Memory

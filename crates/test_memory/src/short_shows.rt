@@ -1,0 +1,79 @@
+//! Texts with marks, and messages made of texts, short of memory.
+
+use crate::subject::{Answer, Subject, judged, limits, wanting};
+use capn_canon::Form;
+use capn_make::{MakeFault, make_texts};
+use capn_marks::{Marks, show_marked};
+use capn_show::ShowFault;
+use capn_walk::Fault;
+use capn_words::Watched;
+use std::alloc::{Allocator, Global};
+use test_allocator::Refusing;
+
+/// All marks there are, of a message behind a table of two words.
+const MARKS: Marks = Marks {
+    offsets: true,
+    ways: true,
+    quoted: true,
+    offset: 0,
+    table: 2,
+};
+
+/// The text of the message with marks, as far as it is neither written nor lost.
+fn marked<A: Allocator + Copy>(of: &Subject, alloc: A) -> (Result<(), ShowFault>, Vec<u8, A>) {
+    let mut text = Vec::new(alloc);
+    let mut writer = Watched::new(Vec::new(of.alloc));
+    let message = &of.message;
+    let outcome = show_marked(
+        alloc,
+        &mut text,
+        &mut writer,
+        message,
+        limits(256),
+        MARKS,
+        &[],
+    );
+    (outcome, text)
+}
+
+/// Whether it is memory that was refused.
+fn is_memory(fault: ShowFault) -> bool {
+    match fault {
+        ShowFault::Memory => true,
+        ShowFault::Io => false,
+        ShowFault::Stopped(stopped) => stopped.fault == Fault::Memory,
+    }
+}
+
+/// The text of the message with marks, of which a refusal leaves a beginning.
+pub(crate) fn marked_answer(of: &Subject, short: &Refusing<Global>) -> Answer {
+    let (_, want) = marked(of, of.alloc);
+    let (outcome, text) = marked(of, short);
+    match outcome {
+        Ok(()) => judged(!text.is_empty() && text.as_slice() == want.as_slice()),
+        Err(fault) => wanting(is_memory(fault) && want.as_slice().starts_with(text.as_slice())),
+    }
+}
+
+/// Two texts, with a list of bytes between quotes in each.
+const TEXTS: &[u8] = b"struct 0 1\n  bytes 3 \"ab\\0\"\nend\nstruct 0 1\n  bytes \"c\"\nend\n";
+
+/// What is made of the texts, to memory that is never short.
+fn made<A: Allocator + Copy>(ample: Global, alloc: A) -> (Result<(), MakeFault>, Vec<u8>) {
+    let mut reader = Watched::new(TEXTS);
+    let mut writer = Watched::new(Vec::new(ample));
+    let outcome = make_texts(alloc, Form::Stream, &mut reader, &mut writer);
+    (outcome, writer.into_inner())
+}
+
+/// The messages that are made of the texts, of which a refusal leaves a beginning.
+pub(crate) fn made_answer(of: &Subject, short: &Refusing<Global>) -> Answer {
+    let (_, want) = made(of.alloc, of.alloc);
+    let (outcome, made) = made(of.alloc, short);
+    match outcome {
+        Ok(()) => judged(made.len() == 64 && made.as_slice() == want.as_slice()),
+        Err(fault) => {
+            wanting(fault == MakeFault::Memory && want.as_slice().starts_with(made.as_slice()))
+        }
+    }
+}
