@@ -62,7 +62,7 @@ _capn() {
         'pick --only') words='' ;;
         'unpack --message-words') words='' ;;
         'make --form') words='stream packed bare' ;;
-        'show '*) words='--form --message-words --budget --depth --tariff --at --text --json --help' ;;
+        'show '*) words='--form --message-words --budget --depth --tariff --at --text --json --offsets --ways --help' ;;
         'check '*) words='--form --message-words --budget --depth --tariff --help' ;;
         'explain '*) words='--form --message-words --budget --depth --tariff --number --help' ;;
         'list '*) words='--form --message-words --budget --depth --tariff --keep-going --digest --help' ;;
@@ -73,7 +73,7 @@ _capn() {
         'pick '*) words='--form --message-words --from --to --only --help' ;;
         'pack '*) words='--streaming --help' ;;
         'unpack '*) words='--message-words --streaming --help' ;;
-        'make '*) words='--form --help' ;;
+        'make '*) words='--form --text --help' ;;
         'help '*) words='show check explain list limits canonical hash uniq pick pack unpack make' ;;
     esac
     mapfile -t COMPREPLY < <(compgen -W "$words" -- "$word")

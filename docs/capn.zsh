@@ -37,6 +37,8 @@ _capn() {
                 '--at=[The way from the root to what is written]:at:()' \
                 '--text[Write a list of bytes that is a text between quotes]' \
                 '--json[Write each message as a line of JSON]' \
+                '--offsets[Begin each line with the byte of what it is about, and a tab]' \
+                '--ways[Begin each line with the way to what it is about, and a tab]' \
                 '--help[Print help]' ;;
         check)
             _arguments \
@@ -122,6 +124,7 @@ _capn() {
         make)
             _arguments \
                 '--form=[How messages are written]:form:(stream packed bare)' \
+                '--text[Take a list of bytes on one line, too, as `show]' \
                 '--help[Print help]' ;;
         help)
             _describe command commands ;;
