@@ -97,6 +97,13 @@ impl Unpacker {
         }
     }
 
+    /// The bytes of the unfinished group, from its tag on; none where no group has begun.
+    pub fn held(&self) -> &[u8]
+        ensures { result.now ≡ self.now.rest }
+    {
+        &self.held[..self.len]
+    }
+
     /// The end of the text.
     ///
     /// Refusals: `Cut` at the offset of the unfinished group's tag, if there is one; `Failed` after an earlier refusal.

@@ -5,9 +5,11 @@ use Rattle.std.proofs.Math.Seq.{take-add}
 use Rattle.std.proofs.lemmas.List.{take_rest, take-append-drop}
 use Rattle.capn_words.specs.Message.{most_segments}
 use Rattle.capn_stream.specs.FrameRefusal.{HasCount, announced_segments, head_length}
+use Rattle.capn_stream.specs.StreamPieces.{KeepsHead}
 use Rattle.capn_stream.specs.inner.Stages.{Extends, Fills, IsDone, IsStage, IsHeadRefused, Tabled, need}
 use Rattle.capn_stream.specs.declared.fault.FrameFault.{FrameFault}
-use Rattle.capn_stream.specs.declared.fault.FrameFault.TheVariants.{TooManySegments}
+use Rattle.capn_stream.specs.declared.fault.FrameFault.TheVariants.{Memory, Empty, TooManySegments, TooManyWords, Cut}
+use Rattle.capn_stream.specs.declared.fault.FrameFault.TheVariants.{Failed}
 use Rattle.capn_stream.specs.declared.stage.Stage.{Stage}
 use Rattle.capn_stream.specs.declared.stage.Stage.TheVariants as stages
 use Rattle.capn_stream.proofs.shared.Longer.{IsStage-extends, IsStop-append}
@@ -79,6 +81,15 @@ module _ (stage : Stage) (old piece : List ℕ) (most at n end : ℕ) (mid new e
   filled_stop e h =
       subst (λ (bs : List ℕ). IsHeadRefused bs most e) (sym filled_all)
       (IsStop-append new (drop (at + n) piece) most e h)
+
+  -- of a table that announces too many words all is there
+  pub filled_kept : (e : FrameFault) → IsHeadRefused new most e → KeepsHead old piece most new e
+  filled_kept Memory h = tt
+  filled_kept Empty h = tt
+  filled_kept (TooManySegments count) h = tt
+  filled_kept (TooManyWords words) h = ((at + n, filled.text), h)
+  filled_kept Cut h = tt
+  filled_kept Failed h = tt
 
   -- the piece ended
   pub filled_short : length new < end → Fills old piece most (at + n) new stage ends

@@ -1,5 +1,6 @@
 -- A stream of messages that comes in pieces. (Own.)
 use Rattle.std.specs.Prelude.{◌≡◌, ◌⊎◌, ℕ, ◌≤◌, List, [], ◌++◌, length, take, Bool, true, false, Result, Ok, Err}
+use Rattle.std.specs.Prelude.{⊤}
 use Rattle.std.specs.Prelude.{Option, Some, None}
 use Rattle.capn_words.specs.Message.{most_message_words, total}
 use Rattle.capn_stream.specs.Frames.{Frames}
@@ -39,6 +40,17 @@ pub record Feeds (before : Framing) (piece : List ℕ) (n : ℕ) (after : Framin
 pub record Stops (before after : Framing) : Type 0 where
   pub was_good : before.failed ≡ false
   pub is_failed : after.failed ≡ true
+
+-- what is held after a refusal of a table that announces too many words: a beginning of what came, up to the end of the
+-- table and its padding or further, which is refused for the same
+abbrev pub KeepsHead : List ℕ → List ℕ → ℕ → List ℕ → FrameFault → Type 0
+KeepsHead rest piece most held (TooManyWords n) =
+    ((k : ℕ) × (held ≡ rest ++ take k piece)) × IsFrameRefused held most (TooManyWords n)
+KeepsHead rest piece most held Memory = ⊤
+KeepsHead rest piece most held Empty = ⊤
+KeepsHead rest piece most held (TooManySegments n) = ⊤
+KeepsHead rest piece most held Cut = ⊤
+KeepsHead rest piece most held Failed = ⊤
 
 -- What a feed answers: how many bytes it took; a refusal of the bytes with the piece, which comes once; or that an
 -- earlier call has refused.

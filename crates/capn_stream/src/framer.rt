@@ -1,9 +1,9 @@
 //! Messages from a stream in pieces.
 
 ghost use Rattle.std.specs.Prelude.{◌≡◌, ◌↔◌, IsTrue, ℕ, ◌+◌, ◌<◌, ◌≤◌, ◌++◌, List, [], length, false};
-ghost use Rattle.std.specs.Prelude.{IsErrOf};
+ghost use Rattle.std.specs.Prelude.{IfErr, IsErrOf};
 ghost use Rattle.capn_words.specs.Message.{most_message_words};
-ghost use Rattle.capn_stream.specs.StreamPieces.{FeedGives, FinishGives, IsFrame, IsUnfinished, TakeGives};
+ghost use Rattle.capn_stream.specs.StreamPieces.{FeedGives, FinishGives, IsFrame, IsUnfinished, KeepsHead, TakeGives};
 ghost use Rattle.capn_stream.specs.FrameRefusal.{EndsWithin};
 ghost use Rattle.capn_stream.specs.NextMessage.{most_bytes};
 
@@ -62,6 +62,8 @@ impl<A: Allocator + Copy> Framer<A> {
     #[inline]
     pub fn feed(&mut self, piece: &[u8]) -> Result<usize, FrameFault>
         ensures gives { FeedGives self.old piece.now result self.new }
+        // Of a table that announces too many words all is held.
+        ensures kept { IfErr result (λ e. KeepsHead self.old.rest piece.now self.old.most self.new.rest e) }
         // Memory is needed only if bytes came that are kept: the piece has some, and no message waits.
         ensures memory { IsErrOf result FrameFault.Memory
             → (0 < length piece.now) × IsUnfinished self.old.rest self.old.most }
@@ -101,7 +103,7 @@ impl<A: Allocator + Copy> Framer<A> {
     }
 
     /// The bytes that came since the last message was taken, while no call has refused: the frame of the message that
-    /// waits, or the beginning of one.
+    /// waits, or the beginning of one. After `TooManyWords` a beginning of it, with its whole table.
     #[inline]
     pub fn held(&self) -> &[u8]
         ensures { result.now ≡ self.now.rest }

@@ -5,6 +5,7 @@ ghost use Rattle.std.specs.Prelude.{vec_capacity};
 ghost use Rattle.capn_words.specs.Message.{AreBytes, most_segments, most_message_words};
 ghost use Rattle.capn_stream.specs.FrameRefusal.{HasCount, announced_segments, head_length};
 ghost use Rattle.capn_stream.specs.inner.Stages as spec;
+ghost use Rattle.capn_stream.specs.StreamPieces.{KeepsHead};
 ghost use Rattle.capn_stream.specs.inner.Stages.{Extends, Fills, FitsStage, IsStage, IsHeadRefused, Rests, Tabled};
 ghost use Rattle.capn_stream.specs.declared.fault.FrameFault.TheVariants as faults;
 
@@ -144,6 +145,7 @@ pub(crate) fn fill<A: Allocator + Copy>(
     ensures filled { IfOk result
         (λ n. Fills bytes.old.items piece.now most n bytes.new.items stage.new ends.new.items) }
     ensures refused { IfErr result (λ e. IsHeadRefused (bytes.old.items ++ piece.now) most e) }
+    ensures kept { IfErr result (λ e. KeepsHead bytes.old.items piece.now most bytes.new.items e) }
     ensures memory { IsErrOf result FrameFault.Memory
         → (0 < length piece.now) × (length bytes.old.items < spec.need stage.old) }
 {

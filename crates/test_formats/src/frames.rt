@@ -3,7 +3,7 @@
 ghost use Rattle.std.specs.Prelude.{◌≤◌};
 ghost use Rattle.capn_words.specs.Message.{most_message_words};
 
-use capn_stream::{Framer, first_bare, frame};
+use capn_stream::{FrameFault, Framer, first_bare, frame};
 use capn_words::{Bare, Space};
 
 /// A struct of the word 5, framed.
@@ -32,6 +32,15 @@ fn a_framer_is_empty_but_for_what_it_holds(rt: HostRuntime) {
     ];
     assert_eq!(rt; states, [true, true, false]);
     assert!(rt; framer.take().is_some() && framer.is_empty());
+}
+
+#[test]
+fn a_framer_holds_the_table_that_it_refuses(rt: HostRuntime) {
+    let mut framer = Framer::new(rt.alloc(), 1);
+    assert_eq!(rt; framer.feed(&FRAMED[..5]), Ok(5));
+    assert_eq!(rt; framer.feed(&FRAMED[5..]), Err(FrameFault::TooManyWords(2)));
+    assert_eq!(rt; framer.held(), &FRAMED[..8]);
+    assert_eq!(rt; framer.feed(&FRAMED), Err(FrameFault::Failed));
 }
 
 /// How many words and bytes the message of one segment takes with which some bytes begin.

@@ -71,3 +71,17 @@ fn many_words_and_pieces(rt: HostRuntime) -> Result<(), Fail> {
     }
     Ok(())
 }
+
+#[test]
+fn an_unpacker_lends_the_group_that_is_cut(rt: HostRuntime) -> Result<(), Fail> {
+    let mut unpacker = Unpacker::new();
+    let mut out = Vec::new(rt.alloc());
+    // A whole group; then one of three bytes beside its tag, of which two came.
+    unpacker.feed(&[0x01, 5, 0x15, 7], &mut out)?;
+    unpacker.feed(&[8], &mut out)?;
+    assert_eq!(rt; unpacker.held(), [0x15, 7, 8].as_slice());
+    unpacker.feed(&[9], &mut out)?;
+    assert!(rt; unpacker.held().is_empty());
+    assert_eq!(rt; out.len(), 16);
+    Ok(())
+}

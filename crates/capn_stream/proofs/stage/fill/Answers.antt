@@ -3,8 +3,8 @@ use Rattle.std.proofs.lemmas.Result.{err_from_is_err_and}
 use Rattle.capn_stream.specs.inner.Stages.{need, IsDone}
 use Rattle.capn_stream.specs.declared.stage.Stage.{Stage}
 use Rattle.capn_stream.proofs.Came.{lacked_now, lacked_whole}
-use Rattle.capn_stream.proofs.Filling.{Filled, filled, filled_done, filled_short, filled_stop, is_contents}
-use Rattle.capn_stream.proofs.Filling.{is_table, stop_count}
+use Rattle.capn_stream.proofs.Filling.{Filled, filled, filled_done, filled_kept, filled_short, filled_stop}
+use Rattle.capn_stream.proofs.Filling.{is_contents, is_table, stop_count}
 use Rattle.capn_stream.proofs.stage.fill.Goals as goal
 
 pub returns-then-len-end-clause-filled : goal.returns-then-len-end-clause-filled
@@ -119,3 +119,14 @@ returns-in_err-bounds-in-Table-clause-memory g c = λ h.
     c.fill_to.new.bytes.items c.parts.at c.in_ok-at.field-0 c.end_of-end.result c.end_of-end.ensures c.requires.rests
     c.parts.invariant.came c.in_ok-at.ensures.extends (omega arith)
     (λ done. subst (λ (s : Stage). IsDone s c.parts.bytes.items) c.in-Table.is done)
+
+pub returns-in_err-bounds-in-Table-clause-kept : goal.returns-in_err-bounds-in-Table-clause-kept
+returns-in_err-bounds-in-Table-clause-kept g c =
+    let p = err_from_is_err_and c.from_residual-in_err-bounds-in-Table.result
+    c.from_residual-in_err-bounds-in-Table.ensures.1 in
+    let stop = rw c.deref-in-Table.ensures.value at c.in_err-bounds-in-Table.ensures.refused in
+    rw (p.1, p.2)
+    (filled_kept c.parts.stage c.args.bytes.now.items c.args.piece.now c.args.most c.parts.at c.in_ok-at.field-0
+    c.end_of-end.result c.parts.bytes.items c.fill_to.new.bytes.items c.parts.ends.items
+    c.end_of-end.ensures c.parts.invariant.inside c.parts.invariant.text c.parts.invariant.is c.in_ok-at.ensures.extends
+    c.in_err-bounds-in-Table.field-0.0 stop)

@@ -18,3 +18,6 @@ returns-clause-memory g c =
       unfinished_stage c.self.inside.stage c.self.inside.frame.items c.self.inside.max_words c.self.inside.ends.items
           (c.self.invariant.is c.if-self.false) lacked.1,
     ))
+
+pub returns-clause-kept : goal.returns-clause-kept
+returns-clause-kept g c = rw (← c.self.view_is) c.fill-fed.ensures.kept
