@@ -97,7 +97,7 @@ impl Unpacker {
         }
     }
 
-    /// The bytes of the unfinished group, from its tag on; none where no group has begun.
+    /// The bytes of the unfinished group, from its tag on, also after `Cut`; none where no group has begun.
     pub fn held(&self) -> &[u8]
         ensures { result.now ≡ self.now.rest }
     {
@@ -113,6 +113,8 @@ impl Unpacker {
         ensures cut { self.old.failed ≡ false → self.old.rest ≢ []
             → (result ≡ Err (UnpackFault.Cut self.old.offset)) × (self.new.failed ≡ true) }
         ensures failed { self.old.failed ≡ true → (result ≡ Err UnpackFault.Failed) × (self.new ≡ self.old) }
+        // What is held stays, whatever it answers.
+        ensures kept { self.new.rest ≡ self.old.rest }
         ensures whole { self.old.failed ≡ false → self.old.rest ≡ [] → IsOk result }
     {
         if self.failed {

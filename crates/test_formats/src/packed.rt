@@ -1,6 +1,6 @@
 //! Words of every kind of group, packed and unpacked.
 
-use capn_pack::{Unpacker, pack, tag, unpack};
+use capn_pack::{UnpackFault, Unpacker, pack, tag, unpack};
 use std::alloc::Global;
 use std::test::Fail;
 
@@ -80,8 +80,10 @@ fn an_unpacker_lends_the_group_that_is_cut(rt: HostRuntime) -> Result<(), Fail> 
     unpacker.feed(&[0x01, 5, 0x15, 7], &mut out)?;
     unpacker.feed(&[8], &mut out)?;
     assert_eq!(rt; unpacker.held(), [0x15, 7, 8].as_slice());
-    unpacker.feed(&[9], &mut out)?;
-    assert!(rt; unpacker.held().is_empty());
+    unpacker.feed(&[9, 0x10], &mut out)?;
+    assert_eq!(rt; unpacker.held(), [0x10].as_slice());
     assert_eq!(rt; out.len(), 16);
+    assert_eq!(rt; unpacker.finish(), Err(UnpackFault::Cut { at: 6 }));
+    assert_eq!(rt; unpacker.held(), [0x10].as_slice());
     Ok(())
 }
