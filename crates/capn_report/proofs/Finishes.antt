@@ -107,7 +107,8 @@ module _ {X : Type 0} (f : Fold X) (x : X) (finish : Finish X) (form : Form) whe
   over_refused_exact None c m at r y is = tt
   over_refused_exact (Some input) c m at r y (inl memory) = absurd (cc)
   over_refused_exact (Some input) c m at r y (inr (inl io)) = absurd (cc)
-  over_refused_exact (Some input) c m at r y (inr (inr (text, z, are, wrote))) = (text, z, are, wrote, refl, refl)
+  over_refused_exact (Some input) c m at r y (inr (inr (text, z, are, wrote, leaves))) =
+      (text, z, are, wrote, refl, refl)
 
   over_refused : (a b c m : Option (List ℕ)) (reader before : Bool) (at : Position) (r : Refusal) (y : X)
       → ServesMessages f x form a b c m reader before (Err (faults.Refused at r)) y
@@ -130,7 +131,7 @@ module _ {X : Type 0} (f : Fold X) (x : X) (finish : Finish X) (form : Form) whe
   stopped_exact e y None c d none is = tt
   stopped_exact e y (Some input) c d none (inl memory) = inl (ap stopped memory)
   stopped_exact e y (Some input) c d none (inr (inl io)) = inr (inl (ap stopped io))
-  stopped_exact e y (Some input) c d none (inr (inr (text, z, are, wrote))) =
+  stopped_exact e y (Some input) c d none (inr (inr (text, z, are, wrote, leaves))) =
       let joined = sym (append-nil text) ∙ ap (λ (l : List ℕ). text ++ l) (sym none) in
       inr (inr (text, (text, Err e, z, are, joined, refl), wrote))
 

@@ -13,7 +13,7 @@ use Rattle.capn_serve.specs.declared.position.Position.{Position}
 use Rattle.capn_serve.specs.declared.whole_input.WholeInput.{WholeInput}
 use Rattle.capn_serve.specs.declared.fault.RunFault.{RunFault}
 use Rattle.capn_serve.specs.declared.fault.RunFault.TheVariants as faults
-use Rattle.capn_serve.specs.Fold.{Fold, IfGoing}
+use Rattle.capn_serve.specs.Fold.{Fold, IfGoing, Leaves}
 use Rattle.capn_serve.specs.Outgoing.{Adds, AddsBeginning, Breaks, outgoing, sent}
 use Rattle.capn_serve.specs.WholeInput.{HasGiven, HasGivenAll, IsBeginning, IsUntaken, TakesAll, most_input}
 use Rattle.capn_serve.specs.BareRun.{Begins, EndsAs, EndsBare, HasWritten, WritesBare, WritesBy}
@@ -98,13 +98,14 @@ module _ {X : Type 0} (f : Fold X) (x y : X) (going : f.done x ≡ false) (a b c
 
   -- nothing is written of the bytes
   ends_none : (d : Option (List ℕ)) (failed : Bool) (bytes : List ℕ) (fault : RunFault) → HasGivenAll a b failed bytes
-      → IsUnbare (f.place x) bytes fault ⊎ RefusesBare f x bytes fault → Appends c d []
+      → IsUnbare (f.place x) bytes fault ⊎ RefusesBare f x bytes fault → Appends c d [] → Leaves f x fault y
       → IfSome a (EndsAs f x c d (Err fault) y)
-  ends_none d failed bytes fault all why wrote =
+  ends_none d failed bytes fault all why wrote leaves =
       some_so a (λ input. bytes ≡ input) (EndsAs f x c d (Err fault) y)
       (λ input same. subst (EndsAs f x c d (Err fault) y) same (inr (inr (
         ends_bare bytes fault (inr (all.within, why)),
         wrote,
+        leaves,
       ))))
       (is_given a b failed bytes all)
 
@@ -146,26 +147,26 @@ module _ {X : Type 0} (f : Fold X) (x y : X) (going : f.done x ≡ false) (a b c
       let bad : faults.Refused (f.place x) r ≡ faults.Io = sym is ∙ io in cc
 
   -- nothing was read, or what was is no segment
-  pub runs_unread : (r w : Bool) (fault : RunFault) → w ≡ false → Unread (f.place x) a b r fault
+  pub runs_unread : (r w : Bool) (fault : RunFault) → w ≡ false → Unread (f.place x) a b r fault → x ≡ y
       → RunsBare f x a b c c r w (Err fault) y
-  runs_unread r w fault good (inl (bytes, inl (h, inl (memory, some)))) = record {
+  runs_unread r w fault good (inl (bytes, inl (h, inl (memory, some)))) same = record {
     exact = ends_unread c fault (inl memory);
     io = io_none r w fault h.fine good (λ e. let bad : faults.Memory ≡ faults.Io = sym memory ∙ e in cc);
     begun = begins_none bytes r h;
     heard = λ e. heard_none c (Appends-nil c);
     memory = λ e. inl (bytes, h.read, some);
   }
-  runs_unread r w fault good (inl (bytes, inl (h, inr (is, long)))) = record {
+  runs_unread r w fault good (inl (bytes, inl (h, inr (is, long)))) same = record {
     exact = some_so a (λ input. most_input < length input) (EndsAs f x c c (Err fault) y)
-        (λ input more. inr (inr (ends_bare input fault (inl (more, is)), Appends-nil c))) (is_longer a b r bytes h
-        long);
+        (λ input more. inr (inr (ends_bare input fault (inl (more, is)), Appends-nil c, inl same)))
+        (is_longer a b r bytes h long);
     io = io_none r w fault h.fine good (λ e. let bad : faults.InputTooLong ≡ faults.Io = sym is ∙ e in cc);
     begun = begins_none bytes r h;
     heard = λ e. heard_none c (Appends-nil c);
     memory = λ e. absurd (let bad : stopped faults.InputTooLong ≡ stopped faults.Memory = sym (ap stopped is)
         ∙ e in cc);
   }
-  runs_unread r w fault good (inl (bytes, inr (read, bounded, broken, is))) = record {
+  runs_unread r w fault good (inl (bytes, inr (read, bounded, broken, is))) same = record {
     exact = ends_unread c fault (inr is);
     io = (λ h. inl broken, λ h. ap stopped is);
     begun = record {
@@ -178,8 +179,8 @@ module _ {X : Type 0} (f : Fold X) (x y : X) (going : f.done x ≡ false) (a b c
     heard = λ e. heard_none c (Appends-nil c);
     memory = λ e. absurd (let bad : stopped faults.Io ≡ stopped faults.Memory = sym (ap stopped is) ∙ e in cc);
   }
-  runs_unread r w fault good (inr (bytes, all, why)) = record {
-    exact = ends_none c r bytes fault all (inl why) (Appends-nil c);
+  runs_unread r w fault good (inr (bytes, all, why)) same = record {
+    exact = ends_none c r bytes fault all (inl why) (Appends-nil c) (inl same);
     io = io_none r w fault all.given.fine good (known bytes fault (inl why));
     begun = begins_none bytes r all.given;
     heard = λ e. heard_none c (Appends-nil c);
@@ -220,9 +221,9 @@ module _ {X : Type 0} (f : Fold X) (x y : X) (going : f.done x ≡ false) (a b c
     -- nothing is written of it
     runs_none : (d : Option (List ℕ)) (kept : List ℕ) (fault : RunFault) → w ≡ false
         → IsUnbare (f.place x) bytes fault ⊎ RefusesBare f x bytes fault → Adds (sent c) (outgoing d kept) []
-        → RunsBare f x a b c d r w (Err fault) y
-    runs_none d kept fault good why none = record {
-      exact = ends_none d r bytes fault all_given why (nothing d kept none);
+        → Leaves f x fault y → RunsBare f x a b c d r w (Err fault) y
+    runs_none d kept fault good why none leaves = record {
+      exact = ends_none d r bytes fault all_given why (nothing d kept none) leaves;
       io = io_none r w fault all_given.given.fine good (known bytes fault why);
       begun = begins_so d (inl (nothing d kept none));
       heard = λ e. heard_none d (nothing d kept none);
@@ -232,10 +233,12 @@ module _ {X : Type 0} (f : Fold X) (x y : X) (going : f.done x ≡ false) (a b c
     -- its message was not served to its end
     runs_unserved : (d : Option (List ℕ)) (kept : List ℕ) (fault : RunFault)
         → ServesBare f x bytes (sent c) (outgoing d kept) w (Err fault) y → RunsBare f x a b c d r w (Err fault) y
-    runs_unserved d kept fault (inr (why, none, good)) = runs_none d kept fault good (inl why) none
+    runs_unserved d kept fault (inr (why, none, good, same)) =
+        runs_none d kept fault good (inl why) none (inl same)
     runs_unserved d kept (faults.Refused at e) (inl (words, bare, (place, refuses, none, good))) =
         runs_none d kept (faults.Refused at e) good
         (inr (words, e, bare, refuses, ap (λ (p : Position). faults.Refused p e) place)) none
+        (inr (bytes, words ∷ [], e, refuses, ap (λ (p : Position). faults.Refused p e) place))
     runs_unserved d kept faults.Memory (inl (words, bare, (begun, good))) = record {
       exact = ends_unread d faults.Memory (inl refl);
       io = io_none r w faults.Memory all_given.given.fine good (λ e. cc);

@@ -71,7 +71,8 @@ module _ {X : Type 0} (f : Fold X) (x : X) where
   bare_exact (Some input) c d (Ok u) y is = is
   bare_exact (Some input) c d (Err e) y (inl memory) = inl memory
   bare_exact (Some input) c d (Err e) y (inr (inl io)) = inr (inl io)
-  bare_exact (Some input) c d (Err e) y (inr (inr (ends, wrote))) = inr (inr ([], y, (ends, refl), wrote))
+  bare_exact (Some input) c d (Err e) y (inr (inr (ends, wrote, leaves))) =
+      inr (inr ([], x, (ends, refl, refl), wrote, leaves))
 
   pub serves_bare : (a b c d : Option (List ℕ)) (reader writer : Bool) (r : Served) (y : X)
       → bares.RunsBare f x a b c d reader writer r y → ServesMessages f x forms.Bare a b c d reader writer r y

@@ -150,27 +150,32 @@ module _ {X : Type 0} (f : Fold X) where
       )
 
   -- where a run stops after some messages of a stream it stops in all of it
-  pub stops_more : (x y : X) (s mid e : List ℕ) (a b c : Outgoing) (failed : Bool) (fault : RunFault)
-      → Tells f x s mid a b y → Stops f y (mid ++ e) b c failed fault → Stops f x (s ++ e) a c failed fault
-  stops_more x y s mid e a b c failed fault told stop = record {
+  pub stops_more : {w : X} (x y : X) (s mid e : List ℕ) (a b c : Outgoing) (failed : Bool) (fault : RunFault)
+      → Tells f x s mid a b y → Stops f y (mid ++ e) b c failed fault w → Stops f x (s ++ e) a c failed fault w
+  unfolding due_behind
+  stops_more {w = w} x y s mid e a b c failed fault told stop = record {
     told = λ h. begun_behind x y s mid e a b c told (stop.told h);
     front = λ h. front_behind x y s mid e a b c told (stop.front h);
     io = stop.io;
     due = elim stop.due [ inl m ↦ inl m | inr rest ↦ inr (elim rest [ inl i ↦ inl i | inr so ↦ inr (so_behind so) ]) ];
   }
     where
-      so_behind : IsDueSo f y (mid ++ e) b c fault → IsDueSo f x (s ++ e) a c fault
+      so_behind : IsDueSo f y (mid ++ e) b c fault w → IsDueSo f x (s ++ e) a c fault w
       so_behind so more behind =
+          let due = so more behind in
           let same = append_assoc mid e more in
-          let part = subst (λ (p : List ℕ). (text : List ℕ) × (z : X) × IsFolded f y p behind text (Err fault) z
-          × Adds b c text) same (so more behind) in
-          let all = due_behind x y s mid (e ++ more) a b c behind (Err fault) told part in
-          subst (λ (p : List ℕ). (text : List ℕ) × (z : X) × IsFolded f x p behind text (Err fault) z
-          × Adds a c text) (sym (append_assoc s e more)) all
+          let part = subst (λ (p : List ℕ). IsFolded f y p behind due.0 (Err fault) due.1) same due.2 in
+          let all = due_behind x y s mid (e ++ more) a b c behind (Err fault) told (due.0, due.1, part, due.3) in (
+            all.0,
+            due.1,
+            subst (λ (p : List ℕ). IsFolded f x p behind all.0 (Err fault) due.1) (sym (append_assoc s e more)) all.2,
+            all.3,
+            due.4,
+          )
 
   -- memory was refused
-  pub stops_memory : (x : X) (stream : List ℕ) (a : Outgoing) (failed : Bool) → failed ≡ false
-      → Stops f x stream a a failed faults.Memory
+  pub stops_memory : {w : X} (x : X) (stream : List ℕ) (a : Outgoing) (failed : Bool) → failed ≡ false
+      → Stops f x stream a a failed faults.Memory w
   stops_memory x stream a failed fine = record {
     told = λ h. begun_none x stream a a (adds_none a);
     front = λ h. absurd (let broken : true ≡ false = sym h ∙ fine in cc);
@@ -181,7 +186,7 @@ module _ {X : Type 0} (f : Fold X) where
   -- no frame can follow
   pub stops_framed : (x : X) (stream : List ℕ) (a : Outgoing) (failed : Bool) (e : FrameFault) → failed ≡ false
       → e ≢ frame_faults.Memory → IsHeadRefused stream f.most e → f.done x ≡ false
-      → Stops f x stream a a failed (faults.Refused (f.place x) (refusals.Frame e))
+      → Stops f x stream a a failed (faults.Refused (f.place x) (refusals.Frame e)) x
   stops_framed x stream a failed e fine other stop going = record {
     told = λ h. begun_none x stream a a (adds_none a);
     front = λ h. absurd (let broken : true ≡ false = sym h ∙ fine in cc);
@@ -192,6 +197,7 @@ module _ {X : Type 0} (f : Fold X) where
           x,
           due more behind e other (IsStop-append stream more f.most e stop),
           adds_none a,
+          inl refl,
         )));
   }
     where
@@ -234,7 +240,7 @@ module _ {X : Type 0} (f : Fold X) where
   -- a message is refused, or memory was, or the writer failed
   pub stops_message : (x y : X) (frame e : List ℕ) (message : List (List ℕ)) (a b : Outgoing) (failed : Bool)
       (fault : RunFault) → Frames frame message → total message ≤ f.most → f.done x ≡ false
-      → AddsMessage f x frame message a b failed (Err fault) y → Stops f x (frame ++ e) a b failed fault
+      → AddsMessage f x frame message a b failed (Err fault) y → Stops f x (frame ++ e) a b failed fault y
   stops_message x y frame e message a b failed (faults.Refused at r) is room going (
     place,
     refuses,
@@ -244,7 +250,13 @@ module _ {X : Type 0} (f : Fold X) where
     told = λ h. begun_none x (frame ++ e) a b none;
     front = λ h. absurd (let bad : true ≡ false = sym h ∙ fine in cc);
     io = (λ h. absurd (cc), λ h. absurd (let bad : true ≡ false = sym h ∙ fine in cc));
-    due = inr (inr (λ more behind. ([], x, due more behind, none)));
+    due = inr (inr (λ more behind. (
+      [],
+      x,
+      due more behind,
+      none,
+      inr (frame, message, r, refuses, ap (λ (p : Position). faults.Refused p r) place),
+    )));
   }
     where
       due : (more : List ℕ) (behind : Option RunFault)

@@ -138,9 +138,9 @@ module _ {X : Type 0} (f : Fold X) (x : X) (before : Framing) (good : before.fai
   pub held_stop : (y : X) (frame : List ℕ) (message : List (List ℕ)) (a b : Outgoing) (failed : Bool)
       (fault : RunFault) → frame ≡ before.rest → Frames frame message → total message ≤ f.most → f.done x ≡ false
       → AddsMessage f x frame message a b failed (Err fault) y → (more : List ℕ)
-      → Stops f x (before.rest ++ more) a b failed fault
+      → Stops f x (before.rest ++ more) a b failed fault y
   held_stop y frame message a b failed fault all is room going adds more =
-      subst (λ (p : List ℕ). Stops f x (p ++ more) a b failed fault) all
+      subst (λ (p : List ℕ). Stops f x (p ++ more) a b failed fault y) all
       (stops_message f x y frame more message a b failed fault is room going adds)
 
   -- there was none
@@ -160,7 +160,7 @@ module _ {X : Type 0} (f : Fold X) (x : X) (before : Framing) (good : before.fai
       (subst (λ (m : ℕ). IsUnfinished before.rest m) (is ∙ sym same)
       (held_open before.rest most fault other held only))
   held_passed most a failed fault (Err e) is fine held only (memory, same_fault) = λ more.
-      subst (λ (g : RunFault). Stops f x (before.rest ++ more) a a failed g) (sym same_fault)
+      subst (λ (g : RunFault). Stops f x (before.rest ++ more) a a failed g x) (sym same_fault)
       (stops_memory f x (before.rest ++ more) a failed fine)
 
 -- ---- one more message
@@ -190,19 +190,19 @@ module _ {X : Type 0} (f : Fold X) (x : X) (before : Framing) (bytes : List ℕ)
   -- it is refused, or the writer failed
   pub next_stopped : (y : X) (n : ℕ) (mid after : Framing) (a b : Outgoing) (failed : Bool) (fault : RunFault)
       → Feeds before bytes n mid → ServesHeld f x mid a b failed (Err fault) after y
-      → Stops f x (before.rest ++ bytes) a b failed fault
+      → Stops f x (before.rest ++ bytes) a b failed fault y
   next_stopped y n mid after a b failed fault fed stop =
       let whole : mid.rest ++ drop n bytes ≡ before.rest ++ bytes =
       ap (λ (p : List ℕ). p ++ drop n bytes) fed.rest
       ∙ append_assoc before.rest (take n bytes) (drop n bytes)
       ∙ ap (λ (p : List ℕ). before.rest ++ p) (take-append-drop n bytes) in
-      subst (λ (p : List ℕ). Stops f x p a b failed fault) whole (stop (drop n bytes))
+      subst (λ (p : List ℕ). Stops f x p a b failed fault y) whole (stop (drop n bytes))
 
   -- the bytes are refused, or memory is
   pub next_refused : (e : FrameFault) (after : Framing) (a : Outgoing) (failed : Bool) → failed ≡ false → f.done x ≡
       false
       → FeedGives before bytes (Err e) after
-      → Stops f x (before.rest ++ bytes) a a failed (fault_at (f.place x) e)
+      → Stops f x (before.rest ++ bytes) a a failed (fault_at (f.place x) e) x
   next_refused frame_faults.Memory after a failed fine going fed =
       stops_memory f x (before.rest ++ bytes) a failed fine
   next_refused frame_faults.Empty after a failed fine going fed = absurd fed
@@ -222,15 +222,15 @@ module _ {X : Type 0} (f : Fold X) (x : X) (before : Framing) (bytes : List ℕ)
 
 module _ {X : Type 0} (f : Fold X) (x y : X) (first before : Framing) (bytes : List ℕ) (at : ℕ) (a b c : Outgoing)
     (told : Tells f x (first.rest ++ take at bytes) before.rest a b y) where
-  pub served_stop : (failed : Bool) (fault : RunFault)
-      → Stops f y (before.rest ++ take (length bytes - at) (drop at bytes)) b c failed fault
-      → Stops f x (first.rest ++ bytes) a c failed fault
-  served_stop failed fault stop =
-      let part = subst (λ (p : List ℕ). Stops f y (before.rest ++ p) b c failed fault) (take_rest bytes at) stop in
+  pub served_stop : {w : X} (failed : Bool) (fault : RunFault)
+      → Stops f y (before.rest ++ take (length bytes - at) (drop at bytes)) b c failed fault w
+      → Stops f x (first.rest ++ bytes) a c failed fault w
+  served_stop {w = w} failed fault stop =
+      let part = subst (λ (p : List ℕ). Stops f y (before.rest ++ p) b c failed fault w) (take_rest bytes at) stop in
       let whole : (first.rest ++ take at bytes) ++ drop at bytes ≡ first.rest ++ bytes =
       append_assoc first.rest (take at bytes) (drop at bytes)
       ∙ ap (λ (p : List ℕ). first.rest ++ p) (take-append-drop at bytes) in
-      subst (λ (p : List ℕ). Stops f x p a c failed fault) whole
+      subst (λ (p : List ℕ). Stops f x p a c failed fault w) whole
       (stops_more f x y (first.rest ++ take at bytes) before.rest (drop at bytes) a b c failed fault told part)
 
   pub served_more : (z : X) (n : ℕ) (rest : List ℕ)
@@ -268,23 +268,23 @@ module _ {X : Type 0} (f : Fold X) (x y : X) (bytes : List ℕ) (at : ℕ) (a b 
       (tells_more f x y z (take at bytes) [] (take taken (drop at bytes)) [] a b c told part)
 
   pub whole_stop : (z : X) (c : Outgoing) (failed : Bool) (fault : RunFault)
-      → AddsMessage f y front message b c failed (Err fault) z → Stops f x bytes a c failed fault
+      → AddsMessage f y front message b c failed (Err fault) z → Stops f x bytes a c failed fault z
   whole_stop z c failed fault adds =
       let here = stops_message f y z front (drop taken (drop at bytes)) message b c failed fault first.frame front_room
       going adds in
-      let same_front = subst (λ (p : List ℕ). Stops f y (take taken p ++ drop taken (drop at bytes)) b c failed fault)
+      let same_front = subst (λ (p : List ℕ). Stops f y (take taken p ++ drop taken (drop at bytes)) b c failed fault z)
       (take_rest bytes at) here in
       let split = take-append-drop taken (drop at bytes) in
-      let part = subst (λ (p : List ℕ). Stops f y p b c failed fault) split same_front in
-      subst (λ (p : List ℕ). Stops f x p a c failed fault) (take-append-drop at bytes)
+      let part = subst (λ (p : List ℕ). Stops f y p b c failed fault z) split same_front in
+      subst (λ (p : List ℕ). Stops f x p a c failed fault z) (take-append-drop at bytes)
       (stops_more f x y (take at bytes) [] (drop at bytes) a b c failed fault told part)
 
 -- memory was refused after messages that were served
 pub whole_memory : {X : Type 0} (f : Fold X) (x y : X) (bytes : List ℕ) (at : ℕ) (a b : Outgoing) (failed : Bool)
-    → Tells f x (take at bytes) [] a b y → failed ≡ false → Stops f x bytes a b failed faults.Memory
+    → Tells f x (take at bytes) [] a b y → failed ≡ false → Stops f x bytes a b failed faults.Memory y
 whole_memory f x y bytes at a b failed told fine =
-    let here = stops_memory f y (drop at bytes) b failed fine in
-    subst (λ (p : List ℕ). Stops f x p a b failed faults.Memory) (take-append-drop at bytes)
+    let here = stops_memory f {w = y} y (drop at bytes) b failed fine in
+    subst (λ (p : List ℕ). Stops f x p a b failed faults.Memory y) (take-append-drop at bytes)
     (stops_more f x y (take at bytes) [] (drop at bytes) a b b failed faults.Memory told here)
 
 -- ---- whole messages, or the next one
@@ -320,9 +320,9 @@ module _ {X : Type 0} (f : Fold X) (x y : X) (before : Framing) (bytes : List �
   )
 
   -- the run stopped among them
-  pub some_stop : (failed : Bool) (fault : RunFault) → before.rest ≡ [] → Stops f x bytes a b failed fault
-      → Stops f x (before.rest ++ bytes) a b failed fault
-  some_stop failed fault none stop = subst (λ (p : List ℕ). Stops f x (p ++ bytes) a b failed fault) (sym none) stop
+  pub some_stop : (failed : Bool) (fault : RunFault) → before.rest ≡ [] → Stops f x bytes a b failed fault y
+      → Stops f x (before.rest ++ bytes) a b failed fault y
+  some_stop failed fault none stop = subst (λ (p : List ℕ). Stops f x (p ++ bytes) a b failed fault y) (sym none) stop
 
   -- none was, and the next bytes were taken
   pub some_next : (z : X) (n : ℕ) (c : Outgoing) (failed fine : Bool) (r : Result ℕ RunFault) (after : Framing)
@@ -351,22 +351,23 @@ module _ {X : Type 0} (f : Fold X) (x : X) (c d e : Option (List ℕ)) (text : L
   begun_sent stream (parts, rest, y, count, are, adds) wrote =
       (parts, rest, y, count, are, adds_all (sent c) d e text (take count (texts_of parts)) adds wrote)
 
-  pub stops_sent : (stream : List ℕ) (fault : RunFault) → Stops f x stream (sent c) (outgoing d text) false fault
-      → Appends d e text → Stops f x stream (sent c) (sent e) false fault
-  stops_sent stream fault stop wrote = record {
+  pub stops_sent : {w : X} (stream : List ℕ) (fault : RunFault)
+      → Stops f x stream (sent c) (outgoing d text) false fault w → Appends d e text
+      → Stops f x stream (sent c) (sent e) false fault w
+  stops_sent {w = w} stream fault stop wrote = record {
     told = λ h. begun_sent stream (stop.told refl) wrote;
     front = λ h. absurd (cc);
     io = stop.io;
     due = elim stop.due [ inl m ↦ inl m | inr rest ↦ inr (elim rest [ inl i ↦ inl i | inr so ↦ inr (so_sent so) ]) ];
   }
     where
-      so_sent : IsDueSo f x stream (sent c) (outgoing d text) fault → IsDueSo f x stream (sent c) (sent e) fault
+      so_sent : IsDueSo f x stream (sent c) (outgoing d text) fault w → IsDueSo f x stream (sent c) (sent e) fault w
       so_sent so more behind = let part = so more behind in
-          (part.0, part.1, part.2, adds_all (sent c) d e text part.0 part.3 wrote)
+          (part.0, part.1, part.2, adds_all (sent c) d e text part.0 part.3 wrote, part.4)
 
   -- the writer fails within it
-  pub begun_broken : (stream : List ℕ) → TellsBegun f x stream (sent c) (outgoing d text) → HasBegun d e text
-      → Stops f x stream (sent c) (sent e) true faults.Io
+  pub begun_broken : {w : X} (stream : List ℕ) → TellsBegun f x stream (sent c) (outgoing d text) → HasBegun d e text
+      → Stops f x stream (sent c) (sent e) true faults.Io w
   begun_broken stream (parts, rest, y, count, are, adds) (some, wrote) =
       let begun = breaks_rest (sent c) d e text (take count (texts_of parts)) some adds wrote in
       let broken = breaks_less (sent c) (sent e) begun.0 count (texts_of parts) begun.1 in
@@ -377,18 +378,19 @@ module _ {X : Type 0} (f : Fold X) (x : X) (c d e : Option (List ℕ)) (text : L
         due = inr (inl refl);
       }
 
-  pub tells_broken : (y : X) (stream rest : List ℕ) → Tells f x stream rest (sent c) (outgoing d text) y
-      → HasBegun d e text → Stops f x stream (sent c) (sent e) true faults.Io
+  pub tells_broken : {w : X} (y : X) (stream rest : List ℕ) → Tells f x stream rest (sent c) (outgoing d text) y
+      → HasBegun d e text → Stops f x stream (sent c) (sent e) true faults.Io w
   tells_broken y stream rest told wrote =
       begun_broken stream (tells_begun f x y stream rest (sent c) (outgoing d text) told) wrote
 
-  pub stops_broken : (stream : List ℕ) (fault : RunFault) → Stops f x stream (sent c) (outgoing d text) false fault
-      → HasBegun d e text → Stops f x stream (sent c) (sent e) true faults.Io
+  pub stops_broken : {w : X} (stream : List ℕ) (fault : RunFault)
+      → Stops f x stream (sent c) (outgoing d text) false fault w → HasBegun d e text
+      → Stops f x stream (sent c) (sent e) true faults.Io w
   stops_broken stream fault stop wrote = begun_broken stream (stop.told refl) wrote
 
   -- it had failed before
-  pub stops_kept : (stream : List ℕ) (fault : RunFault) → e ≡ d
-      → Stops f x stream (sent c) (outgoing d text) true fault → Stops f x stream (sent c) (sent e) true fault
+  pub stops_kept : {w : X} (stream : List ℕ) (fault : RunFault) → e ≡ d
+      → Stops f x stream (sent c) (outgoing d text) true fault w → Stops f x stream (sent c) (sent e) true fault w
   stops_kept stream fault same stop = record {
     told = λ h. absurd (cc);
     front = λ h. (let g = stop.front h in
@@ -410,7 +412,7 @@ module _ {X : Type 0} (f : Fold X) (x : X) where
   serves_sent y before after bytes c d e text true failed (Err fault) result s (same, broken, is) =
       subst (λ (r : Result (Unit {0}) RunFault). Serves f x before bytes (sent c) (sent e) failed r after y)
       (sym is)
-      (subst (λ (b : Bool). Stops f x (before.rest ++ bytes) (sent c) (sent e) b fault) (sym broken)
+      (subst (λ (b : Bool). Stops f x (before.rest ++ bytes) (sent c) (sent e) b fault y) (sym broken)
       (stops_kept f x c d e text (before.rest ++ bytes) fault same s))
   serves_sent y before after bytes c d e text false false (Ok u) result s (wrote, is) =
       subst (λ (r : Result (Unit {0}) RunFault). Serves f x before bytes (sent c) (sent e) false r after y)

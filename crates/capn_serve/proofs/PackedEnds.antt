@@ -21,7 +21,7 @@ use Rattle.capn_stream.specs.declared.fault.FrameFault.TheVariants as frames
 use Rattle.capn_serve.specs.declared.position.Position.{Position}
 use Rattle.capn_serve.specs.declared.fault.RunFault.{RunFault}
 use Rattle.capn_serve.specs.declared.fault.RunFault.TheVariants as faults
-use Rattle.capn_serve.specs.Fold.{AreParts, Fold, IsFolded, end_of, texts_of}
+use Rattle.capn_serve.specs.Fold.{AreParts, Fold, IsFolded, Leaves, end_of, texts_of}
 use Rattle.capn_serve.specs.Outgoing.{sent}
 use Rattle.capn_serve.specs.ChunkRun.{Tells, TellsFront}
 use Rattle.capn_serve.specs.StreamRun.{IsAhead, IsNeeded, Kept, has_more, taken_of}
@@ -122,8 +122,8 @@ module _ {X : Type 0} (f : Fold X) (x : X) (limit : ℕ) where
     told_front y (taken_of limit told.stream) q.rest c d (taken_told y s q c d told),
   )
 
-  pub fronts_stop : (s : List ℕ) (c e : Option (List ℕ)) (failed : Bool) (fault : RunFault)
-      → HaltsPacked f x (fresh limit) s (sent c) (sent e) failed fault → Fronts s c e
+  pub fronts_stop : {last : X} (s : List ℕ) (c e : Option (List ℕ)) (failed : Bool) (fault : RunFault)
+      → HaltsPacked f x (fresh limit) s (sent c) (sent e) failed fault last → Fronts s c e
   fronts_stop s c e true fault (stream, begins, halt) = (stream, begins, halt.front refl)
   fronts_stop s c e false fault (stream, begins, halt) =
       (stream, begins, begun_front f x (taken_of limit stream) c e (halt.told refl))
@@ -193,8 +193,8 @@ module _ {X : Type 0} (f : Fold X) (x : X) (limit : ℕ) where
       inr (bytes, piece, refl, small, short y bytes q c d told part going)
 
   -- something was written where a run stopped
-  halt_wrote : (y : X) (q : Pending) (s : List ℕ) (d e : Option (List ℕ)) (failed : Bool) (fault : RunFault)
-      → HaltsPacked f y q s (sent d) (sent e) failed fault → (more : List ℕ) × Appends d e more
+  halt_wrote : {last : X} (y : X) (q : Pending) (s : List ℕ) (d e : Option (List ℕ)) (failed : Bool)
+      (fault : RunFault) → HaltsPacked f y q s (sent d) (sent e) failed fault last → (more : List ℕ) × Appends d e more
   halt_wrote y q s d e true fault (stream, begins, halt) =
       let front = halt.front refl in (take front.3 (texts_of front.0), front.5)
   halt_wrote y q s d e false fault (stream, begins, halt) =
@@ -346,7 +346,7 @@ module _ {X : Type 0} (f : Fold X) (x : X) (limit : ℕ) where
       → (text : List ℕ) × IsDuePacked f x limit s is_longer text r y × Appends c d text
       → HasEndedPacked f x limit s is_longer c d r y
   ended y s is_longer c d (Ok u) due = due
-  ended y s is_longer c d (Err fault) due = inr (inr (due.0, y, due.1, due.2))
+  ended y s is_longer c d (Err fault) due = inr (inr (due.0, y, due.1, due.2, inl refl))
 
   pub packed_end : (most_packed : ℕ) → most_packed ≤ 2 ^ 64 - 1 → (y : X) (a b b2 c d : Option (List ℕ))
       (taken : ℕ) (q : Pending) (buf : List ℕ) (n : ℕ)
@@ -423,7 +423,7 @@ module _ {X : Type 0} (f : Fold X) (x : X) (limit : ℕ) where
   -- the run stopped within a chunk
   stopped_packed : (most_packed : ℕ) (z : X) (a b2 c e : Option (List ℕ)) (all s : List ℕ) (failed : Bool)
       (fault : RunFault) → Consumes a b2 all → taken_of most_packed all ≡ s
-      → HaltsPacked f x (fresh limit) s (sent c) (sent e) failed fault
+      → HaltsPacked f x (fresh limit) s (sent c) (sent e) failed fault z
       → IfSome a (EndsPackedAs f x most_packed limit c e (Err fault) z)
   stopped_packed most_packed z None b2 c e all s failed fault read is stop = tt
   stopped_packed most_packed z (Some input) None c e all s failed fault read is stop = absurd read
@@ -433,9 +433,9 @@ module _ {X : Type 0} (f : Fold X) (x : X) (limit : ℕ) where
         | inr rest ↦ elim rest [ inl i ↦ inr (inl i) | inr so ↦ inr (inr (due so)) ]
       ]
     where
-      due : IsDueWithin f x limit [] stream (sent c) (sent e) fault → (text : List ℕ) × (y : X)
+      due : IsDueWithin f x limit [] stream (sent c) (sent e) fault z → (text : List ℕ) × (y : X)
           × IsDuePacked f x limit (taken_of most_packed input) (has_more most_packed input) text (Err fault) y
-          × Appends c e text
+          × Appends c e text × Leaves f y fault z
       due so =
           let tail = taken_more most_packed all left in
           let front : taken_of most_packed input ≡ s ++ tail.0 =
@@ -452,6 +452,7 @@ module _ {X : Type 0} (f : Fold X) (x : X) (limit : ℕ) where
               due = part.2 (unless_more (has_more most_packed input) (cut_group (f.place part.1) split.0 split.2));
             },
             adds_sent c e part.0 part.3,
+            part.4,
           )
 
   pub packed_stopped : (most_packed : ℕ) (y z : X) (a b b2 c d e : Option (List ℕ)) (taken : ℕ) (q : Pending)
@@ -460,13 +461,13 @@ module _ {X : Type 0} (f : Fold X) (x : X) (limit : ℕ) where
       → w ≡ min k (most_packed - taken) → taken + k ≤ most_packed + 1 → k ≤ 65536 → 0 < k
       → HearsPacked f x limit a b taken q c d y → IsUnfinished q.rest f.most → f.done y ≡ false
       → Consumes b b2 (take k buf) → k ≤ length buf
-      → HaltsPacked f y q (take w (buf ++ tail)) (sent d) (sent e) writer_failed fault
+      → HaltsPacked f y q (take w (buf ++ tail)) (sent d) (sent e) writer_failed fault z
       → RunsPacked f x most_packed limit a b2 c e reader_failed writer_failed (Err fault) z
   packed_stopped most_packed y z a b b2 c d e taken q buf tail w k reader_failed writer_failed fault reader_fine short
       least bound small some (bytes, read, count, told) unfinished going more within stop =
       let all = Consumes-trans a b b2 bytes (take k buf) read more in
       let front = taken_front most_packed bytes buf taken w k count short least within in
-      let part = subst (λ (p : List ℕ). HaltsPacked f y q p (sent d) (sent e) writer_failed fault)
+      let part = subst (λ (p : List ℕ). HaltsPacked f y q p (sent d) (sent e) writer_failed fault z)
       (take-append-le w buf tail (omega (arith, least, within))) stop in
       let piece = halt_wrote y q (take w buf) d e writer_failed fault part in
       let size = length-take-le k buf within in

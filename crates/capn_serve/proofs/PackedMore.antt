@@ -9,7 +9,7 @@ use Rattle.std.proofs.lemmas.Bool.Decides.{nat_tests}
 use Rattle.std.proofs.lemmas.Grind.{flat_map-append}
 use Rattle.std.specs.Io.KnownBytes.{Appends}
 use Rattle.capn_words.specs.Watched.{HasBegun}
-use Rattle.capn_pack.specs.Packed.{text, content, texts}
+use Rattle.capn_pack.specs.Packed.{text, texts}
 use Rattle.capn_pack.specs.PackedPieces as packing
 use Rattle.capn_pack.specs.PackedPieces.{Feeds, Held, Splits, advanced}
 use Rattle.capn_pack.proofs.shared.StreamLemmas.{begins_then, splits_open, splits_then}
@@ -125,7 +125,8 @@ is_more left n h = grind (arith, nat_tests)
 
 module _ {X : Type 0} (f : Fold X) (x : X) (left : ℕ) (rest stream : List ℕ) (a b : Outgoing) (failed : Bool)
     (fault : RunFault) where
-  due_within : IsDueSo f x (rest ++ taken_of left stream) a b fault → IsDueWithin f x left rest stream a b fault
+  due_within : {w : X} → IsDueSo f x (rest ++ taken_of left stream) a b fault w
+      → IsDueWithin f x left rest stream a b fault w
   due_within so more =
       let tail = taken_more left stream more in
       let other = other_than fault in
@@ -138,10 +139,12 @@ module _ {X : Type 0} (f : Fold X) (x : X) (left : ℕ) (rest stream : List ℕ)
             subst (λ (p : List ℕ). IsFolded f x p all part.0 (stopped fault) part.1) (sym same)
             (folded_any f x part.1 ((rest ++ taken_of left stream) ++ tail.0) part.0 other.0 fault other.1 part.2 all)),
         part.3,
+        part.4,
       )
 
   -- it stopped within what is taken
-  pub halts_of : Stops f x (rest ++ taken_of left stream) a b failed fault → Halts f x left rest stream a b failed fault
+  pub halts_of : {w : X} → Stops f x (rest ++ taken_of left stream) a b failed fault w
+      → Halts f x left rest stream a b failed fault w
   halts_of stop = record {
     told = stop.told;
     front = stop.front;
@@ -155,8 +158,8 @@ module _ {X : Type 0} (f : Fold X) (x : X) (left : ℕ) (rest stream : List ℕ)
 module _ {X : Type 0} (f : Fold X) (x y : X) (left : ℕ) (rest stream end : List ℕ) (a b : Outgoing) where
   long_due : (e : FrameFault) → e ≢ frames.Memory → frame_rules.IsFrameRefused end f.most e
       → stopped faults.InputTooLong ≡ end_of (f.place y) e (Some faults.InputTooLong) → left < length stream
-      → f.done y ≡ false → Tells f x (rest ++ taken_of left stream) end a b y → IsDueWithin f x left rest stream a b
-      faults.InputTooLong
+      → f.done y ≡ false → Tells f x (rest ++ taken_of left stream) end a b y
+      → IsDueWithin f x left rest stream a b faults.InputTooLong y
   long_due e other refused is past going (parts, are, adds) more =
       let whole : taken_of left (stream ++ more) ≡ taken_of left stream =
       take-append-le left stream more (omega (arith, past)) in
@@ -178,12 +181,13 @@ module _ {X : Type 0} (f : Fold X) (x y : X) (left : ℕ) (rest stream end : Lis
             (subst (λ (m : Bool). IsFolded f x (rest ++ taken_of left stream) (unless_more m behind)
             (texts_of parts) (stopped faults.InputTooLong) y) (sym longer) due)),
         adds,
+        inl refl,
       )
 
   -- it stopped since there are more bytes than are taken
   pub halts_long : (failed : Bool) → failed ≡ false → left < length stream → IsUnfinished end f.most
       → f.done y ≡ false → Tells f x (rest ++ taken_of left stream) end a b y
-      → Halts f x left rest stream a b failed faults.InputTooLong
+      → Halts f x left rest stream a b failed faults.InputTooLong y
   halts_long failed fine past part going told = record {
     told = λ h. tells_begun f x y (rest ++ taken_of left stream) end a b told;
     front = λ h. absurd (let bad : true ≡ false = sym h ∙ fine in cc);
@@ -207,16 +211,16 @@ within_taken left within count stream got same size least =
 -- a part was served as far as it is taken
 module _ {X : Type 0} (f : Fold X) (x : X) (left within count : ℕ) (rest stream got : List ℕ) (a b : Outgoing)
     (failed : Bool) (same : got ≡ stream) (size : count ≡ length stream) (least : within ≡ min left count) where
-  pub part_stops : (fault : RunFault) → Stops f x (rest ++ take within got) a b failed fault
-      → Halts f x left rest stream a b failed fault
-  part_stops fault stop =
+  pub part_stops : {w : X} (fault : RunFault) → Stops f x (rest ++ take within got) a b failed fault w
+      → Halts f x left rest stream a b failed fault w
+  part_stops {w = w} fault stop =
       halts_of f x left rest stream a b failed fault
-      (subst (λ (p : List ℕ). Stops f x (rest ++ p) a b failed fault)
+      (subst (λ (p : List ℕ). Stops f x (rest ++ p) a b failed fault w)
       (within_taken left within count stream got same size least) stop)
 
   pub part_long : (y : X) (end : List ℕ) → failed ≡ false → within < count → IsUnfinished end f.most
-      → f.done y ≡ false → Tells f x (rest ++ take within got) end a b y → Halts f x left rest stream a b failed
-      faults.InputTooLong
+      → f.done y ≡ false → Tells f x (rest ++ take within got) end a b y
+      → Halts f x left rest stream a b failed faults.InputTooLong y
   part_long y end fine past part going told =
       halts_long f x y left rest stream end a b failed fine (omega (arith, past, size, least)) part going
       (subst (λ (p : List ℕ). Tells f x (rest ++ p) end a b y)
@@ -256,7 +260,8 @@ module _ {X : Type 0} (f : Fold X) (x y : X) (left room : ℕ) (rest mid w v : L
   same_taken u = ap (λ (p : List ℕ). rest ++ p) (taken_after room left u w size)
       ∙ sym (append_assoc rest w (taken_of room u))
 
-  due_more : (fault : RunFault) → IsDueWithin f y room mid v b c fault → IsDueWithin f x left rest (w ++ v) a c fault
+  due_more : {last : X} (fault : RunFault) → IsDueWithin f y room mid v b c fault last
+      → IsDueWithin f x left rest (w ++ v) a c fault last
   due_more fault so more =
       let part = so more in
       let same : rest ++ taken_of left ((w ++ v) ++ more) ≡ (rest ++ w) ++ taken_of room (v ++ more) =
@@ -272,10 +277,11 @@ module _ {X : Type 0} (f : Fold X) (x y : X) (left room : ℕ) (rest mid w v : L
             (subst (λ (m : Bool). IsFolded f x ((rest ++ w) ++ taken_of room (v ++ more)) (unless_more m behind)
             (texts_of served.0 ++ part.0) (stopped fault) part.1) (sym same_more) all)),
         adds_more a b c (texts_of served.0) part.0 served.2 part.3,
+        part.4,
       )
 
-  pub halts_more : (failed : Bool) (fault : RunFault) → Halts f y room mid v b c failed fault
-      → Halts f x left rest (w ++ v) a c failed fault
+  pub halts_more : {last : X} (failed : Bool) (fault : RunFault) → Halts f y room mid v b c failed fault last
+      → Halts f x left rest (w ++ v) a c failed fault last
   halts_more failed fault halt = record {
     told = λ h. subst (λ (p : List ℕ). TellsBegun f x p a c) (sym (same_taken v))
         (begun_behind f x y (rest ++ w) mid (taken_of room v) a b c served (halt.told h));
@@ -347,8 +353,8 @@ module _ {X : Type 0} (f : Fold X) (x y : X) (p q : Pending) (s t : List ℕ) (a
         subst (λ (l : List ℕ). Tells f x l rest a c z) taken part,
       )
 
-  pub packed_stop : (c : Outgoing) (failed : Bool) (fault : RunFault) → HaltsPacked f y q t b c failed fault
-      → HaltsPacked f x p (s ++ t) a c failed fault
+  pub packed_stop : {last : X} (c : Outgoing) (failed : Bool) (fault : RunFault)
+      → HaltsPacked f y q t b c failed fault last → HaltsPacked f x p (s ++ t) a c failed fault last
   packed_stop c failed fault (v, begins, halt) =
       let w = told.stream in
       let all = begins_then (p.group.rest ++ s) q.group.rest t w v told.len told.split begins in (
@@ -374,8 +380,8 @@ begins_longer held s bytes more stream whole begins = record {
 
 module _ {X : Type 0} (f : Fold X) (x : X) (p : Pending) where
   -- memory was refused while a slice was unpacked
-  pub packed_memory : (bytes : List ℕ) (a : Outgoing) (failed : Bool) → failed ≡ false
-      → HaltsPacked f x p bytes a a failed faults.Memory
+  pub packed_memory : {last : X} (bytes : List ℕ) (a : Outgoing) (failed : Bool) → failed ≡ false
+      → HaltsPacked f x p bytes a a failed faults.Memory last
   packed_memory bytes a failed fine = (
     [],
     record { groups = []; rest = p.group.rest ++ bytes; each = tt; text = refl; content = refl },
@@ -418,8 +424,8 @@ module _ {X : Type 0} (f : Fold X) (x : X) (p : Pending) where
   }
 
   -- where a run stops over some bytes it stops over more of them
-  pub packed_longer : (s bytes more : List ℕ) (a b : Outgoing) (failed : Bool) (fault : RunFault) → s ++ more ≡ bytes
-      → HaltsPacked f x p s a b failed fault → HaltsPacked f x p bytes a b failed fault
+  pub packed_longer : {last : X} (s bytes more : List ℕ) (a b : Outgoing) (failed : Bool) (fault : RunFault)
+      → s ++ more ≡ bytes → HaltsPacked f x p s a b failed fault last → HaltsPacked f x p bytes a b failed fault last
   packed_longer s bytes more a b failed fault whole (stream, begins, halt) =
       (stream, begins_longer p.group.rest s bytes more stream whole begins, halt)
 
@@ -473,9 +479,9 @@ module _ {X : Type 0} (f : Fold X) (x y : X) (p q : Pending) (bytes : List ℕ) 
       reach_longer f x p z (take at bytes ++ take (end - at) (drop at bytes)) bytes (drop end bytes) a c
       (ap (λ (l : List ℕ). l ++ drop end bytes) joined ∙ take-append-drop end bytes) part
 
-  pub slice_stop : (c : Outgoing) (failed : Bool) (fault : RunFault)
-      → HaltsPacked f y q (take (end - at) (drop at bytes)) b c failed fault
-      → HaltsPacked f x p bytes a c failed fault
+  pub slice_stop : {last : X} (c : Outgoing) (failed : Bool) (fault : RunFault)
+      → HaltsPacked f y q (take (end - at) (drop at bytes)) b c failed fault last
+      → HaltsPacked f x p bytes a c failed fault last
   slice_stop c failed fault stop =
       let part = packed_stop f x y p q (take at bytes) (take (end - at) (drop at bytes)) a b told c failed fault stop in
       packed_longer f x p (take at bytes ++ take (end - at) (drop at bytes)) bytes (drop end bytes) a c failed fault
@@ -485,9 +491,9 @@ module _ {X : Type 0} (f : Fold X) (x y : X) (p q : Pending) (bytes : List ℕ) 
 
 module _ {X : Type 0} (f : Fold X) (x : X) (left : ℕ) (rest stream : List ℕ) (c d e : Option (List ℕ)) (text : List ℕ)
   where
-    halts_sent : (fault : RunFault) → Halts f x left rest stream (sent c) (outgoing d text) false fault
-        → Appends d e text → Halts f x left rest stream (sent c) (sent e) false fault
-    halts_sent fault halt wrote = record {
+    halts_sent : {last : X} (fault : RunFault) → Halts f x left rest stream (sent c) (outgoing d text) false fault last
+        → Appends d e text → Halts f x left rest stream (sent c) (sent e) false fault last
+    halts_sent {last = last} fault halt wrote = record {
       told = λ h. begun_sent f x c d e text (rest ++ taken_of left stream) (halt.told refl) wrote;
       front = λ h. absurd (cc);
       io = halt.io;
@@ -497,21 +503,23 @@ module _ {X : Type 0} (f : Fold X) (x : X) (left : ℕ) (rest stream : List ℕ)
       ];
     }
       where
-        so_sent : IsDueWithin f x left rest stream (sent c) (outgoing d text) fault
-            → IsDueWithin f x left rest stream (sent c) (sent e) fault
+        so_sent : IsDueWithin f x left rest stream (sent c) (outgoing d text) fault last
+            → IsDueWithin f x left rest stream (sent c) (sent e) fault last
         so_sent so more = let part = so more in
-            (part.0, part.1, part.2, adds_all (sent c) d e text part.0 part.3 wrote)
+            (part.0, part.1, part.2, adds_all (sent c) d e text part.0 part.3 wrote, part.4)
 
     -- the writer fails within it
-    halts_broken : (fault : RunFault) → Halts f x left rest stream (sent c) (outgoing d text) false fault
-        → HasBegun d e text → Halts f x left rest stream (sent c) (sent e) true faults.Io
+    halts_broken : {last : X} (fault : RunFault)
+        → Halts f x left rest stream (sent c) (outgoing d text) false fault last → HasBegun d e text
+        → Halts f x left rest stream (sent c) (sent e) true faults.Io last
     halts_broken fault halt wrote =
         halts_of f x left rest stream (sent c) (sent e) true faults.Io
         (begun_broken f x c d e text (rest ++ taken_of left stream) (halt.told refl) wrote)
 
     -- it had failed before
-    halts_kept : (fault : RunFault) → e ≡ d → Halts f x left rest stream (sent c) (outgoing d text) true fault
-        → Halts f x left rest stream (sent c) (sent e) true fault
+    halts_kept : {last : X} (fault : RunFault) → e ≡ d
+        → Halts f x left rest stream (sent c) (outgoing d text) true fault last
+        → Halts f x left rest stream (sent c) (sent e) true fault last
     halts_kept fault same halt = record {
       told = λ h. absurd (cc);
       front = λ h. (let g = halt.front h in
@@ -532,7 +540,7 @@ module _ {X : Type 0} (f : Fold X) (x y : X) (p : Pending) (next : Held) (after 
   packed_sent true failed (Ok u) result s r = absurd (let bad : true ≡ false = s.2 in cc)
   packed_sent true failed (Err fault) result (stream, begins, halt) (same, broken, is) =
       subst (λ (r : Ending). Served (sent e) failed r) (sym is)
-      (subst (λ (b : Bool). HaltsPacked f x p bytes (sent c) (sent e) b fault) (sym broken)
+      (subst (λ (b : Bool). HaltsPacked f x p bytes (sent c) (sent e) b fault y) (sym broken)
       (stream, begins, halts_kept f x p.left p.rest stream c d e text fault same halt))
   packed_sent false false (Ok u) result ((stream, begins, rest, reached), keeps, ok) (wrote, is) =
       subst (λ (r : Ending). Served (sent e) false r) (sym is) (

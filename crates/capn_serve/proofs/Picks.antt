@@ -233,7 +233,7 @@ module _ (most : ℕ) (ranges : List Range) (p : Picker) (same : p.rest.now ≡ 
         inr (inr (text, due_stream _ text _ (Ok tt) y due, wrote))
     exact_stream (Some input) c d (Err e) y (inl memory) = inl (ap stopped memory)
     exact_stream (Some input) c d (Err e) y (inr (inl io)) = inr (inl (ap stopped io))
-    exact_stream (Some input) c d (Err e) y (inr (inr (text, z, due, wrote))) =
+    exact_stream (Some input) c d (Err e) y (inr (inr (text, z, due, wrote, leaves))) =
         inr (inr (text, due_stream _ text _ (stopped e) z due, wrote))
 
     exact_packed : (a c d : Option (List ℕ)) (r : Ending) (y : Run Picker)
@@ -244,7 +244,7 @@ module _ (most : ℕ) (ranges : List Range) (p : Picker) (same : p.rest.now ≡ 
         inr (inr (text, due_packed _ text _ (Ok tt) y due, wrote))
     exact_packed (Some input) c d (Err e) y (inl memory) = inl (ap stopped memory)
     exact_packed (Some input) c d (Err e) y (inr (inl io)) = inr (inl (ap stopped io))
-    exact_packed (Some input) c d (Err e) y (inr (inr (text, z, due, wrote))) =
+    exact_packed (Some input) c d (Err e) y (inr (inr (text, z, due, wrote, leaves))) =
         inr (inr (text, due_packed _ text _ (stopped e) z due, wrote))
 
     pub picks_stream : (a b c d : Option (List ℕ)) (reader writer : Bool) (r : Ending) (y : Run Picker)

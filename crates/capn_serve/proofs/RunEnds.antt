@@ -16,7 +16,7 @@ use Rattle.capn_serve.specs.declared.fault.RunFault.{RunFault}
 use Rattle.capn_serve.specs.declared.fault.RunFault.TheVariants as faults
 use Rattle.capn_serve.specs.declared.position.Position.{Position}
 use Rattle.capn_serve.specs.declared.service.Run.{Run}
-use Rattle.capn_serve.specs.Fold.{Fold, AreParts, IsFolded, end_of, fold_until, texts_of}
+use Rattle.capn_serve.specs.Fold.{Fold, AreParts, IsFolded, Leaves, end_of, fold_until, texts_of}
 use Rattle.capn_serve.specs.Outgoing.{sent}
 use Rattle.capn_serve.specs.ChunkRun.{HasRoom, IsDueSo, Stops, Tells, TellsFront}
 use Rattle.capn_serve.specs.StreamRun.{Begins, EndsAs, EndsInput, HasEnded, HasWritten, HasWrittenAll, Hears, IsAhead}
@@ -47,8 +47,8 @@ module _ {X : Type 0} (f : Fold X) (x : X) (limit : ℕ) where
       begun_front f x stream c d (tells_begun f x y stream rest (sent c) (sent d) told)
 
   -- whatever stopped a run, a beginning of the texts was written
-  pub stops_front : (z : X) (stream : List ℕ) (c d : Option (List ℕ)) (failed : Bool) (fault : RunFault)
-      → Stops f z stream (sent c) (sent d) failed fault → TellsFront f z stream (sent c) (sent d)
+  pub stops_front : {w : X} (z : X) (stream : List ℕ) (c d : Option (List ℕ)) (failed : Bool) (fault : RunFault)
+      → Stops f z stream (sent c) (sent d) failed fault w → TellsFront f z stream (sent c) (sent d)
   stops_front z stream c d true fault stop = stop.front refl
   stops_front z stream c d false fault stop = begun_front f z stream c d (stop.told refl)
 
@@ -224,7 +224,7 @@ module _ {X : Type 0} (f : Fold X) (x : X) (limit : ℕ) where
   ended y stream rest c d (Err fault) told going (cut, is) =
       let due = due_open y stream rest None (Err fault) frames.Cut c d told going (λ h. cc) cut
       (ap (λ (g : RunFault). Err g) is) in
-      inr (inr (due.0, y, due.1, due.2))
+      inr (inr (due.0, y, due.1, due.2, inl refl))
 
   pub end_unrefused : (at : Position) (rest : List ℕ) (r : Ending) → EndsInput at rest f.most r
       → r ≢ Err faults.Memory
@@ -291,7 +291,7 @@ module _ {X : Type 0} (f : Fold X) (x : X) (limit : ℕ) where
       record {
         exact = ends_kept z a b2 c e (bytes ++ take w buf) true (Err faults.InputTooLong)
             (bytes ++ take k buf, kept)
-            (inr (inr (due.0, z, due.1, due.2)));
+            (inr (inr (due.0, z, due.1, due.2, inl refl)));
         io = (λ h. absurd (cc), λ h. absurd (not_failed reader_failed writer_failed reader_fine writer_fine h));
         begun = begins_kept a b2 c e (bytes ++ take w buf) (bytes ++ take k buf) true kept
             (ahead_piece y bytes rest (take k buf) (texts_of part_told.0) c d e told unfinished
@@ -307,7 +307,7 @@ module _ {X : Type 0} (f : Fold X) (x : X) (limit : ℕ) where
   -- the run stopped within a chunk
   stopped_due : (z : X) (a b2 c e : Option (List ℕ)) (all s : List ℕ) (failed : Bool) (fault : RunFault)
       → Consumes a b2 all
-      → taken_of limit all ≡ s → Stops f x s (sent c) (sent e) failed fault
+      → taken_of limit all ≡ s → Stops f x s (sent c) (sent e) failed fault z
       → IfSome a (EndsAs f x limit c e (Err fault) z)
   stopped_due z None b2 c e all s failed fault read is stop = tt
   stopped_due z (Some input) None c e all s failed fault read is stop = absurd read
@@ -317,8 +317,9 @@ module _ {X : Type 0} (f : Fold X) (x : X) (limit : ℕ) where
         | inr rest ↦ elim rest [ inl i ↦ inr (inl i) | inr so ↦ inr (inr (due so)) ]
       ]
     where
-      due : IsDueSo f x s (sent c) (sent e) fault → (text : List ℕ) × (y : X)
+      due : IsDueSo f x s (sent c) (sent e) fault z → (text : List ℕ) × (y : X)
           × IsDue f x limit (taken_of limit input) (has_more limit input) text (Err fault) y × Appends c e text
+          × Leaves f y fault z
       due so =
           let tail = taken_more limit all left in
           let front : taken_of limit input ≡ s ++ tail.0 =
@@ -329,23 +330,24 @@ module _ {X : Type 0} (f : Fold X) (x : X) (limit : ℕ) where
             subst (λ (p : List ℕ). IsDue f x limit p (has_more limit input) part.0 (Err fault) part.1) (sym front)
                 part.2,
             adds_sent c e part.0 part.3,
+            part.4,
           )
 
   pub runs_stopped : (y z : X) (a b b2 c d e : Option (List ℕ)) (taken : ℕ) (rest buf tail : List ℕ) (w k : ℕ)
       (reader_failed writer_failed : Bool) (fault : RunFault) → reader_failed ≡ false → taken ≤ limit
       → w ≡ min k (limit - taken) → taken + k ≤ limit + 1 → k ≤ 65536 → 0 < k
       → Hears f x a b taken rest c d y → IsUnfinished rest f.most → f.done y ≡ false → Consumes b b2 (take k buf)
-      → k ≤ length buf → Stops f y (rest ++ take w (buf ++ tail)) (sent d) (sent e) writer_failed fault
+      → k ≤ length buf → Stops f y (rest ++ take w (buf ++ tail)) (sent d) (sent e) writer_failed fault z
       → Runs f x limit a b2 c e reader_failed writer_failed (Err fault) z
   runs_stopped y z a b b2 c d e taken rest buf tail w k reader_failed writer_failed fault reader_fine short least bound
       small some (bytes, read, count, told) unfinished going more within stop =
       let all = Consumes-trans a b b2 bytes (take k buf) read more in
       let size = length-take-le k buf within in
       let piece = stops_front y (rest ++ take w buf) d e writer_failed fault
-      (subst (λ (p : List ℕ). Stops f y (rest ++ p) (sent d) (sent e) writer_failed fault)
+      (subst (λ (p : List ℕ). Stops f y (rest ++ p) (sent d) (sent e) writer_failed fault z)
       (take-append-le w buf tail (omega (arith, least, within))) stop) in
       let front = taken_front limit bytes buf taken w k count short least within in
-      let part = subst (λ (p : List ℕ). Stops f y (rest ++ p) (sent d) (sent e) writer_failed fault)
+      let part = subst (λ (p : List ℕ). Stops f y (rest ++ p) (sent d) (sent e) writer_failed fault z)
       (take-append-le w buf tail (omega (arith, least, within))) stop in
       let whole = stops_more f x y bytes rest (take w buf) (sent c) (sent d) (sent e) writer_failed fault told part in
       record {

@@ -9,7 +9,7 @@ use Rattle.capn_canon.specs.declared.refusal.Refusal.TheVariants as refusals
 use Rattle.capn_serve.specs.declared.position.Position.{Position}
 use Rattle.capn_serve.specs.declared.fault.RunFault.{RunFault}
 use Rattle.capn_serve.specs.declared.fault.RunFault.TheVariants as faults
-use Rattle.capn_serve.specs.Fold.{Fold, IfGoing}
+use Rattle.capn_serve.specs.Fold.{Fold, IfGoing, Leaves}
 use Rattle.capn_serve.specs.Outgoing.{Outgoing, Adds}
 use Rattle.capn_serve.specs.ChunkRun.{AddsMessage}
 use Rattle.capn_serve.specs.StreamRun.{TakesBytes}
@@ -45,20 +45,21 @@ module _ {X : Type 0} (f : Fold X) (x : X) where
   WritesBy true bytes text y = (text ≡ []) × (y ≡ x)
   WritesBy false bytes text y = (length bytes ≤ most_input) × WritesBare bytes text y
 
-  -- the one message of the bytes was served, or they are no segment and nothing was added
+  -- the one message of the bytes was served, or they are no segment, nothing was added, and the state is as it was
   abbrev pub ServesBare : List ℕ → Outgoing → Outgoing → Bool → Result (Unit {0}) RunFault → X → Type 0
   ServesBare bytes old new failed (Ok u) y =
       (words : List ℕ) × IsBare bytes words × AddsMessage f x bytes (words ∷ []) old new failed (Ok u) y
   ServesBare bytes old new failed (Err fault) y =
       ((words : List ℕ) × IsBare bytes words × AddsMessage f x bytes (words ∷ []) old new failed (Err fault) y)
-      ⊎ (IsUnbare (f.place x) bytes fault × Adds old new [] × (failed ≡ false))
+      ⊎ (IsUnbare (f.place x) bytes fault × Adds old new [] × (failed ≡ false) × (x ≡ y))
 
   -- a run has written the text of its input, in the state after it; or nothing of an input that has none, and ended
-  -- with the reason; or memory was refused, or the reader or the writer failed
+  -- with the reason, in the state before it; or memory was refused, or the reader or the writer failed
   abbrev pub EndsAs : Option (List ℕ) → Option (List ℕ) → Result (Unit {0}) RunFault → X → List ℕ → Type 0
   EndsAs old new (Ok u) y input = (text : List ℕ) × WritesBy (f.done x) input text y × Appends old new text
   EndsAs old new (Err e) y input =
-      (e ≡ faults.Memory) ⊎ ((e ≡ faults.Io) ⊎ (IfGoing (f.done x) (EndsBare input e) × Appends old new []))
+      (e ≡ faults.Memory)
+      ⊎ ((e ≡ faults.Io) ⊎ (IfGoing (f.done x) (EndsBare input e) × Appends old new [] × Leaves f x e y))
 
   -- nothing was written of the bytes, or a beginning of their text
   abbrev pub HasWritten : List ℕ → Option (List ℕ) → Option (List ℕ) → Type 0

@@ -8,7 +8,7 @@ use Rattle.capn_canon.specs.declared.refusal.Refusal.TheVariants as refusals
 use Rattle.capn_serve.specs.declared.position.Position.{Position}
 use Rattle.capn_serve.specs.declared.fault.RunFault.{RunFault}
 use Rattle.capn_serve.specs.declared.fault.RunFault.TheVariants as faults
-use Rattle.capn_serve.specs.Fold.{Fold, Part, AreParts, IsFolded, texts_of}
+use Rattle.capn_serve.specs.Fold.{Fold, Part, AreParts, IsFolded, Leaves, texts_of}
 use Rattle.capn_serve.specs.Outgoing.{Outgoing, Adds, AddsBeginning, Breaks, BreaksWithin}
 
 module _ {X : Type 0} (f : Fold X) where
@@ -28,19 +28,21 @@ module _ {X : Type 0} (f : Fold X) where
       (parts : List Part) × (rest : List ℕ) × (y : X) × (count : ℕ) × AreParts f x stream parts rest y
       × Breaks old new count (texts_of parts)
 
-  -- a stream that begins so, however it continues, has the text that was added and ends with this fault
-  abbrev pub IsDueSo : X → List ℕ → Outgoing → Outgoing → RunFault → Type 0
-  IsDueSo x stream old new fault =
+  -- a stream that begins so, however it continues, has the text that was added and ends with this fault, which leaves
+  -- a state
+  abbrev pub IsDueSo : X → List ℕ → Outgoing → Outgoing → RunFault → X → Type 0
+  IsDueSo x stream old new fault left =
       (more : List ℕ) (behind : Option RunFault) → (text : List ℕ) × (y : X)
-      × IsFolded f x (stream ++ more) behind text (Err fault) y × Adds old new text
+      × IsFolded f x (stream ++ more) behind text (Err fault) y × Adds old new text × Leaves f y fault left
 
-  -- A run over a stream that begins so stopped: memory was refused, the writer failed, or the stream ends so. A
-  -- beginning of the texts was added, which within a message ends where memory was refused.
-  pub record Stops (x : X) (stream : List ℕ) (old new : Outgoing) (failed : Bool) (fault : RunFault) : Type 0 where
+  -- A run over a stream that begins so stopped, and left a state: memory was refused, the writer failed, or the stream
+  -- ends so. A beginning of the texts was added, which within a message ends where memory was refused.
+  pub record Stops (x : X) (stream : List ℕ) (old new : Outgoing) (failed : Bool) (fault : RunFault) (left : X)
+      : Type 0 where
     pub told : failed ≡ false → TellsBegun x stream old new
     pub front : failed ≡ true → TellsFront x stream old new
     pub io : (fault ≡ faults.Io) ↔ (failed ≡ true)
-    pub due : (fault ≡ faults.Memory) ⊎ ((fault ≡ faults.Io) ⊎ IsDueSo x stream old new fault)
+    pub due : (fault ≡ faults.Memory) ⊎ ((fault ≡ faults.Io) ⊎ IsDueSo x stream old new fault left)
 
   -- a message's text was added; or nothing, since the message is refused; or memory was refused before the text or
   -- within it, or the writer failed within it
@@ -69,7 +71,7 @@ module _ {X : Type 0} (f : Fold X) where
   Serves x before bytes old new failed (Ok u) after y = (rest : List ℕ)
       × Tells x (before.rest ++ bytes) rest old new y
       × (f.done y ≡ false → (after.rest ≡ rest) × IsListening after) × (failed ≡ false)
-  Serves x before bytes old new failed (Err fault) after y = Stops x (before.rest ++ bytes) old new failed fault
+  Serves x before bytes old new failed (Err fault) after y = Stops x (before.rest ++ bytes) old new failed fault y
 
   -- the message that a framer held was served, and it holds none; or what it holds is no whole message; or the run
   -- stopped
@@ -77,7 +79,7 @@ module _ {X : Type 0} (f : Fold X) where
   ServesHeld x before old new failed (Ok u) after y =
       Tells x before.rest after.rest old new y × IsListening after × (failed ≡ false)
   ServesHeld x before old new failed (Err fault) after y =
-      (more : List ℕ) → Stops x (before.rest ++ more) old new failed fault
+      (more : List ℕ) → Stops x (before.rest ++ more) old new failed fault y
 
   -- this number of bytes was served, up to a whole message or to their end
   abbrev pub ServesNext : X → Framing → List ℕ → Outgoing → Outgoing → Bool → Result ℕ RunFault → Framing → X → Type 0
@@ -85,13 +87,13 @@ module _ {X : Type 0} (f : Fold X) where
       (n ≤ length bytes) × (0 < length bytes → 0 < n)
       × (Tells x (before.rest ++ take n bytes) after.rest old new y × IsListening after × (failed ≡ false))
   ServesNext x before bytes old new failed (Err fault) after y =
-      Stops x (before.rest ++ bytes) old new failed fault
+      Stops x (before.rest ++ bytes) old new failed fault y
 
   -- this number of bytes are whole messages, and were served, or the run stopped among them
   abbrev pub ServesWhole : X → List ℕ → Outgoing → Outgoing → Bool → Result ℕ RunFault → X → Type 0
   ServesWhole x bytes old new failed (Ok n) y = (n ≤ length bytes) × Tells x (take n bytes) [] old new y
       × (failed ≡ false)
-  ServesWhole x bytes old new failed (Err fault) y = Stops x bytes old new failed fault
+  ServesWhole x bytes old new failed (Err fault) y = Stops x bytes old new failed fault y
 
 -- a position has room for this number of bytes: no number of it passes 2^64
 pub record HasRoom (at : Position) (count : ℕ) : Type 0 where

@@ -120,6 +120,16 @@ module _ {X : Type 0} (f : Fold X) where
       × Frames frame message × (total message ≤ f.most) × f.refuses x frame message r
       × (ending ≡ Err (faults.Refused (f.place x) r))
 
+  -- a message is refused in this state, and that is the fault
+  abbrev pub RefusesOne : X → RunFault → Type 0
+  RefusesOne x fault =
+      (frame : List ℕ) × (message : List (List ℕ)) × (r : Refusal) × f.refuses x frame message r
+      × (fault ≡ faults.Refused (f.place x) r)
+
+  -- a run that stopped with this fault after some messages leaves the state after them, unless one is refused in that
+  abbrev pub Leaves : X → RunFault → X → Type 0
+  Leaves x fault y = (x ≡ y) ⊎ RefusesOne x fault
+
   -- how a run ends in a state, by whether it is one in which no more is served: as done, whatever is left; else by what
   -- is left
   abbrev pub EndsBy : Bool → X → List ℕ → Option RunFault → Result (Unit {0}) RunFault → Type 0

@@ -6,7 +6,7 @@ use Rattle.capn_canon.specs.declared.form.Form.{Form}
 use Rattle.capn_canon.specs.declared.form.Form.TheVariants as forms
 use Rattle.capn_serve.specs.declared.fault.RunFault.{RunFault}
 use Rattle.capn_serve.specs.declared.fault.RunFault.TheVariants as faults
-use Rattle.capn_serve.specs.Fold.{Fold, IfGoing}
+use Rattle.capn_serve.specs.Fold.{Fold, IfGoing, Leaves}
 use Rattle.capn_serve.specs.StreamRun as streams
 use Rattle.capn_serve.specs.StreamRun.{IsAhead, IsNeeded, TakesBytes}
 use Rattle.capn_serve.specs.PackedRun as packings
@@ -33,7 +33,8 @@ module _ {X : Type 0} (f : Fold X) (x : X) where
       packings.IsDuePacked f x most_stream (streams.taken_of most_stream input)
       (streams.has_more most_stream input) text ending y
   AreMessages forms.Bare input text (Ok u) y = bares.WritesBy f x (f.done x) input text y
-  AreMessages forms.Bare input text (Err fault) y = IfGoing (f.done x) (bares.EndsBare f x input fault) × (text ≡ [])
+  AreMessages forms.Bare input text (Err fault) y =
+      IfGoing (f.done x) (bares.EndsBare f x input fault) × (text ≡ []) × (y ≡ x)
 
   -- a beginning of the texts of the messages that these bytes begin with was written
   abbrev pub HasWritten : Form → List ℕ → Option (List ℕ) → Option (List ℕ) → Type 0
@@ -43,14 +44,15 @@ module _ {X : Type 0} (f : Fold X) (x : X) where
       packings.HasWrittenPacked f x most_stream (streams.taken_of most_stream bytes) old new
   HasWritten forms.Bare bytes old new = bares.HasWritten f x bytes old new
 
-  -- the text of the messages was written, and they end so; or memory was refused, or the reader or the writer failed
+  -- the text of the messages was written, and they end so, in the state after them; or memory was refused, or the
+  -- reader or the writer failed
   abbrev pub MessagesEnd : Form → Option (List ℕ) → Option (List ℕ) → Result (Unit {0}) RunFault → X → List ℕ → Type 0
   MessagesEnd form old new (Ok u) y input =
       (text : List ℕ) × AreMessages form input text (Ok tt) y × Appends old new text
   MessagesEnd form old new (Err e) y input =
       (e ≡ faults.Memory)
       ⊎ ((e ≡ faults.Io)
-      ⊎ ((text : List ℕ) × (z : X) × AreMessages form input text (Err e) z × Appends old new text))
+      ⊎ ((text : List ℕ) × (z : X) × AreMessages form input text (Err e) z × Appends old new text × Leaves f z e y))
 
   -- how far is read: of a stream, at most one byte more than it may have, and no more than a piece of 65,536 bytes
   -- beyond what was served and written; of a bare input, at most one byte more than it may have

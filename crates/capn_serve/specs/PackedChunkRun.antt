@@ -11,7 +11,7 @@ use Rattle.capn_stream.specs.declared.fault.FrameFault.TheVariants as frames
 use Rattle.capn_serve.specs.declared.position.Position.{Position}
 use Rattle.capn_serve.specs.declared.fault.RunFault.{RunFault}
 use Rattle.capn_serve.specs.declared.fault.RunFault.TheVariants as faults
-use Rattle.capn_serve.specs.Fold.{Fold, IsFolded, end_of}
+use Rattle.capn_serve.specs.Fold.{Fold, IsFolded, Leaves, end_of}
 use Rattle.capn_serve.specs.Outgoing.{Outgoing, Adds, sent}
 use Rattle.capn_serve.specs.ChunkRun.{IsListening, Tells, TellsBegun, TellsFront}
 use Rattle.capn_serve.specs.StreamRun.{has_more, taken_of}
@@ -39,19 +39,19 @@ abbrev pub fresh : ℕ → Pending
 fresh limit = record { group = record { rest = []; offset = 0; failed = false }; rest = []; left = limit }
 
 module _ {X : Type 0} (f : Fold X) where
-  -- whatever follows these unpacked bytes, the run over as many as are taken ends so
-  abbrev pub IsDueWithin : X → ℕ → List ℕ → List ℕ → Outgoing → Outgoing → RunFault → Type 0
-  IsDueWithin x left rest stream old new fault = (more : List ℕ) → (text : List ℕ) × (y : X)
+  -- whatever follows these unpacked bytes, the run over as many as are taken ends so, and leaves a state
+  abbrev pub IsDueWithin : X → ℕ → List ℕ → List ℕ → Outgoing → Outgoing → RunFault → X → Type 0
+  IsDueWithin x left rest stream old new fault last = (more : List ℕ) → (text : List ℕ) × (y : X)
       × ((behind : Option RunFault) → IsFolded f x (rest ++ taken_of left (stream ++ more))
-      (unless_more (has_more left (stream ++ more)) behind) text (Err fault) y) × Adds old new text
+      (unless_more (has_more left (stream ++ more)) behind) text (Err fault) y) × Adds old new text × Leaves f y fault last
 
-  -- a run over unpacked bytes stopped: memory was refused, the writer failed, or it ends so
+  -- a run over unpacked bytes stopped, and left a state: memory was refused, the writer failed, or it ends so
   pub record Halts (x : X) (left : ℕ) (rest stream : List ℕ) (old new : Outgoing) (failed : Bool) (fault : RunFault)
-      : Type 0 where
+      (last : X) : Type 0 where
     pub told : failed ≡ false → TellsBegun f x (rest ++ taken_of left stream) old new
     pub front : failed ≡ true → TellsFront f x (rest ++ taken_of left stream) old new
     pub io : (fault ≡ faults.Io) ↔ (failed ≡ true)
-    pub due : (fault ≡ faults.Memory) ⊎ ((fault ≡ faults.Io) ⊎ IsDueWithin x left rest stream old new fault)
+    pub due : (fault ≡ faults.Memory) ⊎ ((fault ≡ faults.Io) ⊎ IsDueWithin x left rest stream old new fault last)
 
   -- unpacked bytes were served, up to their end, or to a state in which no more is served, or to where the run stopped
   abbrev pub ServesPart : X → ℕ → Framing → List ℕ → Outgoing → Outgoing → Bool → Result (Unit {0}) RunFault → ℕ
@@ -61,7 +61,7 @@ module _ {X : Type 0} (f : Fold X) where
       × (f.done y ≡ false → (length stream + room ≡ left) × (after.rest ≡ rest) × IsListening f after)
       × (failed ≡ false)
   ServesPart x left before stream old new failed (Err fault) room after y =
-      Halts x left before.rest stream old new failed fault
+      Halts x left before.rest stream old new failed fault y
 
   -- bytes after what was held: their whole groups unpack to no more than is taken, the whole messages in that were
   -- served, and this is held then
@@ -80,11 +80,11 @@ module _ {X : Type 0} (f : Fold X) where
   ReachesPacked x before bytes old new y = (stream : List ℕ) × packing.Begins (before.group.rest ++ bytes) [] stream
       × (rest : List ℕ) × Tells f x (before.rest ++ taken_of before.left stream) rest old new y
 
-  -- the run stopped over what some of the groups unpack to
-  abbrev pub HaltsPacked : X → Pending → List ℕ → Outgoing → Outgoing → Bool → RunFault → Type 0
-  HaltsPacked x before bytes old new failed fault = (stream : List ℕ)
+  -- the run stopped over what some of the groups unpack to, and left a state
+  abbrev pub HaltsPacked : X → Pending → List ℕ → Outgoing → Outgoing → Bool → RunFault → X → Type 0
+  HaltsPacked x before bytes old new failed fault last = (stream : List ℕ)
       × packing.Begins (before.group.rest ++ bytes) [] stream
-      × Halts x before.left before.rest stream old new failed fault
+      × Halts x before.left before.rest stream old new failed fault last
 
   -- packed bytes were served: all messages that they made whole, or up to a state in which no more is served, or to
   -- where the run stopped
@@ -95,7 +95,7 @@ module _ {X : Type 0} (f : Fold X) where
       × (f.done y ≡ false → TellsPacked x before bytes (pending held framer left) old new y × IsListening f framer)
       × (failed ≡ false)
   ServesPacked x before bytes old new failed (Err fault) held framer left y =
-      HaltsPacked x before bytes old new failed fault
+      HaltsPacked x before bytes old new failed fault y
 
   -- a reader gave bytes, in this number, and the whole messages in what they unpack to were served
   abbrev pub HearsPacked : X → ℕ → Option (List ℕ) → Option (List ℕ) → ℕ → Pending → Option (List ℕ)

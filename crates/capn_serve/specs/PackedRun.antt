@@ -1,5 +1,5 @@
 -- A run over a packed stream: the bytes that it takes, what it writes, how it ends, and the state after it. (Own.)
-use Rattle.std.specs.Prelude.{◌≡◌, ◌⊎◌, ◌↔◌, ℕ, ◌+◌, ◌-◌, ◌^◌, ◌≤◌, List, [], ◌∷◌, length, take, Bool, true, false}
+use Rattle.std.specs.Prelude.{◌≡◌, ◌⊎◌, ◌↔◌, ℕ, ◌+◌, ◌≤◌, List, [], ◌∷◌, length, take, Bool, true, false}
 use Rattle.std.specs.Prelude.{Option, Some, None, IfSome, Result, Ok, Err}
 use Rattle.std.specs.Io.KnownBytes.{Consumes, Appends}
 use Rattle.capn_pack.specs.PackedPieces as packing
@@ -8,7 +8,7 @@ use Rattle.capn_canon.specs.declared.refusal.Refusal.TheVariants as refusals
 use Rattle.capn_serve.specs.declared.position.Position.{Position}
 use Rattle.capn_serve.specs.declared.fault.RunFault.{RunFault}
 use Rattle.capn_serve.specs.declared.fault.RunFault.TheVariants as faults
-use Rattle.capn_serve.specs.Fold.{Fold, Part, AreParts, IfGoing, IsFolded, texts_of}
+use Rattle.capn_serve.specs.Fold.{Fold, Part, AreParts, IfGoing, IsFolded, Leaves, texts_of}
 use Rattle.capn_stream.specs.StreamPieces.{IsUnfinished}
 use Rattle.capn_serve.specs.StreamRun.{IsAhead, IsNeeded, IsShort, TakesBytes, has_more, taken_of}
 
@@ -35,8 +35,8 @@ module _ {X : Type 0} (f : Fold X) (x : X) (limit : ℕ) where
     pub due : IsFolded f x (taken_of limit stream)
         (unless_more (has_more limit stream) (unless_more is_longer (cut_group (f.place y) group offset))) text ending y
 
-  -- a run has written the text of its input and ended as that does, in the state after it; or memory was refused, or
-  -- the reader or the writer failed
+  -- a run has written the text of its input and ended as that does, in the state after it, or that of its messages; or
+  -- memory was refused, or the reader or the writer failed
   abbrev pub HasEndedPacked : List ℕ → Bool → Option (List ℕ) → Option (List ℕ) → Result (Unit {0}) RunFault → X
       → Type 0
   HasEndedPacked bytes is_longer old new (Ok u) y =
@@ -44,7 +44,8 @@ module _ {X : Type 0} (f : Fold X) (x : X) (limit : ℕ) where
   HasEndedPacked bytes is_longer old new (Err e) y =
       (e ≡ faults.Memory)
       ⊎ ((e ≡ faults.Io)
-      ⊎ ((text : List ℕ) × (z : X) × IsDuePacked bytes is_longer text (Err e) z × Appends old new text))
+      ⊎ ((text : List ℕ) × (z : X) × IsDuePacked bytes is_longer text (Err e) z × Appends old new text
+      × Leaves f z e y))
 
   -- of some whole groups that come first in these bytes, a beginning of the texts of the whole messages was written
   abbrev pub HasWrittenPacked : List ℕ → Option (List ℕ) → Option (List ℕ) → Type 0

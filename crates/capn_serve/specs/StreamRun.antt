@@ -10,7 +10,7 @@ use Rattle.capn_serve.specs.declared.position.Position.{Position}
 use Rattle.capn_serve.specs.declared.fault.RunFault.{RunFault}
 use Rattle.capn_serve.specs.declared.fault.RunFault.TheVariants as faults
 use Rattle.capn_serve.specs.declared.service.Run.{Run}
-use Rattle.capn_serve.specs.Fold.{Fold, Part, AreParts, IfGoing, IsFolded, texts_of}
+use Rattle.capn_serve.specs.Fold.{Fold, Part, AreParts, IfGoing, IsFolded, Leaves, texts_of}
 use Rattle.capn_serve.specs.Outgoing.{sent}
 use Rattle.capn_serve.specs.ChunkRun.{Tells}
 
@@ -66,15 +66,15 @@ module _ {X : Type 0} (f : Fold X) (x : X) (limit : ℕ) where
   abbrev pub IsDue : List ℕ → Bool → List ℕ → Result (Unit {0}) RunFault → X → Type 0
   IsDue bytes is_longer text ending y = IsFolded f x bytes (behind is_longer) text ending y
 
-  -- a run has written the text of its input and ended as that does, in the state after it; or memory was refused, or
-  -- the reader or the writer failed
+  -- a run has written the text of its input and ended as that does, in the state after it, or that of its messages; or
+  -- memory was refused, or the reader or the writer failed
   abbrev pub HasEnded : List ℕ → Bool → Option (List ℕ) → Option (List ℕ) → Result (Unit {0}) RunFault → X → Type 0
   HasEnded bytes is_longer old new (Ok u) y =
       (text : List ℕ) × IsDue bytes is_longer text (Ok u) y × Appends old new text
   HasEnded bytes is_longer old new (Err e) y =
       (e ≡ faults.Memory)
       ⊎ ((e ≡ faults.Io)
-      ⊎ ((text : List ℕ) × (z : X) × IsDue bytes is_longer text (Err e) z × Appends old new text))
+      ⊎ ((text : List ℕ) × (z : X) × IsDue bytes is_longer text (Err e) z × Appends old new text × Leaves f z e y))
 
   -- a run has ended so over what it takes of a whole input
   abbrev pub EndsAs : Option (List ℕ) → Option (List ℕ) → Result (Unit {0}) RunFault → X → List ℕ → Type 0

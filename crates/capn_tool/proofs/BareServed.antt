@@ -92,7 +92,7 @@ module _ (piece : MessageText) (limits : Bounds) (other : piece ≢ kinds.Price)
       inr (inr (text, due input text short (makes input text y writes), wrote))
   ends_as y (Some input) c d (Err e) (inl m) = inl (ap (λ (f : RunFault). Err (unplaced f)) m)
   ends_as y (Some input) c d (Err e) (inr (inl i)) = inr (inl (ap (λ (f : RunFault). Err (unplaced f)) i))
-  ends_as y (Some input) c d (Err e) (inr (inr (why, wrote))) = inr (inr ([], due_none input e why, wrote))
+  ends_as y (Some input) c d (Err e) (inr (inr (why, wrote, leaves))) = inr (inr ([], due_none input e why, wrote))
 
   -- ---- what it has written
 

@@ -39,7 +39,7 @@ module _ (piece : MessageText) (limits : Bounds) (x : Run MessageTexts) (of : Is
   has_ended y bytes more c d (Ok u) (text, h, wrote) = inr (inr (text, due_each y bytes text more (Ok u) h, wrote))
   has_ended y bytes more c d (Err e) (inl m) = inl (ap (λ (f : RunFault). Err (unplaced f)) m)
   has_ended y bytes more c d (Err e) (inr (inl i)) = inr (inl (ap (λ (f : RunFault). Err (unplaced f)) i))
-  has_ended y bytes more c d (Err e) (inr (inr (text, z, h, wrote))) =
+  has_ended y bytes more c d (Err e) (inr (inr (text, z, h, wrote, leaves))) =
       inr (inr (text, due_each z bytes text more (Err e) h, wrote))
 
   ends_as : (y : Run MessageTexts) (a c d : Option (List ℕ)) (r : Ending)

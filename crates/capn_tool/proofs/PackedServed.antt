@@ -113,7 +113,7 @@ module _ (piece : MessageText) (limits : Bounds) (x : Run MessageTexts) (of : Is
       inr (inr (text, due_packed y bytes text more (Ok u) short h, wrote))
   has_ended y bytes more c d (Err e) short (inl m) = inl (ap (λ (f : RunFault). Err (unplaced f)) m)
   has_ended y bytes more c d (Err e) short (inr (inl i)) = inr (inl (ap (λ (f : RunFault). Err (unplaced f)) i))
-  has_ended y bytes more c d (Err e) short (inr (inr (text, z, h, wrote))) =
+  has_ended y bytes more c d (Err e) short (inr (inr (text, z, h, wrote, leaves))) =
       inr (inr (text, due_packed z bytes text more (Err e) short h, wrote))
 
   ends_as : (y : Run MessageTexts) (a c d : Option (List ℕ)) (r : Ending)

@@ -187,7 +187,8 @@ module _ (most : ℕ) (q : PartTexts) where
   }
   messages_by forms.Bare x y input text (Ok a) like (short, (words, bare, step)) =
       (short, (words, bare, step_by x y input text (words ∷ []) like step))
-  messages_by forms.Bare x y input text (Err g) like (ends, none) = (bare_by x input g like ends, none)
+  messages_by forms.Bare x y input text (Err g) like (ends, none, is) =
+      (bare_by x input g like ends, none, ap by is)
 
 -- ---- by two orders that are alike one text is shown, and both runs end in one way
 

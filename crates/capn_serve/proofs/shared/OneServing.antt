@@ -1,9 +1,9 @@
 -- One text and one ending of the messages of an input, for a fold that does one thing with each message.
-use Rattle.std.proofs.Common.{◌≡◌, ◌≢◌, ◌⊎◌, inl, inr, ℕ, ◌≤◌, List, [], ◌∷◌, ◌++◌, length, take, Bool, Option, Some}
+use Rattle.std.proofs.Common.{◌≡◌, ◌⊎◌, inl, inr, ℕ, ◌≤◌, List, [], ◌∷◌, ◌++◌, length, take, Bool, Option}
 use Rattle.std.proofs.Common.{true, false}
 use Rattle.std.proofs.Common.{Result, Ok, Err, refl, ap, sym, subst, ◌∙◌, append_assoc, arith, length-append}
 use Rattle.std.proofs.Math.Seq.{take-length, take-append-le}
-use Rattle.capn_words.specs.Message.{IsBare, total}
+use Rattle.capn_words.specs.Message.{total}
 use Rattle.capn_words.specs.declared.bare.BareFault.{BareFault}
 use Rattle.capn_words.proofs.shared.OneSegment.{bare_not_refused, one_bare, one_bare_fault}
 use Rattle.capn_pack.proofs.shared.FirstParts.{append_same}
@@ -24,8 +24,7 @@ use Rattle.capn_serve.specs.Fold.{frames_of}
 use Rattle.capn_serve.specs.Fold.{texts_of}
 use Rattle.capn_serve.specs.StreamRun.{behind, has_more, taken_of}
 use Rattle.capn_serve.specs.PackedRun.{IsDuePacked, cut_group, unless_more}
-use Rattle.capn_serve.specs.BareRun.{EndsBare, IsUnbare, RefusesBare, WritesBare, WritesBy}
-use Rattle.capn_serve.specs.WholeInput.{most_input}
+use Rattle.capn_serve.specs.BareRun.{EndsBare, WritesBy}
 use Rattle.capn_serve.specs.FormRun.{AreMessages, most_stream}
 
 abbrev pub Ending : Type 0
@@ -170,9 +169,9 @@ module _ {X : Type 0} (f : Fold X) (one : IsOneWay f) (last : X → Option RunFa
       k.ends in
       (h.joined ∙ same.0 ∙ sym k.joined, same.1)
 
--- two inputs of a run have one text and one ending, and if they end as done, one state after them
+-- two inputs of a run have one text, one ending, and one state after their messages
 abbrev pub AreSame : {X : Type 0} → List ℕ → List ℕ → Ending → Ending → X → X → Type 0
-AreSame t u r s y z = (t ≡ u) × ((r ≡ s) × (r ≡ done → y ≡ z))
+AreSame t u r s y z = (t ≡ u) × ((r ≡ s) × (y ≡ z))
 
 module _ {X : Type 0} (f : Fold X) (one : IsOneWay f) (x : X) where
   one_packed : (bytes t u : List ℕ) (is_longer : Bool) (r s : Ending) (y z : X)
@@ -230,21 +229,18 @@ module _ {X : Type 0} (f : Fold X) (one : IsOneWay f) (x : X) where
       one.never_both x bytes (ws ∷ []) t y r step
       (subst (λ (l : List ℕ). f.refuses x bytes (l ∷ []) r) words refuses)
 
-  -- the messages of an input have one text and one ending
+  -- the messages of an input have one text, one ending and one state after them
   pub one_serving : (form : Form) (input t u : List ℕ) (r s : Ending) (y z : X) → AreMessages f x form input t r y
       → AreMessages f x form input u s z → AreSame t u r s y z
   one_serving forms.Stream input t u r s y z h k =
-      let same = one_folded f one (λ w. behind (has_more most_stream input)) x y z (taken_of most_stream input) t u r s
-      h k in
-      (same.0, (same.1.0, λ e. same.1.1))
+      one_folded f one (λ w. behind (has_more most_stream input)) x y z (taken_of most_stream input) t u r s h k
   one_serving forms.Packed input t u r s y z h k =
-      let same = one_packed (taken_of most_stream input) t u (has_more most_stream input) r s y z h k in
-      (same.0, (same.1.0, λ e. same.1.1))
+      one_packed (taken_of most_stream input) t u (has_more most_stream input) r s y z h k
   one_serving forms.Bare input t u (Ok a) (Ok b) y z h k =
-      let same = one_written (f.done x) input t u y z h k in (same.0, (refl, λ e. same.1))
-  one_serving forms.Bare input t u (Ok a) (Err g) y z writes (ends, none) =
+      let same = one_written (f.done x) input t u y z h k in (same.0, (refl, same.1))
+  one_serving forms.Bare input t u (Ok a) (Err g) y z writes (ends, none, is) =
       absurd (bare_apart (f.done x) input t y g writes ends)
-  one_serving forms.Bare input t u (Err g) (Ok b) y z (ends, none) writes =
+  one_serving forms.Bare input t u (Err g) (Ok b) y z (ends, none, is) writes =
       absurd (bare_apart (f.done x) input u z g writes ends)
-  one_serving forms.Bare input t u (Err g) (Err h) y z (ends, none) (close, nothing) =
-      (none ∙ sym nothing, (ap stopped (one_unbare_by (f.done x) input g h ends close), λ e. absurd (cc)))
+  one_serving forms.Bare input t u (Err g) (Err h) y z (ends, none, is) (close, nothing, also) =
+      (none ∙ sym nothing, (ap stopped (one_unbare_by (f.done x) input g h ends close), is ∙ sym also))

@@ -1,12 +1,11 @@
 -- A fold that ends where its service is done.
-use Rattle.std.proofs.Common.{◌≡◌, ◌⊎◌, inl, inr, ℕ, List, [], ◌∷◌, Bool, true, false, Option, Result, Ok, Err, refl}
+use Rattle.std.proofs.Common.{◌≡◌, ◌⊎◌, inl, inr, ℕ, List, [], ◌∷◌, Bool, true, false, Option, Result, Ok, refl}
 use Rattle.std.proofs.Common.{sym, subst}
 use Rattle.capn_canon.specs.declared.refusal.Refusal.{Refusal}
 use Rattle.capn_serve.specs.declared.position.Position.{Position}
 use Rattle.capn_serve.specs.declared.service.Run.{Run}
 use Rattle.capn_serve.specs.declared.fault.RunFault.{RunFault}
 use Rattle.capn_serve.specs.Fold.{AreParts, AreServed, EndsBy, EndsRefused, EndsUnframed, Fold, IfGoing, IsFolded}
-use Rattle.capn_serve.specs.Fold.{IsPart}
 use Rattle.capn_serve.specs.Fold.{Part, fold_of, fold_until}
 
 abbrev Ending : Type 0

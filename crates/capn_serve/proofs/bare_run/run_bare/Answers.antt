@@ -1,4 +1,4 @@
-use Rattle.std.proofs.Common.{◌∙◌, sym, true, false}
+use Rattle.std.proofs.Common.{◌∙◌, sym}
 use Rattle.std.proofs.lemmas.Result.{err_from_is_err_and}
 use Rattle.capn_serve.specs.Fold.{fold_until}
 use Rattle.capn_serve.proofs.BareEnds.{runs_done, runs_stopped, runs_written}

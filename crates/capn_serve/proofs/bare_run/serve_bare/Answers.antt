@@ -26,4 +26,4 @@ returns-in-Ok g c most =
     (c.add_message.ensures most)
 
 pub returns-in-Err : goal.returns-in-Err
-returns-in-Err g c most = inr ((c.in-Err.fault, refl, c.in-Err.ensures.exact), adds_none _, c.requires.fine)
+returns-in-Err g c most = inr ((c.in-Err.fault, refl, c.in-Err.ensures.exact), adds_none _, c.requires.fine, refl)
