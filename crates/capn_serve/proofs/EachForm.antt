@@ -1,5 +1,6 @@
 -- The messages of an input in each form, served by its loop, for any fold.
-use Rattle.std.proofs.Common.{inl, inr, ℕ, List, [], Option, Some, None, IfSome, Bool, Result, Ok, Err, refl}
+use Rattle.std.proofs.Common.{inl, inr, ℕ, List, [], Option, Some, None, IfSome, Bool, Result, Ok, Err, IfErr, refl}
+use Rattle.std.specs.Prelude.{⊤}
 use Rattle.capn_canon.specs.declared.form.Form.TheVariants as forms
 use Rattle.capn_serve.specs.declared.fault.RunFault.{RunFault}
 use Rattle.capn_serve.specs.Fold.{Fold}
@@ -10,6 +11,12 @@ use Rattle.capn_serve.specs.BareRun as bares
 
 abbrev Served : Type 0
 Served = Result (Unit {0}) RunFault
+
+-- nothing is said of what came of a bare input
+pub came_bare : (a : Option (List ℕ)) (r : Served) → IfSome a (λ input. IfErr r (λ e. ⊤))
+came_bare None r = tt
+came_bare (Some input) (Ok u) = tt
+came_bare (Some input) (Err e) = tt
 
 module _ {X : Type 0} (f : Fold X) (x : X) where
   -- ---- the messages of a stream

@@ -9,6 +9,8 @@ pub mod WholeRead
 pub mod BareEnds
 pub mod PackedMore
 pub mod PackedEnds
+pub mod Holding
+pub mod Stopped
 pub mod Ranges
 pub mod Picks
 pub mod EachForm

@@ -105,7 +105,8 @@ more_of room left v w size = longer (length v) (length (w ++ v)) (length-append 
     longer : (n m : ℕ) → m ≡ length w + n → nat_lt left m ≡ nat_lt room n
     longer n m is = grind (arith, nat_tests)
 
-taken_after : (room left : ℕ) (v w : List ℕ) → length w + room ≡ left → taken_of left (w ++ v) ≡ w ++ taken_of room v
+pub taken_after : (room left : ℕ) (v w : List ℕ) → length w + room ≡ left
+    → taken_of left (w ++ v) ≡ w ++ taken_of room v
 taken_after room left v w size =
     ap (λ (i : ℕ). take i (w ++ v)) (sym size) ∙ take-append-add w v room
 
@@ -199,7 +200,7 @@ module _ {X : Type 0} (f : Fold X) (x y : X) (left : ℕ) (rest stream end : Lis
   }
 
 -- what is taken of unpacked bytes, by its number
-within_taken : (left within count : ℕ) (stream got : List ℕ) → got ≡ stream → count ≡ length stream
+pub within_taken : (left within count : ℕ) (stream got : List ℕ) → got ≡ stream → count ≡ length stream
     → within ≡ min left count → take within got ≡ taken_of left stream
 within_taken left within count stream got same size least =
     ap (take within) same
@@ -364,7 +365,7 @@ module _ {X : Type 0} (f : Fold X) (x y : X) (p q : Pending) (s t : List ℕ) (a
       )
 
 -- groups that come first in some bytes come first in more of them
-begins_longer : (held s bytes more stream : List ℕ) → s ++ more ≡ bytes → packing.Begins (held ++ s) [] stream
+pub begins_longer : (held s bytes more stream : List ℕ) → s ++ more ≡ bytes → packing.Begins (held ++ s) [] stream
     → packing.Begins (held ++ bytes) [] stream
 begins_longer held s bytes more stream whole begins = record {
   groups = begins.groups;

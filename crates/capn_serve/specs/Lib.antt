@@ -10,6 +10,7 @@ pub mod PackedRun
 pub mod Pick
 pub mod PickRun
 pub mod FormRun
+pub mod WhatCame
 pub mod FaultText
 pub mod Laws
 pub mod inner

@@ -43,7 +43,8 @@ module _ {X : Type 0} (f : Fold X) where
   abbrev pub IsDueWithin : X → ℕ → List ℕ → List ℕ → Outgoing → Outgoing → RunFault → X → Type 0
   IsDueWithin x left rest stream old new fault last = (more : List ℕ) → (text : List ℕ) × (y : X)
       × ((behind : Option RunFault) → IsFolded f x (rest ++ taken_of left (stream ++ more))
-      (unless_more (has_more left (stream ++ more)) behind) text (Err fault) y) × Adds old new text × Leaves f y fault last
+      (unless_more (has_more left (stream ++ more)) behind) text (Err fault) y) × Adds old new text
+      × Leaves f y fault last
 
   -- a run over unpacked bytes stopped, and left a state: memory was refused, the writer failed, or it ends so
   pub record Halts (x : X) (left : ℕ) (rest stream : List ℕ) (old new : Outgoing) (failed : Bool) (fault : RunFault)

@@ -2,7 +2,8 @@
 //!
 //! A [`Service`] is what is done with each message: a fold whose state is the service. [`Run`] is how far it has come.
 //! [`run_stream`], [`run_packed`] and [`run_bare`] are the loops over the three forms, and [`serve_form`] is the loop
-//! of a given form. Each ends where the service is done, and does not read on.
+//! of a given form. Each ends where the service is done, and does not read on. [`serve_form_with`] leaves in a
+//! [`Begun`] what came of a message that is cut.
 //!
 //! [`run_only`] and [`run_pick`] write the frames of some messages as they stand; their service is done after the last
 //! of them.
@@ -10,12 +11,14 @@
 
 mod adding;
 mod bare_run;
+mod begun;
 mod chunk;
 mod fault;
 mod form_run;
 pub mod laws;
 mod message;
 mod output;
+mod packed;
 mod packed_run;
 mod pick;
 mod pick_run;
@@ -29,9 +32,10 @@ mod whole_input;
 
 pub use adding::add_bytes;
 pub use bare_run::{read_bare, run_bare};
+pub use begun::Begun;
 pub use chunk::CHUNK;
 pub use fault::{RunFault, ServeFault};
-pub use form_run::serve_form;
+pub use form_run::{serve_form, serve_form_with};
 pub use output::{flush_long, write_all};
 pub use packed_run::run_packed;
 pub use pick::{Pick, Range, StreamForm};

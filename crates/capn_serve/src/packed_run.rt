@@ -1,6 +1,6 @@
 //! A run over the messages of a packed stream.
 
-ghost use Rattle.std.specs.Prelude.{◌≡◌, ◌+◌, ◌≤◌, length, false};
+ghost use Rattle.std.specs.Prelude.{◌≡◌, ◌⊎◌, ◌+◌, ◌++◌, ◌≤◌, [], length, false, IfErr, IfSome};
 ghost use Rattle.capn_words.specs.Message.{most_message_words};
 ghost use Rattle.capn_words.specs.Watched.{inner_of, has_failed};
 ghost use Rattle.capn_stream.specs.StreamPieces.{IsUnfinished};
@@ -9,37 +9,25 @@ ghost use Rattle.capn_serve.specs.PackedRun.{RunsPacked};
 ghost use Rattle.capn_serve.specs.PackedChunkRun.{EndsPacked, IsUnpacking, ServesPacked, ServesPart, pending};
 ghost use Rattle.capn_serve.specs.Outgoing.{outgoing, sent};
 ghost use Rattle.capn_serve.specs.ChunkRun.{HasRoom, IsListening};
-ghost use Rattle.capn_serve.specs.StreamRun.{start};
+ghost use Rattle.capn_serve.specs.StreamRun.{start, taken_of};
+ghost use Rattle.capn_serve.specs.WhatCame.{IsOwnRefusal, TellsGroups};
+ghost use Rattle.capn_serve.specs.inner.Holding.{Holds, HoldsPacked};
 
 use crate::chunk::CHUNK;
 use crate::fault::RunFault;
 use crate::output::send_rest;
+use crate::packed::{Packed, new_packed};
 use crate::position::Position;
 use crate::service::{Run, Service};
 use crate::stream::serve_bytes;
 use crate::stream_run::end_of_input;
 use capn_canon::Refusal;
-use capn_pack::Unpacker;
-use capn_stream::Framer;
 use capn_words::Watched;
 use std::alloc::Allocator;
 use std::io::{Read, Write};
 
 /// The most packed bytes that are unpacked at once, of which come at most 1,024 times as many.
 const SLICE: usize = 512;
-
-/// What is held of a packed stream between two of its slices.
-#[derive(Drop)]
-struct Packed<A: Allocator + Copy> {
-    /// Holds an unfinished group.
-    pub unpacker: Unpacker,
-    /// Holds an unfinished message.
-    pub framer: Framer<A>,
-    /// Room for what a slice unpacks to.
-    pub part: Vec<u8, A>,
-    /// How many more bytes are taken of what the stream unpacks to.
-    pub left: u64,
-}
 
 /// Serves all messages that a part makes whole, as far as `left` goes, until the service is done. Of a longer one the
 /// rest is not served.
@@ -60,6 +48,8 @@ fn serve_part<S: Service, W: Write, A: Allocator + Copy>(
         packed.old.part.items (outgoing (W.contents (inner_of writer.old)) text.old.items)
         (outgoing (W.contents (inner_of writer.new)) text.new.items) (has_failed writer.new) result
         packed.new.left packed.new.framer run.new }
+    ensures came { IfErr result (λ e. Holds (fold_until S.serves S.refuses S.done most) run.old
+        (packed.old.framer.rest ++ taken_of packed.old.left packed.old.part.items) e packed.new.framer.rest run.new) }
     ensures unpacker { packed.new.unpacker ≡ packed.old.unpacker }
 {
     let count = packed.part.len() as u64;
@@ -99,11 +89,13 @@ fn serve_slice<S: Service, W: Write, A: Allocator + Copy>(
     requires going { S.done run.old.service run.old.at ≡ false }
     requires listening { IsListening (fold_until S.serves S.refuses S.done most) packed.old.framer }
     requires held { packed.old.unpacker.failed ≡ false }
-    ensures { ServesPacked (fold_until S.serves S.refuses S.done most) run.old
+    ensures served { ServesPacked (fold_until S.serves S.refuses S.done most) run.old
         (pending packed.old.unpacker packed.old.framer packed.old.left) bytes.now
         (outgoing (W.contents (inner_of writer.old)) text.old.items)
         (outgoing (W.contents (inner_of writer.new)) text.new.items) (has_failed writer.new) result
         packed.new.unpacker packed.new.framer packed.new.left run.new }
+    ensures came { IfErr result (λ e. HoldsPacked (fold_until S.serves S.refuses S.done most) run.old
+        (pending packed.old.unpacker packed.old.framer packed.old.left) bytes.now e packed.new.framer.rest run.new) }
 {
     packed.part.clear();
     match packed.unpacker.feed(bytes, &mut packed.part) {
@@ -129,11 +121,13 @@ fn serve_slices<S: Service, W: Write, A: Allocator + Copy>(
     requires listening { IsListening (fold_until S.serves S.refuses S.done most) packed.old.framer }
     requires unpacking { IsUnpacking packed.old.unpacker }
     requires short { length bytes.now ≤ 65536 }
-    ensures { ServesPacked (fold_until S.serves S.refuses S.done most) run.old
+    ensures served { ServesPacked (fold_until S.serves S.refuses S.done most) run.old
         (pending packed.old.unpacker packed.old.framer packed.old.left) bytes.now
         (outgoing (W.contents (inner_of writer.old)) text.old.items)
         (outgoing (W.contents (inner_of writer.new)) text.new.items) (has_failed writer.new) result
         packed.new.unpacker packed.new.framer packed.new.left run.new }
+    ensures came { IfErr result (λ e. HoldsPacked (fold_until S.serves S.refuses S.done most) run.old
+        (pending packed.old.unpacker packed.old.framer packed.old.left) bytes.now e packed.new.framer.rest run.new) }
 {
     let mut at = 0;
     while at < bytes.len() {
@@ -164,26 +158,93 @@ fn serve_packed<S: Service, W: Write, A: Allocator + Copy>(
     requires listening { IsListening (fold_until S.serves S.refuses S.done most) packed.old.framer }
     requires unpacking { IsUnpacking packed.old.unpacker }
     requires short { length bytes.now ≤ 65536 }
-    ensures { ServesPacked (fold_until S.serves S.refuses S.done most) run.old
+    ensures served { ServesPacked (fold_until S.serves S.refuses S.done most) run.old
         (pending packed.old.unpacker packed.old.framer packed.old.left) bytes.now
         (sent (W.contents (inner_of writer.old))) (sent (W.contents (inner_of writer.new)))
         (has_failed writer.new) result packed.new.unpacker packed.new.framer packed.new.left run.new }
+    ensures came { IfErr result (λ e. HoldsPacked (fold_until S.serves S.refuses S.done most) run.old
+        (pending packed.old.unpacker packed.old.framer packed.old.left) bytes.now e packed.new.framer.rest run.new) }
 {
     text.clear();
     let served = serve_slices(alloc, most, run, packed, bytes, text, writer);
     send_rest(served, text, writer)
 }
 
-/// How a run ends at a position whose packed input has ended.
-fn end_of_packed<A: Allocator + Copy>(at: Position, mut packed: Packed<A>) -> Result<(), RunFault>
-    requires held { packed.unpacker.failed ≡ false }
-    requires good { packed.framer.failed ≡ false }
-    requires part { IsUnfinished packed.framer.rest packed.framer.most }
-    ensures { EndsPacked at packed.unpacker.rest packed.unpacker.offset packed.framer.rest packed.framer.most result }
+/// How a run ends at a position whose packed input has ended. What is held stays.
+fn end_of_packed<A: Allocator + Copy>(at: Position, packed: &mut Packed<A>) -> Result<(), RunFault>
+    requires held { packed.old.unpacker.failed ≡ false }
+    requires part { IsUnfinished packed.old.framer.rest packed.old.framer.most }
+    ensures ends { EndsPacked at packed.old.unpacker.rest packed.old.unpacker.offset packed.old.framer.rest
+        packed.old.framer.most result }
+    ensures group { packed.new.unpacker.rest ≡ packed.old.unpacker.rest }
+    ensures rest { packed.new.framer ≡ packed.old.framer }
 {
     match packed.unpacker.finish() {
-        Ok(()) => end_of_input(at, packed.framer),
+        Ok(()) => end_of_input(at, &packed.framer),
         Err(fault) => Err(RunFault::Refused(at, Refusal::Packed(fault))),
+    }
+}
+
+/// Reads and serves a packed stream as [`run_packed`] says. What is held has to be new, with room for `limit` bytes; of
+/// the last message and the last group it has then what came.
+pub(crate) fn packed_into<S: Service, R: Read, W: Write, A: Allocator + Copy>(
+    alloc: A,
+    most: u32,
+    most_packed: u64,
+    limit: u64,
+    run: &mut Run<S>,
+    packed: &mut Packed<A>,
+    reader: &mut Watched<R>,
+    writer: &mut Watched<W>,
+) -> Result<(), RunFault>
+    requires small { most ≤ most_message_words }
+    requires fresh { run.old.at ≡ start }
+    requires unpacker { packed.old.unpacker ≡ record { rest = []; offset = 0; failed = false } }
+    requires framer { packed.old.framer ≡ record { rest = []; most = most; failed = false } }
+    requires left { packed.old.left ≡ limit }
+    requires reader_fine { has_failed reader.old ≡ false }
+    requires writer_fine { has_failed writer.old ≡ false }
+    ensures runs { RunsPacked (fold_until S.serves S.refuses S.done most) run.old most_packed limit
+        (R.remaining (inner_of reader.old)) (R.remaining (inner_of reader.new))
+        (W.contents (inner_of writer.old)) (W.contents (inner_of writer.new)) (has_failed reader.new)
+        (has_failed writer.new) result run.new }
+    ensures came { IfSome (R.remaining (inner_of reader.old)) (λ input. IfErr result (λ e.
+        IsOwnRefusal (fold_until S.serves S.refuses S.done most) e
+        ⊎ TellsGroups (fold_until S.serves S.refuses S.done most) run.old limit (taken_of most_packed input) e
+        (record { rest = packed.new.framer.rest; group = packed.new.unpacker.rest }) run.new)) }
+{
+    if run.is_done() {
+        return Ok(());
+    }
+    let mut text = Vec::new(alloc);
+    let mut buffer = [0; CHUNK as usize];
+    let mut taken = 0;
+    'chunks: loop {
+        let left = most_packed - taken;
+        let room = left.min(CHUNK - 1) + 1;
+        match reader.read(&mut buffer[..room as usize]) {
+            Err(_) => return Err(RunFault::Io),
+            Ok(0) => return end_of_packed(run.at, packed),
+            Ok(count) => {
+                let within = left.min(count as u64);
+                serve_packed(
+                    alloc,
+                    most,
+                    run,
+                    packed,
+                    &buffer[..within as usize],
+                    &mut text,
+                    writer,
+                )?;
+                if run.is_done() {
+                    return Ok(());
+                }
+                if within < count as u64 {
+                    return Err(RunFault::InputTooLong);
+                }
+                taken += within;
+            }
+        }
     }
 }
 
@@ -217,43 +278,15 @@ pub fn run_packed<S: Service, R: Read, W: Write, A: Allocator + Copy>(
         (W.contents (inner_of writer.old)) (W.contents (inner_of writer.new)) (has_failed reader.new)
         (has_failed writer.new) result run.new }
 {
-    if run.is_done() {
-        return Ok(());
-    }
-    let mut packed = Packed {
-        unpacker: Unpacker::new(),
-        framer: Framer::new(alloc, most),
-        part: Vec::new(alloc),
-        left: limit,
-    };
-    let mut text = Vec::new(alloc);
-    let mut buffer = [0; CHUNK as usize];
-    let mut taken = 0;
-    'chunks: loop {
-        let left = most_packed - taken;
-        let room = left.min(CHUNK - 1) + 1;
-        match reader.read(&mut buffer[..room as usize]) {
-            Err(_) => return Err(RunFault::Io),
-            Ok(0) => return end_of_packed(run.at, packed),
-            Ok(count) => {
-                let within = left.min(count as u64);
-                serve_packed(
-                    alloc,
-                    most,
-                    run,
-                    &mut packed,
-                    &buffer[..within as usize],
-                    &mut text,
-                    writer,
-                )?;
-                if run.is_done() {
-                    return Ok(());
-                }
-                if within < count as u64 {
-                    return Err(RunFault::InputTooLong);
-                }
-                taken += within;
-            }
-        }
-    }
+    let mut packed = new_packed(alloc, most, limit);
+    packed_into(
+        alloc,
+        most,
+        most_packed,
+        limit,
+        run,
+        &mut packed,
+        reader,
+        writer,
+    )
 }

@@ -1,6 +1,6 @@
 //! The messages of a stream in chunks.
 
-ghost use Rattle.std.specs.Prelude.{◌≡◌, ◌⊎◌, ℕ, ◌≤◌, ◌+◌, [], length, false};
+ghost use Rattle.std.specs.Prelude.{◌≡◌, ◌⊎◌, ℕ, ◌≤◌, ◌+◌, ◌++◌, [], length, false, IfErr};
 ghost use Rattle.capn_words.specs.Message.{most_message_words};
 ghost use Rattle.capn_words.specs.Watched.{inner_of, has_failed};
 ghost use Rattle.capn_stream.specs.StreamPieces.{IsFrame, IsUnfinished};
@@ -9,6 +9,7 @@ ghost use Rattle.capn_serve.specs.Outgoing.{outgoing, sent};
 ghost use Rattle.capn_serve.specs.ChunkRun as spec;
 ghost use Rattle.capn_serve.specs.ChunkRun.{AddsMessage, HasRoom, IsListening, Passes, Serves, ServesHeld, ServesNext};
 ghost use Rattle.capn_serve.specs.ChunkRun.{ServesWhole};
+ghost use Rattle.capn_serve.specs.inner.Holding.{Holds, IsOfMessage};
 
 use crate::fault::RunFault;
 use crate::message::add_message;
@@ -75,9 +76,10 @@ fn serve_whole<S: Service, W: Write, A: Allocator + Copy>(
     requires small { most ≤ most_message_words }
     requires fine { has_failed writer.old ≡ false }
     requires room { HasRoom run.old.at (length bytes.now) }
-    ensures { ServesWhole (fold_until S.serves S.refuses S.done most) run.old bytes.now
+    ensures served { ServesWhole (fold_until S.serves S.refuses S.done most) run.old bytes.now
         (outgoing (W.contents (inner_of writer.old)) text.old.items)
         (outgoing (W.contents (inner_of writer.new)) text.new.items) (has_failed writer.new) result run.new }
+    ensures came { IfErr result (λ e. IsOfMessage (fold_until S.serves S.refuses S.done most) e) }
 {
     let mut at = 0;
     while at < bytes.len() {
@@ -129,9 +131,10 @@ fn serve_held<S: Service, W: Write, A: Allocator + Copy>(
     requires same { framer.old.most ≡ most }
     requires going { S.done run.old.service run.old.at ≡ false }
     requires held { IsFrame framer.old.rest most ⊎ IsUnfinished framer.old.rest most }
-    ensures { ServesHeld (fold_until S.serves S.refuses S.done most) run.old framer.old
+    ensures served { ServesHeld (fold_until S.serves S.refuses S.done most) run.old framer.old
         (outgoing (W.contents (inner_of writer.old)) text.old.items)
         (outgoing (W.contents (inner_of writer.new)) text.new.items) (has_failed writer.new) result framer.new run.new }
+    ensures came { IfErr result (λ e. IsOfMessage (fold_until S.serves S.refuses S.done most) e) }
 {
     let held = framer.held();
     match first(alloc, held, most) {
@@ -159,9 +162,11 @@ fn serve_next<S: Service, W: Write, A: Allocator + Copy>(
     requires room { HasRoom run.old.at (length framer.old.rest + length bytes.now) }
     requires going { S.done run.old.service run.old.at ≡ false }
     requires listening { IsListening (fold_until S.serves S.refuses S.done most) framer.old }
-    ensures { ServesNext (fold_until S.serves S.refuses S.done most) run.old framer.old bytes.now
+    ensures served { ServesNext (fold_until S.serves S.refuses S.done most) run.old framer.old bytes.now
         (outgoing (W.contents (inner_of writer.old)) text.old.items)
         (outgoing (W.contents (inner_of writer.new)) text.new.items) (has_failed writer.new) result framer.new run.new }
+    ensures came { IfErr result (λ e. Holds (fold_until S.serves S.refuses S.done most) run.old
+        (framer.old.rest ++ bytes.now) e framer.new.rest run.new) }
 {
     match framer.feed(bytes) {
         Ok(taken) => {
@@ -188,9 +193,11 @@ fn serve_fresh<S: Service, W: Write, A: Allocator + Copy>(
     requires going { S.done run.old.service run.old.at ≡ false }
     requires listening { IsListening (fold_until S.serves S.refuses S.done most) framer.old }
     requires empty { framer.old.rest ≡ [] }
-    ensures { ServesNext (fold_until S.serves S.refuses S.done most) run.old framer.old bytes.now
+    ensures served { ServesNext (fold_until S.serves S.refuses S.done most) run.old framer.old bytes.now
         (outgoing (W.contents (inner_of writer.old)) text.old.items)
         (outgoing (W.contents (inner_of writer.new)) text.new.items) (has_failed writer.new) result framer.new run.new }
+    ensures came { IfErr result (λ e. Holds (fold_until S.serves S.refuses S.done most) run.old
+        (framer.old.rest ++ bytes.now) e framer.new.rest run.new) }
 {
     let whole = serve_whole(alloc, most, run, bytes, text, writer)?;
     if 0 < whole {
@@ -215,9 +222,11 @@ fn serve_some<S: Service, W: Write, A: Allocator + Copy>(
     requires room { HasRoom run.old.at (length framer.old.rest + length bytes.now) }
     requires going { S.done run.old.service run.old.at ≡ false }
     requires listening { IsListening (fold_until S.serves S.refuses S.done most) framer.old }
-    ensures { ServesNext (fold_until S.serves S.refuses S.done most) run.old framer.old bytes.now
+    ensures served { ServesNext (fold_until S.serves S.refuses S.done most) run.old framer.old bytes.now
         (outgoing (W.contents (inner_of writer.old)) text.old.items)
         (outgoing (W.contents (inner_of writer.new)) text.new.items) (has_failed writer.new) result framer.new run.new }
+    ensures came { IfErr result (λ e. Holds (fold_until S.serves S.refuses S.done most) run.old
+        (framer.old.rest ++ bytes.now) e framer.new.rest run.new) }
 {
     if framer.is_empty() {
         return serve_fresh(alloc, most, run, framer, bytes, text, writer);
@@ -240,9 +249,11 @@ pub(crate) fn serve_bytes<S: Service, W: Write, A: Allocator + Copy>(
     requires room { HasRoom run.old.at (length framer.old.rest + length bytes.now) }
     requires going { S.done run.old.service run.old.at ≡ false }
     requires listening { IsListening (fold_until S.serves S.refuses S.done most) framer.old }
-    ensures { Serves (fold_until S.serves S.refuses S.done most) run.old framer.old bytes.now
+    ensures served { Serves (fold_until S.serves S.refuses S.done most) run.old framer.old bytes.now
         (outgoing (W.contents (inner_of writer.old)) text.old.items)
         (outgoing (W.contents (inner_of writer.new)) text.new.items) (has_failed writer.new) result framer.new run.new }
+    ensures came { IfErr result (λ e. Holds (fold_until S.serves S.refuses S.done most) run.old
+        (framer.old.rest ++ bytes.now) e framer.new.rest run.new) }
 {
     let mut at = 0;
     while at < bytes.len() {
@@ -270,9 +281,11 @@ pub(crate) fn serve_chunk<S: Service, W: Write, A: Allocator + Copy>(
     requires room { HasRoom run.old.at (length framer.old.rest + length bytes.now) }
     requires going { S.done run.old.service run.old.at ≡ false }
     requires listening { IsListening (fold_until S.serves S.refuses S.done most) framer.old }
-    ensures { Serves (fold_until S.serves S.refuses S.done most) run.old framer.old bytes.now
+    ensures served { Serves (fold_until S.serves S.refuses S.done most) run.old framer.old bytes.now
         (sent (W.contents (inner_of writer.old))) (sent (W.contents (inner_of writer.new)))
         (has_failed writer.new) result framer.new run.new }
+    ensures came { IfErr result (λ e. Holds (fold_until S.serves S.refuses S.done most) run.old
+        (framer.old.rest ++ bytes.now) e framer.new.rest run.new) }
 {
     text.clear();
     let served = serve_bytes(alloc, most, run, framer, bytes, text, writer);

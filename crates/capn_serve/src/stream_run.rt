@@ -1,18 +1,20 @@
 //! A run over the messages of a stream.
 
-ghost use Rattle.std.specs.Prelude.{◌≡◌, ◌≤◌, false};
+ghost use Rattle.std.specs.Prelude.{◌≡◌, ◌⊎◌, ◌≤◌, [], false, IfErr, IfSome};
 ghost use Rattle.capn_words.specs.Message.{most_message_words};
 ghost use Rattle.capn_words.specs.Watched.{inner_of, has_failed};
 ghost use Rattle.capn_stream.specs.StreamPieces.{IsUnfinished};
 ghost use Rattle.capn_serve.specs.Fold.{fold_until};
-ghost use Rattle.capn_serve.specs.StreamRun.{EndsInput, Runs, start};
+ghost use Rattle.capn_serve.specs.StreamRun.{EndsInput, Runs, start, taken_of};
+ghost use Rattle.capn_serve.specs.WhatCame.{IsOwnRefusal, TellsStream};
 
 use crate::chunk::CHUNK;
 use crate::fault::RunFault;
 use crate::position::Position;
 use crate::service::{Run, Service};
-use crate::stream::{fault_at, serve_chunk};
-use capn_stream::Framer;
+use crate::stream::serve_chunk;
+use capn_canon::Refusal;
+use capn_stream::{FrameFault, Framer};
 use capn_words::Watched;
 use std::alloc::Allocator;
 use std::io::{Read, Write};
@@ -20,15 +22,74 @@ use std::io::{Read, Write};
 /// How a run ends at a position whose input has ended.
 pub(crate) fn end_of_input<A: Allocator + Copy>(
     at: Position,
-    mut framer: Framer<A>,
+    framer: &Framer<A>,
 ) -> Result<(), RunFault>
-    requires good { framer.failed ≡ false }
-    requires part { IsUnfinished framer.rest framer.most }
-    ensures { EndsInput at framer.rest framer.most result }
+    requires part { IsUnfinished framer.now.rest framer.now.most }
+    ensures { EndsInput at framer.now.rest framer.now.most result }
 {
-    match framer.finish() {
-        Ok(()) => Ok(()),
-        Err(fault) => Err(fault_at(at, fault)),
+    if framer.is_empty() {
+        return Ok(());
+    }
+    Err(RunFault::Refused(at, Refusal::Frame(FrameFault::Cut)))
+}
+
+/// Reads and serves a stream as [`run_stream`] says. The framer, which has to be new, holds what came of the last
+/// message then.
+pub(crate) fn stream_into<S: Service, R: Read, W: Write, A: Allocator + Copy>(
+    alloc: A,
+    most: u32,
+    limit: u64,
+    run: &mut Run<S>,
+    framer: &mut Framer<A>,
+    reader: &mut Watched<R>,
+    writer: &mut Watched<W>,
+) -> Result<(), RunFault>
+    requires small { most ≤ most_message_words }
+    requires fresh { run.old.at ≡ start }
+    requires new { framer.old ≡ record { rest = []; most = most; failed = false } }
+    requires reader_fine { has_failed reader.old ≡ false }
+    requires writer_fine { has_failed writer.old ≡ false }
+    ensures runs { Runs (fold_until S.serves S.refuses S.done most) run.old limit (R.remaining (inner_of reader.old))
+        (R.remaining (inner_of reader.new))
+        (W.contents (inner_of writer.old)) (W.contents (inner_of writer.new)) (has_failed reader.new)
+        (has_failed writer.new) result run.new }
+    ensures came { IfSome (R.remaining (inner_of reader.old)) (λ input. IfErr result (λ e.
+        IsOwnRefusal (fold_until S.serves S.refuses S.done most) e
+        ⊎ TellsStream (fold_until S.serves S.refuses S.done most) run.old (taken_of limit input) e framer.new.rest
+        run.new)) }
+{
+    if run.is_done() {
+        return Ok(());
+    }
+    let mut text = Vec::new(alloc);
+    let mut buffer = [0; CHUNK as usize];
+    let mut taken = 0;
+    'chunks: loop {
+        let left = limit - taken;
+        let room = left.min(CHUNK - 1) + 1;
+        match reader.read(&mut buffer[..room as usize]) {
+            Err(_) => return Err(RunFault::Io),
+            Ok(0) => return end_of_input(run.at, framer),
+            Ok(count) => {
+                let within = left.min(count as u64);
+                serve_chunk(
+                    alloc,
+                    most,
+                    run,
+                    framer,
+                    &buffer[..within as usize],
+                    &mut text,
+                    writer,
+                )?;
+                if run.is_done() {
+                    return Ok(());
+                }
+                if within < count as u64 {
+                    return Err(RunFault::InputTooLong);
+                }
+                taken += within;
+            }
+        }
     }
 }
 
@@ -57,38 +118,6 @@ pub fn run_stream<S: Service, R: Read, W: Write, A: Allocator + Copy>(
         (W.contents (inner_of writer.old)) (W.contents (inner_of writer.new)) (has_failed reader.new)
         (has_failed writer.new) result run.new }
 {
-    if run.is_done() {
-        return Ok(());
-    }
     let mut framer = Framer::new(alloc, most);
-    let mut text = Vec::new(alloc);
-    let mut buffer = [0; CHUNK as usize];
-    let mut taken = 0;
-    'chunks: loop {
-        let left = limit - taken;
-        let room = left.min(CHUNK - 1) + 1;
-        match reader.read(&mut buffer[..room as usize]) {
-            Err(_) => return Err(RunFault::Io),
-            Ok(0) => return end_of_input(run.at, framer),
-            Ok(count) => {
-                let within = left.min(count as u64);
-                serve_chunk(
-                    alloc,
-                    most,
-                    run,
-                    &mut framer,
-                    &buffer[..within as usize],
-                    &mut text,
-                    writer,
-                )?;
-                if run.is_done() {
-                    return Ok(());
-                }
-                if within < count as u64 {
-                    return Err(RunFault::InputTooLong);
-                }
-                taken += within;
-            }
-        }
-    }
+    stream_into(alloc, most, limit, run, &mut framer, reader, writer)
 }

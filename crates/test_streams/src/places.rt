@@ -1,9 +1,14 @@
-//! Runs of a service over handmade packed inputs.
+//! Runs of a service over handmade inputs.
 //! No command has this service.
 
 ghost use Rattle.std.specs.Prelude.{⊤};
 
-use capn_serve::{Position, Run, RunFault, ServeFault, Service, flush_long, run_packed};
+use capn_canon::{Form, Refusal};
+use capn_pack::UnpackFault;
+use capn_serve::{
+    Begun, Position, Run, RunFault, ServeFault, Service, flush_long, run_packed, serve_form_with,
+};
+use capn_stream::FrameFault;
 use capn_words::{Space, Watched};
 use std::alloc::{Allocator, Global};
 use std::io::{self, Read, Write};
@@ -107,5 +112,64 @@ fn more_than_the_limit(rt: HostRuntime) -> Result<(), Fail> {
     assert!(rt;
         past == Err(RunFault::InputTooLong) && some.as_slice() == [0, 0, 16, 1, 16, 16].as_slice()
     );
+    Ok(())
+}
+
+/// How a run over an input in a form stops, and what came of the message and of the group at which it did.
+fn stopped(alloc: Global, form: Form, input: &[u8]) -> (Result<(), RunFault>, Begun<Global>) {
+    let mut run = Run::new(Places);
+    let mut begun = Begun::new(alloc);
+    let mut reader = Watched::new(Single { bytes: input });
+    let mut writer = Watched::new(Vec::new(alloc));
+    let ending = serve_form_with(
+        alloc,
+        form,
+        1_024,
+        &mut run,
+        &mut begun,
+        &mut reader,
+        &mut writer,
+    );
+    let Run { service: _, at: _ } = run;
+    (ending, begun)
+}
+
+/// The fault of a frame after one of 16 bytes.
+fn second(refusal: Refusal) -> Result<(), RunFault> {
+    let at = Position {
+        index: 1,
+        offset: 16,
+    };
+    Err(RunFault::Refused(at, refusal))
+}
+
+/// A frame of 16 bytes, and the table of one of 2^32 - 1 words.
+const LONG: [u8; 24] = [
+    0, 0, 0, 0, 1, 0, 0, 0, 0, 0, 0, 0, 0, 0, 0, 0, 0, 0, 0, 0, 255, 255, 255, 255,
+];
+
+/// What came of a frame that is cut, or has too many words, is left.
+#[test]
+fn what_came_of_a_frame(rt: HostRuntime) -> Result<(), Fail> {
+    let (ending, begun) = stopped(rt.alloc(), Form::Stream, &LONG[..22]);
+    assert!(rt; ending == second(Refusal::Frame(FrameFault::Cut)));
+    assert!(rt; begun.message() == &LONG[16..22] && begun.group().is_empty());
+    let (ending, begun) = stopped(rt.alloc(), Form::Stream, &LONG);
+    assert!(rt; ending == second(Refusal::Frame(FrameFault::TooManyWords(u64::from(u32::MAX)))));
+    assert!(rt; begun.message() == &LONG[16..]);
+    let (ending, begun) = stopped(rt.alloc(), Form::Stream, &LONG[..16]);
+    assert!(rt; ending == Ok(()) && begun.message().is_empty());
+    Ok(())
+}
+
+/// What came of a packed frame that is cut is left as it is unpacked, and of a group that is cut as it came.
+#[test]
+fn what_came_of_a_group(rt: HostRuntime) -> Result<(), Fail> {
+    let (ending, begun) = stopped(rt.alloc(), Form::Packed, &THREE[..6]);
+    assert!(rt; ending == second(Refusal::Frame(FrameFault::Cut)));
+    assert!(rt; begun.message() == &LONG[..8] && begun.group().is_empty());
+    let (ending, begun) = stopped(rt.alloc(), Form::Packed, &THREE[..7]);
+    assert!(rt; ending == second(Refusal::Packed(UnpackFault::Cut { at: 6 })));
+    assert!(rt; begun.message() == &LONG[..8] && begun.group() == [0].as_slice());
     Ok(())
 }

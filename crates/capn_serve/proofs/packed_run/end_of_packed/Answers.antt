@@ -38,13 +38,13 @@ cut at (b ∷ group) rest offset most fault whole is (inl none) =
 cut at (b ∷ group) rest offset most fault whole is (inr part) =
     (frames.Cut, (λ e. cc), part, ap (refused at) (is (λ e. cc)), λ e. cc)
 
-pub returns-in-Ok : goal.returns-in-Ok
-returns-in-Ok g c =
-    whole c.args.at c.args.packed.unpacker.rest c.args.packed.framer.rest c.args.packed.unpacker.offset
-    c.args.packed.framer.most c.end_of_input.result c.in-Ok.ensures.ok.0 c.end_of_input.ensures
+pub returns-in-Ok-clause-ends : goal.returns-in-Ok-clause-ends
+returns-in-Ok-clause-ends g c =
+    whole c.args.at c.args.packed.now.unpacker.rest c.args.packed.now.framer.rest c.args.packed.now.unpacker.offset
+    c.args.packed.now.framer.most c.end_of_input.result c.in-Ok.ensures.ok.0 c.end_of_input.ensures
 
-pub returns-in-Err : goal.returns-in-Err
-returns-in-Err g c =
-    cut c.args.at c.args.packed.unpacker.rest c.args.packed.framer.rest c.args.packed.unpacker.offset
-    c.args.packed.framer.most c.in-Err.fault (c.in-Err.ensures.whole c.requires.held)
+pub returns-in-Err-clause-ends : goal.returns-in-Err-clause-ends
+returns-in-Err-clause-ends g c =
+    cut c.args.at c.args.packed.now.unpacker.rest c.args.packed.now.framer.rest c.args.packed.now.unpacker.offset
+    c.args.packed.now.framer.most c.in-Err.fault (c.in-Err.ensures.whole c.requires.held)
     (λ full. let is = (c.in-Err.ensures.cut c.requires.held full).0 in cc) c.requires.part

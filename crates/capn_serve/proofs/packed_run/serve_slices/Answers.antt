@@ -8,6 +8,7 @@ use Rattle.capn_serve.specs.PackedChunkRun.{TellsPacked, pending}
 use Rattle.capn_serve.proofs.PackedMore.{packed_none, packed_room, reach_all, slice_more, slice_reach}
 use Rattle.capn_serve.proofs.PackedMore.{slice_stop}
 use Rattle.capn_serve.proofs.shared.Until.{not_both}
+use Rattle.capn_serve.proofs.Holding.{packed_holds_slice}
 use Rattle.capn_serve.proofs.packed_run.serve_slices.Goals as goal
 
 pub loop-at-init : goal.loop-at-init
@@ -22,8 +23,8 @@ loop-at-init g c = record {
       (pending c.args.packed.now.unpacker c.args.packed.now.framer c.args.packed.now.left) _ c.requires.unpacking;
 }
 
-pub returns-in_err-serve_slice : goal.returns-in_err-serve_slice
-returns-in_err-serve_slice g c =
+pub returns-in_err-serve_slice-clause-served : goal.returns-in_err-serve_slice-clause-served
+returns-in_err-serve_slice-clause-served g c =
     let i = c.loop-at.invariant in
     let p = err_from_is_err_and c.from_residual.result c.from_residual.ensures.1 in
     rw (p.1, p.2)
@@ -32,12 +33,12 @@ returns-in_err-serve_slice g c =
     (pending c.args.packed.now.unpacker c.args.packed.now.framer c.args.packed.now.left)
     (pending c.loop-at.packed.unpacker c.loop-at.packed.framer c.loop-at.packed.left) c.args.bytes.now c.loop-at.at
     c.min-end.result (omega (arith, c.min-end.ensures, i.within)) _ _ i.told _ _ c.in_err-serve_slice.field-0.0
-    c.in_err-serve_slice.ensures)
+    c.in_err-serve_slice.ensures.served)
 
 pub loop-at-preserved : goal.loop-at-preserved
 loop-at-preserved g c =
     let i = c.loop-at.invariant in
-    let next = c.in_ok-serve_slice.ensures in
+    let next = c.in_ok-serve_slice.ensures.served in
     let on = sym c.is_done.ensures ∙ c.if-is_done.false in
     let kept = next.1 on in
     let packed = c.serve_slice.new.packed in
@@ -70,8 +71,8 @@ serve_slice-requires-clause-listening g c = c.loop-at.invariant.listening
 pub serve_slice-requires-clause-held : goal.serve_slice-requires-clause-held
 serve_slice-requires-clause-held g c = c.loop-at.invariant.held
 
-pub returns-after-loop-at : goal.returns-after-loop-at
-returns-after-loop-at g c =
+pub returns-after-loop-at-clause-served : goal.returns-after-loop-at-clause-served
+returns-after-loop-at-clause-served g c =
     let i = c.loop-at.invariant in
     let all = take_all c.loop-at.at c.args.bytes.now c.loop-at-test.false in
     let told = subst (λ (l : List ℕ). TellsPacked (fold_until g.S.Service.serves g.S.Service.refuses g.S.Service.done
@@ -87,10 +88,10 @@ returns-after-loop-at g c =
     )
 
 -- no more is served
-pub returns-then-is_done : goal.returns-then-is_done
-returns-then-is_done g c =
+pub returns-then-is_done-clause-served : goal.returns-then-is_done-clause-served
+returns-then-is_done-clause-served g c =
     let i = c.loop-at.invariant in
-    let next = c.in_ok-serve_slice.ensures in (
+    let next = c.in_ok-serve_slice.ensures.served in (
       slice_reach (fold_until g.S.Service.serves g.S.Service.refuses g.S.Service.done c.args.most) c.args.run.now
           c.loop-at.run (pending c.args.packed.now.unpacker c.args.packed.now.framer c.args.packed.now.left)
           (pending c.loop-at.packed.unpacker c.loop-at.packed.framer c.loop-at.packed.left) c.args.bytes.now
@@ -99,3 +100,15 @@ returns-then-is_done g c =
       λ going. absurd (not_both _ (sym c.is_done.ensures ∙ c.if-is_done.true) going),
       next.2,
     )
+
+pub returns-in_err-serve_slice-clause-came : goal.returns-in_err-serve_slice-clause-came
+returns-in_err-serve_slice-clause-came g c =
+    let i = c.loop-at.invariant in
+    let p = err_from_is_err_and c.from_residual.result c.from_residual.ensures.1 in
+    rw (p.1, p.2)
+    (packed_holds_slice (fold_until g.S.Service.serves g.S.Service.refuses g.S.Service.done c.args.most) c.args.run.now
+    c.loop-at.run c.serve_slice.new.run
+    (pending c.args.packed.now.unpacker c.args.packed.now.framer c.args.packed.now.left)
+    (pending c.loop-at.packed.unpacker c.loop-at.packed.framer c.loop-at.packed.left) c.args.bytes.now
+    c.serve_slice.new.packed.framer.rest c.loop-at.at c.min-end.result _ _ c.in_err-serve_slice.field-0.0
+    (omega (arith, c.min-end.ensures, i.within)) i.told c.in_err-serve_slice.ensures.came)

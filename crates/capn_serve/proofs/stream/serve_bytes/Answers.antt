@@ -11,6 +11,7 @@ use Rattle.capn_serve.specs.ChunkRun.{IsListening, Serves, Tells}
 use Rattle.capn_serve.proofs.More.{parts_longer, tells_none}
 use Rattle.capn_serve.proofs.Next.{room_told, served_more, served_stop}
 use Rattle.capn_serve.proofs.shared.Until.{not_both}
+use Rattle.capn_serve.proofs.Holding.{holds_served}
 use Rattle.capn_serve.proofs.stream.serve_bytes.Goals as goal
 
 module _ {X : Type 0} (f : Fold X) (x : X) where
@@ -74,18 +75,18 @@ serve_some-requires-clause-room g c =
     }) in
     record { offset = omega (arith, room.offset, left, size); index = room.index }
 
-pub returns-in_err-at : goal.returns-in_err-at
-returns-in_err-at g c =
+pub returns-in_err-at-clause-served : goal.returns-in_err-at-clause-served
+returns-in_err-at-clause-served g c =
     let p = err_from_is_err_and c.from_residual.result c.from_residual.ensures.1 in
     rw (p.1, p.2)
     (served_stop (fold_until g.S.Service.serves g.S.Service.refuses g.S.Service.done c.args.most) c.args.run.now
     c.loop-at.run
     c.args.framer.now c.loop-at.framer c.args.bytes.now c.loop-at.at _ _ _ c.loop-at.invariant.told _
-    c.in_err-at.field-0.0 c.in_err-at.ensures)
+    c.in_err-at.field-0.0 c.in_err-at.ensures.served)
 
 pub loop-at-preserved : goal.loop-at-preserved
 loop-at-preserved g c =
-    let next = c.in_ok-at.ensures in
+    let next = c.in_ok-at.ensures.served in
     let i = c.loop-at.invariant in
     let rest = length-take (length c.args.bytes.now - c.loop-at.at) (drop c.loop-at.at c.args.bytes.now) in
     record {
@@ -101,23 +102,23 @@ loop-at-preserved g c =
 
 pub loop-at-smaller : goal.loop-at-smaller
 loop-at-smaller g c =
-    let next = c.in_ok-at.ensures in
+    let next = c.in_ok-at.ensures.served in
     let rest = length-take (length c.args.bytes.now - c.loop-at.at) (drop c.loop-at.at c.args.bytes.now) in
     let size = length-drop c.loop-at.at c.args.bytes.now in
     let moved : 0 < c.in_ok-at.field-0 = next.1 (omega (arith, rest, size, c.loop-at-test.true)) in
     omega (arith, next.0, rest, size, moved, c.loop-at-test.true)
 
-pub returns-after-loop-at : goal.returns-after-loop-at
-returns-after-loop-at g c =
+pub returns-after-loop-at-clause-served : goal.returns-after-loop-at-clause-served
+returns-after-loop-at-clause-served g c =
     let i = c.loop-at.invariant in
     served_all (fold_until g.S.Service.serves g.S.Service.refuses g.S.Service.done c.args.most) c.args.run.now
     c.loop-at.run
     c.args.framer.now c.loop-at.framer c.args.bytes.now c.loop-at.at _ _ _ c.loop-at-test.false i.told i.listening
     i.fine
 
-pub returns-then-is_done : goal.returns-then-is_done
-returns-then-is_done g c =
-    let next = c.in_ok-at.ensures in
+pub returns-then-is_done-clause-served : goal.returns-then-is_done-clause-served
+returns-then-is_done-clause-served g c =
+    let next = c.in_ok-at.ensures.served in
     let i = c.loop-at.invariant in
     served_done (fold_until g.S.Service.serves g.S.Service.refuses g.S.Service.done c.args.most) c.args.run.now
     c.serve_some.new.run c.args.framer.now c.serve_some.new.framer c.args.bytes.now (c.loop-at.at + c.in_ok-at.field-0)
@@ -125,3 +126,11 @@ returns-then-is_done g c =
     (served_more (fold_until g.S.Service.serves g.S.Service.refuses g.S.Service.done c.args.most) c.args.run.now
     c.loop-at.run c.args.framer.now c.loop-at.framer c.args.bytes.now c.loop-at.at _ _ _ i.told c.serve_some.new.run
     c.in_ok-at.field-0 c.serve_some.new.framer.rest next.2.0) next.2.2
+
+pub returns-in_err-at-clause-came : goal.returns-in_err-at-clause-came
+returns-in_err-at-clause-came g c =
+    let p = err_from_is_err_and c.from_residual.result c.from_residual.ensures.1 in
+    rw (p.1, p.2)
+    (holds_served (fold_until g.S.Service.serves g.S.Service.refuses g.S.Service.done c.args.most) c.args.run.now
+    c.loop-at.run c.serve_some.new.run c.args.framer.now c.loop-at.framer c.args.bytes.now c.serve_some.new.framer.rest
+    c.loop-at.at _ _ c.in_err-at.field-0.0 c.loop-at.invariant.told c.in_err-at.ensures.came)

@@ -1,13 +1,17 @@
+use Rattle.std.proofs.Common.{inl}
 use Rattle.std.proofs.Common.{[], ◌∷◌, ◌-◌, ◌+◌, length, take, drop, refl, sym, ◌∙◌, arith, length-drop, length-take}
 use Rattle.std.proofs.lemmas.Result.{err_from_is_err_and}
+use Rattle.capn_words.specs.Watched.{inner_of, has_failed}
 use Rattle.capn_serve.specs.Fold.{fold_until}
+use Rattle.capn_serve.specs.Outgoing.{outgoing}
 use Rattle.capn_serve.proofs.Next.{frame_some, room_step, whole_memory, whole_more, whole_stop}
+use Rattle.capn_serve.proofs.Holding.{adds_fault}
 use Rattle.capn_serve.proofs.stream.serve_whole.Goals as goal
 
 -- ---- a message of one segment
 
-pub returns-in_err-add_message : goal.returns-in_err-add_message
-returns-in_err-add_message g c =
+pub returns-in_err-add_message-clause-served : goal.returns-in_err-add_message-clause-served
+returns-in_err-add_message-clause-served g c =
     let p = err_from_is_err_and c.from_residual.result c.from_residual.ensures.1 in
     rw (p.1, p.2)
     (whole_stop (fold_until g.S.Service.serves g.S.Service.refuses g.S.Service.done c.args.most) c.args.run.now
@@ -54,8 +58,8 @@ loop-at-preserved-in-Some g c =
 
 -- ---- a message of several segments
 
-pub returns-in_err-add_framed-in-Ok : goal.returns-in_err-add_framed-in-Ok
-returns-in_err-add_framed-in-Ok g c =
+pub returns-in_err-add_framed-in-Ok-clause-served : goal.returns-in_err-add_framed-in-Ok-clause-served
+returns-in_err-add_framed-in-Ok-clause-served g c =
     let p = err_from_is_err_and c.from_residual-in_err-add_framed-in-Ok.result
     c.from_residual-in_err-add_framed-in-Ok.ensures.1 in
     rw (p.1, p.2)
@@ -103,11 +107,42 @@ loop-at-preserved g c =
 
 -- ---- no message
 
-pub returns-in_err-pass-in-Err : goal.returns-in_err-pass-in-Err
-returns-in_err-pass-in-Err g c =
+pub returns-in_err-pass-in-Err-clause-served : goal.returns-in_err-pass-in-Err-clause-served
+returns-in_err-pass-in-Err-clause-served g c =
     let left = c.from_residual-in_err-pass-in-Err.ensures.1 in
     let p = err_from_is_err_and c.from_residual-in_err-pass-in-Err.result left in
     rw (p.1, p.2, c.in_err-pass-in-Err.ensures.1)
     (whole_memory (fold_until g.S.Service.serves g.S.Service.refuses g.S.Service.done c.args.most) c.args.run.now
     c.loop-at.run
     c.args.bytes.now c.loop-at.at _ _ _ c.loop-at.invariant.told c.loop-at.invariant.fine)
+
+-- ---- what is refused
+
+pub returns-in_err-add_message-clause-came : goal.returns-in_err-add_message-clause-came
+returns-in_err-add_message-clause-came g c =
+    let p = err_from_is_err_and c.from_residual.result c.from_residual.ensures.1 in
+    rw (p.1, p.2)
+    (adds_fault (fold_until g.S.Service.serves g.S.Service.refuses g.S.Service.done c.args.most) c.loop-at.run
+    (take c.in-Some.size (take (length c.args.bytes.now - c.loop-at.at) (drop c.loop-at.at c.args.bytes.now)))
+    (c.in-Some.message ∷ []) (outgoing (g.W.Write.contents (inner_of c.loop-at.writer)) c.loop-at.text.items)
+    (outgoing (g.W.Write.contents (inner_of c.add_message.new.writer)) c.add_message.new.text.items)
+    (has_failed c.add_message.new.writer) c.in_err-add_message.field-0.0 c.add_message.new.run
+    (c.in_err-add_message.ensures c.args.most))
+
+pub returns-in_err-add_framed-in-Ok-clause-came : goal.returns-in_err-add_framed-in-Ok-clause-came
+returns-in_err-add_framed-in-Ok-clause-came g c =
+    let p = err_from_is_err_and c.from_residual-in_err-add_framed-in-Ok.result
+    c.from_residual-in_err-add_framed-in-Ok.ensures.1 in
+    rw (p.1, p.2)
+    (adds_fault (fold_until g.S.Service.serves g.S.Service.refuses g.S.Service.done c.args.most) c.loop-at.run
+    (take c.in-Ok.taken (take (length c.args.bytes.now - c.loop-at.at) (drop c.loop-at.at c.args.bytes.now)))
+    c.in-Ok.message (outgoing (g.W.Write.contents (inner_of c.loop-at.writer)) c.loop-at.text.items)
+    (outgoing (g.W.Write.contents (inner_of c.add_framed.new.writer)) c.add_framed.new.text.items)
+    (has_failed c.add_framed.new.writer) c.in_err-add_framed-in-Ok.field-0.0 c.add_framed.new.run
+    (c.in_err-add_framed-in-Ok.ensures c.args.most))
+
+pub returns-in_err-pass-in-Err-clause-came : goal.returns-in_err-pass-in-Err-clause-came
+returns-in_err-pass-in-Err-clause-came g c =
+    let left = c.from_residual-in_err-pass-in-Err.ensures.1 in
+    let p = err_from_is_err_and c.from_residual-in_err-pass-in-Err.result left in
+    rw (p.1, p.2) (inl c.in_err-pass-in-Err.ensures.1)

@@ -1,11 +1,16 @@
-use Rattle.std.proofs.Common.{ap, inl, inr, length, List, ℕ}
-use Rattle.capn_stream.proofs.shared.Wanting.{unfinished_frame}
+use Rattle.std.proofs.Common.{◌≡◌, inl, inr, ℕ, List, [], ◌∷◌, length, ap, refl}
 use Rattle.capn_serve.proofs.stream_run.end_of_input.Goals as goal
 
-pub returns-in-Ok : goal.returns-in-Ok
-returns-in-Ok g c =
-    elim c.in-Ok.ensures.1 [
-      | inl none ↦ ap (λ (p : List ℕ). length p) none
-      | inr frame ↦
-          absurd (unfinished_frame c.args.framer.rest c.args.framer.most c.requires.part frame)
+none : (rest : List ℕ) → length rest ≡ 0 → rest ≡ []
+none [] is = refl
+none (b ∷ rest) is = absurd (cc)
+
+pub returns-then-is_empty : goal.returns-then-is_empty
+returns-then-is_empty g c = ap (λ (l : List ℕ). length l) (c.is_empty.ensures.0 c.if-is_empty.true)
+
+pub returns : goal.returns
+returns g c =
+    elim c.requires.part [
+      | inl empty ↦ absurd (let is = c.is_empty.ensures.1 (none _ empty) in let not = c.if-is_empty.false in cc)
+      | inr cut ↦ (cut, refl)
     ]

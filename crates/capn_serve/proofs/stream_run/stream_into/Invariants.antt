@@ -3,7 +3,7 @@ use Rattle.capn_words.specs.Watched.{inner_of, has_failed}
 use Rattle.capn_serve.specs.Fold.{fold_until}
 use Rattle.capn_serve.specs.ChunkRun.{IsListening}
 use Rattle.capn_serve.specs.StreamRun.{Hears}
-use Rattle.capn_serve.proofs.stream_run.run_stream.Given as goal
+use Rattle.capn_serve.proofs.stream_run.stream_into.Given as goal
 
 -- neither has failed, and the whole messages of the bytes so far are served
 abbrev pub invariant-chunks : goal.invariant-chunks

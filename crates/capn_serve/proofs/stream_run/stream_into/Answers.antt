@@ -13,7 +13,8 @@ use Rattle.capn_serve.proofs.More.{tells_none}
 use Rattle.capn_serve.proofs.Next.{empty_unfinished}
 use Rattle.capn_serve.proofs.RunEnds.{hears_more, room_heard, runs_done, runs_end, runs_long, runs_none}
 use Rattle.capn_serve.proofs.RunEnds.{runs_stopped, runs_unread}
-use Rattle.capn_serve.proofs.stream_run.run_stream.Goals as goal
+use Rattle.capn_serve.proofs.Stopped.{end_came, io_came, long_came, ok_came, stop_came}
+use Rattle.capn_serve.proofs.stream_run.stream_into.Goals as goal
 
 module _ {X : Type 0} (f : Fold X) (x : X) where
   -- before the first read
@@ -40,8 +41,8 @@ told_held : {X : Type 0} (f : Fold X) (x y : X) (stream rest held : List ℕ) (d
 told_held f x y stream rest held d e is told =
     subst (λ (l : List ℕ). Tells f x stream l (sent d) (sent e) y) (sym is) told
 
-pub returns-then-is_done : goal.returns-then-is_done
-returns-then-is_done g c =
+pub returns-then-is_done-clause-runs : goal.returns-then-is_done-clause-runs
+returns-then-is_done-clause-runs g c =
     runs_none (fold_until g.S.Service.serves g.S.Service.refuses g.S.Service.done c.args.most) c.args.run.now
     c.args.limit _ _ _ _ c.requires.reader_fine c.requires.writer_fine (sym c.is_done.ensures ∙ c.if-is_done.true)
 
@@ -51,16 +52,16 @@ chunks-init g c = record {
   writer = c.requires.writer_fine;
   listening = new_listening (fold_until g.S.Service.serves g.S.Service.refuses g.S.Service.done c.args.most)
       c.args.run.now
-      c.new-framer.result c.new-framer.ensures;
+      c.args.framer.now c.requires.new;
   going = sym c.is_done.ensures ∙ c.if-is_done.false;
   within = omega arith;
   heard = nothing_heard (fold_until g.S.Service.serves g.S.Service.refuses g.S.Service.done c.args.most) c.args.run.now
       (g.R.Read.remaining (inner_of c.args.reader.now)) (g.W.Write.contents (inner_of c.args.writer.now))
-      c.new-framer.result.rest (ap (λ (f : Framing). f.rest) c.new-framer.ensures);
+      c.args.framer.now.rest (ap (λ (f : Framing). f.rest) c.requires.new);
 }
 
-pub returns-in-Err : goal.returns-in-Err
-returns-in-Err g c =
+pub returns-in-Err-clause-runs : goal.returns-in-Err-clause-runs
+returns-in-Err-clause-runs g c =
     let i = c.chunks.invariant in
     runs_unread (fold_until g.S.Service.serves g.S.Service.refuses g.S.Service.done c.args.most) c.args.run.now
     c.args.limit c.chunks.run _
@@ -68,8 +69,8 @@ returns-in-Err g c =
     (subst (λ (m : ℕ). IsUnfinished c.chunks.framer.rest m) i.listening.most i.listening.part) i.going
     c.in-Err.ensures.bytes
 
-pub returns-in-Ok-eq0 : goal.returns-in-Ok-eq0
-returns-in-Ok-eq0 g c =
+pub returns-in-Ok-eq0-clause-runs : goal.returns-in-Ok-eq0-clause-runs
+returns-in-Ok-eq0-clause-runs g c =
     let i = c.chunks.invariant in
     let room = length-take (c.min-room.result + 1) c.chunks.buffer in
     let ends = subst (λ (m : ℕ). EndsInput c.chunks.run.at c.chunks.framer.rest m c.end_of_input.result)
@@ -92,8 +93,8 @@ serve_chunk-requires-clause-room g c =
     (omega (arith, i.within, c.min-within.ensures, c.ranges.limit)) in
     record { offset = omega (arith, room.offset, size); index = room.index }
 
-pub returns-in_err-serve_chunk-in-Ok : goal.returns-in_err-serve_chunk-in-Ok
-returns-in_err-serve_chunk-in-Ok g c =
+pub returns-in_err-serve_chunk-in-Ok-clause-runs : goal.returns-in_err-serve_chunk-in-Ok-clause-runs
+returns-in_err-serve_chunk-in-Ok-clause-runs g c =
     let i = c.chunks.invariant in
     let p = err_from_is_err_and c.from_residual.result c.from_residual.ensures.1 in
     let bound = c.in-Ok.ensures.bound in
@@ -107,14 +108,14 @@ returns-in_err-serve_chunk-in-Ok g c =
     (omega (arith, c.min-within.ensures)) (omega (arith, bound.0, room, c.min-room.ensures, i.within))
     (omega (arith, bound.0, room, c.min-room.ensures)) (omega (arith, c.in-Ok.count-test)) i.heard
     (subst (λ (m : ℕ). IsUnfinished c.chunks.framer.rest m) i.listening.most i.listening.part) i.going
-    c.in-Ok.ensures.bytes.0 bound.0 c.in_err-serve_chunk-in-Ok.ensures)
+    c.in-Ok.ensures.bytes.0 bound.0 c.in_err-serve_chunk-in-Ok.ensures.served)
 
-pub returns-then-within-count : goal.returns-then-within-count
-returns-then-within-count g c =
+pub returns-then-within-count-clause-runs : goal.returns-then-within-count-clause-runs
+returns-then-within-count-clause-runs g c =
     let i = c.chunks.invariant in
     let bound = c.in-Ok.ensures.bound in
     let room = length-take (c.min-room.result + 1) c.chunks.buffer in
-    let served = c.in_ok-serve_chunk-in-Ok.ensures in
+    let served = c.in_ok-serve_chunk-in-Ok.ensures.served in
     let on = sym c.is_done-in-Ok.ensures ∙ c.if-is_done-2.false in
     let kept = served.2 on in
     runs_long (fold_until g.S.Service.serves g.S.Service.refuses g.S.Service.done c.args.most) c.args.run.now
@@ -130,12 +131,12 @@ returns-then-within-count g c =
     (subst (λ (m : ℕ). IsUnfinished c.serve_chunk.new.framer.rest m) kept.1.most kept.1.part) on
 
 -- no more is served
-pub returns-then-is_done-2 : goal.returns-then-is_done-2
-returns-then-is_done-2 g c =
+pub returns-then-is_done-2-clause-runs : goal.returns-then-is_done-2-clause-runs
+returns-then-is_done-2-clause-runs g c =
     let i = c.chunks.invariant in
     let bound = c.in-Ok.ensures.bound in
     let room = length-take (c.min-room.result + 1) c.chunks.buffer in
-    let served = c.in_ok-serve_chunk-in-Ok.ensures in
+    let served = c.in_ok-serve_chunk-in-Ok.ensures.served in
     runs_done (fold_until g.S.Service.serves g.S.Service.refuses g.S.Service.done c.args.most) c.args.run.now
     c.args.limit c.chunks.run c.serve_chunk.new.run _ _ _ _ _ _ c.chunks.taken c.chunks.framer.rest served.0
     c.read.new.buf (drop (c.min-room.result + 1) c.chunks.buffer) c.min-within.result c.in-Ok.count _ _
@@ -149,7 +150,7 @@ pub chunks-preserved : goal.chunks-preserved
 chunks-preserved g c =
     let i = c.chunks.invariant in
     let bound = c.in-Ok.ensures.bound in
-    let served = c.in_ok-serve_chunk-in-Ok.ensures in
+    let served = c.in_ok-serve_chunk-in-Ok.ensures.served in
     let on = sym c.is_done-in-Ok.ensures ∙ c.if-is_done-2.false in
     let kept = served.2 on in
     record {
@@ -165,3 +166,45 @@ chunks-preserved g c =
           c.min-within.result c.in-Ok.count (omega (arith, c.min-within.ensures, c.if-within-count.false)) i.heard
           c.in-Ok.ensures.bytes.0 bound.0 (told_held _ _ _ _ _ _ _ _ kept.0 served.1);
     }
+
+-- ---- what came
+
+pub returns-then-is_done-clause-came : goal.returns-then-is_done-clause-came
+returns-then-is_done-clause-came g c = ok_came _
+
+pub returns-then-is_done-2-clause-came : goal.returns-then-is_done-2-clause-came
+returns-then-is_done-2-clause-came g c = ok_came _
+
+pub returns-in-Err-clause-came : goal.returns-in-Err-clause-came
+returns-in-Err-clause-came g c =
+    io_came (fold_until g.S.Service.serves g.S.Service.refuses g.S.Service.done c.args.most) c.args.run.now
+    c.args.limit _ _ _
+
+pub returns-then-within-count-clause-came : goal.returns-then-within-count-clause-came
+returns-then-within-count-clause-came g c =
+    long_came (fold_until g.S.Service.serves g.S.Service.refuses g.S.Service.done c.args.most) c.args.run.now
+    c.args.limit _ _ _
+
+pub returns-in-Ok-eq0-clause-came : goal.returns-in-Ok-eq0-clause-came
+returns-in-Ok-eq0-clause-came g c =
+    let i = c.chunks.invariant in
+    let room = length-take (c.min-room.result + 1) c.chunks.buffer in
+    let ends = subst (λ (m : ℕ). EndsInput c.chunks.run.at c.chunks.framer.rest m c.end_of_input.result)
+    i.listening.most c.end_of_input.ensures in
+    end_came (fold_until g.S.Service.serves g.S.Service.refuses g.S.Service.done c.args.most) c.args.run.now
+    c.args.limit
+    c.chunks.run _ _ _ _ _ c.chunks.taken c.chunks.framer.rest c.read.new.buf c.in-Ok-eq0.field-0
+    c.end_of_input.result i.within i.heard c.in-Ok-eq0.field-0-test c.in-Ok-eq0.ensures.bytes (omega arith) ends
+
+pub returns-in_err-serve_chunk-in-Ok-clause-came : goal.returns-in_err-serve_chunk-in-Ok-clause-came
+returns-in_err-serve_chunk-in-Ok-clause-came g c =
+    let i = c.chunks.invariant in
+    let p = err_from_is_err_and c.from_residual.result c.from_residual.ensures.1 in
+    let bound = c.in-Ok.ensures.bound in
+    rw (p.1, p.2)
+    (stop_came (fold_until g.S.Service.serves g.S.Service.refuses g.S.Service.done c.args.most) c.args.run.now
+    c.args.limit
+    c.chunks.run c.serve_chunk.new.run _ _ _ _ _ c.chunks.taken c.chunks.framer.rest c.serve_chunk.new.framer.rest
+    c.read.new.buf (drop (c.min-room.result + 1) c.chunks.buffer) c.min-within.result c.in-Ok.count
+    c.in_err-serve_chunk-in-Ok.field-0.0 i.within (omega (arith, c.min-within.ensures)) i.heard
+    c.in-Ok.ensures.bytes.0 bound.0 c.in_err-serve_chunk-in-Ok.ensures.came)

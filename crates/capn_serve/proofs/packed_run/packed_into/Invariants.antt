@@ -3,7 +3,7 @@ use Rattle.capn_words.specs.Watched.{inner_of, has_failed}
 use Rattle.capn_serve.specs.Fold.{fold_until}
 use Rattle.capn_serve.specs.ChunkRun.{HasRoom, IsListening}
 use Rattle.capn_serve.specs.PackedChunkRun.{HearsPacked, pending}
-use Rattle.capn_serve.proofs.packed_run.run_packed.Given as goal
+use Rattle.capn_serve.proofs.packed_run.packed_into.Given as goal
 
 -- neither has failed, and the whole messages in what the bytes so far unpack to are served
 abbrev pub invariant-chunks : goal.invariant-chunks

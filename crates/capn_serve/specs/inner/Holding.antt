@@ -1,0 +1,37 @@
+-- What is held of a message whose frame is refused within some bytes.
+use Rattle.std.specs.Prelude.{◌≡◌, ◌⊎◌, ℕ, List, [], ◌++◌}
+use Rattle.capn_pack.specs.PackedPieces as packing
+use Rattle.capn_pack.specs.declared.fault.UnpackFault.TheVariants as cuts
+use Rattle.capn_stream.specs.declared.fault.FrameFault.TheVariants as frames
+use Rattle.capn_canon.specs.declared.refusal.Refusal.TheVariants as refusals
+use Rattle.capn_serve.specs.declared.position.Position.{Position}
+use Rattle.capn_serve.specs.declared.fault.RunFault.{RunFault}
+use Rattle.capn_serve.specs.declared.fault.RunFault.TheVariants as faults
+use Rattle.capn_serve.specs.Fold.{Fold}
+use Rattle.capn_serve.specs.StreamRun.{taken_of}
+use Rattle.capn_serve.specs.PackedChunkRun.{Pending}
+use Rattle.capn_serve.specs.WhatCame.{HoldsTable, IsOwnRefusal}
+
+-- memory was refused, the writer failed, or a message was refused
+abbrev pub IsOfMessage : {X : Type 0} → Fold X → RunFault → Type 0
+IsOfMessage f fault = (fault ≡ faults.Memory) ⊎ ((fault ≡ faults.Io) ⊎ IsOwnRefusal f fault)
+
+-- it is no fault of the end of an input
+pub record IsWithin (fault : RunFault) : Type 0 where
+  pub frame : (at : Position) → fault ≡ faults.Refused at (refusals.Frame frames.Cut) → ⊥
+  pub group : (at : Position) (o : ℕ) → fault ≡ faults.Refused at (refusals.Packed (cuts.Cut o)) → ⊥
+
+module _ {X : Type 0} (f : Fold X) (x : X) where
+  -- a run that stopped within a stream with this fault holds the table that announces too many words
+  abbrev pub Holds : List ℕ → RunFault → List ℕ → X → Type 0
+  Holds stream fault came y = IsOwnRefusal f fault
+      ⊎ (IsWithin fault × ((at : Position) (n : ℕ)
+      → fault ≡ faults.Refused at (refusals.Frame (frames.TooManyWords n)) → HoldsTable f x stream n came y))
+
+  -- the same within packed bytes that come after what was held
+  abbrev pub HoldsPacked : Pending → List ℕ → RunFault → List ℕ → X → Type 0
+  HoldsPacked before bytes fault came y = IsOwnRefusal f fault
+      ⊎ (IsWithin fault × ((at : Position) (n : ℕ)
+      → fault ≡ faults.Refused at (refusals.Frame (frames.TooManyWords n)) → (stream : List ℕ)
+      × packing.Begins (before.group.rest ++ bytes) [] stream
+      × HoldsTable f x (before.rest ++ taken_of before.left stream) n came y))

@@ -1,0 +1,36 @@
+//! What is held of a packed stream.
+
+ghost use Rattle.std.specs.Prelude.{◌≡◌, ◌≤◌, [], false};
+ghost use Rattle.capn_words.specs.Message.{most_message_words};
+
+use capn_pack::Unpacker;
+use capn_stream::Framer;
+use std::alloc::Allocator;
+
+/// What is held of a packed stream between two of its slices.
+#[derive(Drop)]
+pub(crate) struct Packed<A: Allocator + Copy> {
+    /// Holds an unfinished group.
+    pub unpacker: Unpacker,
+    /// Holds an unfinished message.
+    pub framer: Framer<A>,
+    /// Room for what a slice unpacks to.
+    pub part: Vec<u8, A>,
+    /// How many more bytes are taken of what the stream unpacks to.
+    pub left: u64,
+}
+
+/// Before the first byte of a packed stream, of which at most `limit` unpacked bytes are taken. It takes no memory.
+pub(crate) fn new_packed<A: Allocator + Copy>(alloc: A, most: u32, limit: u64) -> Packed<A>
+    requires { most ≤ most_message_words }
+    ensures unpacker { result.unpacker ≡ record { rest = []; offset = 0; failed = false } }
+    ensures framer { result.framer ≡ record { rest = []; most = most; failed = false } }
+    ensures left { result.left ≡ limit }
+{
+    Packed {
+        unpacker: Unpacker::new(),
+        framer: Framer::new(alloc, most),
+        part: Vec::new(alloc),
+        left: limit,
+    }
+}
