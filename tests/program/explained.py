@@ -212,6 +212,9 @@ def fault_lines(fault, message_words):
     """The lines of a message that is refused before its walk."""
     text, index, offset = fault
     out = [f"message: {index} at {offset}\n", f"refused: {text}\n"]
+    for name, size in [("bare: NotWhole(", 1), ("bare: TooLong(", 8)]:
+        if text.startswith(name):
+            out.append(f"there: {size * int(text[len(name):-1])} bytes\n")
     for name, most in [("frame: TooManySegments(", model.MOST_SEGMENTS), ("frame: TooManyWords(", message_words)]:
         if text.startswith(name):
             out.append(f"announced: {text[len(name):-1]}, at most {most}\n")

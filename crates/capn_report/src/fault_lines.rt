@@ -8,7 +8,7 @@ use capn_canon::{FrameFault, Refusal};
 use capn_explain::{FrameKey, MessageHead};
 use capn_serve::{Position, RunFault};
 use capn_walk::Limits;
-use capn_words::MOST_SEGMENTS;
+use capn_words::{BareFault, MOST_SEGMENTS};
 use std::alloc::Allocator;
 
 /// The counts that a table announces, where they are too great.
@@ -26,12 +26,23 @@ fn frame_key(fault: FrameFault, most_words: u32) -> FrameKey
     }
 }
 
+/// The bytes that came of a bare input, by what is said of them.
+fn bare_key(fault: BareFault) -> FrameKey
+    ensures { result ≡ spec.bare_key fault }
+{
+    match fault {
+        BareFault::NotWhole(bytes) => FrameKey::There(bytes),
+        BareFault::TooLong(words) => FrameKey::There(words.saturating_mul(8)),
+    }
+}
+
 /// What is told of a refusal beside its name.
 fn key_of(refusal: &Refusal, most_words: u32) -> FrameKey
     ensures { result ≡ spec.key_of refusal.now most_words }
 {
     match refusal {
         Refusal::Frame(fault) => frame_key(*fault, most_words),
+        Refusal::Bare(fault) => bare_key(*fault),
         _ => FrameKey::Nothing,
     }
 }

@@ -213,7 +213,7 @@ fn explains_a_length(rt: HostRuntime) -> Result<(), Fail> {
         offset: 0,
     };
     let fault = RunFault::Refused(at, Refusal::Bare(BareFault::NotWhole(9)));
-    let lines = "message: 1 at 0\nrefused: bare: NotWhole(9)\n";
+    let lines = "message: 1 at 0\nrefused: bare: NotWhole(9)\nthere: 9 bytes\n";
     assert!(rt; nine.ending == Err(fault) && nine.text.as_slice() == lines.as_bytes());
     Ok(())
 }
