@@ -1,6 +1,7 @@
 pub mod inner
 pub mod Accounts
 pub mod Reports
+pub mod WhatCame
 pub mod FaultLines
 pub mod Finish
 pub mod ExplainRun

@@ -13,6 +13,7 @@ mod fault_lines;
 mod outcome;
 mod reporter;
 mod table;
+mod what_came;
 
 pub use account::Account;
 pub use explain::Explain;
