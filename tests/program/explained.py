@@ -143,8 +143,12 @@ class Explanation(model.Walk):
 
 
 def segments_line(segments):
-    """The line about the segments of a message, which has the sizes of the first eight where there are several."""
-    sizes = [len(segment) // 8 for segment in segments]
+    """The line about the segments of a message."""
+    return sizes_line([len(segment) // 8 for segment in segments])
+
+
+def sizes_line(sizes):
+    """The line about segments of these sizes, which has those of the first eight where there are several."""
     first = ", ".join(map(str, sizes[:8])) + (", .." if len(sizes) > 8 else "")
     return f"segments: {len(sizes)} of {sum(sizes)} words{': ' + first if len(sizes) > 1 else ''}\n"
 
@@ -208,16 +212,56 @@ def accepted_lines(walk, segments):
     return out
 
 
-def fault_lines(fault, message_words):
-    """The lines of a message that is refused before its walk."""
+def came(data, form, offset):
+    """What came of the message at an offset, which is refused before its walk, and of the group that is cut."""
+    if form != "packed":
+        return data[offset:], b""
+    words, group = model.unpacked(data)
+    return words[offset:], b"" if group is None else data[group:]
+
+
+def table_lines(rest):
+    """The line about the segments, if all sizes of a table came that has not too many."""
+    count = model.number(rest, 0, 4) + 1
+    if count > model.MOST_SEGMENTS or len(rest) < 4 + 4 * count:
+        return []
+    return [sizes_line([model.number(rest, 4 + 4 * at, 4) for at in range(count)])]
+
+
+def least(rest):
+    """The bytes of a frame, if those of its table that are missing are zeros."""
+    count = model.number(rest, 0, 4) + 1
+    sizes = [model.number(rest[:4 + 4 * count], at, 4) for at in range(4, len(rest), 4)]
+    return 8 * (1 + count // 2) + 8 * sum(sizes)
+
+
+def needed(group):
+    """The bytes that a group has at least: its tag, those that it names, and of two tags a count and as many words."""
+    size = 1 + bin(group[0]).count("1")
+    if group[0] not in (0, 255):
+        return size
+    return size + 1 + (8 * group[9] if group[0] == 255 and len(group) > 9 else 0)
+
+
+def fault_lines(fault, message_words, rest, group):
+    """The lines of a message that is refused before its walk, of which so much came."""
     text, index, offset = fault
-    out = [f"message: {index} at {offset}\n", f"refused: {text}\n"]
+    out = [f"message: {index} at {offset}\n"]
+    if not text.startswith("bare: "):
+        out += table_lines(rest)
+    out.append(f"refused: {text}\n")
     for name, size in [("bare: NotWhole(", 1), ("bare: TooLong(", 8)]:
         if text.startswith(name):
             out.append(f"there: {size * int(text[len(name):-1])} bytes\n")
     for name, most in [("frame: TooManySegments(", model.MOST_SEGMENTS), ("frame: TooManyWords(", message_words)]:
         if text.startswith(name):
             out.append(f"announced: {text[len(name):-1]}, at most {most}\n")
+    if text == "frame: Cut":
+        out.append(f"there: {len(rest)} bytes of at least {least(rest)}\n")
+    if text.startswith("packed: Cut at "):
+        at = text.removeprefix("packed: Cut at ")
+        out.append(f"group: byte {at} of the packed input, tag {group[0]:02x}: needs {needed(group)} bytes, "
+                   f"{len(group)} came\n")
     return out
 
 
@@ -237,7 +281,8 @@ def explain(data, form="stream", message_words=8388608, budget=8388608, depth=64
         if wanted or fault is None and len(found) == 1:
             return written(head + accepted_lines(walk, segments)), "", 0
     if fault is not None:
-        return written(fault_lines(fault, message_words)), model.line_of(fault), 1
+        lines = fault_lines(fault, message_words, *came(data, form, fault[2]))
+        return written(lines), model.line_of(fault), 1
     return written([f"{len(found)} messages{'' if wanted else ', none refused'}\n"]), "", 0
 
 

@@ -50,8 +50,9 @@ closing_refused text old new before after (Ok u) fault told is same fine some = 
 closing_refused text old new before after (Err e) fault told is same fine some = (some, inl (told ∙ is, same, fine))
 
 -- the lines of a fault are not empty
-pub fault_some : (limits : Bounds) (at : Position) (r : Refusal) → fault_lines limits at r ≢ []
-fault_some limits at r = λ h. absurd (omega (arith, ap length h))
+pub fault_some : (limits : Bounds) (at : Position) (r : Refusal) (rest group : List ℕ)
+    → fault_lines limits at r rest group ≢ []
+fault_some limits at r rest group = λ h. absurd (omega (arith, ap length h))
 
 -- ---- how a run ends
 

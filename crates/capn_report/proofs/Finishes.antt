@@ -11,13 +11,14 @@ use Rattle.capn_canon.specs.declared.refusal.Refusal.{Refusal}
 use Rattle.capn_serve.specs.declared.position.Position.{Position}
 use Rattle.capn_serve.specs.declared.fault.RunFault.{RunFault}
 use Rattle.capn_serve.specs.declared.fault.RunFault.TheVariants as faults
-use Rattle.capn_serve.specs.Fold.{Fold, texts_of}
+use Rattle.capn_serve.specs.Fold.{Fold, Leaves, texts_of}
 use Rattle.capn_serve.specs.StreamRun.{HasWrittenAll, IsAhead}
 use Rattle.capn_serve.specs.PackedRun.{HasWrittenAllPacked}
 use Rattle.capn_serve.specs.FormRun.{AreMessages, BeginsMessages, HasWritten, IsReadSoFar, MessagesEnd, ServesMessages}
 use Rattle.capn_serve.specs.FormRun.{most_stream}
+use Rattle.capn_serve.specs.WhatCame.{Came, TellsInput}
 use Rattle.capn_report.specs.Finish.{EndsAs, EndsForMemory, Finish, Finished, HasBegunClosing, HasClosing, fault_text}
-use Rattle.capn_report.specs.Finish.{last_ending, last_text}
+use Rattle.capn_report.specs.Finish.{TellsEnd, last_ending, last_text}
 use Rattle.capn_report.specs.inner.Closing.{PutsClosing, PutsFault}
 use Rattle.capn_report.proofs.Closings.{Ending, done_fine, io_is_not_memory, memory_is_not_io, refused_fine}
 use Rattle.capn_report.proofs.Closings.{stopped}
@@ -30,6 +31,20 @@ begun_text f x forms.Packed bytes c d (stream, begins, parts, rest, y, count, ar
     (take count (texts_of parts), wrote)
 begun_text f x forms.Bare bytes c d (inl wrote) = ([], wrote)
 begun_text f x forms.Bare bytes c d (inr (text, y, count, writes, wrote)) = (take count text, wrote)
+
+-- nothing had come
+nothing : Came
+nothing = record { rest = []; group = [] }
+
+-- what had come of a message after some others is told by the state after them, which the run left unless it is refused
+-- once it is whole
+tells_left : {X : Type 0} (f : Fold X) (x : X) (form : Form) (input : List ℕ) (fault : RunFault) (came : Came) (z y : X)
+    → Leaves f z fault y → TellsInput f x form input fault came y → TellsInput f x form input fault came z
+tells_left f x form input fault came z y (inl same) tells =
+    subst (TellsInput f x form input fault came) (sym same) tells
+tells_left f x forms.Stream input fault came z y (inr refuses) tells = inl (z, refuses)
+tells_left f x forms.Packed input fault came z y (inr refuses) tells = inl (z, refuses)
+tells_left f x forms.Bare input fault came z y (inr refuses) tells = tt
 
 -- what is written after something
 ahead_more : (P : List ℕ → Option (List ℕ) → Option (List ℕ) → Type 0) (bytes more : List ℕ)
@@ -58,14 +73,16 @@ module _ {X : Type 0} (f : Fold X) (x : X) (finish : Finish X) (form : Form) whe
   -- all texts of the messages of an input were written, and what comes after them, and the ending, are these
   abbrev pub Serves : Option (List ℕ) → Option (List ℕ) → Ending → List ℕ → Ending → List ℕ → Type 0
   Serves c m served last ending input =
-      (text : List ℕ) × (z : X) × AreMessages f x form input text served z × Appends c m text
-      × (last_text f x finish served z ≡ last) × (last_ending f x finish served z ≡ ending)
+      (text : List ℕ) × (z : X) × (came : Came) × (AreMessages f x form input text served z
+      × TellsEnd f x form input served came z) × Appends c m text
+      × (last_text f x finish served z came ≡ last) × (last_ending f x finish served z ≡ ending)
 
   -- the messages ended in a way after which something is written
   pub record IsOver (a b c m : Option (List ℕ)) (reader before : Bool) (served : Ending) (last : List ℕ)
       (ending : Ending) : Type 0 where
     pub state : X
-    pub same : last_text f x finish served state ≡ last
+    pub came : Came
+    pub same : last_text f x finish served state came ≡ last
     pub exact : IfSome a (Serves c m served last ending)
     pub begun : BeginsMessages f x form a b c m
     pub reader_fine : reader ≡ true → ⊥
@@ -78,7 +95,7 @@ module _ {X : Type 0} (f : Fold X) (x : X) (finish : Finish X) (form : Form) whe
   over_done_exact : (a c m : Option (List ℕ)) (y : X) → IfSome a (MessagesEnd f x form c m (Ok tt) y)
       → IfSome a (Serves c m (Ok tt) (finish.closing y) (finish.ending y))
   over_done_exact None c m y is = tt
-  over_done_exact (Some input) c m y (text, are, wrote) = (text, y, are, wrote, refl, refl)
+  over_done_exact (Some input) c m y (text, are, wrote) = (text, y, nothing, (are, tt), wrote, refl, refl)
 
   over_done_memory : (a c m : Option (List ℕ)) (y : X) → IfSome a (MessagesEnd f x form c m (Ok tt) y)
       → finish.ending y ≡ Err faults.Memory → EndsForMemory f x finish form a
@@ -90,6 +107,7 @@ module _ {X : Type 0} (f : Fold X) (x : X) (finish : Finish X) (form : Form) whe
       → IsOver a b c m reader before (Ok tt) (finish.closing y) (finish.ending y)
   over_done a b c m reader before y not_io run = record {
     state = y;
+    came = nothing;
     same = refl;
     exact = over_done_exact a c m y run.exact;
     begun = run.begun;
@@ -101,22 +119,26 @@ module _ {X : Type 0} (f : Fold X) (x : X) (finish : Finish X) (form : Form) whe
 
   -- ---- a refusal ended them
 
-  over_refused_exact : (a c m : Option (List ℕ)) (at : Position) (r : Refusal) (y : X)
+  over_refused_exact : (a c m : Option (List ℕ)) (at : Position) (r : Refusal) (y : X) (came : Came)
       → IfSome a (MessagesEnd f x form c m (Err (faults.Refused at r)) y)
-      → IfSome a (Serves c m (Err (faults.Refused at r)) (finish.told at r) (Err (faults.Refused at r)))
-  over_refused_exact None c m at r y is = tt
-  over_refused_exact (Some input) c m at r y (inl memory) = absurd (cc)
-  over_refused_exact (Some input) c m at r y (inr (inl io)) = absurd (cc)
-  over_refused_exact (Some input) c m at r y (inr (inr (text, z, are, wrote, leaves))) =
-      (text, z, are, wrote, refl, refl)
+      → IfSome a (λ input. TellsEnd f x form input (Err (faults.Refused at r)) came y)
+      → IfSome a (Serves c m (Err (faults.Refused at r)) (finish.told at r came) (Err (faults.Refused at r)))
+  over_refused_exact None c m at r y came is tells = tt
+  over_refused_exact (Some input) c m at r y came (inl memory) tells = absurd (cc)
+  over_refused_exact (Some input) c m at r y came (inr (inl io)) tells = absurd (cc)
+  over_refused_exact (Some input) c m at r y came (inr (inr (text, z, are, wrote, leaves))) tells =
+      let tells_z = tells_left f x form input (faults.Refused at r) came z y leaves tells in
+      (text, z, came, (are, tells_z), wrote, refl, refl)
 
-  over_refused : (a b c m : Option (List ℕ)) (reader before : Bool) (at : Position) (r : Refusal) (y : X)
+  over_refused : (a b c m : Option (List ℕ)) (reader before : Bool) (at : Position) (r : Refusal) (y : X) (came : Came)
       → ServesMessages f x form a b c m reader before (Err (faults.Refused at r)) y
-      → IsOver a b c m reader before (Err (faults.Refused at r)) (finish.told at r) (Err (faults.Refused at r))
-  over_refused a b c m reader before at r y run = record {
+      → IfSome a (λ input. TellsEnd f x form input (Err (faults.Refused at r)) came y)
+      → IsOver a b c m reader before (Err (faults.Refused at r)) (finish.told at r came) (Err (faults.Refused at r))
+  over_refused a b c m reader before at r y came run tells = record {
     state = y;
+    came = came;
     same = refl;
-    exact = over_refused_exact a c m at r y run.exact;
+    exact = over_refused_exact a c m at r y came run.exact tells;
     begun = run.begun;
     reader_fine = (refused_fine at r reader before run.io).0;
     writer_fine = (refused_fine at r reader before run.io).1;
@@ -126,20 +148,23 @@ module _ {X : Type 0} (f : Fold X) (x : X) (finish : Finish X) (form : Form) whe
 
   -- ---- a fault ended them after which nothing is written
 
-  stopped_exact : (e : RunFault) (y : X) (a c d : Option (List ℕ)) → fault_text finish.told e ≡ []
-      → IfSome a (MessagesEnd f x form c d (Err e) y) → IfSome a (EndsAs f x finish form c d (Err e))
-  stopped_exact e y None c d none is = tt
-  stopped_exact e y (Some input) c d none (inl memory) = inl (ap stopped memory)
-  stopped_exact e y (Some input) c d none (inr (inl io)) = inr (inl (ap stopped io))
-  stopped_exact e y (Some input) c d none (inr (inr (text, z, are, wrote, leaves))) =
+  stopped_exact : (e : RunFault) (y : X) (came : Came) (a c d : Option (List ℕ)) → fault_text finish.told e came ≡ []
+      → IfSome a (MessagesEnd f x form c d (Err e) y) → IfSome a (λ input. TellsEnd f x form input (Err e) came y)
+      → IfSome a (EndsAs f x finish form c d (Err e))
+  stopped_exact e y came None c d none is tells = tt
+  stopped_exact e y came (Some input) c d none (inl memory) tells = inl (ap stopped memory)
+  stopped_exact e y came (Some input) c d none (inr (inl io)) tells = inr (inl (ap stopped io))
+  stopped_exact e y came (Some input) c d none (inr (inr (text, z, are, wrote, leaves))) tells =
       let joined = sym (append-nil text) ∙ ap (λ (l : List ℕ). text ++ l) (sym none) in
-      inr (inr (text, (text, Err e, z, are, joined, refl), wrote))
+      let tells_z = tells_left f x form input e came z y leaves tells in
+      inr (inr (text, (text, Err e, z, came, are, tells_z, joined, refl), wrote))
 
-  finished_stopped : (a b c d : Option (List ℕ)) (reader writer : Bool) (e : RunFault) (y : X)
-      → fault_text finish.told e ≡ [] → ServesMessages f x form a b c d reader writer (Err e) y
+  finished_stopped : (a b c d : Option (List ℕ)) (reader writer : Bool) (e : RunFault) (y : X) (came : Came)
+      → fault_text finish.told e came ≡ [] → ServesMessages f x form a b c d reader writer (Err e) y
+      → IfSome a (λ input. TellsEnd f x form input (Err e) came y)
       → Finished f x finish form a b c d reader writer (Err e)
-  finished_stopped a b c d reader writer e y none run = record {
-    exact = stopped_exact e y a c d none run.exact;
+  finished_stopped a b c d reader writer e y came none run tells = record {
+    exact = stopped_exact e y came a c d none run.exact tells;
     io = run.io;
     begun = record {
       bytes = run.begun.bytes;
@@ -157,11 +182,12 @@ module _ {X : Type 0} (f : Fold X) (x : X) (finish : Finish X) (form : Form) whe
   written_exact : (a c m d : Option (List ℕ)) (served : Ending) (last : List ℕ) (ending : Ending)
       → IfSome a (Serves c m served last ending) → Appends m d last → IfSome a (EndsAs f x finish form c d ending)
   written_exact None c m d served last ending is wrote = tt
-  written_exact (Some input) c m d served last ending (text, z, are, before, same, ends) wrote = inr (inr (
-    text ++ last,
-    (text, served, z, are, ap (λ (l : List ℕ). text ++ l) (sym same), sym ends),
-    Appends-trans c m d text last before wrote,
-  ))
+  written_exact (Some input) c m d served last ending (text, z, came, (are, tells), before, same, ends) wrote =
+      inr (inr (
+        text ++ last,
+        (text, served, z, came, are, tells, ap (λ (l : List ℕ). text ++ l) (sym same), sym ends),
+        Appends-trans c m d text last before wrote,
+      ))
 
   memory_exact : (a c d : Option (List ℕ)) → IfSome a (EndsAs f x finish form c d (Err faults.Memory))
   memory_exact None c d = tt
@@ -173,9 +199,10 @@ module _ {X : Type 0} (f : Fold X) (x : X) (finish : Finish X) (form : Form) whe
 
   module _ (a b c m : Option (List ℕ)) (reader before : Bool) (served : Ending) (last : List ℕ) (ending : Ending)
       (over : IsOver a b c m reader before served last ending) where
-    closing_text : (z : X) (d : Option (List ℕ)) (text : List ℕ) → last_text f x finish served z ≡ last
-        → HasBegun c d (text ++ last) → HasBegun c d (text ++ last_text f x finish served z)
-    closing_text z d text same begun = subst (λ (l : List ℕ). HasBegun c d (text ++ l)) (sym same) begun
+    closing_text : (z : X) (came : Came) (d : Option (List ℕ)) (text : List ℕ)
+        → last_text f x finish served z came ≡ last → HasBegun c d (text ++ last)
+        → HasBegun c d (text ++ last_text f x finish served z came)
+    closing_text z came d text same begun = subst (λ (l : List ℕ). HasBegun c d (text ++ l)) (sym same) begun
 
     begins_by : (input : Option (List ℕ)) (d : Option (List ℕ)) → IfSome input (Serves c m served last ending)
         → HasBegun m d last → HasBegunClosing f x finish form input c d
@@ -184,23 +211,25 @@ module _ {X : Type 0} (f : Fold X) (x : X) (finish : Finish X) (form : Form) whe
           text,
           served,
           over.state,
+          over.came,
           tt,
-          closing_text over.state d text over.same (begun_after c m d text last count first wrote),
+          closing_text over.state over.came d text over.same (begun_after c m d text last count first wrote),
         )
-    begins_by (Some bytes) d (text, z, are, first, same, ends) (count, wrote) = (
+    begins_by (Some bytes) d (text, z, came, are, first, same, ends) (count, wrote) = (
       text,
       served,
       z,
+      came,
       are,
-      closing_text z d text same (begun_after c m d text last count first wrote),
+      closing_text z came d text same (begun_after c m d text last count first wrote),
     )
 
     -- something is written at the end
     closes_by : (input : Option (List ℕ)) → IfSome input (Serves c m served last ending) → last ≢ []
         → HasClosing f x finish form input
-    closes_by None is some = (served, over.state, tt, λ h. some (sym over.same ∙ h))
-    closes_by (Some bytes) (text, z, are, first, same, ends) some =
-        (served, z, (text, are), λ h. some (sym same ∙ h))
+    closes_by None is some = (served, over.state, over.came, tt, λ h. some (sym over.same ∙ h))
+    closes_by (Some bytes) (text, z, came, are, first, same, ends) some =
+        (served, z, came, (text, are.0, are.1), λ h. some (sym same ∙ h))
 
     neither : (after : Bool) → after ≡ before → (reader ≡ true) ⊎ (after ≡ true) → ⊥
     neither after fine (inl failed) = over.reader_fine failed
@@ -289,38 +318,45 @@ module _ {X : Type 0} (f : Fold X) (x : X) (finish : Finish X) (form : Form) (a 
       finished_unwritten f x finish form a b c m reader before (Ok tt) (finish.closing y)
       (finish.ending y) (over_done f x finish form a b c m reader before y not_io run) d after fault put
 
-  still : (d : Option (List ℕ)) (after : Bool) (e : RunFault) → fault_text finish.told e ≡ [] → d ≡ m
-      → after ≡ before → ServesMessages f x form a b c m reader before (Err e) y
-      → Finished f x finish form a b c d reader after (Err e)
-  still d after e none same fine run =
-      subst (λ (w : Bool). Finished f x finish form a b c d reader w (Err e)) (sym fine)
-      (subst (λ (n : Option (List ℕ)). Finished f x finish form a b c n reader before (Err e)) (sym same)
-      (finished_stopped f x finish form a b c m reader before e y none run))
+  module _ (came : Came) where
+    still : (d : Option (List ℕ)) (after : Bool) (e : RunFault) → fault_text finish.told e came ≡ [] → d ≡ m
+        → after ≡ before → ServesMessages f x form a b c m reader before (Err e) y
+        → IfSome a (λ input. TellsEnd f x form input (Err e) came y)
+        → Finished f x finish form a b c d reader after (Err e)
+    still d after e none same fine run tells =
+        subst (λ (w : Bool). Finished f x finish form a b c d reader w (Err e)) (sym fine)
+        (subst (λ (n : Option (List ℕ)). Finished f x finish form a b c n reader before (Err e)) (sym same)
+        (finished_stopped f x finish form a b c m reader before e y came none run tells))
 
-  -- a fault ended them, and its lines were written, if it has some
-  pub finished_told : (d : Option (List ℕ)) (after : Bool) (e : RunFault)
-      → ServesMessages f x form a b c m reader before (Err e) y
-      → PutsFault finish.told e m d before after (Ok tt)
-      → Finished f x finish form a b c d reader after (Err e)
-  finished_told d after (faults.Refused at r) run (wrote, fine) =
-      finished_written f x finish form a b c m reader before (Err (faults.Refused at r)) (finish.told at r)
-      (Err (faults.Refused at r)) (over_refused f x finish form a b c m reader before at r y run) d after wrote fine
-  finished_told d after faults.Memory run (done, same, fine) = still d after faults.Memory refl same fine run
-  finished_told d after faults.Io run (done, same, fine) = still d after faults.Io refl same fine run
-  finished_told d after faults.InputTooLong run (done, same, fine) =
-      still d after faults.InputTooLong refl same fine run
+    -- a fault ended them, and its lines were written, if it has some
+    pub finished_told : (d : Option (List ℕ)) (after : Bool) (e : RunFault)
+        → ServesMessages f x form a b c m reader before (Err e) y
+        → IfSome a (λ input. TellsEnd f x form input (Err e) came y)
+        → PutsFault (λ at r. finish.told at r came) e m d before after (Ok tt)
+        → Finished f x finish form a b c d reader after (Err e)
+    finished_told d after (faults.Refused at r) run tells (wrote, fine) =
+        finished_written f x finish form a b c m reader before (Err (faults.Refused at r)) (finish.told at r came)
+        (Err (faults.Refused at r)) (over_refused f x finish form a b c m reader before at r y came run tells) d after
+        wrote fine
+    finished_told d after faults.Memory run tells (done, same, fine) =
+        still d after faults.Memory refl same fine run tells
+    finished_told d after faults.Io run tells (done, same, fine) = still d after faults.Io refl same fine run tells
+    finished_told d after faults.InputTooLong run tells (done, same, fine) =
+        still d after faults.InputTooLong refl same fine run tells
 
-  -- or they were not written
-  pub finished_untold : (d : Option (List ℕ)) (after : Bool) (e fault : RunFault)
-      → ServesMessages f x form a b c m reader before (Err e) y
-      → PutsFault finish.told e m d before after (Err fault)
-      → Finished f x finish form a b c d reader after (Err fault)
-  finished_untold d after (faults.Refused at r) fault run put =
-      finished_unwritten f x finish form a b c m reader before (Err (faults.Refused at r)) (finish.told at r)
-      (Err (faults.Refused at r)) (over_refused f x finish form a b c m reader before at r y run) d after fault put
-  finished_untold d after faults.Memory fault run (done, same, fine) = absurd (cc)
-  finished_untold d after faults.Io fault run (done, same, fine) = absurd (cc)
-  finished_untold d after faults.InputTooLong fault run (done, same, fine) = absurd (cc)
+    -- or they were not written
+    pub finished_untold : (d : Option (List ℕ)) (after : Bool) (e fault : RunFault)
+        → ServesMessages f x form a b c m reader before (Err e) y
+        → IfSome a (λ input. TellsEnd f x form input (Err e) came y)
+        → PutsFault (λ at r. finish.told at r came) e m d before after (Err fault)
+        → Finished f x finish form a b c d reader after (Err fault)
+    finished_untold d after (faults.Refused at r) fault run tells put =
+        finished_unwritten f x finish form a b c m reader before (Err (faults.Refused at r)) (finish.told at r came)
+        (Err (faults.Refused at r)) (over_refused f x finish form a b c m reader before at r y came run tells) d after
+        fault put
+    finished_untold d after faults.Memory fault run tells (done, same, fine) = absurd (cc)
+    finished_untold d after faults.Io fault run tells (done, same, fine) = absurd (cc)
+    finished_untold d after faults.InputTooLong fault run tells (done, same, fine) = absurd (cc)
 
 module _ {X : Type 0} where
   -- the messages were served that an order says, from the state before the first
@@ -331,3 +367,12 @@ module _ {X : Type 0} where
   of_order fold form words most first x same fresh a b c d reader writer r y ran =
       subst (λ (z : X). ServesMessages (fold words) z form a b c d reader writer r y) fresh
       (subst (λ (n : ℕ). ServesMessages (fold n) x form a b c d reader writer r y) same ran)
+
+  -- so is what had come
+  pub told_of_order : (fold : ℕ → Fold X) (form : Form) (words most : ℕ) (first x : X) → most ≡ words → x ≡ first
+      → (a : Option (List ℕ)) (r : Ending) (came : Came) (y : X)
+      → IfSome a (λ input. TellsEnd (fold most) x form input r came y)
+      → IfSome a (λ input. TellsEnd (fold words) first form input r came y)
+  told_of_order fold form words most first x same fresh a r came y tells =
+      subst (λ (z : X). IfSome a (λ input. TellsEnd (fold words) z form input r came y)) fresh
+      (subst (λ (n : ℕ). IfSome a (λ input. TellsEnd (fold n) x form input r came y)) same tells)

@@ -10,6 +10,7 @@ use Rattle.capn_serve.specs.declared.position.Position.{Position}
 use Rattle.capn_serve.specs.declared.service.Run.{Run}
 use Rattle.capn_serve.specs.Fold.{Fold, fold_until}
 use Rattle.capn_serve.specs.StreamRun.{start}
+use Rattle.capn_serve.specs.WhatCame.{Came}
 use Rattle.capn_explain.specs.MessageTexts.{count_text}
 use Rattle.capn_explain.specs.declared.count_text.CountText.{CountText}
 use Rattle.capn_explain.specs.declared.count_text.CountText.TheVariants as counts
@@ -71,16 +72,16 @@ ending_by outcomes.Accepted number first = Ok tt
 abbrev pub ending : Run Reporting → Result (Unit {0}) RunFault
 ending run = ending_by run.service.outcome run.service.order.number run.service.first
 
--- what is written of a message that is refused before its walk
-abbrev pub told_at : Explain → Position → Refusal → List ℕ
-told_at order at refusal = fault_lines order.limits at refusal
+-- what is written of a message that is refused before its walk, by what had come of it
+abbrev pub told_at : Explain → Position → Refusal → Came → List ℕ
+told_at order at refusal came = fault_lines order.limits at refusal came.rest came.group
 
 -- what a run does after its messages
 abbrev pub explain_finish : Explain → Finish (Run Reporting)
 explain_finish order = record {
   closing = λ y. closing y;
   ending = λ y. ending y;
-  told = λ at r. told_at order at r;
+  told = λ at r came. told_at order at r came;
 }
 
 -- what a run did, over a reader (from a to b) and a writer (from c to d)

@@ -1,6 +1,7 @@
 -- A run over an input that explains one of its messages: the text of its input, how it ends, and what was written
 -- whatever it answers. (Own.)
 use Rattle.std.specs.Prelude.{◌≡◌, ◌≢◌, ◌⊎◌, ◌↔◌, ℕ, List, [], ◌++◌, Bool, true, Option, IfSome, Result, Ok, Err}
+use Rattle.std.specs.Prelude.{IfErr}
 use Rattle.std.specs.Io.KnownBytes.{Consumes, Appends}
 use Rattle.capn_words.specs.Watched.{HasBegun}
 use Rattle.capn_canon.specs.declared.form.Form.{Form}
@@ -11,26 +12,32 @@ use Rattle.capn_serve.specs.declared.fault.RunFault.TheVariants as faults
 use Rattle.capn_serve.specs.Fold.{Fold}
 use Rattle.capn_serve.specs.FormRun.{AreMessages, HasWritten, IsNeededSoFar, IsReadSoFar, KeepsUp}
 use Rattle.capn_serve.specs.FormRun.{MayNeedMemory}
+use Rattle.capn_serve.specs.WhatCame.{Came, TellsInput}
 
--- what is written where a fault ended the messages: the lines of a refusal, else nothing
-abbrev pub fault_text : (Position → Refusal → List ℕ) → RunFault → List ℕ
-fault_text told (faults.Refused at r) = told at r
-fault_text told faults.Memory = []
-fault_text told faults.Io = []
-fault_text told faults.InputTooLong = []
+-- what is written where a fault ended the messages: the lines of a refusal, by what had come, else nothing
+abbrev pub fault_text : (Position → Refusal → Came → List ℕ) → RunFault → Came → List ℕ
+fault_text told (faults.Refused at r) came = told at r came
+fault_text told faults.Memory came = []
+fault_text told faults.Io came = []
+fault_text told faults.InputTooLong came = []
 
 -- what a run does after its messages: the text that it writes by its state, and how it ends then; or the lines of a
--- refusal that ended them
+-- refusal that ended them, by what had come of the message
 pub record Finish (X : Type 0) : Type 0 where
   pub closing : X → List ℕ
   pub ending : X → Result (Unit {0}) RunFault
-  pub told : Position → Refusal → List ℕ
+  pub told : Position → Refusal → Came → List ℕ
+
+-- what had come of the message whose refusal ended the messages of an input, in the state after them; where they ended
+-- as done, anything
+abbrev pub TellsEnd : {X : Type 0} → Fold X → X → Form → List ℕ → Result (Unit {0}) RunFault → Came → X → Type 0
+TellsEnd f x form input served came y = IfErr served (λ fault. TellsInput f x form input fault came y)
 
 module _ {X : Type 0} (f : Fold X) (x : X) (finish : Finish X) where
   -- what is written after the messages, by how they ended
-  abbrev pub last_text : Result (Unit {0}) RunFault → X → List ℕ
-  last_text (Ok u) y = finish.closing y
-  last_text (Err fault) y = fault_text finish.told fault
+  abbrev pub last_text : Result (Unit {0}) RunFault → X → Came → List ℕ
+  last_text (Ok u) y came = finish.closing y
+  last_text (Err fault) y came = fault_text finish.told fault came
 
   -- how a run ends whose messages ended so
   abbrev pub last_ending : Result (Unit {0}) RunFault → X → Result (Unit {0}) RunFault
@@ -40,9 +47,9 @@ module _ {X : Type 0} (f : Fold X) (x : X) (finish : Finish X) where
   -- the whole text of an input, and how a run over it ends
   abbrev pub IsWholeText : Form → List ℕ → List ℕ → Result (Unit {0}) RunFault → Type 0
   IsWholeText form input text ending =
-      (messages : List ℕ) × (served : Result (Unit {0}) RunFault) × (y : X)
-      × AreMessages f x form input messages served y × (text ≡ messages ++ last_text served y)
-      × (ending ≡ last_ending served y)
+      (messages : List ℕ) × (served : Result (Unit {0}) RunFault) × (y : X) × (came : Came)
+      × AreMessages f x form input messages served y × TellsEnd f x form input served came y
+      × (text ≡ messages ++ last_text served y came) × (ending ≡ last_ending served y)
 
   -- a run has written the text of its input and ended as that does; or memory was refused, or the reader or the writer
   -- failed
@@ -52,18 +59,18 @@ module _ {X : Type 0} (f : Fold X) (x : X) (finish : Finish X) where
       ⊎ ((r ≡ Err faults.Io) ⊎ ((text : List ℕ) × IsWholeText form input text r × Appends old new text))
 
   -- the messages of an input were served, and a beginning of their text and of what is written after them was written;
-  -- how they end, and the state after them, is not known of an input that is not known
+  -- how they end, the state after them, and what had come is not known of an input that is not known
   abbrev pub HasBegunClosing : Form → Option (List ℕ) → Option (List ℕ) → Option (List ℕ) → Type 0
   HasBegunClosing form input old new =
-      (messages : List ℕ) × (served : Result (Unit {0}) RunFault) × (y : X)
-      × IfSome input (λ bytes. AreMessages f x form bytes messages served y)
-      × HasBegun old new (messages ++ last_text served y)
+      (messages : List ℕ) × (served : Result (Unit {0}) RunFault) × (y : X) × (came : Came)
+      × IfSome input (λ bytes. AreMessages f x form bytes messages served y × TellsEnd f x form bytes served came y)
+      × HasBegun old new (messages ++ last_text served y came)
 
   -- the messages of an input were served, and something is written after them
   abbrev pub HasClosing : Form → Option (List ℕ) → Type 0
-  HasClosing form input = (served : Result (Unit {0}) RunFault) × (y : X)
-      × IfSome input (λ bytes. (messages : List ℕ) × AreMessages f x form bytes messages served y)
-      × (last_text served y ≢ [])
+  HasClosing form input = (served : Result (Unit {0}) RunFault) × (y : X) × (came : Came)
+      × IfSome input (λ bytes. (messages : List ℕ) × AreMessages f x form bytes messages served y
+      × TellsEnd f x form bytes served came y) × (last_text served y came ≢ [])
 
   -- the messages of an input were served as done, and the state after them ends the run for memory
   abbrev pub EndsForMemory : Form → Option (List ℕ) → Type 0

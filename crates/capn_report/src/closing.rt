@@ -15,7 +15,7 @@ use crate::outcome::Outcome;
 use crate::reporter::Reporter;
 use capn_canon::Refusal;
 use capn_explain::CountText;
-use capn_serve::{Position, Run, RunFault, write_all};
+use capn_serve::{Begun, Position, Run, RunFault, write_all};
 use capn_words::{Memory, Watched};
 use std::alloc::Allocator;
 use std::io::Write;
@@ -131,35 +131,39 @@ pub(crate) fn write_closing<W: Write, B: Allocator, A: Allocator + Copy>(
     }
 }
 
-/// Writes the lines of a refusal that ended the loop over the messages.
-fn write_refusal<W: Write, A: Allocator + Copy>(
+/// Writes the lines of a refusal that ended the loop over the messages, by what had come of the message.
+fn write_refusal<W: Write, B: Allocator + Copy, A: Allocator + Copy>(
     alloc: A,
     order: &Explain,
     at: Position,
     refusal: &Refusal,
+    begun: &Begun<B>,
     writer: &mut Watched<W>,
 ) -> Result<(), RunFault>
     requires { has_failed writer.old ≡ false }
-    ensures { PutsClosing (spec.told_at order.now at refusal.now) (W.contents (inner_of writer.old))
+    ensures { PutsClosing (spec.told_at order.now at refusal.now begun.now) (W.contents (inner_of writer.old))
         (W.contents (inner_of writer.new)) (has_failed writer.old) (has_failed writer.new) result }
 {
-    let lines = fault_lines(alloc, order.limits, at, refusal)?;
+    let rest = begun.message();
+    let group = begun.group();
+    let lines = fault_lines(alloc, order.limits, at, refusal, rest, group)?;
     write_all(writer, lines.as_bytes())
 }
 
 /// Writes what is written where a fault ended the loop over the messages.
-pub(crate) fn write_fault<W: Write, A: Allocator + Copy>(
+pub(crate) fn write_fault<W: Write, B: Allocator + Copy, A: Allocator + Copy>(
     alloc: A,
     order: &Explain,
     fault: RunFault,
+    begun: &Begun<B>,
     writer: &mut Watched<W>,
 ) -> Result<(), RunFault>
     requires { IsFineIfTold fault (has_failed writer.old) }
-    ensures { PutsFault (spec.told_at order.now) fault (W.contents (inner_of writer.old))
+    ensures { PutsFault (λ at r. spec.told_at order.now at r begun.now) fault (W.contents (inner_of writer.old))
         (W.contents (inner_of writer.new)) (has_failed writer.old) (has_failed writer.new) result }
 {
     match fault {
         RunFault::Memory | RunFault::Io | RunFault::InputTooLong => Ok(()),
-        RunFault::Refused(at, refusal) => write_refusal(alloc, order, at, &refusal, writer),
+        RunFault::Refused(at, refusal) => write_refusal(alloc, order, at, &refusal, begun, writer),
     }
 }

@@ -1,15 +1,16 @@
 //! A run that explains one message of an input.
 
-ghost use Rattle.std.specs.Prelude.{◌≡◌, false};
+ghost use Rattle.std.specs.Prelude.{◌≡◌, false, IfSome};
 ghost use Rattle.capn_words.specs.Watched.{inner_of, has_failed};
 ghost use Rattle.capn_report.specs.ExplainRun as spec;
 ghost use Rattle.capn_report.specs.ExplainRun.{Explained};
+ghost use Rattle.capn_report.specs.Finish.{TellsEnd};
 ghost use Rattle.capn_serve.specs.FormRun.{ServesMessages};
 
 use crate::closing::{ending_of, write_closing, write_fault};
 use crate::explain::Explain;
 use crate::reporter::Reporter;
-use capn_serve::{Run, RunFault, serve_form};
+use capn_serve::{Begun, Run, RunFault, serve_form_with};
 use capn_words::Watched;
 use std::alloc::Allocator;
 use std::io::{Read, Write};
@@ -21,24 +22,27 @@ fn first_run<A: Allocator>(alloc: A, order: Explain) -> Run<Reporter<A>>
     Run::new(Reporter::new(alloc, order))
 }
 
-/// Serves the messages of an input in its form.
+/// Serves the messages of an input in its form, and keeps what had come of one that is refused before its walk.
 fn serve_messages<R: Read, W: Write, A: Allocator + Copy>(
     alloc: A,
     order: &Explain,
     run: &mut Run<Reporter<A>>,
+    begun: &mut Begun<A>,
     reader: &mut Watched<R>,
     writer: &mut Watched<W>,
 ) -> Result<(), RunFault>
     requires fresh { run.old ≡ spec.first_run order.now }
     requires reader_fine { has_failed reader.old ≡ false }
     requires writer_fine { has_failed writer.old ≡ false }
-    ensures { ServesMessages (spec.explain_fold order.now) (spec.first_run order.now) order.now.form
+    ensures serves { ServesMessages (spec.explain_fold order.now) (spec.first_run order.now) order.now.form
         (R.remaining (inner_of reader.old)) (R.remaining (inner_of reader.new))
         (W.contents (inner_of writer.old)) (W.contents (inner_of writer.new)) (has_failed reader.new)
         (has_failed writer.new) result run.new }
+    ensures begun { IfSome (R.remaining (inner_of reader.old)) (λ input. TellsEnd (spec.explain_fold order.now)
+        (spec.first_run order.now) order.now.form input result begun.new run.new) }
 {
     let most = order.limits.message_words();
-    serve_form(alloc, order.form, most, run, reader, writer)
+    serve_form_with(alloc, order.form, most, run, begun, reader, writer)
 }
 
 /// Explains one message of an input: the first that is refused, or the one of a number.
@@ -67,12 +71,13 @@ pub fn run_explain<R: Read, W: Write, A: Allocator + Copy>(
         (has_failed writer.new) result }
 {
     let mut run = first_run(alloc, order);
-    match serve_messages(alloc, &order, &mut run, reader, writer) {
+    let mut begun = Begun::new(alloc);
+    match serve_messages(alloc, &order, &mut run, &mut begun, reader, writer) {
         Ok(()) => match write_closing(alloc, &run, writer) {
             Ok(()) => ending_of(&run),
             Err(fault) => Err(fault),
         },
-        Err(stopped) => match write_fault(alloc, &order, stopped, writer) {
+        Err(stopped) => match write_fault(alloc, &order, stopped, &begun, writer) {
             Ok(()) => Err(stopped),
             Err(fault) => Err(fault),
         },

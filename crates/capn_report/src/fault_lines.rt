@@ -4,23 +4,36 @@ ghost use Rattle.std.specs.Prelude.{◌≡◌, IfOk, IfErr, string_bytes};
 ghost use Rattle.capn_serve.specs.declared.fault.RunFault.TheVariants as faults;
 ghost use Rattle.capn_report.specs.FaultLines as spec;
 
+use crate::what_came::{group, segments, there};
 use capn_canon::{FrameFault, Refusal};
-use capn_explain::{FrameKey, MessageHead};
+use capn_explain::{FrameKey, MessageHead, SegmentsText};
+use capn_pack::UnpackFault;
 use capn_serve::{Position, RunFault};
 use capn_walk::Limits;
 use capn_words::{BareFault, MOST_SEGMENTS};
 use std::alloc::Allocator;
 
-/// The counts that a table announces, where they are too great.
-fn frame_key(fault: FrameFault, most_words: u32) -> FrameKey
-    ensures { result ≡ spec.frame_key fault most_words }
+/// The counts that a table announces, where they are too great; or how much came of a frame that is cut.
+fn frame_key(fault: FrameFault, most_words: u32, rest: &[u8]) -> FrameKey
+    ensures { result ≡ spec.frame_key fault most_words rest.now }
 {
     match fault {
         FrameFault::TooManySegments(count) => {
             FrameKey::Announced(count, u64::from(MOST_SEGMENTS))
         }
         FrameFault::TooManyWords(count) => FrameKey::Announced(count, u64::from(most_words)),
-        FrameFault::Memory | FrameFault::Empty | FrameFault::Cut | FrameFault::Failed => {
+        FrameFault::Cut => there(rest),
+        FrameFault::Memory | FrameFault::Empty | FrameFault::Failed => FrameKey::Nothing,
+    }
+}
+
+/// What came of a group that is cut.
+fn packed_key(fault: UnpackFault, came: &[u8]) -> FrameKey
+    ensures { result ≡ spec.packed_key fault came.now }
+{
+    match fault {
+        UnpackFault::Cut { at } => group(at, came),
+        UnpackFault::Memory | UnpackFault::TooLong { .. } | UnpackFault::Failed => {
             FrameKey::Nothing
         }
     }
@@ -36,33 +49,47 @@ fn bare_key(fault: BareFault) -> FrameKey
     }
 }
 
-/// What is told of a refusal beside its name.
-fn key_of(refusal: &Refusal, most_words: u32) -> FrameKey
-    ensures { result ≡ spec.key_of refusal.now most_words }
+/// What is told of a refusal beside its name, where this came of the message and of a group.
+fn key_of(refusal: &Refusal, most_words: u32, rest: &[u8], came: &[u8]) -> FrameKey
+    ensures { result ≡ spec.key_of refusal.now most_words rest.now came.now }
 {
     match refusal {
-        Refusal::Frame(fault) => frame_key(*fault, most_words),
+        Refusal::Frame(fault) => frame_key(*fault, most_words, rest),
+        Refusal::Packed(fault) => packed_key(*fault, came),
         Refusal::Bare(fault) => bare_key(*fault),
         _ => FrameKey::Nothing,
     }
 }
 
-/// The lines of a message at a position that is refused before its walk.
+/// The segments of a message in a frame, where their sizes came.
+fn segments_at(refusal: &Refusal, rest: &[u8]) -> Option<SegmentsText>
+    ensures { result ≡ spec.segments_at refusal.now rest.now }
+{
+    match refusal {
+        Refusal::Frame(_) | Refusal::Packed(_) => segments(rest),
+        _ => None,
+    }
+}
+
+/// The lines of a message at a position that is refused before its walk, where this came of it and of a group.
 pub(crate) fn fault_lines<A: Allocator>(
     alloc: A,
     limits: Limits,
     at: Position,
     refusal: &Refusal,
+    rest: &[u8],
+    came: &[u8],
 ) -> Result<String<A>, RunFault>
-    ensures found { IfOk result (λ lines. string_bytes lines ≡ spec.fault_lines limits at refusal.now) }
+    ensures found { IfOk result (λ lines.
+        string_bytes lines ≡ spec.fault_lines limits at refusal.now rest.now came.now) }
     ensures only { IfErr result (λ e. e ≡ faults.Memory) }
 {
     let head = MessageHead {
         index: at.index,
         offset: at.offset,
-        segments: None,
+        segments: segments_at(refusal, rest),
     };
-    let key = key_of(refusal, limits.message_words());
+    let key = key_of(refusal, limits.message_words(), rest, came);
     match format!(in alloc; "{head}refused: {refusal}\n{key}") {
         Ok(lines) => Ok(lines),
         Err(_) => Err(RunFault::Memory),

@@ -175,7 +175,10 @@ fn explains_packed_messages(rt: HostRuntime) -> Result<(), Fail> {
     assert!(rt; second.ending == Err(out_of_range(1, 16)));
     assert!(rt; second.text.as_slice() == SECOND.as_bytes());
     let cut = explained(rt.alloc(), Form::Packed, None, &packed[..5]);
-    let lines = "message: 2 at 16\nrefused: packed: Cut at 4\n";
+    let lines = "message: 2 at 16
+refused: packed: Cut at 4
+group: byte 4 of the packed input, tag 10: needs 2 bytes, 1 came
+";
     assert!(rt; cut.ending.is_err() && cut.text.as_slice() == lines.as_bytes());
     Ok(())
 }
@@ -227,7 +230,7 @@ fn explains_a_frame(rt: HostRuntime) -> Result<(), Fail> {
         offset: 16,
     };
     let fault = RunFault::Refused(at, Refusal::Frame(FrameFault::Cut));
-    let lines = "message: 2 at 16\nrefused: frame: Cut\n";
+    let lines = "message: 2 at 16\nrefused: frame: Cut\nthere: 4 bytes of at least 8\n";
     assert!(rt; cut.ending == Err(fault) && cut.text.as_slice() == lines.as_bytes());
     let many = explained(rt.alloc(), Form::Stream, None, &[255; 8]);
     let announced = "message: 1 at 0
@@ -237,6 +240,7 @@ announced: 4294967296, at most 4096
     assert!(rt; many.ending.is_err() && many.text.as_slice() == announced.as_bytes());
     let words = explained(rt.alloc(), Form::Stream, None, &[0, 0, 0, 0, 1, 0, 128, 0]);
     let most = "message: 1 at 0
+segments: 1 of 8388609 words
 refused: frame: TooManyWords(8388609)
 announced: 8388609, at most 8388608
 ";

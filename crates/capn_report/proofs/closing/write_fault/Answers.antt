@@ -11,7 +11,7 @@ write_refusal-requires g c =
 
 pub returns-in-Refused : goal.returns-in-Refused
 returns-in-Refused g c =
-    subst (λ (e : RunFault). PutsFault (λ at r. told_at c.args.order.now at r) e
+    subst (λ (e : RunFault). PutsFault (λ at r. told_at c.args.order.now at r c.args.begun.now) e
     (g.W.Write.contents (inner_of c.args.writer.now)) (g.W.Write.contents (inner_of c.write_refusal.new.writer))
     (has_failed c.args.writer.now) (has_failed c.write_refusal.new.writer) c.write_refusal.result)
     (sym c.in-Refused.is) c.write_refusal.ensures

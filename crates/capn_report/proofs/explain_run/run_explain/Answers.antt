@@ -13,12 +13,13 @@ not_io run = ending_not_io run.service.outcome run.service.order.number run.serv
 
 pub write_closing-requires : goal.write_closing-requires
 write_closing-requires g c =
-    (done_fine (has_failed c.serve_messages.new.reader) (has_failed c.serve_messages.new.writer) c.in-Ok.ensures.io).1
+    (done_fine (has_failed c.serve_messages.new.reader) (has_failed c.serve_messages.new.writer)
+    c.in-Ok.ensures.serves.io).1
 
 pub write_fault-requires : goal.write_fault-requires
 write_fault-requires g c =
     fine_if_told c.in-Err.stopped (has_failed c.serve_messages.new.reader) (has_failed c.serve_messages.new.writer)
-    c.in-Err.ensures.io
+    c.in-Err.ensures.serves.io
 
 pub returns-in-Ok-write_closing : goal.returns-in-Ok-write_closing
 returns-in-Ok-write_closing g c =
@@ -32,7 +33,7 @@ returns-in-Ok-write_closing g c =
     (g.W.Write.contents (inner_of c.serve_messages.new.writer)) (has_failed c.serve_messages.new.reader)
     (has_failed c.serve_messages.new.writer) c.serve_messages.new.run
     (g.W.Write.contents (inner_of c.write_closing.new.writer)) (has_failed c.write_closing.new.writer)
-    (not_io c.serve_messages.new.run) c.in-Ok.ensures c.in-Ok-write_closing.ensures)
+    (not_io c.serve_messages.new.run) c.in-Ok.ensures.serves c.in-Ok-write_closing.ensures)
 
 pub returns-in-Ok : goal.returns-in-Ok
 returns-in-Ok g c =
@@ -42,7 +43,7 @@ returns-in-Ok g c =
     (g.W.Write.contents (inner_of c.serve_messages.new.writer)) (has_failed c.serve_messages.new.reader)
     (has_failed c.serve_messages.new.writer) c.serve_messages.new.run
     (g.W.Write.contents (inner_of c.write_closing.new.writer)) (has_failed c.write_closing.new.writer)
-    c.in-Err-write_closing.fault (not_io c.serve_messages.new.run) c.in-Ok.ensures
+    c.in-Err-write_closing.fault (not_io c.serve_messages.new.run) c.in-Ok.ensures.serves
     c.in-Err-write_closing.ensures
 
 pub returns-in-Ok-write_fault : goal.returns-in-Ok-write_fault
@@ -51,9 +52,10 @@ returns-in-Ok-write_fault g c =
     c.args.order.form (g.R.Read.remaining (inner_of c.args.reader.now))
     (g.R.Read.remaining (inner_of c.serve_messages.new.reader)) (g.W.Write.contents (inner_of c.args.writer.now))
     (g.W.Write.contents (inner_of c.serve_messages.new.writer)) (has_failed c.serve_messages.new.reader)
-    (has_failed c.serve_messages.new.writer) c.serve_messages.new.run
+    (has_failed c.serve_messages.new.writer) c.serve_messages.new.run c.serve_messages.new.begun
     (g.W.Write.contents (inner_of c.write_fault.new.writer)) (has_failed c.write_fault.new.writer)
-    c.in-Err.stopped c.in-Err.ensures c.in-Ok-write_fault.ensures
+    c.in-Err.stopped c.in-Err.ensures.serves c.in-Err.ensures.begun
+    c.in-Ok-write_fault.ensures
 
 pub returns : goal.returns
 returns g c =
@@ -61,6 +63,7 @@ returns g c =
     c.args.order.form (g.R.Read.remaining (inner_of c.args.reader.now))
     (g.R.Read.remaining (inner_of c.serve_messages.new.reader)) (g.W.Write.contents (inner_of c.args.writer.now))
     (g.W.Write.contents (inner_of c.serve_messages.new.writer)) (has_failed c.serve_messages.new.reader)
-    (has_failed c.serve_messages.new.writer) c.serve_messages.new.run
+    (has_failed c.serve_messages.new.writer) c.serve_messages.new.run c.serve_messages.new.begun
     (g.W.Write.contents (inner_of c.write_fault.new.writer)) (has_failed c.write_fault.new.writer)
-    c.in-Err.stopped c.in-Err-write_fault.fault c.in-Err.ensures c.in-Err-write_fault.ensures
+    c.in-Err.stopped c.in-Err-write_fault.fault c.in-Err.ensures.serves c.in-Err.ensures.begun
+    c.in-Err-write_fault.ensures
