@@ -563,7 +563,7 @@ def needed(greatest, found, tariff):
 
 def run(task, data, form="stream", message_words=8388608, budget=8388608, depth=64, tariff="strict", keep_going=False,
         with_digest=False, count=False):
-    """What a command over an archive writes, the line on standard error, and its exit status. The task is list, limits,
+    """What a command over an archive writes, what is on standard error, and its exit status. The task is list, limits,
     canonical or uniq; `with_digest` is for list, and `count` for uniq."""
     found, fault = messages(data, form, message_words)
     out, passed, greatest = [], [], {"message-words": (0, 0), "budget": (0, 0), "depth": (0, 0)}
@@ -594,17 +594,17 @@ def run(task, data, form="stream", message_words=8388608, budget=8388608, depth=
         for name, figure in [("message-words", words), ("budget", walk.paid), ("depth", walk.height)]:
             if not greatest[name][1] or figure > greatest[name][0]:
                 greatest[name] = (figure, index)
+    line = ""
+    if passed:
+        index, offset = passed[0]
+        line = f"capn: {len(passed)} of {len(found)} messages refused, the first is {index} at {offset}\n"
     if fault is not None:
-        return b"".join(out), line_of(fault), 1
+        return b"".join(out), line + line_of(fault), 1
     if task == "limits":
         out.append(needed(greatest, len(found), tariff))
     if count:
         out.append(f"{len(kept)} of {len(found) - len(passed)}\n".encode())
-    if passed:
-        index, offset = passed[0]
-        line = f"capn: {len(passed)} of {len(found)} messages refused, the first is {index} at {offset}\n"
-        return b"".join(out), line, 1
-    return b"".join(out), "", 0
+    return b"".join(out), line, 1 if passed else 0
 
 
 def pick(data, form="stream", message_words=8388608, first=1, last=2**64 - 1):

@@ -5,12 +5,16 @@ use Rattle.std.specs.Fmt.{decimal}
 use Rattle.std.proofs.Common.{IsOkUnless, Result, Ok, Err, refl, ap, sym, subst, ◌∙◌}
 use Rattle.std.specs.Io.KnownBytes.{Appends}
 use Rattle.capn_words.specs.Watched.{HasBegun}
+use Rattle.capn_canon.specs.declared.refusal.Refusal.{Refusal}
+use Rattle.capn_canon.specs.declared.refusal.Refusal.TheVariants as refusals
+use Rattle.capn_serve.specs.declared.position.Position.{Position}
 use Rattle.capn_serve.specs.declared.fault.RunFault.{RunFault}
 use Rattle.capn_serve.specs.declared.fault.RunFault.TheVariants as run_faults
+use Rattle.capn_archive.specs.declared.fault.Skipped.{Skipped}
 use Rattle.capn_archive.specs.declared.fault.ArchiveFault.{ArchiveFault}
 use Rattle.capn_archive.specs.declared.fault.ArchiveFault.TheVariants as faults
 use Rattle.capn_archive.specs.declared.tally.SkippedSoFar.{SkippedSoFar}
-use Rattle.capn_archive.specs.Finish.{fault_of, outcome_by}
+use Rattle.capn_archive.specs.Finish.{after_skipped, fault_after, outcome_by, refused_after, skipped_of}
 use Rattle.capn_archive.specs.inner.Closing.{PutsClosing}
 use Rattle.capn_archive.specs.ArchiveRun.{closing_by}
 use Rattle.capn_archive.specs.UniqRun as uniqs
@@ -28,38 +32,63 @@ Ending = Result (Unit {0}) ArchiveFault
 abbrev pub served : Served → Served
 served r = r
 
--- how a run over an archive ended
-abbrev pub ended : Ending → Ending
-ended r = r
-
 -- a fault of the messages
 abbrev stopped_by : RunFault → Served
 stopped_by e = Err e
 
--- the same fault, as a run over an archive reports it
-abbrev pub told_by : RunFault → Ending
-told_by e = Err (fault_of e)
+-- a fault of a run over an archive
+abbrev pub told : ArchiveFault → Ending
+told e = Err e
 
 -- ---- the faults
 
-told_io : (e : RunFault) → fault_of e ≡ faults.Io → e ≡ run_faults.Io
-told_io run_faults.Memory is = absurd (cc)
-told_io run_faults.Io is = refl
-told_io run_faults.InputTooLong is = absurd (cc)
-told_io (run_faults.Refused at r) is = absurd (cc)
+-- what is refused is told as refused
+refused_is : (P : ArchiveFault → Type 0) → ((at : Position) (r : Refusal) → P (faults.Refused at r))
+    → ((k : Skipped) (at : Position) (r : Refusal) → P (faults.RefusedAfterSkipped k at r))
+    → (s : Option SkippedSoFar) (n : ℕ) (at : Position) (r : Refusal) → P (after_skipped s n at r)
+refused_is P first after None n at r = first at r
+refused_is P first after (Some s) n at r = after (skipped_of s n) at r
 
-pub told_memory : (e : RunFault) → ended (Err (fault_of e)) ≡ Err faults.Memory → served (Err e) ≡ Err run_faults.Memory
-told_memory run_faults.Memory is = refl
-told_memory run_faults.Io is = absurd (cc)
-told_memory run_faults.InputTooLong is = absurd (cc)
-told_memory (run_faults.Refused at r) is = absurd (cc)
+each_refused : (P : ArchiveFault → Type 0) → ((at : Position) (r : Refusal) → P (faults.Refused at r))
+    → ((k : Skipped) (at : Position) (r : Refusal) → P (faults.RefusedAfterSkipped k at r))
+    → (s : Option SkippedSoFar) (n : ℕ) (at : Position) (r : Refusal) → P (refused_after s n at r)
+each_refused P first after s n at (refusals.Bare e) = first at (refusals.Bare e)
+each_refused P first after s n at (refusals.Packed e) = refused_is P first after s n at (refusals.Packed e)
+each_refused P first after s n at (refusals.Frame e) = refused_is P first after s n at (refusals.Frame e)
+each_refused P first after s n at (refusals.Trailing offset) = first at (refusals.Trailing offset)
+each_refused P first after s n at (refusals.Walk stopped) = first at (refusals.Walk stopped)
+each_refused P first after s n at (refusals.Capability index) = first at (refusals.Capability index)
+each_refused P first after s n at refusals.Memory = first at refusals.Memory
 
-pub same_io : (e : RunFault) (reader writer : Bool)
+refused_not_io : (s : Option SkippedSoFar) (n : ℕ) (at : Position) (r : Refusal) → refused_after s n at r ≢ faults.Io
+refused_not_io s n at r =
+    each_refused (λ (e : ArchiveFault). e ≢ faults.Io) (λ p q h. absurd (cc)) (λ k p q h. absurd (cc)) s n at r
+
+refused_not_memory : (s : Option SkippedSoFar) (n : ℕ) (at : Position) (r : Refusal)
+    → refused_after s n at r ≢ faults.Memory
+refused_not_memory s n at r =
+    each_refused (λ (e : ArchiveFault). e ≢ faults.Memory) (λ p q h. absurd (cc)) (λ k p q h. absurd (cc)) s n at r
+
+told_io : (s : Option SkippedSoFar) (n : ℕ) (e : RunFault) → fault_after s n e ≡ faults.Io → e ≡ run_faults.Io
+told_io s n run_faults.Memory is = absurd (cc)
+told_io s n run_faults.Io is = refl
+told_io s n run_faults.InputTooLong is = absurd (cc)
+told_io s n (run_faults.Refused at r) is = absurd (refused_not_io s n at r is)
+
+pub told_memory : (s : Option SkippedSoFar) (n : ℕ) (e : RunFault) → told (fault_after s n e) ≡ Err faults.Memory
+    → served (Err e) ≡ Err run_faults.Memory
+told_memory s n run_faults.Memory is = refl
+told_memory s n run_faults.Io is = absurd (cc)
+told_memory s n run_faults.InputTooLong is = absurd (cc)
+told_memory s n (run_faults.Refused at r) is =
+    let same : refused_after s n at r ≡ faults.Memory = cc in absurd (refused_not_memory s n at r same)
+
+pub same_io : (s : Option SkippedSoFar) (n : ℕ) (e : RunFault) (reader writer : Bool)
     → ((served (Err e) ≡ Err run_faults.Io) ↔ ((reader ≡ true) ⊎ (writer ≡ true)))
-    → (ended (Err (fault_of e)) ≡ Err faults.Io) ↔ ((reader ≡ true) ⊎ (writer ≡ true))
-same_io e reader writer (to, from) = (
-  λ h. to (let k : fault_of e ≡ faults.Io = cc in ap stopped_by (told_io e k)),
-  λ h. let k = from h in let j : e ≡ run_faults.Io = cc in ap told_by j,
+    → (told (fault_after s n e) ≡ Err faults.Io) ↔ ((reader ≡ true) ⊎ (writer ≡ true))
+same_io s n e reader writer (to, from) = (
+  λ h. to (let k : fault_after s n e ≡ faults.Io = cc in ap stopped_by (told_io s n e k)),
+  λ h. let k = from h in let j : e ≡ run_faults.Io = cc in ap (λ (f : RunFault). told (fault_after s n f)) j,
 )
 
 -- ---- what is written at the end
@@ -86,8 +115,8 @@ some_after (x ∷ xs) ys some = λ h. cc
 pub closing_refused : (text : List ℕ) (old new : Option (List ℕ)) (failed : Bool) (r : Served) (fault : RunFault)
     → IsErrAnd r (λ e. e ≡ fault) → fault ≡ run_faults.Memory → new ≡ old → failed ≡ false → text ≢ []
     → PutsClosing text old new failed r
-closing_refused text old new failed (Ok u) fault told is same fine some = absurd told
-closing_refused text old new failed (Err e) fault told is same fine some = inl (told ∙ is, same, fine, some)
+closing_refused text old new failed (Ok u) fault why is same fine some = absurd why
+closing_refused text old new failed (Err e) fault why is same fine some = inl (why ∙ is, same, fine, some)
 
 -- the lines of `limits` are not empty, nor is that of a count
 pub limits_some : (task : Task) (needs : Needs) → task ≡ tasks.Limits → closing_by task needs ≢ []
@@ -120,8 +149,8 @@ pub neither : (reader before after : Bool)
 neither reader before after io fine (inl failed) = reader_fine reader before io failed
 neither reader before after io fine (inr failed) = let e : true ≡ false = sym failed ∙ fine in cc
 
-pub io_is_not_memory : ended (Err faults.Io) ≡ Err faults.Memory → ⊥
+pub io_is_not_memory : told faults.Io ≡ Err faults.Memory → ⊥
 io_is_not_memory is = absurd (cc)
 
-pub memory_is_not_io : ended (Err faults.Memory) ≡ Err faults.Io → ⊥
+pub memory_is_not_io : told faults.Memory ≡ Err faults.Io → ⊥
 memory_is_not_io is = absurd (cc)

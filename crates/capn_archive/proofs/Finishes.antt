@@ -1,6 +1,6 @@
 -- The end of a run over an input that writes something after its last message.
 use Rattle.std.proofs.Common.{◌≡◌, ◌≢◌, inl, inr, ℕ, ◌+◌, List, [], ◌++◌, length, take, Bool, true, false, Option}
-use Rattle.std.proofs.Common.{None, Some, IfSome, Result, Ok, Err, refl, ap, sym, subst}
+use Rattle.std.proofs.Common.{None, Some, IfSome, Result, Ok, Err, refl, ap, sym, subst, ◌∙◌}
 use Rattle.std.proofs.Math.Seq.{take-length, take-append-add}
 use Rattle.std.specs.Io.KnownBytes.{Appends}
 use Rattle.std.proofs.KnownBytes.{Appends-trans}
@@ -10,31 +10,46 @@ use Rattle.capn_canon.specs.declared.form.Form.TheVariants as forms
 use Rattle.capn_serve.specs.declared.fault.RunFault.{RunFault}
 use Rattle.capn_archive.specs.declared.fault.ArchiveFault.TheVariants as faults
 use Rattle.capn_archive.specs.inner.Closing.{PutsClosing}
-use Rattle.capn_archive.specs.Finish.{EndsAs, Finish, Finished, HasBegunClosing, HasClosing, fault_of, outcome}
-use Rattle.capn_serve.specs.Fold.{Fold, texts_of}
+use Rattle.capn_archive.specs.Finish.{EndsAs, Finish, Finished, HasBegunClosing, HasClosing, outcome}
+use Rattle.capn_archive.specs.Finish.{stopped_by}
+use Rattle.capn_serve.specs.Fold.{Fold, Leaves, texts_of}
 use Rattle.capn_serve.specs.StreamRun.{HasWrittenAll, IsAhead}
 use Rattle.capn_serve.specs.PackedRun.{HasWrittenAllPacked}
 use Rattle.capn_serve.specs.FormRun.{HasWritten, IsReadSoFar, MessagesEnd, ServesMessages, most_stream}
 use Rattle.capn_archive.proofs.Closings.{io_is_not_memory, memory_is_not_io, neither, not_io, not_memory}
-use Rattle.capn_archive.proofs.Closings.{reader_fine, same_io, told_by, told_memory}
+use Rattle.capn_archive.proofs.Closings.{reader_fine, same_io, told, told_memory}
+use Rattle.capn_archive.proofs.ToldAlone.{TellsAlone}
 
 module _ {X : Type 0} (f : Fold X) (x : X) (finish : Finish X) (form : Form) where
   -- ---- a run that a fault ended
 
-  stopped_exact : (e : RunFault) (y : X) (a c d : Option (List ℕ)) → IfSome a (MessagesEnd f x form c d (Err e) y)
-      → IfSome a (EndsAs f x finish form c d (Err (fault_of e)))
-  stopped_exact e y None c d is = tt
-  stopped_exact e y (Some input) c d (inl memory) = inl (ap told_by memory)
-  stopped_exact e y (Some input) c d (inr (inl io)) = inr (inl (ap told_by io))
-  stopped_exact e y (Some input) c d (inr (inr (text, z, are, wrote))) =
-      inr (inr (text, (text, Err e, z, are, (refl, refl)), wrote))
+  -- what was skipped is told by the state after the messages, or not at all
+  left_same : TellsAlone f → (z y : X) (e : RunFault) → Leaves f z e y
+      → stopped_by f x finish y e ≡ stopped_by f x finish z e
+  left_same alone z y e (inl same) = ap (λ (w : X). stopped_by f x finish w e) (sym same)
+  left_same alone z y e (inr (frame, message, r, refuses, is)) =
+      let told_of = alone z frame message r refuses in
+      ap (λ (g : RunFault). stopped_by f x finish y g) is
+      ∙ ap told (told_of (finish.skipped y) (f.place y).index (f.place z))
+      ∙ sym (ap told (told_of (finish.skipped z) (f.place z).index (f.place z)))
+      ∙ sym (ap (λ (g : RunFault). stopped_by f x finish z g) is)
 
-  pub finished_stopped : (a b c d : Option (List ℕ)) (reader writer : Bool) (e : RunFault) (y : X)
+  stopped_exact : TellsAlone f → (e : RunFault) (y : X) (a c d : Option (List ℕ))
+      → IfSome a (MessagesEnd f x form c d (Err e) y)
+      → IfSome a (EndsAs f x finish form c d (stopped_by f x finish y e))
+  stopped_exact alone e y None c d is = tt
+  stopped_exact alone e y (Some input) c d (inl memory) = inl (ap (λ (g : RunFault). stopped_by f x finish y g) memory)
+  stopped_exact alone e y (Some input) c d (inr (inl io)) =
+      inr (inl (ap (λ (g : RunFault). stopped_by f x finish y g) io))
+  stopped_exact alone e y (Some input) c d (inr (inr (text, z, are, wrote, left))) =
+      inr (inr (text, (text, Err e, z, are, (refl, left_same alone z y e left)), wrote))
+
+  pub finished_stopped : TellsAlone f → (a b c d : Option (List ℕ)) (reader writer : Bool) (e : RunFault) (y : X)
       → ServesMessages f x form a b c d reader writer (Err e) y
-      → Finished f x finish form a b c d reader writer (Err (fault_of e))
-  finished_stopped a b c d reader writer e y run = record {
-    exact = stopped_exact e y a c d run.exact;
-    io = same_io e reader writer run.io;
+      → Finished f x finish form a b c d reader writer (stopped_by f x finish y e)
+  finished_stopped alone a b c d reader writer e y run = record {
+    exact = stopped_exact alone e y a c d run.exact;
+    io = same_io (finish.skipped y) (f.place y).index e reader writer run.io;
     begun = record {
       bytes = run.begun.bytes;
       read = run.begun.read;
@@ -42,7 +57,7 @@ module _ {X : Type 0} (f : Fold X) (x : X) (finish : Finish X) (form : Form) whe
       written = inl run.begun.written;
     };
     heard = run.heard;
-    memory = λ h. inl (run.memory (told_memory e h));
+    memory = λ h. inl (run.memory (told_memory (finish.skipped y) (f.place y).index e h));
   }
 
   -- ---- the end after all messages
@@ -178,12 +193,12 @@ module _ {X : Type 0} (f : Fold X) (x : X) (finish : Finish X) (form : Form) (a 
 
   pub finished_unclosed : (d : Option (List ℕ)) (after : Bool) (fault : RunFault)
       → PutsClosing (finish.closing y) m d after (Err fault)
-      → Finished f x finish form a b c d reader after (Err (fault_of fault))
+      → Finished f x finish form a b c d reader after (stopped_by f x finish y fault)
   finished_unclosed d after fault (inl (memory, same, fine, some)) =
-      subst (λ (e : RunFault). Finished f x finish form a b c d reader after (Err (fault_of e))) (sym memory)
-      (unclosed d after same fine some)
+      subst (λ (e : RunFault). Finished f x finish form a b c d reader after (stopped_by f x finish y e))
+      (sym memory) (unclosed d after same fine some)
   finished_unclosed d after fault (inr (io, begun, failed)) =
-      subst (λ (e : RunFault). Finished f x finish form a b c d reader after (Err (fault_of e))) (sym io)
+      subst (λ (e : RunFault). Finished f x finish form a b c d reader after (stopped_by f x finish y e)) (sym io)
       (broken d after begun failed)
 
 module _ {X : Type 0} where

@@ -2,6 +2,7 @@ pub mod FramesAdded
 pub mod ArchiveServed
 pub mod LineParts
 pub mod Closings
+pub mod ToldAlone
 pub mod Finishes
 pub mod UniqServed
 pub mod OneArchive

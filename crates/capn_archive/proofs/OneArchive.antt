@@ -44,7 +44,7 @@ one_answer false true P h k = absurd (let bad : false ≡ true = h.1 (k.0 refl) 
 one_answer false false P h k = refl
 
 module _ (m : List (List ℕ)) (limits : Bounds) where
-  unaccepted_message : (r : Refusal) → IsUnaccepted m limits r → (r ≡ refusals.Memory → ⊥)
+  pub unaccepted_message : (r : Refusal) → IsUnaccepted m limits r → (r ≡ refusals.Memory → ⊥)
       → IsRefusedMessage m limits r
   unaccepted_message (refusals.Walk s) h other = h
   unaccepted_message refusals.Memory h other = absurd (other refl)

@@ -5,7 +5,7 @@ use Rattle.capn_serve.specs.declared.fault.RunFault.{RunFault}
 use Rattle.capn_serve.specs.Fold.{Fold}
 use Rattle.capn_serve.specs.FormRun.{AreMessages}
 use Rattle.capn_serve.proofs.shared.OneServing.{Ending, IsOneWay, done, one_serving, stopped}
-use Rattle.capn_archive.specs.Finish.{Closes, Finish, IsWholeText, fault_of, outcome}
+use Rattle.capn_archive.specs.Finish.{Closes, Finish, IsWholeText, outcome, stopped_by}
 use Rattle.capn_archive.specs.declared.fault.ArchiveFault.{ArchiveFault}
 
 abbrev Last : Type 0
@@ -17,7 +17,7 @@ module _ {X : Type 0} (f : Fold X) (one : IsOneWay f) (x : X) (finish : Finish X
       → (t ≡ u) × (r ≡ s)
   one_closing m n t u (Ok a) (Ok b) y z r s h k (e, i) (c, j) =
       let same = one_serving f one x form input m n done done y z h k in
-      let last : y ≡ z = same.1.1 refl in (
+      let last : y ≡ z = same.1.1 in (
         e ∙ ap (λ (l : List ℕ). l ++ finish.closing y) same.0 ∙ ap (λ (w : X). n ++ finish.closing w) last ∙ sym c,
         i ∙ ap (λ (w : X). outcome f x finish w) last ∙ sym j,
       )
@@ -32,8 +32,11 @@ module _ {X : Type 0} (f : Fold X) (one : IsOneWay f) (x : X) (finish : Finish X
   one_closing m n t u (Err g) (Err o) y z r s h k (e, i) (c, j) =
       let same = one_serving f one x form input m n (stopped g) (stopped o) y z h k in
       let ends : stopped g ≡ stopped o = same.1.0 in
-      let fault : g ≡ o = cc in
-      (e ∙ same.0 ∙ sym c, i ∙ ap (λ (a : RunFault). Err (fault_of a)) fault ∙ sym j)
+      let fault : g ≡ o = cc in (
+        e ∙ same.0 ∙ sym c,
+        i ∙ ap (λ (w : X). stopped_by f x finish w g) same.1.1
+            ∙ ap (λ (a : RunFault). stopped_by f x finish z a) fault ∙ sym j,
+      )
 
   -- an input has one text, and a run over it ends in one way
   pub one_whole : (t u : List ℕ) (r s : Last) → IsWholeText f x finish form input t r

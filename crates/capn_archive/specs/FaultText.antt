@@ -1,24 +1,40 @@
 -- The text of a fault that ends a run over an archive, and its exit status. (Own.)
 use Rattle.std.specs.Prelude.{ℕ, ◌≡◌, List, ◌++◌, codes, refl}
 use Rattle.std.specs.Fmt.{decimal, digits}
+use Rattle.capn_stream.specs.declared.fault.FrameFault.TheVariants as frame_faults
 use Rattle.capn_canon.specs.Display.{refusal_text}
+use Rattle.capn_canon.specs.declared.refusal.Refusal.{Refusal}
 use Rattle.capn_canon.specs.declared.refusal.Refusal.TheVariants as refusals
 use Rattle.capn_serve.specs.FaultText.{place_text}
 use Rattle.capn_serve.specs.declared.position.Position.{Position}
+use Rattle.capn_archive.specs.declared.fault.Skipped.{Skipped}
 use Rattle.capn_archive.specs.declared.fault.ArchiveFault.{ArchiveFault}
 use Rattle.capn_archive.specs.declared.fault.ArchiveFault.TheVariants as faults
+
+-- a message at a position is refused, or none can begin there
+abbrev pub text_of_refused : Position → Refusal → List ℕ
+text_of_refused at refusal = codes "message " ++ (place_text at ++ (codes ": " ++ refusal_text refusal))
+
+-- how many messages were skipped, of how many, and the first of them
+abbrev pub text_of_skipped : Skipped → List ℕ
+text_of_skipped skipped =
+    decimal skipped.refused ++ (codes " of " ++ (decimal skipped.messages
+    ++ (codes " messages refused, the first is " ++ place_text skipped.first)))
 
 -- why a run over an archive did not end as done
 abbrev pub archive_text : ArchiveFault → List ℕ
 archive_text faults.Memory = codes "out of memory"
 archive_text faults.Io = codes "input or output failed"
 archive_text faults.InputTooLong = codes "input too long"
-archive_text (faults.Refused at refusal) = codes "message " ++ (place_text at ++ (codes ": " ++ refusal_text refusal))
-archive_text (faults.Skipped skipped) =
-    decimal skipped.refused ++ (codes " of " ++ (decimal skipped.messages
-    ++ (codes " messages refused, the first is " ++ place_text skipped.first)))
+archive_text (faults.Refused at refusal) = text_of_refused at refusal
+archive_text (faults.Skipped skipped) = text_of_skipped skipped
+archive_text (faults.RefusedAfterSkipped skipped at refusal) =
+    text_of_skipped skipped ++ (codes "\ncapn: " ++ text_of_refused at refusal)
 
--- the third message, at the offset 40
+-- the second message, at the offset 24, and the third, at the offset 40
+abbrev second : Position
+second = record { index = 1; offset = 24 }
+
 abbrev third : Position
 third = record { index = 2; offset = 40 }
 
@@ -31,6 +47,12 @@ refused : archive_text (faults.Refused third (refusals.Capability 2)) ≡ codes 
 unfolding digits
 refused = refl
 
+after_skipped : archive_text (faults.RefusedAfterSkipped (record { refused = 1; messages = 2; first = second }) third
+    (refusals.Frame frame_faults.Cut))
+    ≡ codes "1 of 2 messages refused, the first is 2 at 24\ncapn: message 3 at 40: frame: Cut"
+unfolding digits
+after_skipped = refl
+
 -- 1 where a message is refused or was skipped, 3 where it could not be carried out
 abbrev pub status_of : ArchiveFault → ℕ
 status_of faults.Memory = 3
@@ -38,3 +60,4 @@ status_of faults.Io = 3
 status_of faults.InputTooLong = 3
 status_of (faults.Refused at refusal) = 1
 status_of (faults.Skipped skipped) = 1
+status_of (faults.RefusedAfterSkipped skipped at refusal) = 1

@@ -5,26 +5,48 @@ use Rattle.std.specs.Prelude.{Ok, Err}
 use Rattle.std.specs.Io.KnownBytes.{Consumes, Appends}
 use Rattle.capn_words.specs.Watched.{HasBegun}
 use Rattle.capn_canon.specs.declared.form.Form.{Form}
+use Rattle.capn_canon.specs.declared.refusal.Refusal.{Refusal}
+use Rattle.capn_canon.specs.declared.refusal.Refusal.TheVariants as refusals
 use Rattle.capn_serve.specs.declared.fault.RunFault.{RunFault}
 use Rattle.capn_serve.specs.declared.fault.RunFault.TheVariants as run_faults
+use Rattle.capn_serve.specs.declared.position.Position.{Position}
+use Rattle.capn_archive.specs.declared.fault.Skipped.{Skipped}
 use Rattle.capn_archive.specs.declared.fault.ArchiveFault.{ArchiveFault}
 use Rattle.capn_archive.specs.declared.fault.ArchiveFault.TheVariants as faults
 use Rattle.capn_archive.specs.declared.tally.SkippedSoFar.{SkippedSoFar}
 use Rattle.capn_serve.specs.Fold.{Fold}
 use Rattle.capn_serve.specs.FormRun.{AreMessages, HasWritten, IsReadSoFar, KeepsUp, MayNeedMemory}
 
+-- the messages skipped so far, of this many
+abbrev pub skipped_of : SkippedSoFar → ℕ → Skipped
+skipped_of s messages = record { refused = s.count; messages = messages; first = s.first }
+
 -- how a run ends that has served all of its input: done, or with the numbers of the messages that it skipped
 abbrev pub outcome_by : Option SkippedSoFar → ℕ → Result (Unit {0}) ArchiveFault
 outcome_by None messages = Ok tt
-outcome_by (Some s) messages =
-    Err (faults.Skipped (record { refused = s.count; messages = messages; first = s.first }))
+outcome_by (Some s) messages = Err (faults.Skipped (skipped_of s messages))
 
--- the fault of a run over an archive, for one of a run over messages
-abbrev pub fault_of : RunFault → ArchiveFault
-fault_of run_faults.Memory = faults.Memory
-fault_of run_faults.Io = faults.Io
-fault_of run_faults.InputTooLong = faults.InputTooLong
-fault_of (run_faults.Refused at r) = faults.Refused at r
+-- an input that is refused at a position, after this many messages: with those of them that were skipped, if any was
+abbrev pub after_skipped : Option SkippedSoFar → ℕ → Position → Refusal → ArchiveFault
+after_skipped None messages at r = faults.Refused at r
+after_skipped (Some s) messages at r = faults.RefusedAfterSkipped (skipped_of s messages) at r
+
+-- the same by what is refused: messages may have been skipped before a frame, or a group of a packed text
+abbrev pub refused_after : Option SkippedSoFar → ℕ → Position → Refusal → ArchiveFault
+refused_after skipped messages at (refusals.Bare e) = faults.Refused at (refusals.Bare e)
+refused_after skipped messages at (refusals.Packed e) = after_skipped skipped messages at (refusals.Packed e)
+refused_after skipped messages at (refusals.Frame e) = after_skipped skipped messages at (refusals.Frame e)
+refused_after skipped messages at (refusals.Trailing offset) = faults.Refused at (refusals.Trailing offset)
+refused_after skipped messages at (refusals.Walk stopped) = faults.Refused at (refusals.Walk stopped)
+refused_after skipped messages at (refusals.Capability index) = faults.Refused at (refusals.Capability index)
+refused_after skipped messages at refusals.Memory = faults.Refused at refusals.Memory
+
+-- the fault of a run over an archive, for one of a run over messages, after this many, of which these were skipped
+abbrev pub fault_after : Option SkippedSoFar → ℕ → RunFault → ArchiveFault
+fault_after skipped messages run_faults.Memory = faults.Memory
+fault_after skipped messages run_faults.Io = faults.Io
+fault_after skipped messages run_faults.InputTooLong = faults.InputTooLong
+fault_after skipped messages (run_faults.Refused at r) = refused_after skipped messages at r
 
 -- what a run does after its last message, by its state then: the text that it writes, and which messages it has
 -- skipped
@@ -37,10 +59,14 @@ module _ {X : Type 0} (f : Fold X) (x : X) (finish : Finish X) where
   abbrev pub outcome : X → Result (Unit {0}) ArchiveFault
   outcome y = outcome_by (finish.skipped y) (f.place y).index
 
+  -- how one ends whose messages a fault ended
+  abbrev pub stopped_by : X → RunFault → Result (Unit {0}) ArchiveFault
+  stopped_by y fault = Err (fault_after (finish.skipped y) (f.place y).index fault)
+
   -- after the text of the messages comes what is written at the end, unless a fault ended them
   abbrev pub Closes : List ℕ → Result (Unit {0}) RunFault → X → List ℕ → Result (Unit {0}) ArchiveFault → Type 0
   Closes messages (Ok u) y text ending = (text ≡ messages ++ finish.closing y) × (ending ≡ outcome y)
-  Closes messages (Err fault) y text ending = (text ≡ messages) × (ending ≡ Err (fault_of fault))
+  Closes messages (Err fault) y text ending = (text ≡ messages) × (ending ≡ stopped_by y fault)
 
   -- the whole text of an input, and how a run over it ends
   abbrev pub IsWholeText : Form → List ℕ → List ℕ → Result (Unit {0}) ArchiveFault → Type 0

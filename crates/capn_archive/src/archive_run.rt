@@ -4,10 +4,11 @@ ghost use Rattle.std.specs.Prelude.{◌≡◌, false};
 ghost use Rattle.capn_words.specs.Watched.{inner_of, has_failed};
 ghost use Rattle.capn_archive.specs.ArchiveRun as spec;
 ghost use Rattle.capn_archive.specs.ArchiveRun.{Archived};
+ghost use Rattle.capn_archive.specs.Finish as finish;
 ghost use Rattle.capn_serve.specs.FormRun.{ServesMessages};
 
 use crate::archive_service::ArchiveService;
-use crate::end_of_archive::{fault_of, outcome, write_closing};
+use crate::end_of_archive::{fault_after, outcome, write_closing};
 use crate::fault::ArchiveFault;
 use crate::tally::no_tally;
 use crate::task::ArchiveOrder;
@@ -47,13 +48,21 @@ fn serve_messages<R: Read, W: Write, A: Allocator + Copy>(
     serve_form(alloc, order.form, most, run, reader, writer)
 }
 
+/// Why a run ends whose messages, or what is written after them, a fault ended.
+fn fault_of(run: &Run<ArchiveService>, fault: RunFault) -> ArchiveFault
+    ensures { result ≡ finish.fault_after run.now.service.tally.skipped run.now.at.index fault }
+{
+    fault_after(run.service.tally.skipped, run.at.index, fault)
+}
+
 /// Reads the messages of an archive, and writes what its task says: of each message, and at the end.
 ///
 /// It reads as [`serve_form`] does. The run ends as done; as `Skipped` after all of its input, if messages were
-/// skipped; or with the first fault: a frame, a group or a message that is refused, at its position;
-/// `InputTooLong`; `Io` if and only if the reader or the writer failed; `Memory` if a growth was refused. The texts of
-/// the messages before a fault have been written, and nothing after these. It holds what its loop holds, the canonical
-/// bytes of one message, and a tally.
+/// skipped; or with the first fault: a frame, a group or a message that is refused, at its position, which is
+/// `RefusedAfterSkipped` where messages were skipped before a frame or a group that is refused; `InputTooLong`; `Io` if
+/// and only if the reader or the writer failed; `Memory` if a growth was refused. The texts of the messages before a
+/// fault have been written, and nothing after these. It holds what its loop holds, the canonical bytes of one message,
+/// and a tally.
 pub fn run_archive<R: Read, W: Write, A: Allocator + Copy>(
     alloc: A,
     order: ArchiveOrder,
@@ -70,8 +79,8 @@ pub fn run_archive<R: Read, W: Write, A: Allocator + Copy>(
     match serve_messages(alloc, &order, &mut run, reader, writer) {
         Ok(()) => match write_closing(alloc, &order, &run, writer) {
             Ok(()) => outcome(run.service.tally.skipped, run.at.index),
-            Err(fault) => Err(fault_of(fault)),
+            Err(fault) => Err(fault_of(&run, fault)),
         },
-        Err(stopped) => Err(fault_of(stopped)),
+        Err(stopped) => Err(fault_of(&run, stopped)),
     }
 }

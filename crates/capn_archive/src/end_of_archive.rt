@@ -11,20 +11,72 @@ use crate::fault::{ArchiveFault, Skipped};
 use crate::limits_report::{Needs, limits_text};
 use crate::tally::SkippedSoFar;
 use crate::task::{ArchiveOrder, Task};
-use capn_serve::{Run, RunFault, write_all};
+use capn_canon::Refusal;
+use capn_serve::{Position, Run, RunFault, write_all};
 use capn_words::Watched;
 use std::alloc::Allocator;
 use std::io::Write;
 
-/// The fault of a run over an archive, for one of a run over messages.
-pub(crate) fn fault_of(fault: RunFault) -> ArchiveFault
-    ensures { result ≡ finish.fault_of fault }
+/// The messages skipped so far, of this many.
+fn skipped_of(skipped: SkippedSoFar, messages: u64) -> Skipped
+    ensures { result ≡ finish.skipped_of skipped messages }
+{
+    Skipped {
+        refused: skipped.count,
+        messages,
+        first: skipped.first,
+    }
+}
+
+/// The fault of an input that is refused at a position, after this many messages: with those of them that were skipped,
+/// if any was.
+fn after_skipped(
+    skipped: Option<SkippedSoFar>,
+    messages: u64,
+    at: Position,
+    refusal: Refusal,
+) -> ArchiveFault
+    ensures { result ≡ finish.after_skipped skipped messages at refusal }
+{
+    match skipped {
+        Some(skipped) => {
+            ArchiveFault::RefusedAfterSkipped(skipped_of(skipped, messages), at, refusal)
+        }
+        None => ArchiveFault::Refused(at, refusal),
+    }
+}
+
+/// The same by what is refused: messages may have been skipped before a frame, or a group of a packed text.
+fn refused_after(
+    skipped: Option<SkippedSoFar>,
+    messages: u64,
+    at: Position,
+    refusal: Refusal,
+) -> ArchiveFault
+    ensures { result ≡ finish.refused_after skipped messages at refusal }
+{
+    match refusal {
+        Refusal::Packed(_) | Refusal::Frame(_) => after_skipped(skipped, messages, at, refusal),
+        Refusal::Bare(_) | Refusal::Trailing(_) | Refusal::Walk(_) => {
+            ArchiveFault::Refused(at, refusal)
+        }
+        Refusal::Capability(_) | Refusal::Memory => ArchiveFault::Refused(at, refusal),
+    }
+}
+
+/// The fault of a run over an archive, for one of a run over messages, after this many, of which these were skipped.
+pub(crate) fn fault_after(
+    skipped: Option<SkippedSoFar>,
+    messages: u64,
+    fault: RunFault,
+) -> ArchiveFault
+    ensures { result ≡ finish.fault_after skipped messages fault }
 {
     match fault {
         RunFault::Memory => ArchiveFault::Memory,
         RunFault::Io => ArchiveFault::Io,
         RunFault::InputTooLong => ArchiveFault::InputTooLong,
-        RunFault::Refused(at, refusal) => ArchiveFault::Refused(at, refusal),
+        RunFault::Refused(at, refusal) => refused_after(skipped, messages, at, refusal),
     }
 }
 
@@ -33,11 +85,7 @@ pub(crate) fn outcome(skipped: Option<SkippedSoFar>, messages: u64) -> Result<()
     ensures { result ≡ finish.outcome_by skipped messages }
 {
     match skipped {
-        Some(skipped) => Err(ArchiveFault::Skipped(Skipped {
-            refused: skipped.count,
-            messages,
-            first: skipped.first,
-        })),
+        Some(skipped) => Err(ArchiveFault::Skipped(skipped_of(skipped, messages))),
         None => Ok(()),
     }
 }

@@ -1,5 +1,9 @@
 //! Faults of a run over an archive.
 
+ghost use Rattle.capn_words.specs.Watched.{inner_of, has_failed};
+ghost use Rattle.capn_endings.specs.Line.{Says, way};
+ghost use Rattle.capn_archive.specs.FaultText.{text_of_refused, text_of_skipped};
+
 use capn_canon::Refusal;
 use capn_endings::{Ending, Line};
 use capn_serve::{Position, say_place, say_refusal};
@@ -11,7 +15,7 @@ use std::io::Write;
 pub struct Skipped {
     /// How many messages were skipped.
     pub refused: u64,
-    /// How many messages there were in all.
+    /// How many messages there were in all, or before the fault that ended the run.
     pub messages: u64,
     /// Where the first of those skipped is.
     pub first: Position,
@@ -30,6 +34,32 @@ pub enum ArchiveFault {
     Refused(Position, Refusal),
     /// All of the input was served, except for messages that were skipped.
     Skipped(Skipped),
+    /// The frame or the packed text at this position is refused, after messages of which these were skipped.
+    RefusedAfterSkipped(Skipped, Position, Refusal),
+}
+
+/// Says that a message at a position is refused, or that none can begin there.
+fn say_refused<E: Write>(at: &Position, refusal: &Refusal, line: &mut Line, errors: &mut Watched<E>)
+    ensures { Says (text_of_refused at.now refusal.now)
+        (way line.old (E.contents (inner_of errors.old)) (has_failed errors.old))
+        (way line.new (E.contents (inner_of errors.new)) (has_failed errors.new)) }
+{
+    line.put(b"message ", errors);
+    say_place(at, line, errors);
+    line.put(b": ", errors);
+    say_refusal(refusal, line, errors);
+}
+
+/// Says how many messages were skipped, of how many, and where the first of them is.
+fn say_skipped<E: Write>(skipped: &Skipped, line: &mut Line, errors: &mut Watched<E>)
+    ensures { Says (text_of_skipped skipped.now)
+        (way line.old (E.contents (inner_of errors.old)) (has_failed errors.old))
+        (way line.new (E.contents (inner_of errors.new)) (has_failed errors.new)) }
+{
+    line.put_number(skipped.refused, errors);
+    line.put_named(b" of ", skipped.messages, errors);
+    line.put(b" messages refused, the first is ", errors);
+    say_place(&skipped.first, line, errors);
 }
 
 impl Ending for ArchiveFault {
@@ -44,17 +74,12 @@ impl Ending for ArchiveFault {
             ArchiveFault::Memory => line.put(b"out of memory", errors),
             ArchiveFault::Io => line.put(b"input or output failed", errors),
             ArchiveFault::InputTooLong => line.put(b"input too long", errors),
-            ArchiveFault::Refused(at, refusal) => {
-                line.put(b"message ", errors);
-                say_place(at, line, errors);
-                line.put(b": ", errors);
-                say_refusal(refusal, line, errors);
-            }
-            ArchiveFault::Skipped(skipped) => {
-                line.put_number(skipped.refused, errors);
-                line.put_named(b" of ", skipped.messages, errors);
-                line.put(b" messages refused, the first is ", errors);
-                say_place(&skipped.first, line, errors);
+            ArchiveFault::Refused(at, refusal) => say_refused(at, refusal, line, errors),
+            ArchiveFault::Skipped(skipped) => say_skipped(skipped, line, errors),
+            ArchiveFault::RefusedAfterSkipped(skipped, at, refusal) => {
+                say_skipped(skipped, line, errors);
+                line.put(b"\ncapn: ", errors);
+                say_refused(at, refusal, line, errors);
             }
         }
     }
@@ -62,6 +87,7 @@ impl Ending for ArchiveFault {
     fn exit_status(&self) -> u8 {
         match self {
             ArchiveFault::Refused(_, _) | ArchiveFault::Skipped(_) => 1,
+            ArchiveFault::RefusedAfterSkipped(_, _, _) => 1,
             ArchiveFault::Memory | ArchiveFault::Io | ArchiveFault::InputTooLong => 3,
         }
     }

@@ -3,12 +3,12 @@
 ghost use Rattle.std.specs.Prelude.{◌≡◌, false, IfOk, IfErr, string_bytes};
 ghost use Rattle.capn_words.specs.Watched.{inner_of, has_failed};
 ghost use Rattle.capn_archive.specs.inner.Closing.{PutsClosing};
-ghost use Rattle.capn_archive.specs.Finish.{outcome_by};
+ghost use Rattle.capn_archive.specs.Finish as finish;
 ghost use Rattle.capn_archive.specs.UniqRun as spec;
 ghost use Rattle.capn_archive.specs.UniqRun.{Deduplicated};
 ghost use Rattle.capn_serve.specs.declared.fault.RunFault.TheVariants as faults;
 
-use crate::end_of_archive::{fault_of, outcome};
+use crate::end_of_archive::{fault_after, outcome};
 use crate::fault::ArchiveFault;
 use crate::uniq_order::UniqOrder;
 use crate::uniq_service::UniqService;
@@ -55,9 +55,16 @@ fn write_count<W: Write, A: Allocator + Copy>(
 
 /// How a run ends that has served all of its input.
 fn outcome_of<A: Allocator>(run: &Run<UniqService<A>>) -> Result<(), ArchiveFault>
-    ensures { result ≡ outcome_by run.now.service.skipped run.now.at.index }
+    ensures { result ≡ finish.outcome_by run.now.service.skipped run.now.at.index }
 {
     outcome(run.service.skipped(), run.at.index)
+}
+
+/// Why one ends whose messages, or what is written after them, a fault ended.
+fn fault_of<A: Allocator>(run: &Run<UniqService<A>>, fault: RunFault) -> ArchiveFault
+    ensures { result ≡ finish.fault_after run.now.service.skipped run.now.at.index fault }
+{
+    fault_after(run.service.skipped(), run.at.index, fault)
 }
 
 /// Has the service serve all of an input, and writes what is written after that.
@@ -79,9 +86,9 @@ fn run_service<R: Read, W: Write, A: Allocator + Copy>(
     match serve_form(alloc, order.form, most, run, reader, writer) {
         Ok(()) => match write_count(alloc, run, writer) {
             Ok(()) => outcome_of(run),
-            Err(fault) => Err(fault_of(fault)),
+            Err(fault) => Err(fault_of(run, fault)),
         },
-        Err(stopped) => Err(fault_of(stopped)),
+        Err(stopped) => Err(fault_of(run, stopped)),
     }
 }
 
@@ -91,10 +98,11 @@ fn run_service<R: Read, W: Write, A: Allocator + Copy>(
 /// served.
 ///
 /// It reads as [`serve_form`] does. The run ends as done; as `Skipped` after all of its input, if messages were
-/// skipped; or with the first fault: a frame, a group or a message that is refused, at its position;
-/// `InputTooLong`; `Io` if and only if the reader or the writer failed; `Memory` if a growth was refused. The frames
-/// kept before a fault have been written, and nothing after these. It holds what its loop holds, the canonical bytes of
-/// one message, and the digests of those kept.
+/// skipped; or with the first fault: a frame, a group or a message that is refused, at its position, which is
+/// `RefusedAfterSkipped` where messages were skipped before a frame or a group that is refused; `InputTooLong`; `Io` if
+/// and only if the reader or the writer failed; `Memory` if a growth was refused. The frames kept before a fault have
+/// been written, and nothing after these. It holds what its loop holds, the canonical bytes of one message, and the
+/// digests of those kept.
 pub fn run_uniq<R: Read, W: Write, A: Allocator + Copy>(
     alloc: A,
     order: UniqOrder,

@@ -129,8 +129,8 @@ Exit status:
   2  The command line is wrong
   3  Reading or writing failed, the input is longer than 2^64 - 1 bytes, or
      memory ran out
-With 1 and 3 one line on standard error says why; the manual page explains it
-under DIAGNOSTICS.
+With 1 and 3 one line on standard error says why, or with `--keep-going` two;
+the manual page explains them under DIAGNOSTICS.
 
 Example:
   capn list < messages",
@@ -158,8 +158,8 @@ Exit status:
   2  The command line is wrong
   3  Reading or writing failed, the input is longer than 2^64 - 1 bytes, or
      memory ran out
-With 1 and 3 one line on standard error says why; the manual page explains it
-under DIAGNOSTICS.
+With 1 and 3 one line on standard error says why, or with `--keep-going` two;
+the manual page explains them under DIAGNOSTICS.
 
 Example:
   capn limits --message-words 268435456 --budget 268435456 --depth 256 < A",
@@ -184,8 +184,8 @@ Exit status:
   2  The command line is wrong
   3  Reading or writing failed, the input is longer than 2^32 bytes, or with
      `--framed` than 2^64 - 1, or memory ran out
-With 1 and 3 one line on standard error says why; the manual page explains it
-under DIAGNOSTICS.
+With 1 and 3 one line on standard error says why, or with `--keep-going` two;
+the manual page explains them under DIAGNOSTICS.
 
 Examples:
   capn canonical < message > message.canonical
@@ -212,8 +212,8 @@ Exit status:
   2  The command line is wrong
   3  Reading or writing failed, the input is longer than 2^64 - 1 bytes, or
      memory ran out
-With 1 and 3 one line on standard error says why; the manual page explains it
-under DIAGNOSTICS.
+With 1 and 3 one line on standard error says why, or with `--keep-going` two;
+the manual page explains them under DIAGNOSTICS.
 
 Examples:
   capn uniq < messages > distinct

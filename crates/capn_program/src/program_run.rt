@@ -69,9 +69,10 @@ fn end_unordered<W: Write, E: Write>(
 /// writer. If the run is done and the flush fails, it ends as a failed output does; after any other run a failed flush
 /// changes nothing. The status is 0 if all is done, 1 if the input, or a message of it, is refused, and 3 if memory,
 /// the input or the output failed or the input is too long.
-/// With 1 and 3 one line on `errors` says why: `capn: ` and the text of the fault. A command line that orders nothing
-/// ends with 2, and `errors` says what is wrong with it, or `capn: out of memory` if there is no memory for that.
-/// Help and the version are written to the writer and end with 0, or with 3 if that fails.
+/// With 1 and 3 one line on `errors` says why: `capn: ` and the text of the fault, which may have a second line where
+/// messages were skipped. A command line that orders nothing ends with 2, and `errors` says what is wrong with it, or
+/// `capn: out of memory` if there is no memory for that. Help and the version are written to the writer and end with 0,
+/// or with 3 if that fails.
 pub fn program<'a, S: AsStr, R: Read, W: Write, E: Write>(
     alloc: Global,
     words: &'a [S],

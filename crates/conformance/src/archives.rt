@@ -27,7 +27,7 @@ fn archive_fault_of(fault: RunFault) -> ArchiveFault {
     }
 }
 
-/// The status of a run over an archive, what is written, and the line on standard error.
+/// The status of a run over an archive, what is written, and the line or both lines on standard error.
 fn archive_told(
     alloc: Global,
     heap: &Heap,
@@ -40,7 +40,12 @@ fn archive_told(
         Ok(()) => Ok(format!(in alloc; "status {status}, {digits}")?),
         Err(ArchiveFault::Memory) => cut_short(alloc, written),
         Err(fault) => match archive_text(heap, &fault) {
-            Ok(text) => Ok(format!(in alloc; "status {status}, {digits}, capn: {text}")?),
+            Ok(text) => match text.as_str().split_once('\n') {
+                Some((line, last)) => {
+                    Ok(format!(in alloc; "status {status}, {digits}, capn: {line}, {last}")?)
+                }
+                None => Ok(format!(in alloc; "status {status}, {digits}, capn: {text}")?),
+            },
             Err(_) => cut_short(alloc, written),
         },
     }

@@ -27,6 +27,19 @@ const SKIPPED: Skipped = Skipped {
 const SKIPPED_LINE: &str = "capn: 18446744073709551615 of 18446744073709551615 messages refused, \
     the first is 18446744073709551616 at 18446744073709551615\n";
 
+/// A run that skipped them, and then was refused what follows.
+const REFUSED_AFTER: ArchiveFault = ArchiveFault::RefusedAfterSkipped(
+    SKIPPED,
+    LAST,
+    Refusal::Trailing(u64::MAX),
+);
+
+/// The lines of that.
+const TWO_LINES: &str = "capn: 18446744073709551615 of 18446744073709551615 messages refused, \
+    the first is 18446744073709551616 at 18446744073709551615\n\
+    capn: message 18446744073709551616 at 18446744073709551615: \
+    trailing bytes at 18446744073709551615\n";
+
 /// A writer that counts the calls.
 #[derive(Drop)]
 struct Counted {
@@ -97,6 +110,7 @@ fn a_run_over_an_archive_ends_with_its_line(rt: HostRuntime) {
     for (outcome, status, line) in [
         (Ok(()), 0, ""),
         (Err(ArchiveFault::Skipped(SKIPPED)), 1, SKIPPED_LINE),
+        (Err(REFUSED_AFTER), 1, TWO_LINES),
     ] {
         let mut errors = Watched::new(Vec::new(rt.alloc()));
         assert!(rt;
@@ -149,6 +163,11 @@ fn lines_of_faults(rt: HostRuntime) {
             ArchiveFault::Skipped(skipped),
             "3 of 12 messages refused, the first is 3 at 40",
         ),
+        (
+            ArchiveFault::RefusedAfterSkipped(skipped, LAST, Refusal::Trailing(6)),
+            "3 of 12 messages refused, the first is 3 at 40\n\
+            capn: message 18446744073709551616 at 18446744073709551615: trailing bytes at 6",
+        ),
     ] {
         let text = archive_text(rt.alloc(), &fault).expect(&rt, "memory");
         assert!(rt; text.as_str() == want, "{want}");
@@ -180,40 +199,42 @@ fn a_line_asks_for_no_memory(rt: HostRuntime) {
 }
 
 #[test]
-fn a_beginning_of_a_line_stays_where_the_errors_fail(rt: HostRuntime) {
-    let line = SKIPPED_LINE.as_bytes();
-    for room in 0..line.len() {
-        let mut errors = Watched::new(Short {
-            bytes: Vec::new(rt.alloc()),
-            room,
-        });
-        let status = end_archive(
-            rt.alloc(),
-            &Err(ArchiveFault::Skipped(SKIPPED)),
-            &mut errors,
-        );
-        assert!(rt; status == 1 && errors.failed(), "{room}");
-        assert!(rt;
-            errors.into_inner().bytes.as_slice() == &line[..room],
-            "{room}"
-        );
+fn a_beginning_of_the_lines_stays_where_the_errors_fail(rt: HostRuntime) {
+    for (fault, lines) in [
+        (ArchiveFault::Skipped(SKIPPED), SKIPPED_LINE),
+        (REFUSED_AFTER, TWO_LINES),
+    ] {
+        let lines = lines.as_bytes();
+        for room in 0..lines.len() {
+            let mut errors = Watched::new(Short {
+                bytes: Vec::new(rt.alloc()),
+                room,
+            });
+            let status = end_archive(rt.alloc(), &Err(fault), &mut errors);
+            assert!(rt; status == 1 && errors.failed(), "{room}");
+            assert!(rt;
+                errors.into_inner().bytes.as_slice() == &lines[..room],
+                "{room}"
+            );
+        }
     }
 }
 
 #[test]
-fn a_line_is_one_write(rt: HostRuntime) {
-    let mut errors = Watched::new(Counted {
-        bytes: Vec::new(rt.alloc()),
-        calls: 0,
-    });
-    let status = end_archive(
-        rt.alloc(),
-        &Err(ArchiveFault::Skipped(SKIPPED)),
-        &mut errors,
-    );
-    let counted = errors.into_inner();
-    assert!(rt; status == 1 && counted.calls == 1);
-    assert!(rt; counted.bytes.as_slice() == SKIPPED_LINE.as_bytes());
+fn the_lines_are_one_write(rt: HostRuntime) {
+    for (fault, lines) in [
+        (ArchiveFault::Skipped(SKIPPED), SKIPPED_LINE),
+        (REFUSED_AFTER, TWO_LINES),
+    ] {
+        let mut errors = Watched::new(Counted {
+            bytes: Vec::new(rt.alloc()),
+            calls: 0,
+        });
+        let status = end_archive(rt.alloc(), &Err(fault), &mut errors);
+        let counted = errors.into_inner();
+        assert!(rt; status == 1 && counted.calls == 1);
+        assert!(rt; counted.bytes.as_slice() == lines.as_bytes());
+    }
 }
 
 #[test]

@@ -3,6 +3,7 @@ use Rattle.capn_words.specs.Watched.{inner_of, has_failed}
 use Rattle.capn_archive.specs.Finish.{Finished}
 use Rattle.capn_archive.specs.UniqRun.{first_run, uniq_finish, uniq_fold}
 use Rattle.capn_archive.specs.declared.fault.ArchiveFault.{ArchiveFault}
+use Rattle.capn_archive.proofs.ToldAlone.{uniq_alone}
 use Rattle.capn_archive.proofs.Finishes.{finished_closed, finished_stopped, finished_unclosed, of_order}
 use Rattle.capn_archive.specs.UniqMessages.{refuses, serves}
 use Rattle.capn_serve.specs.Fold.{fold_of}
@@ -63,7 +64,8 @@ returns-in-Err g c =
     (g.W.Write.contents (inner_of c.serve_form.new.writer)) (has_failed c.serve_form.new.reader)
     (has_failed c.serve_form.new.writer) (stopped e)) (sym c.fault_of-in-Err.ensures)
     (finished_stopped (uniq_fold c.args.order.now) (first_run c.args.order.now) uniq_finish c.args.order.now.form
-    (g.R.Read.remaining (inner_of c.args.reader.now)) (g.R.Read.remaining (inner_of c.serve_form.new.reader))
+    (uniq_alone c.args.order.now) (g.R.Read.remaining (inner_of c.args.reader.now))
+    (g.R.Read.remaining (inner_of c.serve_form.new.reader))
     (g.W.Write.contents (inner_of c.args.writer.now)) (g.W.Write.contents (inner_of c.serve_form.new.writer))
     (has_failed c.serve_form.new.reader) (has_failed c.serve_form.new.writer) c.in-Err.stopped c.serve_form.new.run
     (of_order (λ (n : ℕ). fold_of serves refuses n) c.args.order.now.form c.args.order.now.limits.message_words

@@ -11,11 +11,12 @@ pub returns-in-InputTooLong : goal.returns-in-InputTooLong
 returns-in-InputTooLong g c = rw c.in-InputTooLong.is c.put-in-InputTooLong.ensures
 
 pub returns-in-Refused : goal.returns-in-Refused
-returns-in-Refused g c =
-    rw c.in-Refused.is (both _ _ _ _ _ c.put-in-Refused.ensures
-    (both _ _ _ _ _ c.say_place.ensures (both _ _ _ _ _ c.put-in-Refused-2.ensures c.say_refusal.ensures)))
+returns-in-Refused g c = rw c.in-Refused.is c.say_refused.ensures
 
 pub returns-in-Skipped : goal.returns-in-Skipped
-returns-in-Skipped g c =
-    rw c.in-Skipped.is (both _ _ _ _ _ c.put_number.ensures
-    (both _ _ _ _ _ c.put_named.ensures (both _ _ _ _ _ c.put-in-Skipped.ensures c.say_place-in-Skipped.ensures)))
+returns-in-Skipped g c = rw c.in-Skipped.is c.say_skipped.ensures
+
+pub returns-in-RefusedAfterSkipped : goal.returns-in-RefusedAfterSkipped
+returns-in-RefusedAfterSkipped g c =
+    rw c.in-RefusedAfterSkipped.is (both _ _ _ _ _ c.say_skipped-in-RefusedAfterSkipped.ensures
+    (both _ _ _ _ _ c.put-in-RefusedAfterSkipped.ensures c.say_refused-in-RefusedAfterSkipped.ensures))

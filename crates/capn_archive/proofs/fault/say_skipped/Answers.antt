@@ -1,0 +1,7 @@
+use Rattle.capn_endings.proofs.shared.Said.{both}
+use Rattle.capn_archive.proofs.fault.say_skipped.Goals as goal
+
+pub returns : goal.returns
+returns g c =
+    both _ _ _ _ _ c.put_number.ensures
+    (both _ _ _ _ _ c.put_named.ensures (both _ _ _ _ _ c.put.ensures c.say_place.ensures))
