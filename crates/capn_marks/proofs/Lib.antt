@@ -3,5 +3,7 @@ mod ItemTexts
 mod LedSteps
 mod MarkedItems
 mod MarkedTexts
+mod NameBlocks
 mod Sequels
 mod WithoutMarks
+mod WithoutWays

@@ -10,7 +10,7 @@ ghost use Rattle.capn_marks.specs.MarkedPlaces.{CountsBefore, RowsMarked};
 ghost use Rattle.capn_show.specs.ReadyPlaces.{AreReady, AreRows, IsBody, IsFound, IsReady};
 
 use crate::marked_lists::{mark_list, mark_words};
-use crate::marks::{Marks, push_number, put_mark, way_length};
+use crate::marks::{Marks, put_mark, step_below, way_length};
 use crate::starts::byte_of;
 use capn_show::{Broken, body_line, named_line, plain_line};
 use capn_walk::laws::views_show_values;
@@ -27,7 +27,7 @@ pub fn mark_slot<S: Space, W: Write, A: Allocator>(
     way: &mut Vec<u8, A>,
     space: &S,
     before: &[u32],
-    marks: Marks,
+    marks: &Marks,
     at: Place,
     level: u32,
     depth: u32,
@@ -37,10 +37,10 @@ pub fn mark_slot<S: Space, W: Write, A: Allocator>(
     requires place { IsPlace (S.message space.now) at }
     requires ready { IsReady (S.message space.now) at depth }
     requires room { level + 2 * depth < 2 ^ 32 }
-    ensures shown { OnOk result (IsMarked (S.message space.now) marks level way.old.items at
+    ensures shown { OnOk result (IsMarked (S.message space.now) marks.now level way.old.items at
         (Adds (outgoing W.contents writer.old text.old.items)
         (outgoing W.contents writer.new text.new.items))) }
-    ensures cut { IfErr result (λ e. IsMarked (S.message space.now) marks level way.old.items at
+    ensures cut { IfErr result (λ e. IsMarked (S.message space.now) marks.now level way.old.items at
         (BreaksOff (outgoing W.contents writer.old text.old.items)
         (outgoing W.contents writer.new text.new.items) e)) }
     ensures kept { OnOk result (way.new.items ≡ way.old.items) }
@@ -63,7 +63,7 @@ pub fn mark_found<S: Space, W: Write, A: Allocator>(
     way: &mut Vec<u8, A>,
     space: &S,
     before: &[u32],
-    marks: Marks,
+    marks: &Marks,
     found: Target,
     level: u32,
     depth: u32,
@@ -73,10 +73,10 @@ pub fn mark_found<S: Space, W: Write, A: Allocator>(
     requires inside { IsInMessage (S.message space.now) found }
     requires ready { IsFound (S.message space.now) found depth }
     requires room { level + 2 * depth < 2 ^ 32 }
-    ensures shown { OnOk result (IsFoundMarked (S.message space.now) marks level way.old.items found
+    ensures shown { OnOk result (IsFoundMarked (S.message space.now) marks.now level way.old.items found
         (Adds (outgoing W.contents writer.old text.old.items)
         (outgoing W.contents writer.new text.new.items))) }
-    ensures cut { IfErr result (λ e. IsFoundMarked (S.message space.now) marks level way.old.items found
+    ensures cut { IfErr result (λ e. IsFoundMarked (S.message space.now) marks.now level way.old.items found
         (BreaksOff (outgoing W.contents writer.old text.old.items)
         (outgoing W.contents writer.new text.new.items) e)) }
     ensures kept { OnOk result (way.new.items ≡ way.old.items) }
@@ -176,7 +176,7 @@ fn mark_body<S: Space, W: Write, A: Allocator>(
     way: &mut Vec<u8, A>,
     space: &S,
     before: &[u32],
-    marks: Marks,
+    marks: &Marks,
     start: Place,
     words: u16,
     slots: u16,
@@ -188,11 +188,11 @@ fn mark_body<S: Space, W: Write, A: Allocator>(
     requires content { IsContent (S.message space.now) start (words + slots) }
     requires ready { IsBody (S.message space.now) start.segment start.word words slots depth }
     requires room { level + 1 + 2 * depth < 2 ^ 32 }
-    ensures shown { OnOk result (IsBodyMarked (S.message space.now) marks level way.old.items start.segment
+    ensures shown { OnOk result (IsBodyMarked (S.message space.now) marks.now level way.old.items start.segment
         start.word words slots
         (Adds (outgoing W.contents writer.old text.old.items)
         (outgoing W.contents writer.new text.new.items))) }
-    ensures cut { IfErr result (λ e. IsBodyMarked (S.message space.now) marks level way.old.items start.segment
+    ensures cut { IfErr result (λ e. IsBodyMarked (S.message space.now) marks.now level way.old.items start.segment
         start.word words slots
         (BreaksOff (outgoing W.contents writer.old text.old.items)
         (outgoing W.contents writer.new text.new.items) e)) }
@@ -237,7 +237,7 @@ fn mark_slots<S: Space, W: Write, A: Allocator>(
     way: &mut Vec<u8, A>,
     space: &S,
     before: &[u32],
-    marks: Marks,
+    marks: &Marks,
     first: Place,
     count: u32,
     level: u32,
@@ -248,11 +248,11 @@ fn mark_slots<S: Space, W: Write, A: Allocator>(
     requires content { IsContent (S.message space.now) first count }
     requires ready { AreReady (S.message space.now) first.segment first.word count depth }
     requires room { level + 2 * depth < 2 ^ 32 }
-    ensures shown { OnOk result (AreMarked (S.message space.now) marks level way.old.items first.segment first.word
+    ensures shown { OnOk result (AreMarked (S.message space.now) marks.now level way.old.items first.segment first.word
         count
         (Adds (outgoing W.contents writer.old text.old.items)
         (outgoing W.contents writer.new text.new.items))) }
-    ensures cut { IfErr result (λ e. AreMarked (S.message space.now) marks level way.old.items first.segment
+    ensures cut { IfErr result (λ e. AreMarked (S.message space.now) marks.now level way.old.items first.segment
         first.word count
         (BreaksOff (outgoing W.contents writer.old text.old.items)
         (outgoing W.contents writer.new text.new.items) e)) }
@@ -276,7 +276,7 @@ fn mark_below<S: Space, W: Write, A: Allocator>(
     way: &mut Vec<u8, A>,
     space: &S,
     before: &[u32],
-    marks: Marks,
+    marks: &Marks,
     number: u32,
     at: Place,
     level: u32,
@@ -287,16 +287,16 @@ fn mark_below<S: Space, W: Write, A: Allocator>(
     requires place { IsPlace (S.message space.now) at }
     requires ready { IsReady (S.message space.now) at depth }
     requires room { level + 2 * depth < 2 ^ 32 }
-    ensures shown { OnOk result (IsMarked (S.message space.now) marks level (spec.below way.old.items number) at
+    ensures shown { OnOk result (IsMarked (S.message space.now) marks.now level (spec.below way.old.items number) at
         (Adds (outgoing W.contents writer.old text.old.items)
         (outgoing W.contents writer.new text.new.items))) }
-    ensures cut { IfErr result (λ e. IsMarked (S.message space.now) marks level (spec.below way.old.items number) at
+    ensures cut { IfErr result (λ e. IsMarked (S.message space.now) marks.now level (spec.below way.old.items number) at
         (BreaksOff (outgoing W.contents writer.old text.old.items)
         (outgoing W.contents writer.new text.new.items) e)) }
     ensures kept { OnOk result (way.new.items ≡ way.old.items) }
 {
     let above = way_length(way);
-    push_number(way, number as u64)?;
+    step_below(way, marks.ways, number as u64)?;
     mark_slot(text, writer, way, space, before, marks, at, level, depth)?;
     way.truncate(above);
     Ok(())
@@ -310,7 +310,7 @@ fn mark_rows<S: Space, W: Write, A: Allocator>(
     way: &mut Vec<u8, A>,
     space: &S,
     before: &[u32],
-    marks: Marks,
+    marks: &Marks,
     first: Place,
     count: u32,
     words: u16,
@@ -323,11 +323,11 @@ fn mark_rows<S: Space, W: Write, A: Allocator>(
     requires content { IsContent (S.message space.now) first (count * (words + slots)) }
     requires ready { AreRows (S.message space.now) first.segment first.word count words slots depth }
     requires room { level + 1 + 2 * depth < 2 ^ 32 }
-    ensures shown { OnOk result (RowsMarked (S.message space.now) marks level way.old.items first.segment first.word
+    ensures shown { OnOk result (RowsMarked (S.message space.now) marks.now level way.old.items first.segment first.word
         count words slots
         (Adds (outgoing W.contents writer.old text.old.items)
         (outgoing W.contents writer.new text.new.items))) }
-    ensures cut { IfErr result (λ e. RowsMarked (S.message space.now) marks level way.old.items first.segment
+    ensures cut { IfErr result (λ e. RowsMarked (S.message space.now) marks.now level way.old.items first.segment
         first.word count words slots
         (BreaksOff (outgoing W.contents writer.old text.old.items)
         (outgoing W.contents writer.new text.new.items) e)) }
@@ -355,7 +355,7 @@ fn mark_row<S: Space, W: Write, A: Allocator>(
     way: &mut Vec<u8, A>,
     space: &S,
     before: &[u32],
-    marks: Marks,
+    marks: &Marks,
     number: u32,
     start: Place,
     words: u16,
@@ -368,12 +368,12 @@ fn mark_row<S: Space, W: Write, A: Allocator>(
     requires content { IsContent (S.message space.now) start (words + slots) }
     requires ready { IsBody (S.message space.now) start.segment start.word words slots depth }
     requires room { level + 1 + 2 * depth < 2 ^ 32 }
-    ensures shown { OnOk result (IsRowMarked (S.message space.now) marks level
+    ensures shown { OnOk result (IsRowMarked (S.message space.now) marks.now level
         (spec.below way.old.items number) start.segment start.word words
         slots
         (Adds (outgoing W.contents writer.old text.old.items)
         (outgoing W.contents writer.new text.new.items))) }
-    ensures cut { IfErr result (λ e. IsRowMarked (S.message space.now) marks level
+    ensures cut { IfErr result (λ e. IsRowMarked (S.message space.now) marks.now level
         (spec.below way.old.items number) start.segment start.word words
         slots
         (BreaksOff (outgoing W.contents writer.old text.old.items)
@@ -381,7 +381,7 @@ fn mark_row<S: Space, W: Write, A: Allocator>(
     ensures kept { OnOk result (way.new.items ≡ way.old.items) }
 {
     let above = way_length(way);
-    push_number(way, number as u64)?;
+    step_below(way, marks.ways, number as u64)?;
     let byte = byte_of(space, marks, before, start);
     put_mark(text, writer, marks, way.as_slice(), byte)?;
     mark_body(

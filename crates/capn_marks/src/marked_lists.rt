@@ -30,16 +30,16 @@ use std::io::Write;
 fn mark_word<W: Write, A: Allocator>(
     text: &mut Vec<u8, A>,
     writer: &mut Watched<W>,
-    marks: Marks,
+    marks: &Marks,
     way: &[u8],
     byte: u128,
     level: u32,
     word: u64,
 ) -> Result<(), Broken>
     ensures shown { OnOk result (Adds (outgoing W.contents writer.old text.old.items)
-        (outgoing W.contents writer.new text.new.items) (spec.mark marks byte way.now ++ spec.word_line level word)) }
+        (outgoing W.contents writer.new text.new.items) (spec.mark marks.now byte way.now ++ spec.word_line level word)) }
     ensures cut { IfErr result (λ e. BreaksOff (outgoing W.contents writer.old text.old.items)
-        (outgoing W.contents writer.new text.new.items) e (spec.mark marks byte way.now ++ spec.word_line level word)) }
+        (outgoing W.contents writer.new text.new.items) e (spec.mark marks.now byte way.now ++ spec.word_line level word)) }
 {
     put_mark(text, writer, marks, way, byte)?;
     word_line(text, writer, level, word)
@@ -49,16 +49,16 @@ fn mark_word<W: Write, A: Allocator>(
 fn mark_number<W: Write, A: Allocator>(
     text: &mut Vec<u8, A>,
     writer: &mut Watched<W>,
-    marks: Marks,
+    marks: &Marks,
     way: &[u8],
     byte: u128,
     level: u32,
     n: u64,
 ) -> Result<(), Broken>
     ensures shown { OnOk result (Adds (outgoing W.contents writer.old text.old.items)
-        (outgoing W.contents writer.new text.new.items) (spec.mark marks byte way.now ++ spec.number_line level n)) }
+        (outgoing W.contents writer.new text.new.items) (spec.mark marks.now byte way.now ++ spec.number_line level n)) }
     ensures cut { IfErr result (λ e. BreaksOff (outgoing W.contents writer.old text.old.items)
-        (outgoing W.contents writer.new text.new.items) e (spec.mark marks byte way.now ++ spec.number_line level n)) }
+        (outgoing W.contents writer.new text.new.items) e (spec.mark marks.now byte way.now ++ spec.number_line level n)) }
 {
     put_mark(text, writer, marks, way, byte)?;
     number_line(text, writer, level, n)
@@ -69,7 +69,7 @@ pub fn mark_words<S: Space, W: Write, A: Allocator>(
     text: &mut Vec<u8, A>,
     writer: &mut Watched<W>,
     space: &S,
-    marks: Marks,
+    marks: &Marks,
     way: &[u8],
     first: u128,
     start: Place,
@@ -80,10 +80,10 @@ pub fn mark_words<S: Space, W: Write, A: Allocator>(
     requires content { IsContent (S.message space.now) start count }
     requires fits { first < 2 ^ 66 }
     ensures shown { OnOk result (WordsMarked (S.message space.now) start.segment start.word count
-        (spec.marked_lines marks 8 (spec.word_line level) way.now first)
+        (spec.marked_lines marks.now 8 (spec.word_line level) way.now first)
         (Adds (outgoing W.contents writer.old text.old.items) (outgoing W.contents writer.new text.new.items))) }
     ensures cut { IfErr result (λ e. WordsMarked (S.message space.now) start.segment start.word count
-        (spec.marked_lines marks 8 (spec.word_line level) way.now first)
+        (spec.marked_lines marks.now 8 (spec.word_line level) way.now first)
         (BreaksOff (outgoing W.contents writer.old text.old.items) (outgoing W.contents writer.new text.new.items) e)) }
 {
     for i in 0..count as u32 {
@@ -109,7 +109,7 @@ fn mark_numbers<S: Space, W: Write, A: Allocator>(
     text: &mut Vec<u8, A>,
     writer: &mut Watched<W>,
     space: &S,
-    marks: Marks,
+    marks: &Marks,
     way: &[u8],
     first: u128,
     start: Place,
@@ -122,10 +122,10 @@ fn mark_numbers<S: Space, W: Write, A: Allocator>(
     requires fits { first < 2 ^ 66 }
     requires plain { HasNumbers width }
     ensures shown { OnOk result (NumbersShown (S.message space.now) start.segment start.word width count
-        (spec.marked_lines marks (8 / seen.per_word width) (spec.number_line level) way.now first)
+        (spec.marked_lines marks.now (8 / seen.per_word width) (spec.number_line level) way.now first)
         (Adds (outgoing W.contents writer.old text.old.items) (outgoing W.contents writer.new text.new.items))) }
     ensures cut { IfErr result (λ e. NumbersShown (S.message space.now) start.segment start.word width count
-        (spec.marked_lines marks (8 / seen.per_word width) (spec.number_line level) way.now first)
+        (spec.marked_lines marks.now (8 / seen.per_word width) (spec.number_line level) way.now first)
         (BreaksOff (outgoing W.contents writer.old text.old.items) (outgoing W.contents writer.new text.new.items) e)) }
 {
     let size = element_bytes(width);
@@ -149,7 +149,7 @@ fn mark_bits<S: Space, W: Write, A: Allocator>(
     text: &mut Vec<u8, A>,
     writer: &mut Watched<W>,
     space: &S,
-    marks: Marks,
+    marks: &Marks,
     way: &[u8],
     first: u128,
     start: Place,
@@ -159,10 +159,10 @@ fn mark_bits<S: Space, W: Write, A: Allocator>(
     requires message { IsMessage (S.message space.now) }
     requires content { IsContent (S.message space.now) start (content_words widths.W1 count) }
     ensures shown { OnOk result (BitsShown (S.message space.now) start.segment start.word count
-        (λ xs. spec.marked_digits marks level way.now first (length xs) (form.digits_of xs))
+        (λ xs. spec.marked_digits marks.now level way.now first (length xs) (form.digits_of xs))
         (Adds (outgoing W.contents writer.old text.old.items) (outgoing W.contents writer.new text.new.items))) }
     ensures cut { IfErr result (λ e. BitsShown (S.message space.now) start.segment start.word count
-        (λ xs. spec.marked_digits marks level way.now first (length xs) (form.digits_of xs))
+        (λ xs. spec.marked_digits marks.now level way.now first (length xs) (form.digits_of xs))
         (BreaksOff (outgoing W.contents writer.old text.old.items) (outgoing W.contents writer.new text.new.items) e)) }
 {
     if count == 0 {
@@ -177,7 +177,7 @@ fn mark_digits<S: Space, W: Write, A: Allocator>(
     text: &mut Vec<u8, A>,
     writer: &mut Watched<W>,
     space: &S,
-    marks: Marks,
+    marks: &Marks,
     way: &[u8],
     first: u128,
     start: Place,
@@ -187,10 +187,10 @@ fn mark_digits<S: Space, W: Write, A: Allocator>(
     requires message { IsMessage (S.message space.now) }
     requires content { IsContent (S.message space.now) start (content_words widths.W8 count) }
     ensures shown { OnOk result (NumbersShown (S.message space.now) start.segment start.word widths.W8 count
-        (λ xs. spec.marked_digits marks level way.now first (length xs) (encode_lower xs))
+        (λ xs. spec.marked_digits marks.now level way.now first (length xs) (encode_lower xs))
         (Adds (outgoing W.contents writer.old text.old.items) (outgoing W.contents writer.new text.new.items))) }
     ensures cut { IfErr result (λ e. NumbersShown (S.message space.now) start.segment start.word widths.W8 count
-        (λ xs. spec.marked_digits marks level way.now first (length xs) (encode_lower xs))
+        (λ xs. spec.marked_digits marks.now level way.now first (length xs) (encode_lower xs))
         (BreaksOff (outgoing W.contents writer.old text.old.items) (outgoing W.contents writer.new text.new.items) e)) }
 {
     if count == 0 {
@@ -205,7 +205,7 @@ fn mark_digit_lines<S: Space, W: Write, A: Allocator>(
     text: &mut Vec<u8, A>,
     writer: &mut Watched<W>,
     space: &S,
-    marks: Marks,
+    marks: &Marks,
     way: &[u8],
     first: u128,
     start: Place,
@@ -216,10 +216,10 @@ fn mark_digit_lines<S: Space, W: Write, A: Allocator>(
     requires content { IsContent (S.message space.now) start (content_words widths.W8 count) }
     requires room { level + 1 < 2 ^ 32 }
     ensures shown { OnOk result (NumbersShown (S.message space.now) start.segment start.word widths.W8 count
-        (spec.digit_lines marks level way.now first)
+        (spec.digit_lines marks.now level way.now first)
         (Adds (outgoing W.contents writer.old text.old.items) (outgoing W.contents writer.new text.new.items))) }
     ensures cut { IfErr result (λ e. NumbersShown (S.message space.now) start.segment start.word widths.W8 count
-        (spec.digit_lines marks level way.now first)
+        (spec.digit_lines marks.now level way.now first)
         (BreaksOff (outgoing W.contents writer.old text.old.items) (outgoing W.contents writer.new text.new.items) e)) }
 {
     named_line(text, writer, level, "bytes", count)?;
@@ -241,7 +241,7 @@ fn mark_text_or_digits<S: Space, W: Write, A: Allocator>(
     text: &mut Vec<u8, A>,
     writer: &mut Watched<W>,
     space: &S,
-    marks: Marks,
+    marks: &Marks,
     way: &[u8],
     first: u128,
     start: Place,
@@ -252,10 +252,10 @@ fn mark_text_or_digits<S: Space, W: Write, A: Allocator>(
     requires content { IsContent (S.message space.now) start (content_words widths.W8 count) }
     requires room { level + 1 < 2 ^ 32 }
     ensures shown { OnOk result (NumbersShown (S.message space.now) start.segment start.word widths.W8 count
-        (spec.text_or_digits marks level way.now first)
+        (spec.text_or_digits marks.now level way.now first)
         (Adds (outgoing W.contents writer.old text.old.items) (outgoing W.contents writer.new text.new.items))) }
     ensures cut { IfErr result (λ e. NumbersShown (S.message space.now) start.segment start.word widths.W8 count
-        (spec.text_or_digits marks level way.now first)
+        (spec.text_or_digits marks.now level way.now first)
         (BreaksOff (outgoing W.contents writer.old text.old.items) (outgoing W.contents writer.new text.new.items) e)) }
 {
     let bytes = space.bytes(start, count as usize);
@@ -271,7 +271,7 @@ fn mark_bytes<S: Space, W: Write, A: Allocator>(
     text: &mut Vec<u8, A>,
     writer: &mut Watched<W>,
     space: &S,
-    marks: Marks,
+    marks: &Marks,
     way: &[u8],
     first: u128,
     start: Place,
@@ -282,10 +282,10 @@ fn mark_bytes<S: Space, W: Write, A: Allocator>(
     requires content { IsContent (S.message space.now) start (content_words widths.W8 count) }
     requires room { level + 1 < 2 ^ 32 }
     ensures shown { OnOk result (NumbersShown (S.message space.now) start.segment start.word widths.W8 count
-        (spec.marked_numbers marks kinds.byte level way.now first)
+        (spec.marked_numbers marks.now kinds.byte level way.now first)
         (Adds (outgoing W.contents writer.old text.old.items) (outgoing W.contents writer.new text.new.items))) }
     ensures cut { IfErr result (λ e. NumbersShown (S.message space.now) start.segment start.word widths.W8 count
-        (spec.marked_numbers marks kinds.byte level way.now first)
+        (spec.marked_numbers marks.now kinds.byte level way.now first)
         (BreaksOff (outgoing W.contents writer.old text.old.items) (outgoing W.contents writer.new text.new.items) e)) }
 {
     if marks.quoted {
@@ -301,7 +301,7 @@ pub fn mark_list<S: Space, W: Write, A: Allocator>(
     writer: &mut Watched<W>,
     space: &S,
     before: &[u32],
-    marks: Marks,
+    marks: &Marks,
     way: &[u8],
     start: Place,
     width: Width,
@@ -313,10 +313,10 @@ pub fn mark_list<S: Space, W: Write, A: Allocator>(
     requires content { IsContent (S.message space.now) start (content_words width count) }
     requires plain { IsPlain width }
     requires room { level + 1 < 2 ^ 32 }
-    ensures shown { OnOk result ((pads : ℕ) → IsFoundMarked (S.message space.now) marks level way.now
+    ensures shown { OnOk result ((pads : ℕ) → IsFoundMarked (S.message space.now) marks.now level way.now
         (targets.Content start.segment start.word (shapes.Many width count) pads)
         (Adds (outgoing W.contents writer.old text.old.items) (outgoing W.contents writer.new text.new.items))) }
-    ensures cut { IfErr result (λ e. (pads : ℕ) → IsFoundMarked (S.message space.now) marks level way.now
+    ensures cut { IfErr result (λ e. (pads : ℕ) → IsFoundMarked (S.message space.now) marks.now level way.now
         (targets.Content start.segment start.word (shapes.Many width count) pads)
         (BreaksOff (outgoing W.contents writer.old text.old.items) (outgoing W.contents writer.new text.new.items) e)) }
 {

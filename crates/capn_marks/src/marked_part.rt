@@ -49,7 +49,7 @@ pub fn show_marked<S: Space, W: Write, A: Allocator + Copy>(
     values();
     let _bounds = message.segments();
     survey(alloc, message, limits)?;
-    match mark_part(alloc, text, writer, message, marks, way, limits.depth()) {
+    match mark_part(alloc, text, writer, message, &marks, way, limits.depth()) {
         Ok(()) => Ok(()),
         Err(broken) => Err(fault_of(broken)),
     }
@@ -61,7 +61,7 @@ fn mark_part<S: Space, W: Write, A: Allocator + Copy>(
     text: &mut Vec<u8, A>,
     writer: &mut Watched<W>,
     space: &S,
-    marks: Marks,
+    marks: &Marks,
     numbers: &[u64],
     depth: u32,
 ) -> Result<(), Broken>
@@ -69,9 +69,9 @@ fn mark_part<S: Space, W: Write, A: Allocator + Copy>(
     requires place { IsPlace (S.message space.now) root }
     requires ready { IsReady (S.message space.now) root depth }
     requires room { 2 * depth < 2 ^ 32 }
-    ensures shown { OnOk result (IsPartMarked (S.message space.now) marks numbers.now (Adds
+    ensures shown { OnOk result (IsPartMarked (S.message space.now) marks.now numbers.now (Adds
         (outgoing W.contents writer.old text.old.items) (outgoing W.contents writer.new text.new.items))) }
-    ensures cut { IfErr result (λ e. IsPartMarked (S.message space.now) marks numbers.now (BreaksOff
+    ensures cut { IfErr result (λ e. IsPartMarked (S.message space.now) marks.now numbers.now (BreaksOff
         (outgoing W.contents writer.old text.old.items) (outgoing W.contents writer.new text.new.items) e)) }
 {
     let Ok(before) = words_before(alloc, space) else {
@@ -91,7 +91,7 @@ fn mark_led<S: Space, W: Write, A: Allocator>(
     way: &mut Vec<u8, A>,
     space: &S,
     before: &[u32],
-    marks: Marks,
+    marks: &Marks,
     found: Option<Part>,
     depth: u32,
 ) -> Result<(), Broken>
@@ -101,9 +101,9 @@ fn mark_led<S: Space, W: Write, A: Allocator>(
     requires inside { IfSome found (λ p. IsInMessage (S.message space.now) p.found) }
     requires ready { IfSome found (λ p. IsFound (S.message space.now) p.found depth) }
     requires room { 2 * depth < 2 ^ 32 }
-    ensures shown { OnOk result (IsLedMarked (S.message space.now) marks way.old.items found (Adds
+    ensures shown { OnOk result (IsLedMarked (S.message space.now) marks.now way.old.items found (Adds
         (outgoing W.contents writer.old text.old.items) (outgoing W.contents writer.new text.new.items))) }
-    ensures cut { IfErr result (λ e. IsLedMarked (S.message space.now) marks way.old.items found (BreaksOff
+    ensures cut { IfErr result (λ e. IsLedMarked (S.message space.now) marks.now way.old.items found (BreaksOff
         (outgoing W.contents writer.old text.old.items) (outgoing W.contents writer.new text.new.items) e)) }
 {
     match found {
@@ -150,7 +150,7 @@ fn mark_there<S: Space, W: Write, A: Allocator>(
     way: &mut Vec<u8, A>,
     space: &S,
     before: &[u32],
-    marks: Marks,
+    marks: &Marks,
     part: Part,
     depth: u32,
 ) -> Result<(), Broken>
@@ -160,9 +160,9 @@ fn mark_there<S: Space, W: Write, A: Allocator>(
     requires inside { IsInMessage (S.message space.now) part.found }
     requires ready { IsFound (S.message space.now) part.found depth }
     requires room { 2 * depth < 2 ^ 32 }
-    ensures shown { OnOk result (IsThereMarked (S.message space.now) marks way.old.items part.at part.found (Adds
+    ensures shown { OnOk result (IsThereMarked (S.message space.now) marks.now way.old.items part.at part.found (Adds
         (outgoing W.contents writer.old text.old.items) (outgoing W.contents writer.new text.new.items))) }
-    ensures cut { IfErr result (λ e. IsThereMarked (S.message space.now) marks way.old.items part.at part.found
+    ensures cut { IfErr result (λ e. IsThereMarked (S.message space.now) marks.now way.old.items part.at part.found
         (BreaksOff
         (outgoing W.contents writer.old text.old.items) (outgoing W.contents writer.new text.new.items) e)) }
 {
@@ -195,12 +195,12 @@ fn put_tab<W: Write, A: Allocator>(
 fn mark_none<W: Write, A: Allocator>(
     text: &mut Vec<u8, A>,
     writer: &mut Watched<W>,
-    marks: Marks,
+    marks: &Marks,
 ) -> Result<(), Broken>
     ensures shown { OnOk result (Adds (outgoing W.contents writer.old text.old.items)
-        (outgoing W.contents writer.new text.new.items) (none_line marks)) }
+        (outgoing W.contents writer.new text.new.items) (none_line marks.now)) }
     ensures cut { IfErr result (λ e. BreaksOff (outgoing W.contents writer.old text.old.items)
-        (outgoing W.contents writer.new text.new.items) e (none_line marks)) }
+        (outgoing W.contents writer.new text.new.items) e (none_line marks.now)) }
 {
     put_tab(text, writer, marks.offsets)?;
     put_tab(text, writer, marks.ways)?;

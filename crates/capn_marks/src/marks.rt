@@ -1,6 +1,7 @@
 //! Marks before the lines of a text.
 
-ghost use Rattle.std.specs.Prelude.{◌≡◌, [], ◌∷◌, ◌++◌, IfErr, OnOk, length};
+ghost use Rattle.std.specs.Prelude.{◌≡◌, ◌≤◌, ◌+◌, [], ◌∷◌, ◌++◌, IfErr, OnOk, drop, length, take};
+ghost use Rattle.std.specs.Prelude.{if◌then◌else◌};
 ghost use Rattle.std.specs.Fmt.{decimal};
 ghost use Rattle.capn_show.specs.declared.fault.Broken.TheVariants as broken;
 ghost use Rattle.capn_marks.specs.Marked as spec;
@@ -89,37 +90,108 @@ fn way_name(way: &[u8]) -> &[u8]
     if way.is_empty() { b"root" } else { way }
 }
 
-/// What a way is called, and a tab.
-fn put_named<W: Write, A: Allocator>(
+/// The most bytes of a name that has room in a block.
+const MOST: usize = 42;
+
+/// A block with a name in it: a tab is before it, at byte 20, and one behind it.
+#[inline(always)]
+fn name_block(name: &[u8]) -> [u8; 64]
+    requires short { length name.now ≤ 42 }
+    ensures size { length result ≡ 64 }
+    ensures tab { drop 20 result ≡ 9 ∷ drop 21 result }
+    ensures name { take (1 + length name.now) (drop 21 result) ≡ name.now ++ 9 ∷ [] }
+{
+    let mut block = [b'\t'; 64];
+    block[21..21 + name.len()].copy_from_slice(name);
+    block
+}
+
+/// A name that has no room in a block, and a tab.
+#[cold]
+fn put_long<W: Write, A: Allocator>(
     text: &mut Vec<u8, A>,
     writer: &mut Watched<W>,
-    way: &[u8],
+    name: &[u8],
 ) -> Result<(), Broken>
     ensures shown { OnOk result (Adds (outgoing W.contents writer.old text.old.items)
-        (outgoing W.contents writer.new text.new.items) (spec.way_name way.now ++ 9 ∷ [])) }
+        (outgoing W.contents writer.new text.new.items) (name.now ++ 9 ∷ [])) }
     ensures cut { IfErr result (λ e. BreaksOff (outgoing W.contents writer.old text.old.items)
-        (outgoing W.contents writer.new text.new.items) e (spec.way_name way.now ++ 9 ∷ [])) }
+        (outgoing W.contents writer.new text.new.items) e (name.now ++ 9 ∷ [])) }
 {
-    put(text, writer, way_name(way))?;
+    put(text, writer, name)?;
     put(text, writer, b"\t")
 }
 
-/// The way to what a line is about, and a tab, if that is asked for.
-fn put_way<W: Write, A: Allocator>(
+/// A name, and a tab.
+fn put_named<W: Write, A: Allocator>(
     text: &mut Vec<u8, A>,
     writer: &mut Watched<W>,
-    ways: bool,
-    way: &[u8],
+    name: &[u8],
 ) -> Result<(), Broken>
     ensures shown { OnOk result (Adds (outgoing W.contents writer.old text.old.items)
-        (outgoing W.contents writer.new text.new.items) (spec.way_mark ways way.now)) }
+        (outgoing W.contents writer.new text.new.items) (name.now ++ 9 ∷ [])) }
     ensures cut { IfErr result (λ e. BreaksOff (outgoing W.contents writer.old text.old.items)
-        (outgoing W.contents writer.new text.new.items) e (spec.way_mark ways way.now)) }
+        (outgoing W.contents writer.new text.new.items) e (name.now ++ 9 ∷ [])) }
 {
-    if ways {
-        put_named(text, writer, way)
+    if name.len() > MOST {
+        return put_long(text, writer, name);
+    }
+    let block = name_block(name);
+    put(text, writer, &block[21..22 + name.len()])
+}
+
+/// The digits of a byte, a tab, a name, and a tab, in one block.
+fn put_block<W: Write, A: Allocator>(
+    text: &mut Vec<u8, A>,
+    writer: &mut Watched<W>,
+    name: &[u8],
+    byte: u64,
+) -> Result<(), Broken>
+    requires short { length name.now ≤ 42 }
+    ensures shown { OnOk result (Adds (outgoing W.contents writer.old text.old.items)
+        (outgoing W.contents writer.new text.new.items) ((decimal byte ++ 9 ∷ []) ++ (name.now ++ 9 ∷ []))) }
+    ensures cut { IfErr result (λ e. BreaksOff (outgoing W.contents writer.old text.old.items)
+        (outgoing W.contents writer.new text.new.items) e ((decimal byte ++ 9 ∷ []) ++ (name.now ++ 9 ∷ []))) }
+{
+    let mut block = name_block(name);
+    let start = itoa::write_digits(byte, &mut block, 20);
+    put(text, writer, &block[start..22 + name.len()])
+}
+
+/// The digits of a byte, a tab, a name, and a tab, where they need not have room in a block.
+#[cold]
+fn put_apart<W: Write, A: Allocator>(
+    text: &mut Vec<u8, A>,
+    writer: &mut Watched<W>,
+    name: &[u8],
+    byte: u128,
+) -> Result<(), Broken>
+    ensures shown { OnOk result (Adds (outgoing W.contents writer.old text.old.items)
+        (outgoing W.contents writer.new text.new.items) ((decimal byte ++ 9 ∷ []) ++ (name.now ++ 9 ∷ []))) }
+    ensures cut { IfErr result (λ e. BreaksOff (outgoing W.contents writer.old text.old.items)
+        (outgoing W.contents writer.new text.new.items) e
+        ((decimal byte ++ 9 ∷ []) ++ (name.now ++ 9 ∷ []))) }
+{
+    put_byte(text, writer, byte)?;
+    put_named(text, writer, name)
+}
+
+/// The digits of a byte, a tab, a name, and a tab.
+fn put_both<W: Write, A: Allocator>(
+    text: &mut Vec<u8, A>,
+    writer: &mut Watched<W>,
+    name: &[u8],
+    byte: u128,
+) -> Result<(), Broken>
+    ensures shown { OnOk result (Adds (outgoing W.contents writer.old text.old.items)
+        (outgoing W.contents writer.new text.new.items) ((decimal byte ++ 9 ∷ []) ++ (name.now ++ 9 ∷ []))) }
+    ensures cut { IfErr result (λ e. BreaksOff (outgoing W.contents writer.old text.old.items)
+        (outgoing W.contents writer.new text.new.items) e ((decimal byte ++ 9 ∷ []) ++ (name.now ++ 9 ∷ []))) }
+{
+    if byte < 1 << 64 && name.len() <= MOST {
+        put_block(text, writer, name, byte as u64)
     } else {
-        Ok(())
+        put_apart(text, writer, name, byte)
     }
 }
 
@@ -127,17 +199,22 @@ fn put_way<W: Write, A: Allocator>(
 pub fn put_mark<W: Write, A: Allocator>(
     text: &mut Vec<u8, A>,
     writer: &mut Watched<W>,
-    marks: Marks,
+    marks: &Marks,
     way: &[u8],
     byte: u128,
 ) -> Result<(), Broken>
     ensures shown { OnOk result (Adds (outgoing W.contents writer.old text.old.items)
-        (outgoing W.contents writer.new text.new.items) (spec.mark marks byte way.now)) }
+        (outgoing W.contents writer.new text.new.items) (spec.mark marks.now byte way.now)) }
     ensures cut { IfErr result (λ e. BreaksOff (outgoing W.contents writer.old text.old.items)
-        (outgoing W.contents writer.new text.new.items) e (spec.mark marks byte way.now)) }
+        (outgoing W.contents writer.new text.new.items) e (spec.mark marks.now byte way.now)) }
 {
-    put_offset(text, writer, marks.offsets, byte)?;
-    put_way(text, writer, marks.ways, way)
+    if !marks.ways {
+        put_offset(text, writer, marks.offsets, byte)
+    } else if marks.offsets {
+        put_both(text, writer, way_name(way), byte)
+    } else {
+        put_named(text, writer, way_name(way))
+    }
 }
 
 /// The bytes of a way.
@@ -162,5 +239,17 @@ pub fn push_number<A: Allocator>(way: &mut Vec<u8, A>, number: u64) -> Result<()
     match way.extend_from_slice(&digits[start..]) {
         Ok(()) => Ok(()),
         Err(_) => Err(Broken::Memory),
+    }
+}
+
+/// The way to what has this number below, where ways are asked for; else it stays, and nothing reads it.
+pub fn step_below<A: Allocator>(way: &mut Vec<u8, A>, ways: bool, number: u64) -> Result<(), Broken>
+    ensures below { OnOk result (way.new.items ≡ (if ways then spec.below way.old.items number else way.old.items)) }
+    ensures memory { IfErr result (λ e. e ≡ broken.Memory) }
+{
+    if ways {
+        push_number(way, number)
+    } else {
+        Ok(())
     }
 }

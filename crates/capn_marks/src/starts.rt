@@ -28,8 +28,8 @@ pub fn words_before<S: Space, A: Allocator>(alloc: A, space: &S) -> Result<Vec<u
 }
 
 /// The byte of a message's first word.
-fn first_byte(marks: Marks) -> u128
-    ensures is { result ≡ spec.first_byte marks }
+fn first_byte(marks: &Marks) -> u128
+    ensures is { result ≡ spec.first_byte marks.now }
     ensures small { result < 2 ^ 65 }
 {
     marks.offset as u128 + 8 * marks.table as u128
@@ -37,12 +37,12 @@ fn first_byte(marks: Marks) -> u128
 
 /// The byte of a word, or of a segment's end.
 #[tactic(auto, using(crate::proofs::Before::within))]
-pub fn byte_of<S: Space>(space: &S, marks: Marks, before: &[u32], at: Place) -> u128
+pub fn byte_of<S: Space>(space: &S, marks: &Marks, before: &[u32], at: Place) -> u128
     requires message { IsMessage (S.message space.now) }
     requires counts { CountsBefore (S.message space.now) before.now }
     requires exists { at.segment < length (S.message space.now) }
     requires within { at.word ≤ length (segment_at (S.message space.now) at.segment) }
-    ensures is { result ≡ spec.byte_at (S.message space.now) marks at }
+    ensures is { result ≡ spec.byte_at (S.message space.now) marks.now at }
     ensures small { result < 2 ^ 66 }
 {
     first_byte(marks) + 8 * (before[at.segment as usize] + at.word) as u128

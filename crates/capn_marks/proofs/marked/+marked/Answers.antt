@@ -25,7 +25,8 @@ use Rattle.capn_marks.proofs.ItemTexts.{item-more, item-cut, items-all}
 use Rattle.capn_marks.proofs.MarkedItems.{listed, length-listed, rows_listed, length-rows_listed, no_row, slot_item}
 use Rattle.capn_marks.proofs.MarkedItems.{slots-items, row_item, rows-items, nth, nth_row, item-is, row-is}
 use Rattle.capn_show.proofs.shared.FoundTexts.{inside, deep, node-ready, links-ready, rows-ready}
-use Rattle.capn_marks.proofs.MarkedTexts.{above, slot-marked, body-marked, nil-marked, cap-marked, node-marked}
+use Rattle.capn_marks.proofs.WithoutWays.{back, slot-stepped, row-stepped}
+use Rattle.capn_marks.proofs.MarkedTexts.{slot-marked, body-marked, nil-marked, cap-marked, node-marked}
 use Rattle.capn_marks.proofs.MarkedTexts.{list-marked, links-marked, rows-marked}
 use Rattle.capn_marks.proofs.marked.+marked.Goals as goal
 
@@ -260,7 +261,7 @@ mark_found-overflow_add-first g t c =
 pub mark_found-returns-in-Nil-clause-shown : goal.mark_found-returns-in-Nil-clause-shown
 mark_found-returns-in-Nil-clause-shown g t c =
     on_ok_weaker c.plain_line.result
-    (nil-marked (g.S.Space.message c.args.space.now) c.args.marks c.args.level c.args.way.now.items (Adds
+    (nil-marked (g.S.Space.message c.args.space.now) c.args.marks.now c.args.level c.args.way.now.items (Adds
     (outgoing g.W.Write.contents c.args.writer.now c.args.text.now.items)
     (outgoing g.W.Write.contents c.plain_line.new.writer c.plain_line.new.text.items)) c.args.found c.in-Nil.is)
     c.plain_line.ensures.shown
@@ -268,7 +269,7 @@ mark_found-returns-in-Nil-clause-shown g t c =
 pub mark_found-returns-in-Nil-clause-cut : goal.mark_found-returns-in-Nil-clause-cut
 mark_found-returns-in-Nil-clause-cut g t c =
     IfErr-weaker c.plain_line.result _ _
-    (λ e. nil-marked (g.S.Space.message c.args.space.now) c.args.marks c.args.level c.args.way.now.items (BreaksOff
+    (λ e. nil-marked (g.S.Space.message c.args.space.now) c.args.marks.now c.args.level c.args.way.now.items (BreaksOff
     (outgoing g.W.Write.contents c.args.writer.now c.args.text.now.items)
     (outgoing g.W.Write.contents c.plain_line.new.writer c.plain_line.new.text.items) e) c.args.found c.in-Nil.is)
     c.plain_line.ensures.cut
@@ -276,7 +277,7 @@ mark_found-returns-in-Nil-clause-cut g t c =
 pub mark_found-returns-in-Cap-clause-shown : goal.mark_found-returns-in-Cap-clause-shown
 mark_found-returns-in-Cap-clause-shown g t c =
     on_ok_weaker c.named_line.result
-    (cap-marked (g.S.Space.message c.args.space.now) c.args.marks c.args.level c.args.way.now.items (Adds
+    (cap-marked (g.S.Space.message c.args.space.now) c.args.marks.now c.args.level c.args.way.now.items (Adds
     (outgoing g.W.Write.contents c.args.writer.now c.args.text.now.items)
     (outgoing g.W.Write.contents c.named_line.new.writer c.named_line.new.text.items)) c.args.found c.in-Cap.index
     c.in-Cap.is)
@@ -285,7 +286,7 @@ mark_found-returns-in-Cap-clause-shown g t c =
 pub mark_found-returns-in-Cap-clause-cut : goal.mark_found-returns-in-Cap-clause-cut
 mark_found-returns-in-Cap-clause-cut g t c =
     IfErr-weaker c.named_line.result _ _
-    (λ e. cap-marked (g.S.Space.message c.args.space.now) c.args.marks c.args.level c.args.way.now.items (BreaksOff
+    (λ e. cap-marked (g.S.Space.message c.args.space.now) c.args.marks.now c.args.level c.args.way.now.items (BreaksOff
     (outgoing g.W.Write.contents c.args.writer.now c.args.text.now.items)
     (outgoing g.W.Write.contents c.named_line.new.writer c.named_line.new.text.items) e) c.args.found c.in-Cap.index
     c.in-Cap.is)
@@ -294,7 +295,7 @@ mark_found-returns-in-Cap-clause-cut g t c =
 pub mark_found-returns-in-Node-clause-shown : goal.mark_found-returns-in-Node-clause-shown
 mark_found-returns-in-Node-clause-shown g t c =
     on_ok_weaker c.mark_body.result
-    (node-marked (g.S.Space.message c.args.space.now) c.args.marks c.args.level c.args.way.now.items (Adds
+    (node-marked (g.S.Space.message c.args.space.now) c.args.marks.now c.args.level c.args.way.now.items (Adds
     (outgoing g.W.Write.contents c.args.writer.now c.args.text.now.items)
     (outgoing g.W.Write.contents c.mark_body.new.writer c.mark_body.new.text.items)) c.args.found c.in-Content.segment
     c.in-Content.start c.in-Content.pads
@@ -305,7 +306,7 @@ mark_found-returns-in-Node-clause-shown g t c =
 pub mark_found-returns-in-Node-clause-cut : goal.mark_found-returns-in-Node-clause-cut
 mark_found-returns-in-Node-clause-cut g t c =
     IfErr-weaker c.mark_body.result _ _
-    (λ e. node-marked (g.S.Space.message c.args.space.now) c.args.marks c.args.level c.args.way.now.items (BreaksOff
+    (λ e. node-marked (g.S.Space.message c.args.space.now) c.args.marks.now c.args.level c.args.way.now.items (BreaksOff
     (outgoing g.W.Write.contents c.args.writer.now c.args.text.now.items)
     (outgoing g.W.Write.contents c.mark_body.new.writer c.mark_body.new.text.items) e) c.args.found c.in-Content.segment
     c.in-Content.start c.in-Content.pads
@@ -316,7 +317,7 @@ mark_found-returns-in-Node-clause-cut g t c =
 pub mark_found-returns-in_default-clause-shown : goal.mark_found-returns-in_default-clause-shown
 mark_found-returns-in_default-clause-shown g t c =
     on_ok_weaker c.mark_list.result
-    (list-marked (g.S.Space.message c.args.space.now) c.args.marks c.args.level c.args.way.now.items (Adds
+    (list-marked (g.S.Space.message c.args.space.now) c.args.marks.now c.args.level c.args.way.now.items (Adds
     (outgoing g.W.Write.contents c.args.writer.now c.args.text.now.items)
     (outgoing g.W.Write.contents c.mark_list.new.writer c.mark_list.new.text.items)) c.args.found c.in-Content.segment
     c.in-Content.start c.in-Content.pads
@@ -328,7 +329,7 @@ mark_found-returns-in_default-clause-shown g t c =
 pub mark_found-returns-in_default-clause-cut : goal.mark_found-returns-in_default-clause-cut
 mark_found-returns-in_default-clause-cut g t c =
     IfErr-weaker c.mark_list.result _ _
-    (λ e. list-marked (g.S.Space.message c.args.space.now) c.args.marks c.args.level c.args.way.now.items (BreaksOff
+    (λ e. list-marked (g.S.Space.message c.args.space.now) c.args.marks.now c.args.level c.args.way.now.items (BreaksOff
     (outgoing g.W.Write.contents c.args.writer.now c.args.text.now.items)
     (outgoing g.W.Write.contents c.mark_list.new.writer c.mark_list.new.text.items) e) c.args.found c.in-Content.segment
     c.in-Content.start c.in-Content.pads
@@ -341,7 +342,7 @@ pub mark_found-returns-in_ok-named_line-in-Link-clause-shown :
     goal.mark_found-returns-in_ok-named_line-in-Link-clause-shown
 mark_found-returns-in_ok-named_line-in-Link-clause-shown g t c =
     on_ok_weaker c.mark_slots.result
-    (links-marked (g.S.Space.message c.args.space.now) c.args.marks c.args.level c.args.way.now.items (Adds
+    (links-marked (g.S.Space.message c.args.space.now) c.args.marks.now c.args.level c.args.way.now.items (Adds
     (outgoing g.W.Write.contents c.args.writer.now c.args.text.now.items)
     (outgoing g.W.Write.contents c.mark_slots.new.writer c.mark_slots.new.text.items)) c.args.found c.in-Content.segment
     c.in-Content.start c.in-Content.pads
@@ -358,7 +359,7 @@ mark_found-returns-in_ok-named_line-in-Link-clause-shown g t c =
 pub mark_found-returns-in_ok-named_line-in-Link-clause-cut : goal.mark_found-returns-in_ok-named_line-in-Link-clause-cut
 mark_found-returns-in_ok-named_line-in-Link-clause-cut g t c =
     IfErr-weaker c.mark_slots.result _ _
-    (λ e. links-marked (g.S.Space.message c.args.space.now) c.args.marks c.args.level c.args.way.now.items (BreaksOff
+    (λ e. links-marked (g.S.Space.message c.args.space.now) c.args.marks.now c.args.level c.args.way.now.items (BreaksOff
     (outgoing g.W.Write.contents c.args.writer.now c.args.text.now.items)
     (outgoing g.W.Write.contents c.mark_slots.new.writer c.mark_slots.new.text.items) e) c.args.found
     c.in-Content.segment
@@ -378,7 +379,7 @@ pub mark_found-returns-in_err-named_line-in-Link-clause-cut :
     goal.mark_found-returns-in_err-named_line-in-Link-clause-cut
 mark_found-returns-in_err-named_line-in-Link-clause-cut g t c =
     passed c.from_residual.result c.in_err-named_line-in-Link.field-0.0 _ c.from_residual.ensures.1
-    (links-marked (g.S.Space.message c.args.space.now) c.args.marks c.args.level c.args.way.now.items (BreaksOff
+    (links-marked (g.S.Space.message c.args.space.now) c.args.marks.now c.args.level c.args.way.now.items (BreaksOff
     (outgoing g.W.Write.contents c.args.writer.now c.args.text.now.items)
     (outgoing g.W.Write.contents c.named_line-in-Link.new.writer c.named_line-in-Link.new.text.items) _) c.args.found
     c.in-Content.segment c.in-Content.start c.in-Content.pads
@@ -393,7 +394,7 @@ pub mark_found-returns-in_ok-named_line-in-Rows-clause-shown :
     goal.mark_found-returns-in_ok-named_line-in-Rows-clause-shown
 mark_found-returns-in_ok-named_line-in-Rows-clause-shown g t c =
     on_ok_weaker c.mark_rows.result
-    (rows-marked (g.S.Space.message c.args.space.now) c.args.marks c.args.level c.args.way.now.items (Adds
+    (rows-marked (g.S.Space.message c.args.space.now) c.args.marks.now c.args.level c.args.way.now.items (Adds
     (outgoing g.W.Write.contents c.args.writer.now c.args.text.now.items)
     (outgoing g.W.Write.contents c.mark_rows.new.writer c.mark_rows.new.text.items)) c.args.found c.in-Content.segment
     c.in-Content.start c.in-Content.pads
@@ -411,7 +412,7 @@ mark_found-returns-in_ok-named_line-in-Rows-clause-shown g t c =
 pub mark_found-returns-in_ok-named_line-in-Rows-clause-cut : goal.mark_found-returns-in_ok-named_line-in-Rows-clause-cut
 mark_found-returns-in_ok-named_line-in-Rows-clause-cut g t c =
     IfErr-weaker c.mark_rows.result _ _
-    (λ e. rows-marked (g.S.Space.message c.args.space.now) c.args.marks c.args.level c.args.way.now.items (BreaksOff
+    (λ e. rows-marked (g.S.Space.message c.args.space.now) c.args.marks.now c.args.level c.args.way.now.items (BreaksOff
     (outgoing g.W.Write.contents c.args.writer.now c.args.text.now.items)
     (outgoing g.W.Write.contents c.mark_rows.new.writer c.mark_rows.new.text.items) e) c.args.found c.in-Content.segment
     c.in-Content.start c.in-Content.pads
@@ -431,7 +432,7 @@ pub mark_found-returns-in_err-named_line-in-Rows-clause-cut :
 mark_found-returns-in_err-named_line-in-Rows-clause-cut g t c =
     passed c.from_residual-in_err-named_line-in-Rows.result c.in_err-named_line-in-Rows.field-0.0 _
     c.from_residual-in_err-named_line-in-Rows.ensures.1
-    (rows-marked (g.S.Space.message c.args.space.now) c.args.marks c.args.level c.args.way.now.items (BreaksOff
+    (rows-marked (g.S.Space.message c.args.space.now) c.args.marks.now c.args.level c.args.way.now.items (BreaksOff
     (outgoing g.W.Write.contents c.args.writer.now c.args.text.now.items)
     (outgoing g.W.Write.contents c.named_line-in-Rows.new.writer c.named_line-in-Rows.new.text.items) _) c.args.found
     c.in-Content.segment c.in-Content.start c.in-Content.pads
@@ -445,7 +446,7 @@ mark_found-returns-in_err-named_line-in-Rows-clause-cut g t c =
 pub mark_body-returns-clause-shown : goal.mark_body-returns-clause-shown
 mark_body-returns-clause-shown g t c =
     on_ok_weaker c.mark_slots.result
-    (body-marked (g.S.Space.message c.args.space.now) c.args.marks c.args.level c.args.way.now.items
+    (body-marked (g.S.Space.message c.args.space.now) c.args.marks.now c.args.level c.args.way.now.items
     c.args.start.segment c.args.start.word c.args.words c.args.slots
     c.byte_of-byte.result c.byte_of-byte.ensures.is c.as_slice.result.now c.as_slice.ensures.value (Adds
     (outgoing g.W.Write.contents c.args.writer.now c.args.text.now.items)
@@ -467,7 +468,7 @@ mark_body-returns-clause-shown g t c =
 pub mark_body-returns-clause-cut : goal.mark_body-returns-clause-cut
 mark_body-returns-clause-cut g t c =
     IfErr-weaker c.mark_slots.result _ _
-    (λ e. body-marked (g.S.Space.message c.args.space.now) c.args.marks c.args.level c.args.way.now.items
+    (λ e. body-marked (g.S.Space.message c.args.space.now) c.args.marks.now c.args.level c.args.way.now.items
     c.args.start.segment c.args.start.word c.args.words c.args.slots
     c.byte_of-byte.result c.byte_of-byte.ensures.is c.as_slice.result.now c.as_slice.ensures.value (BreaksOff
     (outgoing g.W.Write.contents c.args.writer.now c.args.text.now.items)
@@ -490,7 +491,7 @@ pub mark_body-returns-in_err-mark_words-clause-cut : goal.mark_body-returns-in_e
 mark_body-returns-in_err-mark_words-clause-cut g t c =
     passed c.from_residual-in_err-mark_words.result c.in_err-mark_words.field-0.0 _
     c.from_residual-in_err-mark_words.ensures.1
-    (body-marked (g.S.Space.message c.args.space.now) c.args.marks c.args.level c.args.way.now.items
+    (body-marked (g.S.Space.message c.args.space.now) c.args.marks.now c.args.level c.args.way.now.items
     c.args.start.segment c.args.start.word c.args.words c.args.slots
     c.byte_of-byte.result c.byte_of-byte.ensures.is c.as_slice.result.now c.as_slice.ensures.value (BreaksOff
     (outgoing g.W.Write.contents c.args.writer.now c.args.text.now.items)
@@ -509,7 +510,7 @@ mark_body-returns-in_err-mark_words-clause-cut g t c =
 pub mark_body-returns-in_err-body_line-clause-cut : goal.mark_body-returns-in_err-body_line-clause-cut
 mark_body-returns-in_err-body_line-clause-cut g t c =
     passed c.from_residual.result c.in_err-body_line.field-0.0 _ c.from_residual.ensures.1
-    (body-marked (g.S.Space.message c.args.space.now) c.args.marks c.args.level c.args.way.now.items
+    (body-marked (g.S.Space.message c.args.space.now) c.args.marks.now c.args.level c.args.way.now.items
     c.args.start.segment c.args.start.word c.args.words c.args.slots
     c.byte_of-byte.result c.byte_of-byte.ensures.is c.args.way.now.items refl (BreaksOff
     (outgoing g.W.Write.contents c.args.writer.now c.args.text.now.items)
@@ -585,10 +586,10 @@ mark_slot-returns-clause-shown g t c =
     let q = (outgoing g.W.Write.contents c.put_mark.new.writer c.put_mark.new.text.items) in
     let r = (outgoing g.W.Write.contents c.mark_found.new.writer c.mark_found.new.text.items) in
     on_ok_weaker c.mark_found.result
-    (slot-marked m c.args.marks c.args.level c.args.way.now.items c.views_show_values.ensures c.args.at c.in-Ok.found
+    (slot-marked m c.args.marks.now c.args.level c.args.way.now.items c.views_show_values.ensures c.args.at c.in-Ok.found
     (sym c.resolve.ensures.exact ∙ c.in-Ok.is) (Adds p r) (Adds q r)
-    (λ y. both p q r (mark c.args.marks (byte_at m c.args.marks c.args.at) c.args.way.now.items) y
-    (otherwise p q _ _ (ap₂ (mark c.args.marks) c.byte_of-byte.ensures.is c.as_slice.ensures.value)
+    (λ y. both p q r (mark c.args.marks.now (byte_at m c.args.marks.now c.args.at) c.args.way.now.items) y
+    (otherwise p q _ _ (ap₂ (mark c.args.marks.now) c.byte_of-byte.ensures.is c.as_slice.ensures.value)
     c.in_ok-put_mark.ensures.shown)))
     c.mark_found.ensures.shown
 
@@ -599,11 +600,11 @@ mark_slot-returns-clause-cut g t c =
     let q = (outgoing g.W.Write.contents c.put_mark.new.writer c.put_mark.new.text.items) in
     let r = (outgoing g.W.Write.contents c.mark_found.new.writer c.mark_found.new.text.items) in
     IfErr-weaker c.mark_found.result _ _
-    (λ e. slot-marked m c.args.marks c.args.level c.args.way.now.items c.views_show_values.ensures c.args.at
+    (λ e. slot-marked m c.args.marks.now c.args.level c.args.way.now.items c.views_show_values.ensures c.args.at
     c.in-Ok.found
     (sym c.resolve.ensures.exact ∙ c.in-Ok.is) (BreaksOff p r e) (BreaksOff q r e)
-    (λ y. then-broken p q r e (mark c.args.marks (byte_at m c.args.marks c.args.at) c.args.way.now.items) y
-    (otherwise p q _ _ (ap₂ (mark c.args.marks) c.byte_of-byte.ensures.is c.as_slice.ensures.value)
+    (λ y. then-broken p q r e (mark c.args.marks.now (byte_at m c.args.marks.now c.args.at) c.args.way.now.items) y
+    (otherwise p q _ _ (ap₂ (mark c.args.marks.now) c.byte_of-byte.ensures.is c.as_slice.ensures.value)
     c.in_ok-put_mark.ensures.shown)))
     c.mark_found.ensures.cut
 
@@ -613,40 +614,46 @@ mark_slot-returns-in_err-put_mark-clause-cut g t c =
     let p = (outgoing g.W.Write.contents c.args.writer.now c.args.text.now.items) in
     let q = (outgoing g.W.Write.contents c.put_mark.new.writer c.put_mark.new.text.items) in
     passed c.from_residual.result c.in_err-put_mark.field-0.0 _ c.from_residual.ensures.1
-    (λ v i. broken-before p q _ (mark c.args.marks (byte_at m c.args.marks c.args.at) c.args.way.now.items)
-    (unmarked m c.args.marks c.args.level c.args.way.now.items (named_by (target m c.args.at)) v)
-    (otherwise-broken p q _ _ _ (ap₂ (mark c.args.marks) c.byte_of-byte.ensures.is c.as_slice.ensures.value)
+    (λ v i. broken-before p q _ (mark c.args.marks.now (byte_at m c.args.marks.now c.args.at) c.args.way.now.items)
+    (unmarked m c.args.marks.now c.args.level c.args.way.now.items (named_by (target m c.args.at)) v)
+    (otherwise-broken p q _ _ _ (ap₂ (mark c.args.marks.now) c.byte_of-byte.ensures.is c.as_slice.ensures.value)
     c.in_err-put_mark.ensures.cut))
 
 -- ---- the text of the slot of a number
 
 pub mark_below-returns-clause-shown : goal.mark_below-returns-clause-shown
 mark_below-returns-clause-shown g t c =
-    subst (λ (w : List ℕ). IsMarked (g.S.Space.message c.args.space.now) c.args.marks c.args.level w c.args.at (Adds
-    (outgoing g.W.Write.contents c.args.writer.now c.args.text.now.items)
-    (outgoing g.W.Write.contents c.mark_slot.new.writer c.mark_slot.new.text.items)))
-    c.in_ok-push_number.ensures.below c.in_ok-mark_slot.ensures.shown
+    let m = (g.S.Space.message c.args.space.now) in
+    let p = (outgoing g.W.Write.contents c.args.writer.now c.args.text.now.items) in
+    let r = (outgoing g.W.Write.contents c.mark_slot.new.writer c.mark_slot.new.text.items) in
+    slot-stepped m c.args.marks.now c.args.level c.args.way.now.items c.args.number (Adds p r) c.args.at
+    (subst (λ (w : List ℕ). IsMarked m c.args.marks.now c.args.level w c.args.at (Adds p r))
+    c.in_ok-step_below.ensures.below c.in_ok-mark_slot.ensures.shown)
 
 pub mark_below-returns-clause-kept : goal.mark_below-returns-clause-kept
 mark_below-returns-clause-kept g t c =
     c.truncate.ensures.items
-    ∙ ap₂ take c.way_length-above.ensures (c.in_ok-mark_slot.ensures.kept ∙ c.in_ok-push_number.ensures.below)
-    ∙ above c.args.way.now.items c.args.number
+    ∙ ap₂ take c.way_length-above.ensures (c.in_ok-mark_slot.ensures.kept ∙ c.in_ok-step_below.ensures.below)
+    ∙ back c.args.marks.now.ways c.args.way.now.items c.args.number
 
-pub mark_below-returns-in_err-push_number-clause-cut : goal.mark_below-returns-in_err-push_number-clause-cut
-mark_below-returns-in_err-push_number-clause-cut g t c =
-    passed c.from_residual.result c.in_err-push_number.field-0.0 _ c.from_residual.ensures.1
+pub mark_below-returns-in_err-step_below-clause-cut : goal.mark_below-returns-in_err-step_below-clause-cut
+mark_below-returns-in_err-step_below-clause-cut g t c =
+    passed c.from_residual.result c.in_err-step_below.field-0.0 _ c.from_residual.ensures.1
     (λ v i. unbegun (outgoing g.W.Write.contents c.args.writer.now c.args.text.now.items) _ _
-    c.in_err-push_number.ensures.memory)
+    c.in_err-step_below.ensures.memory)
 
 pub mark_below-returns-in_err-mark_slot-clause-cut : goal.mark_below-returns-in_err-mark_slot-clause-cut
 mark_below-returns-in_err-mark_slot-clause-cut g t c =
     passed c.from_residual-in_err-mark_slot.result c.in_err-mark_slot.field-0.0 _
     c.from_residual-in_err-mark_slot.ensures.1
-    (subst (λ (w : List ℕ). IsMarked (g.S.Space.message c.args.space.now) c.args.marks c.args.level w c.args.at
+    (slot-stepped (g.S.Space.message c.args.space.now) c.args.marks.now c.args.level c.args.way.now.items c.args.number
+    (BreaksOff (outgoing g.W.Write.contents c.args.writer.now c.args.text.now.items)
+    (outgoing g.W.Write.contents c.mark_slot.new.writer c.mark_slot.new.text.items) c.in_err-mark_slot.field-0.0)
+    c.args.at
+    (subst (λ (w : List ℕ). IsMarked (g.S.Space.message c.args.space.now) c.args.marks.now c.args.level w c.args.at
     (BreaksOff (outgoing g.W.Write.contents c.args.writer.now c.args.text.now.items)
     (outgoing g.W.Write.contents c.mark_slot.new.writer c.mark_slot.new.text.items) c.in_err-mark_slot.field-0.0))
-    c.in_ok-push_number.ensures.below c.in_err-mark_slot.ensures.cut)
+    c.in_ok-step_below.ensures.below c.in_err-mark_slot.ensures.cut))
 
 -- ---- the text of a row
 
@@ -657,26 +664,28 @@ mark_row-returns-clause-shown g t c =
     let q = (outgoing g.W.Write.contents c.put_mark.new.writer c.put_mark.new.text.items) in
     let r = (outgoing g.W.Write.contents c.mark_body.new.writer c.mark_body.new.text.items) in
     let row = struct_at c.args.start.segment c.args.start.word c.args.words c.args.slots in
-    let way = c.push_number.new.way.items in
-    subst (λ (w : List ℕ). IsRowMarked m c.args.marks c.args.level w c.args.start.segment c.args.start.word
-    c.args.words c.args.slots (Adds p r)) c.in_ok-push_number.ensures.below
-    (λ ws ss h. both p q r (mark c.args.marks (byte_at m c.args.marks (begin row)) way)
-    (unmarked_body m c.args.marks c.args.level way row ws ss)
-    (otherwise p q _ _ (ap₂ (mark c.args.marks) c.byte_of-byte.ensures.is c.as_slice.ensures.value)
+    let way = c.step_below.new.way.items in
+    row-stepped m c.args.marks.now c.args.level c.args.way.now.items c.args.number (Adds p r)
+    c.args.start.segment c.args.start.word c.args.words c.args.slots
+    (subst (λ (w : List ℕ). IsRowMarked m c.args.marks.now c.args.level w c.args.start.segment c.args.start.word
+    c.args.words c.args.slots (Adds p r)) c.in_ok-step_below.ensures.below
+    (λ ws ss h. both p q r (mark c.args.marks.now (byte_at m c.args.marks.now (begin row)) way)
+    (unmarked_body m c.args.marks.now c.args.level way row ws ss)
+    (otherwise p q _ _ (ap₂ (mark c.args.marks.now) c.byte_of-byte.ensures.is c.as_slice.ensures.value)
     c.in_ok-put_mark.ensures.shown)
-    (c.in_ok-mark_body.ensures.shown ws ss h))
+    (c.in_ok-mark_body.ensures.shown ws ss h)))
 
 pub mark_row-returns-clause-kept : goal.mark_row-returns-clause-kept
 mark_row-returns-clause-kept g t c =
     c.truncate.ensures.items
-    ∙ ap₂ take c.way_length-above.ensures (c.in_ok-mark_body.ensures.kept ∙ c.in_ok-push_number.ensures.below)
-    ∙ above c.args.way.now.items c.args.number
+    ∙ ap₂ take c.way_length-above.ensures (c.in_ok-mark_body.ensures.kept ∙ c.in_ok-step_below.ensures.below)
+    ∙ back c.args.marks.now.ways c.args.way.now.items c.args.number
 
-pub mark_row-returns-in_err-push_number-clause-cut : goal.mark_row-returns-in_err-push_number-clause-cut
-mark_row-returns-in_err-push_number-clause-cut g t c =
-    passed c.from_residual.result c.in_err-push_number.field-0.0 _ c.from_residual.ensures.1
+pub mark_row-returns-in_err-step_below-clause-cut : goal.mark_row-returns-in_err-step_below-clause-cut
+mark_row-returns-in_err-step_below-clause-cut g t c =
+    passed c.from_residual.result c.in_err-step_below.field-0.0 _ c.from_residual.ensures.1
     (λ ws ss h. unbegun (outgoing g.W.Write.contents c.args.writer.now c.args.text.now.items) _ _
-    c.in_err-push_number.ensures.memory)
+    c.in_err-step_below.ensures.memory)
 
 pub mark_row-returns-in_err-put_mark-clause-cut : goal.mark_row-returns-in_err-put_mark-clause-cut
 mark_row-returns-in_err-put_mark-clause-cut g t c =
@@ -684,15 +693,17 @@ mark_row-returns-in_err-put_mark-clause-cut g t c =
     let p = (outgoing g.W.Write.contents c.args.writer.now c.args.text.now.items) in
     let q = (outgoing g.W.Write.contents c.put_mark.new.writer c.put_mark.new.text.items) in
     let row = struct_at c.args.start.segment c.args.start.word c.args.words c.args.slots in
-    let way = c.push_number.new.way.items in
+    let way = c.step_below.new.way.items in
     passed c.from_residual-in_err-put_mark.result c.in_err-put_mark.field-0.0 _
     c.from_residual-in_err-put_mark.ensures.1
-    (subst (λ (w : List ℕ). IsRowMarked m c.args.marks c.args.level w c.args.start.segment c.args.start.word
-    c.args.words c.args.slots (BreaksOff p q c.in_err-put_mark.field-0.0)) c.in_ok-push_number.ensures.below
-    (λ ws ss h. broken-before p q _ (mark c.args.marks (byte_at m c.args.marks (begin row)) way)
-    (unmarked_body m c.args.marks c.args.level way row ws ss)
-    (otherwise-broken p q _ _ _ (ap₂ (mark c.args.marks) c.byte_of-byte.ensures.is c.as_slice.ensures.value)
-    c.in_err-put_mark.ensures.cut)))
+    (row-stepped m c.args.marks.now c.args.level c.args.way.now.items c.args.number (BreaksOff p q c.in_err-put_mark.field-0.0)
+    c.args.start.segment c.args.start.word c.args.words c.args.slots
+    (subst (λ (w : List ℕ). IsRowMarked m c.args.marks.now c.args.level w c.args.start.segment c.args.start.word
+    c.args.words c.args.slots (BreaksOff p q c.in_err-put_mark.field-0.0)) c.in_ok-step_below.ensures.below
+    (λ ws ss h. broken-before p q _ (mark c.args.marks.now (byte_at m c.args.marks.now (begin row)) way)
+    (unmarked_body m c.args.marks.now c.args.level way row ws ss)
+    (otherwise-broken p q _ _ _ (ap₂ (mark c.args.marks.now) c.byte_of-byte.ensures.is c.as_slice.ensures.value)
+    c.in_err-put_mark.ensures.cut))))
 
 pub mark_row-returns-in_err-mark_body-clause-cut : goal.mark_row-returns-in_err-mark_body-clause-cut
 mark_row-returns-in_err-mark_body-clause-cut g t c =
@@ -701,16 +712,18 @@ mark_row-returns-in_err-mark_body-clause-cut g t c =
     let q = (outgoing g.W.Write.contents c.put_mark.new.writer c.put_mark.new.text.items) in
     let r = (outgoing g.W.Write.contents c.mark_body.new.writer c.mark_body.new.text.items) in
     let row = struct_at c.args.start.segment c.args.start.word c.args.words c.args.slots in
-    let way = c.push_number.new.way.items in
+    let way = c.step_below.new.way.items in
     passed c.from_residual-in_err-mark_body.result c.in_err-mark_body.field-0.0 _
     c.from_residual-in_err-mark_body.ensures.1
-    (subst (λ (w : List ℕ). IsRowMarked m c.args.marks c.args.level w c.args.start.segment c.args.start.word
-    c.args.words c.args.slots (BreaksOff p r c.in_err-mark_body.field-0.0)) c.in_ok-push_number.ensures.below
-    (λ ws ss h. then-broken p q r _ (mark c.args.marks (byte_at m c.args.marks (begin row)) way)
-    (unmarked_body m c.args.marks c.args.level way row ws ss)
-    (otherwise p q _ _ (ap₂ (mark c.args.marks) c.byte_of-byte.ensures.is c.as_slice.ensures.value)
+    (row-stepped m c.args.marks.now c.args.level c.args.way.now.items c.args.number (BreaksOff p r c.in_err-mark_body.field-0.0)
+    c.args.start.segment c.args.start.word c.args.words c.args.slots
+    (subst (λ (w : List ℕ). IsRowMarked m c.args.marks.now c.args.level w c.args.start.segment c.args.start.word
+    c.args.words c.args.slots (BreaksOff p r c.in_err-mark_body.field-0.0)) c.in_ok-step_below.ensures.below
+    (λ ws ss h. then-broken p q r _ (mark c.args.marks.now (byte_at m c.args.marks.now (begin row)) way)
+    (unmarked_body m c.args.marks.now c.args.level way row ws ss)
+    (otherwise p q _ _ (ap₂ (mark c.args.marks.now) c.byte_of-byte.ensures.is c.as_slice.ensures.value)
     c.in_ok-put_mark.ensures.shown)
-    (c.in_err-mark_body.ensures.cut ws ss h)))
+    (c.in_err-mark_body.ensures.cut ws ss h))))
 
 -- ---- slots, one after the other
 
@@ -733,10 +746,10 @@ mark_slots-loop-i-preserved g t c =
       way = c.in_ok-mark_below.ensures.kept ∙ c.loop-i.invariant.way;
       rest = λ ts h n. let below : i < count ts = omega arith in
           let long = length-listed ts in
-          item-more (slot_item m c.args.marks c.args.level c.args.way.now.items (nth c.args.first)) nil p q
+          item-more (slot_item m c.args.marks.now c.args.level c.args.way.now.items (nth c.args.first)) nil p q
           (listed ts) i r
           (omega arith) (c.loop-i.invariant.rest ts h n)
-          (otherwise q r _ _ (item-is m c.args.marks c.args.level c.loop-i.way.items c.args.way.now.items
+          (otherwise q r _ _ (item-is m c.args.marks.now c.args.level c.loop-i.way.items c.args.way.now.items
           (nth c.args.first) ts i
           c.loop-i.invariant.way) (c.in_ok-mark_below.ensures.shown (tree_at ts i) (h i below)));
     }
@@ -748,8 +761,8 @@ mark_slots-returns-clause-shown g t c ts h n =
     let q = (outgoing g.W.Write.contents c.loop-i.writer c.loop-i.text.items) in
     let long = length-listed ts in
     let past = c.loop-i-test.false in
-    otherwise p q _ _ (slots-items m c.args.marks c.args.level c.args.way.now.items (nth c.args.first) 0 ts)
-    (items-all (slot_item m c.args.marks c.args.level c.args.way.now.items (nth c.args.first)) nil p q
+    otherwise p q _ _ (slots-items m c.args.marks.now c.args.level c.args.way.now.items (nth c.args.first) 0 ts)
+    (items-all (slot_item m c.args.marks.now c.args.level c.args.way.now.items (nth c.args.first)) nil p q
     (listed ts) c.loop-i.i
     (omega arith) (c.loop-i.invariant.rest ts h n))
 
@@ -764,10 +777,10 @@ mark_slots-returns-in_err-mark_below-clause-cut g t c =
     let r = (outgoing g.W.Write.contents c.mark_below.new.writer c.mark_below.new.text.items) in
     let below : i < count ts = omega arith in
     let long = length-listed ts in
-    otherwise-broken p r _ _ _ (slots-items m c.args.marks c.args.level c.args.way.now.items (nth c.args.first) 0 ts)
-    (item-cut (slot_item m c.args.marks c.args.level c.args.way.now.items (nth c.args.first)) nil p q (listed ts) i r _
+    otherwise-broken p r _ _ _ (slots-items m c.args.marks.now c.args.level c.args.way.now.items (nth c.args.first) 0 ts)
+    (item-cut (slot_item m c.args.marks.now c.args.level c.args.way.now.items (nth c.args.first)) nil p q (listed ts) i r _
     (omega arith) (c.loop-i.invariant.rest ts h n)
-    (otherwise-broken q r _ _ _ (item-is m c.args.marks c.args.level c.loop-i.way.items c.args.way.now.items
+    (otherwise-broken q r _ _ _ (item-is m c.args.marks.now c.args.level c.loop-i.way.items c.args.way.now.items
     (nth c.args.first) ts i
     c.loop-i.invariant.way) (c.in_err-mark_below.ensures.cut (tree_at ts i) (h i below)))))
 
@@ -797,9 +810,9 @@ mark_rows-loop-row-preserved g t c =
       way = c.in_ok-mark_row.ensures.kept ∙ c.loop-row.invariant.way;
       rest = λ bs h n. let below : i < count_rows bs = omega arith in
           let long = length-rows_listed bs in
-          item-more (row_item m c.args.marks c.args.level c.args.way.now.items (nth_row c.args.first a b)) no_row p q
+          item-more (row_item m c.args.marks.now c.args.level c.args.way.now.items (nth_row c.args.first a b)) no_row p q
           (rows_listed bs) i r (omega arith) (c.loop-row.invariant.rest bs h n)
-          (otherwise q r _ _ (row-is m c.args.marks c.args.level c.loop-row.way.items c.args.way.now.items
+          (otherwise q r _ _ (row-is m c.args.marks.now c.args.level c.loop-row.way.items c.args.way.now.items
           c.args.first a b
           c.loop-row.next bs i c.loop-row.invariant.way next)
           (c.in_ok-mark_row.ensures.shown (words_of_row bs i) (slots_of_row bs i)
@@ -815,8 +828,8 @@ mark_rows-returns-clause-shown g t c bs h n =
     let long = length-rows_listed bs in
     let past = c.loop-row-test.false in
     let row = nth_row c.args.first c.args.words c.args.slots in
-    otherwise p q _ _ (rows-items m c.args.marks c.args.level c.args.way.now.items row 0 bs)
-    (items-all (row_item m c.args.marks c.args.level c.args.way.now.items row) no_row p q
+    otherwise p q _ _ (rows-items m c.args.marks.now c.args.level c.args.way.now.items row 0 bs)
+    (items-all (row_item m c.args.marks.now c.args.level c.args.way.now.items row) no_row p q
     (rows_listed bs) c.loop-row.row
     (omega arith) (c.loop-row.invariant.rest bs h n))
 
@@ -835,12 +848,12 @@ mark_rows-returns-in_err-mark_row-clause-cut g t c =
     let r = (outgoing g.W.Write.contents c.mark_row.new.writer c.mark_row.new.text.items) in
     let below : i < count_rows bs = omega arith in
     let long = length-rows_listed bs in
-    otherwise-broken p r _ _ _ (rows-items m c.args.marks c.args.level c.args.way.now.items
+    otherwise-broken p r _ _ _ (rows-items m c.args.marks.now c.args.level c.args.way.now.items
     (nth_row c.args.first a b) 0 bs)
-    (item-cut (row_item m c.args.marks c.args.level c.args.way.now.items (nth_row c.args.first a b)) no_row p q
+    (item-cut (row_item m c.args.marks.now c.args.level c.args.way.now.items (nth_row c.args.first a b)) no_row p q
     (rows_listed bs) i r _
     (omega arith) (c.loop-row.invariant.rest bs h n)
-    (otherwise-broken q r _ _ _ (row-is m c.args.marks c.args.level c.loop-row.way.items c.args.way.now.items
+    (otherwise-broken q r _ _ _ (row-is m c.args.marks.now c.args.level c.loop-row.way.items c.args.way.now.items
     c.args.first a b
     c.loop-row.next bs i c.loop-row.invariant.way next)
     (c.in_err-mark_row.ensures.cut (words_of_row bs i) (slots_of_row bs i)

@@ -13,7 +13,7 @@ pub returns-then-count-eq0-clause-shown : goal.returns-then-count-eq0-clause-sho
 returns-then-count-eq0-clause-shown g c xs h n =
     let p = (outgoing g.W.Write.contents c.args.writer.now c.args.text.now.items) in
     let none : 0 ≡ length xs = omega arith in
-    subst (λ (k : ℕ). Adds p p (marked_digits c.args.marks c.args.level c.args.way.now c.args.first k
+    subst (λ (k : ℕ). Adds p p (marked_digits c.args.marks.now c.args.level c.args.way.now c.args.first k
     (digits_of xs))) none
     (same p)
 
@@ -24,8 +24,8 @@ returns-clause-shown g c =
     let r = (outgoing g.W.Write.contents c.show_bits.new.writer c.show_bits.new.text.items) in
     on_ok_weaker c.show_bits.result
     (λ k xs h n. otherwise p r _ _
-    (digits-marked c.args.marks c.args.level c.args.way.now c.args.first (length xs) (digits_of xs) (omega arith))
-    (both p q r (mark c.args.marks c.args.first c.args.way.now) (one_line c.args.level (length xs) (digits_of xs))
+    (digits-marked c.args.marks.now c.args.level c.args.way.now c.args.first (length xs) (digits_of xs) (omega arith))
+    (both p q r (mark c.args.marks.now c.args.first c.args.way.now) (one_line c.args.level (length xs) (digits_of xs))
     c.in_ok-put_mark.ensures.shown (k xs h n)))
     c.show_bits.ensures.shown
 
@@ -36,8 +36,8 @@ returns-clause-cut g c =
     let r = (outgoing g.W.Write.contents c.show_bits.new.writer c.show_bits.new.text.items) in
     IfErr-weaker c.show_bits.result _ _
     (λ e k xs h n. otherwise-broken p r e _ _
-    (digits-marked c.args.marks c.args.level c.args.way.now c.args.first (length xs) (digits_of xs) (omega arith))
-    (then-broken p q r e (mark c.args.marks c.args.first c.args.way.now) (one_line c.args.level (length xs)
+    (digits-marked c.args.marks.now c.args.level c.args.way.now c.args.first (length xs) (digits_of xs) (omega arith))
+    (then-broken p q r e (mark c.args.marks.now c.args.first c.args.way.now) (one_line c.args.level (length xs)
     (digits_of xs))
     c.in_ok-put_mark.ensures.shown (k xs h n)))
     c.show_bits.ensures.cut
@@ -48,7 +48,7 @@ returns-in_err-put_mark-clause-cut g c =
     (λ xs h n. let p = (outgoing g.W.Write.contents c.args.writer.now c.args.text.now.items) in
     let q = (outgoing g.W.Write.contents c.put_mark.new.writer c.put_mark.new.text.items) in
     otherwise-broken p q _ _ _
-    (digits-marked c.args.marks c.args.level c.args.way.now c.args.first (length xs) (digits_of xs) (omega arith))
-    (broken-before p q _ (mark c.args.marks c.args.first c.args.way.now) (one_line c.args.level (length xs)
+    (digits-marked c.args.marks.now c.args.level c.args.way.now c.args.first (length xs) (digits_of xs) (omega arith))
+    (broken-before p q _ (mark c.args.marks.now c.args.first c.args.way.now) (one_line c.args.level (length xs)
     (digits_of xs))
     c.in_err-put_mark.ensures.cut))

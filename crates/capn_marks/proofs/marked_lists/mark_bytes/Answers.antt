@@ -12,8 +12,8 @@ returns-then-marks-clause-shown g c =
     let p = (outgoing g.W.Write.contents c.args.writer.now c.args.text.now.items) in
     let q = (outgoing g.W.Write.contents c.mark_text_or_digits.new.writer c.mark_text_or_digits.new.text.items) in
     subst (λ (b : Bool). OnOk c.mark_text_or_digits.result (NumbersShown m c.args.start.segment c.args.start.word W8
-    c.args.count (λ xs. if b then text_or_digits c.args.marks c.args.level c.args.way.now c.args.first xs
-    else digit_lines c.args.marks c.args.level c.args.way.now c.args.first xs)
+    c.args.count (λ xs. if b then text_or_digits c.args.marks.now c.args.level c.args.way.now c.args.first xs
+    else digit_lines c.args.marks.now c.args.level c.args.way.now c.args.first xs)
     (Adds p q)))
     (sym c.if-marks.true) c.mark_text_or_digits.ensures.shown
 
@@ -24,8 +24,8 @@ returns-then-marks-clause-cut g c =
     let q = (outgoing g.W.Write.contents c.mark_text_or_digits.new.writer c.mark_text_or_digits.new.text.items) in
     subst (λ (b : Bool). IfErr c.mark_text_or_digits.result
     (λ e. NumbersShown m c.args.start.segment c.args.start.word W8
-    c.args.count (λ xs. if b then text_or_digits c.args.marks c.args.level c.args.way.now c.args.first xs
-    else digit_lines c.args.marks c.args.level c.args.way.now c.args.first xs)
+    c.args.count (λ xs. if b then text_or_digits c.args.marks.now c.args.level c.args.way.now c.args.first xs
+    else digit_lines c.args.marks.now c.args.level c.args.way.now c.args.first xs)
     (BreaksOff p q e)))
     (sym c.if-marks.true) c.mark_text_or_digits.ensures.cut
 
@@ -35,8 +35,8 @@ returns-else-marks-clause-shown g c =
     let p = (outgoing g.W.Write.contents c.args.writer.now c.args.text.now.items) in
     let q = (outgoing g.W.Write.contents c.mark_digit_lines.new.writer c.mark_digit_lines.new.text.items) in
     subst (λ (b : Bool). OnOk c.mark_digit_lines.result (NumbersShown m c.args.start.segment c.args.start.word W8
-    c.args.count (λ xs. if b then text_or_digits c.args.marks c.args.level c.args.way.now c.args.first xs
-    else digit_lines c.args.marks c.args.level c.args.way.now c.args.first xs)
+    c.args.count (λ xs. if b then text_or_digits c.args.marks.now c.args.level c.args.way.now c.args.first xs
+    else digit_lines c.args.marks.now c.args.level c.args.way.now c.args.first xs)
     (Adds p q)))
     (sym c.if-marks.false) c.mark_digit_lines.ensures.shown
 
@@ -46,7 +46,7 @@ returns-else-marks-clause-cut g c =
     let p = (outgoing g.W.Write.contents c.args.writer.now c.args.text.now.items) in
     let q = (outgoing g.W.Write.contents c.mark_digit_lines.new.writer c.mark_digit_lines.new.text.items) in
     subst (λ (b : Bool). IfErr c.mark_digit_lines.result (λ e. NumbersShown m c.args.start.segment c.args.start.word W8
-    c.args.count (λ xs. if b then text_or_digits c.args.marks c.args.level c.args.way.now c.args.first xs
-    else digit_lines c.args.marks c.args.level c.args.way.now c.args.first xs)
+    c.args.count (λ xs. if b then text_or_digits c.args.marks.now c.args.level c.args.way.now c.args.first xs
+    else digit_lines c.args.marks.now c.args.level c.args.way.now c.args.first xs)
     (BreaksOff p q e)))
     (sym c.if-marks.false) c.mark_digit_lines.ensures.cut

@@ -14,10 +14,10 @@ returns-clause-shown g c =
     let r = (outgoing g.W.Write.contents c.mark_digits.new.writer c.mark_digits.new.text.items) in
     on_ok_weaker c.mark_digits.result
     (λ k xs h n. otherwise p r _ _
-    (ap (λ (j : ℕ). line c.args.level (named (codes "bytes") j) ++ marked_digits c.args.marks
+    (ap (λ (j : ℕ). line c.args.level (named (codes "bytes") j) ++ marked_digits c.args.marks.now
     (c.args.level + 1) c.args.way.now c.args.first (length xs) (encode_lower xs)) (sym n))
     (both p q r (line c.args.level (named (codes "bytes") c.args.count))
-    (marked_digits c.args.marks (c.args.level + 1) c.args.way.now c.args.first (length xs) (encode_lower xs))
+    (marked_digits c.args.marks.now (c.args.level + 1) c.args.way.now c.args.first (length xs) (encode_lower xs))
     c.in_ok-named_line.ensures.shown (k xs h n)))
     c.mark_digits.ensures.shown
 
@@ -28,10 +28,10 @@ returns-clause-cut g c =
     let r = (outgoing g.W.Write.contents c.mark_digits.new.writer c.mark_digits.new.text.items) in
     IfErr-weaker c.mark_digits.result _ _
     (λ e k xs h n. otherwise-broken p r e _ _
-    (ap (λ (j : ℕ). line c.args.level (named (codes "bytes") j) ++ marked_digits c.args.marks
+    (ap (λ (j : ℕ). line c.args.level (named (codes "bytes") j) ++ marked_digits c.args.marks.now
     (c.args.level + 1) c.args.way.now c.args.first (length xs) (encode_lower xs)) (sym n))
     (then-broken p q r e (line c.args.level (named (codes "bytes") c.args.count))
-    (marked_digits c.args.marks (c.args.level + 1) c.args.way.now c.args.first (length xs) (encode_lower xs))
+    (marked_digits c.args.marks.now (c.args.level + 1) c.args.way.now c.args.first (length xs) (encode_lower xs))
     c.in_ok-named_line.ensures.shown (k xs h n)))
     c.mark_digits.ensures.cut
 
@@ -41,8 +41,8 @@ returns-in_err-named_line-clause-cut g c =
     (λ xs h n. let p = (outgoing g.W.Write.contents c.args.writer.now c.args.text.now.items) in
     let q = (outgoing g.W.Write.contents c.named_line.new.writer c.named_line.new.text.items) in
     otherwise-broken p q _ _ _
-    (ap (λ (j : ℕ). line c.args.level (named (codes "bytes") j) ++ marked_digits c.args.marks
+    (ap (λ (j : ℕ). line c.args.level (named (codes "bytes") j) ++ marked_digits c.args.marks.now
     (c.args.level + 1) c.args.way.now c.args.first (length xs) (encode_lower xs)) (sym n))
     (broken-before p q _ (line c.args.level (named (codes "bytes") c.args.count))
-    (marked_digits c.args.marks (c.args.level + 1) c.args.way.now c.args.first (length xs) (encode_lower xs))
+    (marked_digits c.args.marks.now (c.args.level + 1) c.args.way.now c.args.first (length xs) (encode_lower xs))
     c.in_err-named_line.ensures.cut))

@@ -10,7 +10,7 @@ use Rattle.capn_marks.proofs.marked_lists.mark_list.Goals as goal
 pub returns-in-W0-clause-shown : goal.returns-in-W0-clause-shown
 returns-in-W0-clause-shown g c =
     on_ok_weaker c.named_line.result
-    (voids-marked (g.S.Space.message c.args.space.now) c.args.marks c.args.level c.args.way.now c.args.start.segment
+    (voids-marked (g.S.Space.message c.args.space.now) c.args.marks.now c.args.level c.args.way.now c.args.start.segment
     c.args.start.word c.args.count c.args.width (Adds (outgoing g.W.Write.contents c.args.writer.now
     c.args.text.now.items)
     (outgoing g.W.Write.contents c.named_line.new.writer c.named_line.new.text.items)) c.in-W0.is)
@@ -19,7 +19,7 @@ returns-in-W0-clause-shown g c =
 pub returns-in-W0-clause-cut : goal.returns-in-W0-clause-cut
 returns-in-W0-clause-cut g c =
     IfErr-weaker c.named_line.result _ _
-    (λ e. voids-marked (g.S.Space.message c.args.space.now) c.args.marks c.args.level c.args.way.now
+    (λ e. voids-marked (g.S.Space.message c.args.space.now) c.args.marks.now c.args.level c.args.way.now
     c.args.start.segment c.args.start.word c.args.count c.args.width (BreaksOff
     (outgoing g.W.Write.contents c.args.writer.now c.args.text.now.items)
     (outgoing g.W.Write.contents c.named_line.new.writer c.named_line.new.text.items) e) c.in-W0.is)
@@ -28,7 +28,7 @@ returns-in-W0-clause-cut g c =
 pub returns-in_ok-named_line-in-W1-clause-shown : goal.returns-in_ok-named_line-in-W1-clause-shown
 returns-in_ok-named_line-in-W1-clause-shown g c =
     on_ok_weaker c.mark_bits.result
-    (bits-marked (g.S.Space.message c.args.space.now) c.args.marks c.args.level c.args.way.now c.args.start.segment
+    (bits-marked (g.S.Space.message c.args.space.now) c.args.marks.now c.args.level c.args.way.now c.args.start.segment
     c.args.start.word c.args.count c.args.width (Adds (outgoing g.W.Write.contents c.args.writer.now
     c.args.text.now.items)
     (outgoing g.W.Write.contents c.mark_bits.new.writer c.mark_bits.new.text.items)) c.byte_of-first.result
@@ -45,7 +45,7 @@ returns-in_ok-named_line-in-W1-clause-shown g c =
 pub returns-in_ok-named_line-in-W1-clause-cut : goal.returns-in_ok-named_line-in-W1-clause-cut
 returns-in_ok-named_line-in-W1-clause-cut g c =
     IfErr-weaker c.mark_bits.result _ _
-    (λ e. bits-marked (g.S.Space.message c.args.space.now) c.args.marks c.args.level c.args.way.now
+    (λ e. bits-marked (g.S.Space.message c.args.space.now) c.args.marks.now c.args.level c.args.way.now
     c.args.start.segment c.args.start.word c.args.count c.args.width (BreaksOff
     (outgoing g.W.Write.contents c.args.writer.now c.args.text.now.items)
     (outgoing g.W.Write.contents c.mark_bits.new.writer c.mark_bits.new.text.items) e) c.byte_of-first.result
@@ -61,7 +61,7 @@ returns-in_ok-named_line-in-W1-clause-cut g c =
 pub returns-in_err-named_line-in-W1-clause-cut : goal.returns-in_err-named_line-in-W1-clause-cut
 returns-in_err-named_line-in-W1-clause-cut g c =
     passed c.from_residual.result c.in_err-named_line-in-W1.field-0.0 _ c.from_residual.ensures.1
-    (bits-marked (g.S.Space.message c.args.space.now) c.args.marks c.args.level c.args.way.now c.args.start.segment
+    (bits-marked (g.S.Space.message c.args.space.now) c.args.marks.now c.args.level c.args.way.now c.args.start.segment
     c.args.start.word c.args.count c.args.width (BreaksOff (outgoing g.W.Write.contents c.args.writer.now
     c.args.text.now.items)
     (outgoing g.W.Write.contents c.named_line-in-W1.new.writer c.named_line-in-W1.new.text.items) _)
@@ -73,7 +73,7 @@ returns-in_err-named_line-in-W1-clause-cut g c =
 pub returns-in-W8-clause-shown : goal.returns-in-W8-clause-shown
 returns-in-W8-clause-shown g c =
     on_ok_weaker c.mark_bytes.result
-    (bytes-marked (g.S.Space.message c.args.space.now) c.args.marks c.args.level c.args.way.now c.args.start.segment
+    (bytes-marked (g.S.Space.message c.args.space.now) c.args.marks.now c.args.level c.args.way.now c.args.start.segment
     c.args.start.word c.args.count c.args.width (Adds (outgoing g.W.Write.contents c.args.writer.now
     c.args.text.now.items)
     (outgoing g.W.Write.contents c.mark_bytes.new.writer c.mark_bytes.new.text.items)) c.byte_of-first.result
@@ -83,7 +83,7 @@ returns-in-W8-clause-shown g c =
 pub returns-in-W8-clause-cut : goal.returns-in-W8-clause-cut
 returns-in-W8-clause-cut g c =
     IfErr-weaker c.mark_bytes.result _ _
-    (λ e. bytes-marked (g.S.Space.message c.args.space.now) c.args.marks c.args.level c.args.way.now
+    (λ e. bytes-marked (g.S.Space.message c.args.space.now) c.args.marks.now c.args.level c.args.way.now
     c.args.start.segment c.args.start.word c.args.count c.args.width (BreaksOff
     (outgoing g.W.Write.contents c.args.writer.now c.args.text.now.items)
     (outgoing g.W.Write.contents c.mark_bytes.new.writer c.mark_bytes.new.text.items) e) c.byte_of-first.result
@@ -93,7 +93,7 @@ returns-in-W8-clause-cut g c =
 pub returns-in_ok-named_line-in-W16-clause-shown : goal.returns-in_ok-named_line-in-W16-clause-shown
 returns-in_ok-named_line-in-W16-clause-shown g c =
     on_ok_weaker c.mark_numbers.result
-    (numbers-marked (g.S.Space.message c.args.space.now) c.args.marks c.args.level c.args.way.now c.args.start.segment
+    (numbers-marked (g.S.Space.message c.args.space.now) c.args.marks.now c.args.level c.args.way.now c.args.start.segment
     c.args.start.word c.args.count c.args.width (Adds (outgoing g.W.Write.contents c.args.writer.now
     c.args.text.now.items)
     (outgoing g.W.Write.contents c.mark_numbers.new.writer c.mark_numbers.new.text.items)) c.byte_of-first.result
@@ -110,7 +110,7 @@ returns-in_ok-named_line-in-W16-clause-shown g c =
 pub returns-in_ok-named_line-in-W16-clause-cut : goal.returns-in_ok-named_line-in-W16-clause-cut
 returns-in_ok-named_line-in-W16-clause-cut g c =
     IfErr-weaker c.mark_numbers.result _ _
-    (λ e. numbers-marked (g.S.Space.message c.args.space.now) c.args.marks c.args.level c.args.way.now
+    (λ e. numbers-marked (g.S.Space.message c.args.space.now) c.args.marks.now c.args.level c.args.way.now
     c.args.start.segment c.args.start.word c.args.count c.args.width (BreaksOff
     (outgoing g.W.Write.contents c.args.writer.now c.args.text.now.items)
     (outgoing g.W.Write.contents c.mark_numbers.new.writer c.mark_numbers.new.text.items) e) c.byte_of-first.result
@@ -128,7 +128,7 @@ pub returns-in_err-named_line-in-W16-clause-cut : goal.returns-in_err-named_line
 returns-in_err-named_line-in-W16-clause-cut g c =
     passed c.from_residual-in_err-named_line-in-W16.result c.in_err-named_line-in-W16.field-0.0 _
     c.from_residual-in_err-named_line-in-W16.ensures.1
-    (numbers-marked (g.S.Space.message c.args.space.now) c.args.marks c.args.level c.args.way.now c.args.start.segment
+    (numbers-marked (g.S.Space.message c.args.space.now) c.args.marks.now c.args.level c.args.way.now c.args.start.segment
     c.args.start.word c.args.count c.args.width (BreaksOff (outgoing g.W.Write.contents c.args.writer.now
     c.args.text.now.items)
     (outgoing g.W.Write.contents c.named_line-in-W16.new.writer c.named_line-in-W16.new.text.items) _)
@@ -143,7 +143,7 @@ returns-in_err-named_line-in-W16-clause-cut g c =
 pub returns-in_ok-named_line-in-W32-clause-shown : goal.returns-in_ok-named_line-in-W32-clause-shown
 returns-in_ok-named_line-in-W32-clause-shown g c =
     on_ok_weaker c.mark_numbers-in-W32.result
-    (numbers-marked (g.S.Space.message c.args.space.now) c.args.marks c.args.level c.args.way.now c.args.start.segment
+    (numbers-marked (g.S.Space.message c.args.space.now) c.args.marks.now c.args.level c.args.way.now c.args.start.segment
     c.args.start.word c.args.count c.args.width (Adds (outgoing g.W.Write.contents c.args.writer.now
     c.args.text.now.items)
     (outgoing g.W.Write.contents c.mark_numbers-in-W32.new.writer c.mark_numbers-in-W32.new.text.items))
@@ -160,7 +160,7 @@ returns-in_ok-named_line-in-W32-clause-shown g c =
 pub returns-in_ok-named_line-in-W32-clause-cut : goal.returns-in_ok-named_line-in-W32-clause-cut
 returns-in_ok-named_line-in-W32-clause-cut g c =
     IfErr-weaker c.mark_numbers-in-W32.result _ _
-    (λ e. numbers-marked (g.S.Space.message c.args.space.now) c.args.marks c.args.level c.args.way.now
+    (λ e. numbers-marked (g.S.Space.message c.args.space.now) c.args.marks.now c.args.level c.args.way.now
     c.args.start.segment c.args.start.word c.args.count c.args.width (BreaksOff
     (outgoing g.W.Write.contents c.args.writer.now c.args.text.now.items)
     (outgoing g.W.Write.contents c.mark_numbers-in-W32.new.writer c.mark_numbers-in-W32.new.text.items) e)
@@ -178,7 +178,7 @@ pub returns-in_err-named_line-in-W32-clause-cut : goal.returns-in_err-named_line
 returns-in_err-named_line-in-W32-clause-cut g c =
     passed c.from_residual-in_err-named_line-in-W32.result c.in_err-named_line-in-W32.field-0.0 _
     c.from_residual-in_err-named_line-in-W32.ensures.1
-    (numbers-marked (g.S.Space.message c.args.space.now) c.args.marks c.args.level c.args.way.now c.args.start.segment
+    (numbers-marked (g.S.Space.message c.args.space.now) c.args.marks.now c.args.level c.args.way.now c.args.start.segment
     c.args.start.word c.args.count c.args.width (BreaksOff (outgoing g.W.Write.contents c.args.writer.now
     c.args.text.now.items)
     (outgoing g.W.Write.contents c.named_line-in-W32.new.writer c.named_line-in-W32.new.text.items) _)
@@ -193,7 +193,7 @@ returns-in_err-named_line-in-W32-clause-cut g c =
 pub returns-in_ok-named_line-in-W64-clause-shown : goal.returns-in_ok-named_line-in-W64-clause-shown
 returns-in_ok-named_line-in-W64-clause-shown g c =
     on_ok_weaker c.mark_numbers-in-W64.result
-    (numbers-marked (g.S.Space.message c.args.space.now) c.args.marks c.args.level c.args.way.now c.args.start.segment
+    (numbers-marked (g.S.Space.message c.args.space.now) c.args.marks.now c.args.level c.args.way.now c.args.start.segment
     c.args.start.word c.args.count c.args.width (Adds (outgoing g.W.Write.contents c.args.writer.now
     c.args.text.now.items)
     (outgoing g.W.Write.contents c.mark_numbers-in-W64.new.writer c.mark_numbers-in-W64.new.text.items))
@@ -210,7 +210,7 @@ returns-in_ok-named_line-in-W64-clause-shown g c =
 pub returns-in_ok-named_line-in-W64-clause-cut : goal.returns-in_ok-named_line-in-W64-clause-cut
 returns-in_ok-named_line-in-W64-clause-cut g c =
     IfErr-weaker c.mark_numbers-in-W64.result _ _
-    (λ e. numbers-marked (g.S.Space.message c.args.space.now) c.args.marks c.args.level c.args.way.now
+    (λ e. numbers-marked (g.S.Space.message c.args.space.now) c.args.marks.now c.args.level c.args.way.now
     c.args.start.segment c.args.start.word c.args.count c.args.width (BreaksOff
     (outgoing g.W.Write.contents c.args.writer.now c.args.text.now.items)
     (outgoing g.W.Write.contents c.mark_numbers-in-W64.new.writer c.mark_numbers-in-W64.new.text.items) e)
@@ -228,7 +228,7 @@ pub returns-in_err-named_line-in-W64-clause-cut : goal.returns-in_err-named_line
 returns-in_err-named_line-in-W64-clause-cut g c =
     passed c.from_residual-in_err-named_line-in-W64.result c.in_err-named_line-in-W64.field-0.0 _
     c.from_residual-in_err-named_line-in-W64.ensures.1
-    (numbers-marked (g.S.Space.message c.args.space.now) c.args.marks c.args.level c.args.way.now c.args.start.segment
+    (numbers-marked (g.S.Space.message c.args.space.now) c.args.marks.now c.args.level c.args.way.now c.args.start.segment
     c.args.start.word c.args.count c.args.width (BreaksOff (outgoing g.W.Write.contents c.args.writer.now
     c.args.text.now.items)
     (outgoing g.W.Write.contents c.named_line-in-W64.new.writer c.named_line-in-W64.new.text.items) _)

@@ -9,7 +9,7 @@ returns-clause-shown g c =
     ok-then (outgoing g.W.Write.contents c.args.writer.now c.args.text.now.items)
     (outgoing g.W.Write.contents c.put_mark.new.writer c.put_mark.new.text.items)
     (outgoing g.W.Write.contents c.number_line.new.writer c.number_line.new.text.items)
-    (mark c.args.marks c.args.byte c.args.way.now)
+    (mark c.args.marks.now c.args.byte c.args.way.now)
     (number_line c.args.level c.args.n)
     c.in_ok-put_mark.ensures.shown c.number_line.result c.number_line.ensures.shown
 
@@ -18,7 +18,7 @@ returns-clause-cut g c =
     err-then (outgoing g.W.Write.contents c.args.writer.now c.args.text.now.items)
     (outgoing g.W.Write.contents c.put_mark.new.writer c.put_mark.new.text.items)
     (outgoing g.W.Write.contents c.number_line.new.writer c.number_line.new.text.items)
-    (mark c.args.marks c.args.byte c.args.way.now)
+    (mark c.args.marks.now c.args.byte c.args.way.now)
     (number_line c.args.level c.args.n)
     c.in_ok-put_mark.ensures.shown c.number_line.result c.number_line.ensures.cut
 
@@ -27,6 +27,6 @@ returns-in_err-put_mark-clause-cut g c =
     passed c.from_residual.result c.in_err-put_mark.field-0.0 _ c.from_residual.ensures.1
     (broken-before (outgoing g.W.Write.contents c.args.writer.now c.args.text.now.items)
     (outgoing g.W.Write.contents c.put_mark.new.writer c.put_mark.new.text.items) _
-    (mark c.args.marks c.args.byte c.args.way.now)
+    (mark c.args.marks.now c.args.byte c.args.way.now)
     (number_line c.args.level c.args.n)
     c.in_err-put_mark.ensures.cut)

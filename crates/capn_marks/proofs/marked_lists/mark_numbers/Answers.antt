@@ -18,10 +18,10 @@ loop-i-preserved g c xs h n =
     let p = (outgoing g.W.Write.contents c.args.writer.now c.args.text.now.items) in
     let q = (outgoing g.W.Write.contents c.loop-i.writer c.loop-i.text.items) in
     let r = (outgoing g.W.Write.contents c.mark_number.new.writer c.mark_number.new.text.items) in
-    item-more (line_item c.args.marks (8 / seen.per_word c.args.width)
+    item-more (line_item c.args.marks.now (8 / seen.per_word c.args.width)
     (number_line c.args.level) c.args.way.now c.args.first) 0 p q xs i r below
     (c.loop-i.invariant xs h n)
-    (otherwise q r _ _ (ap₂ (λ (k x : ℕ). mark c.args.marks k c.args.way.now ++ number_line c.args.level x)
+    (otherwise q r _ _ (ap₂ (λ (k x : ℕ). mark c.args.marks.now k c.args.way.now ++ number_line c.args.level x)
     (ap (λ (k : ℕ). c.args.first + i * k) c.element_bytes-size.ensures.is) (c.number_at-number.ensures
     ∙ h i below)) c.in_ok-mark_number.ensures.shown)
 
@@ -30,9 +30,9 @@ returns-clause-shown g c xs h n =
     let p = (outgoing g.W.Write.contents c.args.writer.now c.args.text.now.items) in
     let q = (outgoing g.W.Write.contents c.loop-i.writer c.loop-i.text.items) in
     otherwise p q _ _
-    (lines-items c.args.marks (8 / seen.per_word c.args.width)
+    (lines-items c.args.marks.now (8 / seen.per_word c.args.width)
     (number_line c.args.level) c.args.way.now c.args.first xs)
-    (items-all (line_item c.args.marks (8 / seen.per_word c.args.width)
+    (items-all (line_item c.args.marks.now (8 / seen.per_word c.args.width)
     (number_line c.args.level) c.args.way.now c.args.first) 0 p q xs c.loop-i.i (omega arith)
     (c.loop-i.invariant xs h n))
 
@@ -45,11 +45,11 @@ returns-in_err-mark_number-clause-cut g c =
     let q = (outgoing g.W.Write.contents c.loop-i.writer c.loop-i.text.items) in
     let r = (outgoing g.W.Write.contents c.mark_number.new.writer c.mark_number.new.text.items) in
     otherwise-broken p r _ _ _
-    (lines-items c.args.marks (8 / seen.per_word c.args.width)
+    (lines-items c.args.marks.now (8 / seen.per_word c.args.width)
     (number_line c.args.level) c.args.way.now c.args.first xs)
-    (item-cut (line_item c.args.marks (8 / seen.per_word c.args.width)
+    (item-cut (line_item c.args.marks.now (8 / seen.per_word c.args.width)
     (number_line c.args.level) c.args.way.now c.args.first) 0 p q xs i r _ below (c.loop-i.invariant xs h n)
-    (otherwise-broken q r _ _ _ (ap₂ (λ (k x : ℕ). mark c.args.marks k c.args.way.now ++ number_line c.args.level x)
+    (otherwise-broken q r _ _ _ (ap₂ (λ (k x : ℕ). mark c.args.marks.now k c.args.way.now ++ number_line c.args.level x)
     (ap (λ (k : ℕ). c.args.first + i * k) c.element_bytes-size.ensures.is) (c.number_at-number.ensures
     ∙ h i below)) c.in_err-mark_number.ensures.cut)))
 

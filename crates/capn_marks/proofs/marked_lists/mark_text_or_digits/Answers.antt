@@ -29,7 +29,7 @@ returns-then-is_text-clause-shown g c =
     let within = c.requires.content.within in
     on_ok_weaker c.show_quoted.result
     (λ k xs h n. let same = read-bytes m c.args.start c.args.count bs xs c.bytes-bytes.ensures (omega arith) h n in
-    otherwise p q _ _ (text-lines c.args.marks c.args.level c.args.way.now c.args.first bs xs same
+    otherwise p q _ _ (text-lines c.args.marks.now c.args.level c.args.way.now c.args.first bs xs same
     (sym c.is_text.ensures ∙ c.if-is_text.true)) k)
     c.show_quoted.ensures.shown
 
@@ -42,7 +42,7 @@ returns-then-is_text-clause-cut g c =
     let within = c.requires.content.within in
     IfErr-weaker c.show_quoted.result _ _
     (λ e k xs h n. let same = read-bytes m c.args.start c.args.count bs xs c.bytes-bytes.ensures (omega arith) h n in
-    otherwise-broken p q e _ _ (text-lines c.args.marks c.args.level c.args.way.now c.args.first bs xs same
+    otherwise-broken p q e _ _ (text-lines c.args.marks.now c.args.level c.args.way.now c.args.first bs xs same
     (sym c.is_text.ensures ∙ c.if-is_text.true)) k)
     c.show_quoted.ensures.cut
 
@@ -55,7 +55,7 @@ returns-else-is_text-clause-shown g c =
     let within = c.requires.content.within in
     on_ok_weaker c.mark_digit_lines.result
     (λ k xs h n. let same = read-bytes m c.args.start c.args.count bs xs c.bytes-bytes.ensures (omega arith) h n in
-    otherwise p q _ _ (digit-lines c.args.marks c.args.level c.args.way.now c.args.first bs xs same
+    otherwise p q _ _ (digit-lines c.args.marks.now c.args.level c.args.way.now c.args.first bs xs same
     (sym c.is_text.ensures ∙ c.if-is_text.false)) (k xs h n))
     c.mark_digit_lines.ensures.shown
 
@@ -68,7 +68,7 @@ returns-else-is_text-clause-cut g c =
     let within = c.requires.content.within in
     IfErr-weaker c.mark_digit_lines.result _ _
     (λ e k xs h n. let same = read-bytes m c.args.start c.args.count bs xs c.bytes-bytes.ensures (omega arith) h n in
-    otherwise-broken p q e _ _ (digit-lines c.args.marks c.args.level c.args.way.now c.args.first bs xs same
+    otherwise-broken p q e _ _ (digit-lines c.args.marks.now c.args.level c.args.way.now c.args.first bs xs same
     (sym c.is_text.ensures ∙ c.if-is_text.false))
     (k xs h n))
     c.mark_digit_lines.ensures.cut

@@ -18,9 +18,9 @@ loop-i-preserved g c xs h n =
     let p = (outgoing g.W.Write.contents c.args.writer.now c.args.text.now.items) in
     let q = (outgoing g.W.Write.contents c.loop-i.writer c.loop-i.text.items) in
     let r = (outgoing g.W.Write.contents c.mark_word.new.writer c.mark_word.new.text.items) in
-    item-more (line_item c.args.marks 8 (word_line c.args.level) c.args.way.now c.args.first) 0 p q xs i r below
+    item-more (line_item c.args.marks.now 8 (word_line c.args.level) c.args.way.now c.args.first) 0 p q xs i r below
     (c.loop-i.invariant xs h n)
-    (otherwise q r _ _ (ap₂ (λ (k x : ℕ). mark c.args.marks k c.args.way.now ++ word_line c.args.level x)
+    (otherwise q r _ _ (ap₂ (λ (k x : ℕ). mark c.args.marks.now k c.args.way.now ++ word_line c.args.level x)
     (omega arith) (c.word-word.ensures
     ∙ sym (get_or-drop c.args.start.word (segment_at (g.S.Space.message c.args.space.now) c.args.start.segment) i 0)
     ∙ h i below)) c.in_ok-mark_word.ensures.shown)
@@ -30,8 +30,8 @@ returns-clause-shown g c xs h n =
     let p = (outgoing g.W.Write.contents c.args.writer.now c.args.text.now.items) in
     let q = (outgoing g.W.Write.contents c.loop-i.writer c.loop-i.text.items) in
     otherwise p q _ _
-    (lines-items c.args.marks 8 (word_line c.args.level) c.args.way.now c.args.first xs)
-    (items-all (line_item c.args.marks 8 (word_line c.args.level) c.args.way.now c.args.first) 0 p q xs c.loop-i.i
+    (lines-items c.args.marks.now 8 (word_line c.args.level) c.args.way.now c.args.first xs)
+    (items-all (line_item c.args.marks.now 8 (word_line c.args.level) c.args.way.now c.args.first) 0 p q xs c.loop-i.i
     (omega arith) (c.loop-i.invariant xs h n))
 
 pub returns-in_err-mark_word-clause-cut : goal.returns-in_err-mark_word-clause-cut
@@ -43,10 +43,10 @@ returns-in_err-mark_word-clause-cut g c =
     let q = (outgoing g.W.Write.contents c.loop-i.writer c.loop-i.text.items) in
     let r = (outgoing g.W.Write.contents c.mark_word.new.writer c.mark_word.new.text.items) in
     otherwise-broken p r _ _ _
-    (lines-items c.args.marks 8 (word_line c.args.level) c.args.way.now c.args.first xs)
-    (item-cut (line_item c.args.marks 8 (word_line c.args.level) c.args.way.now c.args.first) 0 p q xs i r _ below
+    (lines-items c.args.marks.now 8 (word_line c.args.level) c.args.way.now c.args.first xs)
+    (item-cut (line_item c.args.marks.now 8 (word_line c.args.level) c.args.way.now c.args.first) 0 p q xs i r _ below
     (c.loop-i.invariant xs h n)
-    (otherwise-broken q r _ _ _ (ap₂ (λ (k x : ℕ). mark c.args.marks k c.args.way.now ++ word_line c.args.level x)
+    (otherwise-broken q r _ _ _ (ap₂ (λ (k x : ℕ). mark c.args.marks.now k c.args.way.now ++ word_line c.args.level x)
     (omega arith) (c.word-word.ensures
     ∙ sym (get_or-drop c.args.start.word (segment_at (g.S.Space.message c.args.space.now) c.args.start.segment) i 0)
     ∙ h i below)) c.in_err-mark_word.ensures.cut)))

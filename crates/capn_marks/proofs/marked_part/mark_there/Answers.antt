@@ -12,9 +12,9 @@ returns-clause-shown g c =
     let q = (outgoing g.W.Write.contents c.put_mark.new.writer c.put_mark.new.text.items) in
     let r = (outgoing g.W.Write.contents c.mark_found.new.writer c.mark_found.new.text.items) in
     on_ok_weaker c.mark_found.result
-    (λ k v h. both p q r (mark c.args.marks (byte_at m c.args.marks c.args.part.at) c.args.way.now.items)
-    (unmarked m c.args.marks 0 c.args.way.now.items c.args.part.found v)
-    (otherwise p q _ _ (ap₂ (mark c.args.marks) c.byte_of-byte.ensures.is c.as_slice.ensures.value)
+    (λ k v h. both p q r (mark c.args.marks.now (byte_at m c.args.marks.now c.args.part.at) c.args.way.now.items)
+    (unmarked m c.args.marks.now 0 c.args.way.now.items c.args.part.found v)
+    (otherwise p q _ _ (ap₂ (mark c.args.marks.now) c.byte_of-byte.ensures.is c.as_slice.ensures.value)
     c.in_ok-put_mark.ensures.shown) (k v h))
     c.mark_found.ensures.shown
 
@@ -25,9 +25,9 @@ returns-clause-cut g c =
     let q = (outgoing g.W.Write.contents c.put_mark.new.writer c.put_mark.new.text.items) in
     let r = (outgoing g.W.Write.contents c.mark_found.new.writer c.mark_found.new.text.items) in
     IfErr-weaker c.mark_found.result _ _
-    (λ e k v h. then-broken p q r e (mark c.args.marks (byte_at m c.args.marks c.args.part.at) c.args.way.now.items)
-    (unmarked m c.args.marks 0 c.args.way.now.items c.args.part.found v)
-    (otherwise p q _ _ (ap₂ (mark c.args.marks) c.byte_of-byte.ensures.is c.as_slice.ensures.value)
+    (λ e k v h. then-broken p q r e (mark c.args.marks.now (byte_at m c.args.marks.now c.args.part.at) c.args.way.now.items)
+    (unmarked m c.args.marks.now 0 c.args.way.now.items c.args.part.found v)
+    (otherwise p q _ _ (ap₂ (mark c.args.marks.now) c.byte_of-byte.ensures.is c.as_slice.ensures.value)
     c.in_ok-put_mark.ensures.shown) (k v h))
     c.mark_found.ensures.cut
 
@@ -37,7 +37,7 @@ returns-in_err-put_mark-clause-cut g c =
     let p = (outgoing g.W.Write.contents c.args.writer.now c.args.text.now.items) in
     let q = (outgoing g.W.Write.contents c.put_mark.new.writer c.put_mark.new.text.items) in
     passed c.from_residual.result c.in_err-put_mark.field-0.0 _ c.from_residual.ensures.1
-    (λ v h. broken-before p q _ (mark c.args.marks (byte_at m c.args.marks c.args.part.at) c.args.way.now.items)
-    (unmarked m c.args.marks 0 c.args.way.now.items c.args.part.found v)
-    (otherwise-broken p q _ _ _ (ap₂ (mark c.args.marks) c.byte_of-byte.ensures.is c.as_slice.ensures.value)
+    (λ v h. broken-before p q _ (mark c.args.marks.now (byte_at m c.args.marks.now c.args.part.at) c.args.way.now.items)
+    (unmarked m c.args.marks.now 0 c.args.way.now.items c.args.part.found v)
+    (otherwise-broken p q _ _ _ (ap₂ (mark c.args.marks.now) c.byte_of-byte.ensures.is c.as_slice.ensures.value)
     c.in_err-put_mark.ensures.cut))
