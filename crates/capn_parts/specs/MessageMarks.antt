@@ -33,11 +33,11 @@ marks_of s at message = record {
   table = table_words s.form message;
 }
 
--- the byte after a message, whose table and words are so many
+-- the byte after a message whose table and words are this many
 abbrev pub byte_after : Marks → ℕ → ℕ
 byte_after marks words = marks.offset + 8 * (marks.table + words)
 
--- the line `end` with marks, of a message of so many words: the byte after it, and no way
+-- the line `end` with marks, of a message of this many words: the byte after it, and no way
 abbrev pub marked_end : Marks → ℕ → List ℕ
 marked_end marks words =
     (if marks.offsets then decimal (byte_after marks words) ++ 9 ∷ [] else [])

@@ -8,7 +8,7 @@ use Rattle.capn_serve.specs.declared.fault.RunFault.{RunFault}
 use Rattle.capn_parts.specs.PartTexts.{refuses, serves}
 use Rattle.capn_parts.specs.declared.part_texts.PartTexts.{PartTexts}
 
--- the fold over the messages of an input, which have at most so many words
+-- the fold over the messages of an input, none of which has more words than this
 abbrev pub part_fold : ℕ → Fold (Run PartTexts)
 part_fold most = fold_of serves refuses most
 

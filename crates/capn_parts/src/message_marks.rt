@@ -45,7 +45,7 @@ pub(crate) fn marks_of<S: Space>(texts: &PartTexts, at: Position, message: &S) -
     }
 }
 
-/// The byte after a message of so many words.
+/// The byte after a message of this many words.
 fn byte_after(marks: Marks, words: u32) -> u128
     ensures { result ≡ spec.byte_after marks words }
 {
@@ -59,7 +59,7 @@ fn way_tab(ways: bool) -> &'static str
     if ways { "\t" } else { "" }
 }
 
-/// The line `end` with marks, of a message of so many words.
+/// The line `end` with marks, of a message of this many words.
 pub(crate) fn marked_end<A: Allocator>(
     alloc: A,
     marks: Marks,
