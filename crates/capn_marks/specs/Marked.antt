@@ -63,7 +63,7 @@ abbrev pub number_line : ℕ → ℕ → List ℕ
 number_line level n = line level (decimal n)
 
 module _ (marks : Marks) where
-  -- a line for each number, of which the first lies at a byte, and each takes so many
+  -- a line for each number, of which the first lies at a byte, and each takes this many bytes
   abbrev pub marked_lines : ℕ → (ℕ → List ℕ) → List ℕ → ℕ → List ℕ → List ℕ
   marked_lines size line_of way first [] = []
   marked_lines size line_of way first (x ∷ xs) =

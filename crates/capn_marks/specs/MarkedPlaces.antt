@@ -16,7 +16,7 @@ use Rattle.capn_marks.specs.MarkedPart.{at_root, led, marked_at, none_line}
 use Rattle.capn_show.specs.declared.descent.Part.{Part}
 use Rattle.capn_show.specs.ReadyPlaces.{struct_at, AreDataWords, AreSlots, AreRowsAt}
 
--- so many words of a message are before each of its segments
+-- how many words of a message are before each of its segments
 pub record CountsBefore (m : List (List ℕ)) (before : List ℕ) : Type 0 where
   pub count : length before ≡ length m
   pub each : (s : ℕ) → s < length m → slice_index before s ≡ total (take s m)

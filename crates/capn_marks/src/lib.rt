@@ -6,8 +6,12 @@
 
 pub mod laws;
 mod marked;
+mod marked_bytes;
+mod marked_lines;
 mod marked_lists;
 mod marked_part;
+mod marked_rows;
+mod marked_slots;
 mod marks;
 mod starts;
 

@@ -1,16 +1,17 @@
-//! The text of a message's slots, with marks, and all below them.
+//! The text of a message's values, with marks, and all below them.
 
 ghost use Rattle.std.specs.Prelude.{◌≡◌, ℕ, ◌<◌, ◌+◌, ◌*◌, ◌^◌, IfErr, OnOk};
 ghost use Rattle.capn_words.specs.Message.{IsMessage, IsPlace};
 ghost use Rattle.capn_target.specs.Shapes.{IsContent, IsInMessage};
-ghost use Rattle.capn_marks.specs.Marked as spec;
 ghost use Rattle.capn_show.specs.Outgoing.{Adds, BreaksOff, outgoing};
-ghost use Rattle.capn_marks.specs.MarkedPlaces.{AreMarked, IsBodyMarked, IsFoundMarked, IsMarked, IsRowMarked};
-ghost use Rattle.capn_marks.specs.MarkedPlaces.{CountsBefore, RowsMarked};
-ghost use Rattle.capn_show.specs.ReadyPlaces.{AreReady, AreRows, IsBody, IsFound, IsReady};
+ghost use Rattle.capn_marks.specs.MarkedPlaces.{CountsBefore, IsBodyMarked, IsFoundMarked, IsMarked};
+ghost use Rattle.capn_show.specs.ReadyPlaces.{IsBody, IsFound, IsReady};
 
-use crate::marked_lists::{mark_list, mark_words};
-use crate::marks::{Marks, put_mark, step_below, way_length};
+use crate::marked_lines::mark_words;
+use crate::marked_lists::mark_list;
+use crate::marked_rows::mark_rows;
+use crate::marked_slots::mark_slots;
+use crate::marks::{Marks, put_mark};
 use crate::starts::byte_of;
 use capn_show::{Broken, body_line, named_line, plain_line};
 use capn_walk::laws::views_show_values;
@@ -170,7 +171,7 @@ pub fn mark_found<S: Space, W: Write, A: Allocator>(
 
 /// The text of a struct, behind its first mark.
 #[cycle(marked)]
-fn mark_body<S: Space, W: Write, A: Allocator>(
+pub fn mark_body<S: Space, W: Write, A: Allocator>(
     text: &mut Vec<u8, A>,
     writer: &mut Watched<W>,
     way: &mut Vec<u8, A>,
@@ -227,166 +228,4 @@ fn mark_body<S: Space, W: Write, A: Allocator>(
         level + 1,
         depth,
     )
-}
-
-/// The text of what is in slots, one after the other.
-#[cycle(marked)]
-fn mark_slots<S: Space, W: Write, A: Allocator>(
-    text: &mut Vec<u8, A>,
-    writer: &mut Watched<W>,
-    way: &mut Vec<u8, A>,
-    space: &S,
-    before: &[u32],
-    marks: &Marks,
-    first: Place,
-    count: u32,
-    level: u32,
-    depth: u32,
-) -> Result<(), Broken>
-    requires message { IsMessage (S.message space.now) }
-    requires counts { CountsBefore (S.message space.now) before.now }
-    requires content { IsContent (S.message space.now) first count }
-    requires ready { AreReady (S.message space.now) first.segment first.word count depth }
-    requires room { level + 2 * depth < 2 ^ 32 }
-    ensures shown { OnOk result (AreMarked (S.message space.now) marks.now level way.old.items first.segment first.word
-        count
-        (Adds (outgoing W.contents writer.old text.old.items)
-        (outgoing W.contents writer.new text.new.items))) }
-    ensures cut { IfErr result (λ e. AreMarked (S.message space.now) marks.now level way.old.items first.segment
-        first.word count
-        (BreaksOff (outgoing W.contents writer.old text.old.items)
-        (outgoing W.contents writer.new text.new.items) e)) }
-    ensures kept { OnOk result (way.new.items ≡ way.old.items) }
-{
-    for i in 0..count {
-        let at = Place {
-            segment: first.segment,
-            word: first.word + i,
-        };
-        mark_below(text, writer, way, space, before, marks, i, at, level, depth)?;
-    }
-    Ok(())
-}
-
-/// The text of what is in the slot of a number.
-#[cycle(marked)]
-fn mark_below<S: Space, W: Write, A: Allocator>(
-    text: &mut Vec<u8, A>,
-    writer: &mut Watched<W>,
-    way: &mut Vec<u8, A>,
-    space: &S,
-    before: &[u32],
-    marks: &Marks,
-    number: u32,
-    at: Place,
-    level: u32,
-    depth: u32,
-) -> Result<(), Broken>
-    requires message { IsMessage (S.message space.now) }
-    requires counts { CountsBefore (S.message space.now) before.now }
-    requires place { IsPlace (S.message space.now) at }
-    requires ready { IsReady (S.message space.now) at depth }
-    requires room { level + 2 * depth < 2 ^ 32 }
-    ensures shown { OnOk result (IsMarked (S.message space.now) marks.now level (spec.below way.old.items number) at
-        (Adds (outgoing W.contents writer.old text.old.items)
-        (outgoing W.contents writer.new text.new.items))) }
-    ensures cut { IfErr result (λ e. IsMarked (S.message space.now) marks.now level (spec.below way.old.items number) at
-        (BreaksOff (outgoing W.contents writer.old text.old.items)
-        (outgoing W.contents writer.new text.new.items) e)) }
-    ensures kept { OnOk result (way.new.items ≡ way.old.items) }
-{
-    let above = way_length(way);
-    step_below(way, marks.ways, number as u64)?;
-    mark_slot(text, writer, way, space, before, marks, at, level, depth)?;
-    way.truncate(above);
-    Ok(())
-}
-
-/// The text of rows, one after the other.
-#[cycle(marked)]
-fn mark_rows<S: Space, W: Write, A: Allocator>(
-    text: &mut Vec<u8, A>,
-    writer: &mut Watched<W>,
-    way: &mut Vec<u8, A>,
-    space: &S,
-    before: &[u32],
-    marks: &Marks,
-    first: Place,
-    count: u32,
-    words: u16,
-    slots: u16,
-    level: u32,
-    depth: u32,
-) -> Result<(), Broken>
-    requires message { IsMessage (S.message space.now) }
-    requires counts { CountsBefore (S.message space.now) before.now }
-    requires content { IsContent (S.message space.now) first (count * (words + slots)) }
-    requires ready { AreRows (S.message space.now) first.segment first.word count words slots depth }
-    requires room { level + 1 + 2 * depth < 2 ^ 32 }
-    ensures shown { OnOk result (RowsMarked (S.message space.now) marks.now level way.old.items first.segment first.word
-        count words slots
-        (Adds (outgoing W.contents writer.old text.old.items)
-        (outgoing W.contents writer.new text.new.items))) }
-    ensures cut { IfErr result (λ e. RowsMarked (S.message space.now) marks.now level way.old.items first.segment
-        first.word count words slots
-        (BreaksOff (outgoing W.contents writer.old text.old.items)
-        (outgoing W.contents writer.new text.new.items) e)) }
-    ensures kept { OnOk result (way.new.items ≡ way.old.items) }
-{
-    let mut next = first.word;
-    for row in 0..count {
-        let start = Place {
-            segment: first.segment,
-            word: next,
-        };
-        mark_row(
-            text, writer, way, space, before, marks, row, start, words, slots, level, depth,
-        )?;
-        next += words as u32 + slots as u32;
-    }
-    Ok(())
-}
-
-/// The text of the row of a number.
-#[cycle(marked)]
-fn mark_row<S: Space, W: Write, A: Allocator>(
-    text: &mut Vec<u8, A>,
-    writer: &mut Watched<W>,
-    way: &mut Vec<u8, A>,
-    space: &S,
-    before: &[u32],
-    marks: &Marks,
-    number: u32,
-    start: Place,
-    words: u16,
-    slots: u16,
-    level: u32,
-    depth: u32,
-) -> Result<(), Broken>
-    requires message { IsMessage (S.message space.now) }
-    requires counts { CountsBefore (S.message space.now) before.now }
-    requires content { IsContent (S.message space.now) start (words + slots) }
-    requires ready { IsBody (S.message space.now) start.segment start.word words slots depth }
-    requires room { level + 1 + 2 * depth < 2 ^ 32 }
-    ensures shown { OnOk result (IsRowMarked (S.message space.now) marks.now level
-        (spec.below way.old.items number) start.segment start.word words
-        slots
-        (Adds (outgoing W.contents writer.old text.old.items)
-        (outgoing W.contents writer.new text.new.items))) }
-    ensures cut { IfErr result (λ e. IsRowMarked (S.message space.now) marks.now level
-        (spec.below way.old.items number) start.segment start.word words
-        slots
-        (BreaksOff (outgoing W.contents writer.old text.old.items)
-        (outgoing W.contents writer.new text.new.items) e)) }
-    ensures kept { OnOk result (way.new.items ≡ way.old.items) }
-{
-    let above = way_length(way);
-    step_below(way, marks.ways, number as u64)?;
-    let byte = byte_of(space, marks, before, start);
-    put_mark(text, writer, marks, way.as_slice(), byte)?;
-    mark_body(
-        text, writer, way, space, before, marks, start, words, slots, level, depth,
-    )?;
-    way.truncate(above);
-    Ok(())
 }

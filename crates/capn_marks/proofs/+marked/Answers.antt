@@ -28,10 +28,10 @@ use Rattle.capn_show.proofs.shared.FoundTexts.{inside, deep, node-ready, links-r
 use Rattle.capn_marks.proofs.WithoutWays.{back, slot-stepped, row-stepped}
 use Rattle.capn_marks.proofs.MarkedTexts.{slot-marked, body-marked, nil-marked, cap-marked, node-marked}
 use Rattle.capn_marks.proofs.MarkedTexts.{list-marked, links-marked, rows-marked}
-use Rattle.capn_marks.proofs.marked.+marked.Goals as goal
+use Rattle.capn_marks.proofs.+marked.Goals as goal
 
-pub mark_slot-mark_found-requires : goal.mark_slot-mark_found-requires
-mark_slot-mark_found-requires g t c κs live =
+pub marked::mark_slot-mark_found-requires : goal.marked::mark_slot-mark_found-requires
+marked::mark_slot-mark_found-requires g t c κs live =
     let m = g.S.Space.message c.args.space.now in
     let e = sym c.resolve.ensures.exact ∙ c.in-Ok.is in
     let ready = found-ready m c.views_show_values.ensures c.args.at c.in-Ok.found c.args.depth e c.requires.ready in (
@@ -60,15 +60,15 @@ mark_slot-mark_found-requires g t c κs live =
       ),
     )
 
-pub mark_slot-unreachable-requires : goal.mark_slot-unreachable-requires
-mark_slot-unreachable-requires g t c =
+pub marked::mark_slot-unreachable-requires : goal.marked::mark_slot-unreachable-requires
+marked::mark_slot-unreachable-requires g t c =
     no-fault (g.S.Space.message c.args.space.now) c.args.at c.args.depth _ c.requires.ready
     (sym c.resolve.ensures.exact ∙ c.in-Err.is)
 
 -- ---- slots
 
-pub mark_body-mark_slots-requires : goal.mark_body-mark_slots-requires
-mark_body-mark_slots-requires g t c κs live =
+pub marked::mark_body-mark_slots-requires : goal.marked::mark_body-mark_slots-requires
+marked::mark_body-mark_slots-requires g t c κs live =
     let m = g.S.Space.message c.args.space.now in
     let within = c.requires.content.within in
     let ready = slots-ready m c.args.start.segment c.args.start.word c.args.words c.args.slots c.args.depth
@@ -96,22 +96,22 @@ mark_body-mark_slots-requires g t c κs live =
 
 -- ---- what a pointer names
 
-pub mark_found-overflow_sub-depth : goal.mark_found-overflow_sub-depth
-mark_found-overflow_sub-depth g t c =
+pub marked::mark_found-overflow_sub-depth : goal.marked::mark_found-overflow_sub-depth
+marked::mark_found-overflow_sub-depth g t c =
     let x = c.in-Content in
     let d = deep (g.S.Space.message c.args.space.now) c.args.found x.segment x.start x.pads x.shape x.is c.args.depth
     c.requires.ready in
     omega arith
 
-pub mark_found-overflow_sub-depth-in-Link : goal.mark_found-overflow_sub-depth-in-Link
-mark_found-overflow_sub-depth-in-Link g t c =
+pub marked::mark_found-overflow_sub-depth-in-Link : goal.marked::mark_found-overflow_sub-depth-in-Link
+marked::mark_found-overflow_sub-depth-in-Link g t c =
     let x = c.in-Content in
     let d = deep (g.S.Space.message c.args.space.now) c.args.found x.segment x.start x.pads x.shape x.is c.args.depth
     c.requires.ready in
     omega arith
 
-pub mark_found-overflow_sub-depth-in-Rows : goal.mark_found-overflow_sub-depth-in-Rows
-mark_found-overflow_sub-depth-in-Rows g t c =
+pub marked::mark_found-overflow_sub-depth-in-Rows : goal.marked::mark_found-overflow_sub-depth-in-Rows
+marked::mark_found-overflow_sub-depth-in-Rows g t c =
     let x = c.in-Content in
     let d = deep (g.S.Space.message c.args.space.now) c.args.found x.segment x.start x.pads x.shape x.is c.args.depth
     c.requires.ready in
@@ -119,8 +119,8 @@ mark_found-overflow_sub-depth-in-Rows g t c =
 
 -- a struct
 
-pub mark_found-mark_body-requires : goal.mark_found-mark_body-requires
-mark_found-mark_body-requires g t c κs live =
+pub marked::mark_found-mark_body-requires : goal.marked::mark_found-mark_body-requires
+marked::mark_found-mark_body-requires g t c κs live =
     let m = g.S.Space.message c.args.space.now in
     let x = c.in-Content in
     let k = c.in-Node in
@@ -153,8 +153,8 @@ mark_found-mark_body-requires g t c κs live =
 
 -- a list of pointers
 
-pub mark_found-mark_slots-requires : goal.mark_found-mark_slots-requires
-mark_found-mark_slots-requires g t c κs live =
+pub marked::mark_found-mark_slots-requires : goal.marked::mark_found-mark_slots-requires
+marked::mark_found-mark_slots-requires g t c κs live =
     let m = g.S.Space.message c.args.space.now in
     let x = c.in-Content in
     let k = c.in-Many in
@@ -188,8 +188,8 @@ mark_found-mark_slots-requires g t c κs live =
 
 -- a list of structs
 
-pub mark_found-mark_rows-requires : goal.mark_found-mark_rows-requires
-mark_found-mark_rows-requires g t c κs live =
+pub marked::mark_found-mark_rows-requires : goal.marked::mark_found-mark_rows-requires
+marked::mark_found-mark_rows-requires g t c κs live =
     let m = g.S.Space.message c.args.space.now in
     let x = c.in-Content in
     let k = c.in-Rows in
@@ -223,31 +223,31 @@ mark_found-mark_rows-requires g t c κs live =
 
 -- ---- rows
 
-pub mark_rows-overflow_add-next : goal.mark_rows-overflow_add-next
-mark_rows-overflow_add-next g t c =
+pub marked_rows::mark_rows-overflow_add-next : goal.marked_rows::mark_rows-overflow_add-next
+marked_rows::mark_rows-overflow_add-next g t c =
     let m = g.S.Space.message c.args.space.now in
     let room = row-inside c.args.first.word c.args.count c.loop-row.row (c.args.words + c.args.slots) c.loop-row.next _
     c.loop-row-test.true c.loop-row.invariant.next c.requires.content.within in
     let all = segment-room m c.args.first.segment c.requires.message c.requires.content.exists in
     omega arith
 
-pub mark_slots-overflow_add-at : goal.mark_slots-overflow_add-at
-mark_slots-overflow_add-at g t c =
+pub marked_slots::mark_slots-overflow_add-at : goal.marked_slots::mark_slots-overflow_add-at
+marked_slots::mark_slots-overflow_add-at g t c =
     let m = g.S.Space.message c.args.space.now in
     let lt = c.loop-i-test.true in
     let within = c.requires.content.within in
     let all = segment-room m c.args.first.segment c.requires.message c.requires.content.exists in
     omega arith
 
-pub mark_body-overflow_add-first : goal.mark_body-overflow_add-first
-mark_body-overflow_add-first g t c =
+pub marked::mark_body-overflow_add-first : goal.marked::mark_body-overflow_add-first
+marked::mark_body-overflow_add-first g t c =
     let m = g.S.Space.message c.args.space.now in
     let within = c.requires.content.within in
     let all = segment-room m c.args.start.segment c.requires.message c.requires.content.exists in
     omega arith
 
-pub mark_found-overflow_add-first : goal.mark_found-overflow_add-first
-mark_found-overflow_add-first g t c =
+pub marked::mark_found-overflow_add-first : goal.marked::mark_found-overflow_add-first
+marked::mark_found-overflow_add-first g t c =
     let m = g.S.Space.message c.args.space.now in
     let x = c.in-Content in
     let i = inside m c.args.found x.segment x.start x.pads x.shape x.is c.requires.inside in
@@ -258,24 +258,24 @@ mark_found-overflow_add-first g t c =
 
 -- ---- the text, and how it breaks off
 
-pub mark_found-returns-in-Nil-clause-shown : goal.mark_found-returns-in-Nil-clause-shown
-mark_found-returns-in-Nil-clause-shown g t c =
+pub marked::mark_found-returns-in-Nil-clause-shown : goal.marked::mark_found-returns-in-Nil-clause-shown
+marked::mark_found-returns-in-Nil-clause-shown g t c =
     on_ok_weaker c.plain_line.result
     (nil-marked (g.S.Space.message c.args.space.now) c.args.marks.now c.args.level c.args.way.now.items (Adds
     (outgoing g.W.Write.contents c.args.writer.now c.args.text.now.items)
     (outgoing g.W.Write.contents c.plain_line.new.writer c.plain_line.new.text.items)) c.args.found c.in-Nil.is)
     c.plain_line.ensures.shown
 
-pub mark_found-returns-in-Nil-clause-cut : goal.mark_found-returns-in-Nil-clause-cut
-mark_found-returns-in-Nil-clause-cut g t c =
+pub marked::mark_found-returns-in-Nil-clause-cut : goal.marked::mark_found-returns-in-Nil-clause-cut
+marked::mark_found-returns-in-Nil-clause-cut g t c =
     IfErr-weaker c.plain_line.result _ _
     (λ e. nil-marked (g.S.Space.message c.args.space.now) c.args.marks.now c.args.level c.args.way.now.items (BreaksOff
     (outgoing g.W.Write.contents c.args.writer.now c.args.text.now.items)
     (outgoing g.W.Write.contents c.plain_line.new.writer c.plain_line.new.text.items) e) c.args.found c.in-Nil.is)
     c.plain_line.ensures.cut
 
-pub mark_found-returns-in-Cap-clause-shown : goal.mark_found-returns-in-Cap-clause-shown
-mark_found-returns-in-Cap-clause-shown g t c =
+pub marked::mark_found-returns-in-Cap-clause-shown : goal.marked::mark_found-returns-in-Cap-clause-shown
+marked::mark_found-returns-in-Cap-clause-shown g t c =
     on_ok_weaker c.named_line.result
     (cap-marked (g.S.Space.message c.args.space.now) c.args.marks.now c.args.level c.args.way.now.items (Adds
     (outgoing g.W.Write.contents c.args.writer.now c.args.text.now.items)
@@ -283,8 +283,8 @@ mark_found-returns-in-Cap-clause-shown g t c =
     c.in-Cap.is)
     c.named_line.ensures.shown
 
-pub mark_found-returns-in-Cap-clause-cut : goal.mark_found-returns-in-Cap-clause-cut
-mark_found-returns-in-Cap-clause-cut g t c =
+pub marked::mark_found-returns-in-Cap-clause-cut : goal.marked::mark_found-returns-in-Cap-clause-cut
+marked::mark_found-returns-in-Cap-clause-cut g t c =
     IfErr-weaker c.named_line.result _ _
     (λ e. cap-marked (g.S.Space.message c.args.space.now) c.args.marks.now c.args.level c.args.way.now.items (BreaksOff
     (outgoing g.W.Write.contents c.args.writer.now c.args.text.now.items)
@@ -292,8 +292,8 @@ mark_found-returns-in-Cap-clause-cut g t c =
     c.in-Cap.is)
     c.named_line.ensures.cut
 
-pub mark_found-returns-in-Node-clause-shown : goal.mark_found-returns-in-Node-clause-shown
-mark_found-returns-in-Node-clause-shown g t c =
+pub marked::mark_found-returns-in-Node-clause-shown : goal.marked::mark_found-returns-in-Node-clause-shown
+marked::mark_found-returns-in-Node-clause-shown g t c =
     on_ok_weaker c.mark_body.result
     (node-marked (g.S.Space.message c.args.space.now) c.args.marks.now c.args.level c.args.way.now.items (Adds
     (outgoing g.W.Write.contents c.args.writer.now c.args.text.now.items)
@@ -303,8 +303,8 @@ mark_found-returns-in-Node-clause-shown g t c =
     c.in-Node.words c.in-Node.slots c.in-Node.is)
     c.mark_body.ensures.shown
 
-pub mark_found-returns-in-Node-clause-cut : goal.mark_found-returns-in-Node-clause-cut
-mark_found-returns-in-Node-clause-cut g t c =
+pub marked::mark_found-returns-in-Node-clause-cut : goal.marked::mark_found-returns-in-Node-clause-cut
+marked::mark_found-returns-in-Node-clause-cut g t c =
     IfErr-weaker c.mark_body.result _ _
     (λ e. node-marked (g.S.Space.message c.args.space.now) c.args.marks.now c.args.level c.args.way.now.items (BreaksOff
     (outgoing g.W.Write.contents c.args.writer.now c.args.text.now.items)
@@ -314,8 +314,8 @@ mark_found-returns-in-Node-clause-cut g t c =
     c.in-Node.words c.in-Node.slots c.in-Node.is)
     c.mark_body.ensures.cut
 
-pub mark_found-returns-in_default-clause-shown : goal.mark_found-returns-in_default-clause-shown
-mark_found-returns-in_default-clause-shown g t c =
+pub marked::mark_found-returns-in_default-clause-shown : goal.marked::mark_found-returns-in_default-clause-shown
+marked::mark_found-returns-in_default-clause-shown g t c =
     on_ok_weaker c.mark_list.result
     (list-marked (g.S.Space.message c.args.space.now) c.args.marks.now c.args.level c.args.way.now.items (Adds
     (outgoing g.W.Write.contents c.args.writer.now c.args.text.now.items)
@@ -326,8 +326,8 @@ mark_found-returns-in_default-clause-shown g t c =
     c.as_slice.ensures.value)
     c.mark_list.ensures.shown
 
-pub mark_found-returns-in_default-clause-cut : goal.mark_found-returns-in_default-clause-cut
-mark_found-returns-in_default-clause-cut g t c =
+pub marked::mark_found-returns-in_default-clause-cut : goal.marked::mark_found-returns-in_default-clause-cut
+marked::mark_found-returns-in_default-clause-cut g t c =
     IfErr-weaker c.mark_list.result _ _
     (λ e. list-marked (g.S.Space.message c.args.space.now) c.args.marks.now c.args.level c.args.way.now.items (BreaksOff
     (outgoing g.W.Write.contents c.args.writer.now c.args.text.now.items)
@@ -338,9 +338,9 @@ mark_found-returns-in_default-clause-cut g t c =
     c.as_slice.ensures.value)
     c.mark_list.ensures.cut
 
-pub mark_found-returns-in_ok-named_line-in-Link-clause-shown :
-    goal.mark_found-returns-in_ok-named_line-in-Link-clause-shown
-mark_found-returns-in_ok-named_line-in-Link-clause-shown g t c =
+pub marked::mark_found-returns-in_ok-named_line-in-Link-clause-shown :
+    goal.marked::mark_found-returns-in_ok-named_line-in-Link-clause-shown
+marked::mark_found-returns-in_ok-named_line-in-Link-clause-shown g t c =
     on_ok_weaker c.mark_slots.result
     (links-marked (g.S.Space.message c.args.space.now) c.args.marks.now c.args.level c.args.way.now.items (Adds
     (outgoing g.W.Write.contents c.args.writer.now c.args.text.now.items)
@@ -356,8 +356,8 @@ mark_found-returns-in_ok-named_line-in-Link-clause-shown g t c =
     c.in_ok-named_line-in-Link.ensures.shown))
     c.mark_slots.ensures.shown
 
-pub mark_found-returns-in_ok-named_line-in-Link-clause-cut : goal.mark_found-returns-in_ok-named_line-in-Link-clause-cut
-mark_found-returns-in_ok-named_line-in-Link-clause-cut g t c =
+pub marked::mark_found-returns-in_ok-named_line-in-Link-clause-cut : goal.marked::mark_found-returns-in_ok-named_line-in-Link-clause-cut
+marked::mark_found-returns-in_ok-named_line-in-Link-clause-cut g t c =
     IfErr-weaker c.mark_slots.result _ _
     (λ e. links-marked (g.S.Space.message c.args.space.now) c.args.marks.now c.args.level c.args.way.now.items (BreaksOff
     (outgoing g.W.Write.contents c.args.writer.now c.args.text.now.items)
@@ -375,9 +375,9 @@ mark_found-returns-in_ok-named_line-in-Link-clause-cut g t c =
     c.in_ok-named_line-in-Link.ensures.shown))
     c.mark_slots.ensures.cut
 
-pub mark_found-returns-in_err-named_line-in-Link-clause-cut :
-    goal.mark_found-returns-in_err-named_line-in-Link-clause-cut
-mark_found-returns-in_err-named_line-in-Link-clause-cut g t c =
+pub marked::mark_found-returns-in_err-named_line-in-Link-clause-cut :
+    goal.marked::mark_found-returns-in_err-named_line-in-Link-clause-cut
+marked::mark_found-returns-in_err-named_line-in-Link-clause-cut g t c =
     passed c.from_residual.result c.in_err-named_line-in-Link.field-0.0 _ c.from_residual.ensures.1
     (links-marked (g.S.Space.message c.args.space.now) c.args.marks.now c.args.level c.args.way.now.items (BreaksOff
     (outgoing g.W.Write.contents c.args.writer.now c.args.text.now.items)
@@ -390,9 +390,9 @@ mark_found-returns-in_err-named_line-in-Link-clause-cut g t c =
     c.in_err-named_line-in-Link.ensures.cut) (λ ts h
     n. tt))
 
-pub mark_found-returns-in_ok-named_line-in-Rows-clause-shown :
-    goal.mark_found-returns-in_ok-named_line-in-Rows-clause-shown
-mark_found-returns-in_ok-named_line-in-Rows-clause-shown g t c =
+pub marked::mark_found-returns-in_ok-named_line-in-Rows-clause-shown :
+    goal.marked::mark_found-returns-in_ok-named_line-in-Rows-clause-shown
+marked::mark_found-returns-in_ok-named_line-in-Rows-clause-shown g t c =
     on_ok_weaker c.mark_rows.result
     (rows-marked (g.S.Space.message c.args.space.now) c.args.marks.now c.args.level c.args.way.now.items (Adds
     (outgoing g.W.Write.contents c.args.writer.now c.args.text.now.items)
@@ -409,8 +409,8 @@ mark_found-returns-in_ok-named_line-in-Rows-clause-shown g t c =
     c.in_ok-named_line-in-Rows.ensures.shown))
     c.mark_rows.ensures.shown
 
-pub mark_found-returns-in_ok-named_line-in-Rows-clause-cut : goal.mark_found-returns-in_ok-named_line-in-Rows-clause-cut
-mark_found-returns-in_ok-named_line-in-Rows-clause-cut g t c =
+pub marked::mark_found-returns-in_ok-named_line-in-Rows-clause-cut : goal.marked::mark_found-returns-in_ok-named_line-in-Rows-clause-cut
+marked::mark_found-returns-in_ok-named_line-in-Rows-clause-cut g t c =
     IfErr-weaker c.mark_rows.result _ _
     (λ e. rows-marked (g.S.Space.message c.args.space.now) c.args.marks.now c.args.level c.args.way.now.items (BreaksOff
     (outgoing g.W.Write.contents c.args.writer.now c.args.text.now.items)
@@ -427,9 +427,9 @@ mark_found-returns-in_ok-named_line-in-Rows-clause-cut g t c =
     c.in_ok-named_line-in-Rows.ensures.shown))
     c.mark_rows.ensures.cut
 
-pub mark_found-returns-in_err-named_line-in-Rows-clause-cut :
-    goal.mark_found-returns-in_err-named_line-in-Rows-clause-cut
-mark_found-returns-in_err-named_line-in-Rows-clause-cut g t c =
+pub marked::mark_found-returns-in_err-named_line-in-Rows-clause-cut :
+    goal.marked::mark_found-returns-in_err-named_line-in-Rows-clause-cut
+marked::mark_found-returns-in_err-named_line-in-Rows-clause-cut g t c =
     passed c.from_residual-in_err-named_line-in-Rows.result c.in_err-named_line-in-Rows.field-0.0 _
     c.from_residual-in_err-named_line-in-Rows.ensures.1
     (rows-marked (g.S.Space.message c.args.space.now) c.args.marks.now c.args.level c.args.way.now.items (BreaksOff
@@ -443,8 +443,8 @@ mark_found-returns-in_err-named_line-in-Rows-clause-cut g t c =
     c.in_err-named_line-in-Rows.ensures.cut) (λ bs h
     n. tt))
 
-pub mark_body-returns-clause-shown : goal.mark_body-returns-clause-shown
-mark_body-returns-clause-shown g t c =
+pub marked::mark_body-returns-clause-shown : goal.marked::mark_body-returns-clause-shown
+marked::mark_body-returns-clause-shown g t c =
     on_ok_weaker c.mark_slots.result
     (body-marked (g.S.Space.message c.args.space.now) c.args.marks.now c.args.level c.args.way.now.items
     c.args.start.segment c.args.start.word c.args.words c.args.slots
@@ -465,8 +465,8 @@ mark_body-returns-clause-shown g t c =
     c.in_ok-mark_words.ensures.shown)
     c.mark_slots.ensures.shown
 
-pub mark_body-returns-clause-cut : goal.mark_body-returns-clause-cut
-mark_body-returns-clause-cut g t c =
+pub marked::mark_body-returns-clause-cut : goal.marked::mark_body-returns-clause-cut
+marked::mark_body-returns-clause-cut g t c =
     IfErr-weaker c.mark_slots.result _ _
     (λ e. body-marked (g.S.Space.message c.args.space.now) c.args.marks.now c.args.level c.args.way.now.items
     c.args.start.segment c.args.start.word c.args.words c.args.slots
@@ -487,8 +487,8 @@ mark_body-returns-clause-cut g t c =
     c.in_ok-mark_words.ensures.shown)
     c.mark_slots.ensures.cut
 
-pub mark_body-returns-in_err-mark_words-clause-cut : goal.mark_body-returns-in_err-mark_words-clause-cut
-mark_body-returns-in_err-mark_words-clause-cut g t c =
+pub marked::mark_body-returns-in_err-mark_words-clause-cut : goal.marked::mark_body-returns-in_err-mark_words-clause-cut
+marked::mark_body-returns-in_err-mark_words-clause-cut g t c =
     passed c.from_residual-in_err-mark_words.result c.in_err-mark_words.field-0.0 _
     c.from_residual-in_err-mark_words.ensures.1
     (body-marked (g.S.Space.message c.args.space.now) c.args.marks.now c.args.level c.args.way.now.items
@@ -507,8 +507,8 @@ mark_body-returns-in_err-mark_words-clause-cut g t c =
     y h))
     c.in_err-mark_words.ensures.cut (λ ts h n. tt))
 
-pub mark_body-returns-in_err-body_line-clause-cut : goal.mark_body-returns-in_err-body_line-clause-cut
-mark_body-returns-in_err-body_line-clause-cut g t c =
+pub marked::mark_body-returns-in_err-body_line-clause-cut : goal.marked::mark_body-returns-in_err-body_line-clause-cut
+marked::mark_body-returns-in_err-body_line-clause-cut g t c =
     passed c.from_residual.result c.in_err-body_line.field-0.0 _ c.from_residual.ensures.1
     (body-marked (g.S.Space.message c.args.space.now) c.args.marks.now c.args.level c.args.way.now.items
     c.args.start.segment c.args.start.word c.args.words c.args.slots
@@ -520,8 +520,8 @@ mark_body-returns-in_err-body_line-clause-cut g t c =
     (x ++ y) c.in_err-body_line.ensures.cut) (λ ws h n. tt)
     (λ ts h n. tt))
 
-pub mark_slots-mark_below-requires : goal.mark_slots-mark_below-requires
-mark_slots-mark_below-requires g t c κs live =
+pub marked_slots::mark_slots-mark_below-requires : goal.marked_slots::mark_slots-mark_below-requires
+marked_slots::mark_slots-mark_below-requires g t c κs live =
     let m = g.S.Space.message c.args.space.now in
     let within = c.requires.content.within in
     let lt = c.loop-i-test.true in
@@ -546,8 +546,8 @@ mark_slots-mark_below-requires g t c κs live =
       ),
     )
 
-pub mark_rows-mark_row-requires : goal.mark_rows-mark_row-requires
-mark_rows-mark_row-requires g t c κs live =
+pub marked_rows::mark_rows-mark_row-requires : goal.marked_rows::mark_rows-mark_row-requires
+marked_rows::mark_rows-mark_row-requires g t c κs live =
     let m = g.S.Space.message c.args.space.now in
     let s = c.args.first.segment in
     let next = c.loop-row.invariant.next in
@@ -579,8 +579,8 @@ mark_rows-mark_row-requires g t c κs live =
 
 -- ---- the text of a slot
 
-pub mark_slot-returns-clause-shown : goal.mark_slot-returns-clause-shown
-mark_slot-returns-clause-shown g t c =
+pub marked::mark_slot-returns-clause-shown : goal.marked::mark_slot-returns-clause-shown
+marked::mark_slot-returns-clause-shown g t c =
     let m = (g.S.Space.message c.args.space.now) in
     let p = (outgoing g.W.Write.contents c.args.writer.now c.args.text.now.items) in
     let q = (outgoing g.W.Write.contents c.put_mark.new.writer c.put_mark.new.text.items) in
@@ -593,8 +593,8 @@ mark_slot-returns-clause-shown g t c =
     c.in_ok-put_mark.ensures.shown)))
     c.mark_found.ensures.shown
 
-pub mark_slot-returns-clause-cut : goal.mark_slot-returns-clause-cut
-mark_slot-returns-clause-cut g t c =
+pub marked::mark_slot-returns-clause-cut : goal.marked::mark_slot-returns-clause-cut
+marked::mark_slot-returns-clause-cut g t c =
     let m = (g.S.Space.message c.args.space.now) in
     let p = (outgoing g.W.Write.contents c.args.writer.now c.args.text.now.items) in
     let q = (outgoing g.W.Write.contents c.put_mark.new.writer c.put_mark.new.text.items) in
@@ -608,8 +608,8 @@ mark_slot-returns-clause-cut g t c =
     c.in_ok-put_mark.ensures.shown)))
     c.mark_found.ensures.cut
 
-pub mark_slot-returns-in_err-put_mark-clause-cut : goal.mark_slot-returns-in_err-put_mark-clause-cut
-mark_slot-returns-in_err-put_mark-clause-cut g t c =
+pub marked::mark_slot-returns-in_err-put_mark-clause-cut : goal.marked::mark_slot-returns-in_err-put_mark-clause-cut
+marked::mark_slot-returns-in_err-put_mark-clause-cut g t c =
     let m = (g.S.Space.message c.args.space.now) in
     let p = (outgoing g.W.Write.contents c.args.writer.now c.args.text.now.items) in
     let q = (outgoing g.W.Write.contents c.put_mark.new.writer c.put_mark.new.text.items) in
@@ -621,8 +621,8 @@ mark_slot-returns-in_err-put_mark-clause-cut g t c =
 
 -- ---- the text of the slot of a number
 
-pub mark_below-returns-clause-shown : goal.mark_below-returns-clause-shown
-mark_below-returns-clause-shown g t c =
+pub marked_slots::mark_below-returns-clause-shown : goal.marked_slots::mark_below-returns-clause-shown
+marked_slots::mark_below-returns-clause-shown g t c =
     let m = (g.S.Space.message c.args.space.now) in
     let p = (outgoing g.W.Write.contents c.args.writer.now c.args.text.now.items) in
     let r = (outgoing g.W.Write.contents c.mark_slot.new.writer c.mark_slot.new.text.items) in
@@ -630,20 +630,20 @@ mark_below-returns-clause-shown g t c =
     (subst (λ (w : List ℕ). IsMarked m c.args.marks.now c.args.level w c.args.at (Adds p r))
     c.in_ok-step_below.ensures.below c.in_ok-mark_slot.ensures.shown)
 
-pub mark_below-returns-clause-kept : goal.mark_below-returns-clause-kept
-mark_below-returns-clause-kept g t c =
+pub marked_slots::mark_below-returns-clause-kept : goal.marked_slots::mark_below-returns-clause-kept
+marked_slots::mark_below-returns-clause-kept g t c =
     c.truncate.ensures.items
     ∙ ap₂ take c.way_length-above.ensures (c.in_ok-mark_slot.ensures.kept ∙ c.in_ok-step_below.ensures.below)
     ∙ back c.args.marks.now.ways c.args.way.now.items c.args.number
 
-pub mark_below-returns-in_err-step_below-clause-cut : goal.mark_below-returns-in_err-step_below-clause-cut
-mark_below-returns-in_err-step_below-clause-cut g t c =
+pub marked_slots::mark_below-returns-in_err-step_below-clause-cut : goal.marked_slots::mark_below-returns-in_err-step_below-clause-cut
+marked_slots::mark_below-returns-in_err-step_below-clause-cut g t c =
     passed c.from_residual.result c.in_err-step_below.field-0.0 _ c.from_residual.ensures.1
     (λ v i. unbegun (outgoing g.W.Write.contents c.args.writer.now c.args.text.now.items) _ _
     c.in_err-step_below.ensures.memory)
 
-pub mark_below-returns-in_err-mark_slot-clause-cut : goal.mark_below-returns-in_err-mark_slot-clause-cut
-mark_below-returns-in_err-mark_slot-clause-cut g t c =
+pub marked_slots::mark_below-returns-in_err-mark_slot-clause-cut : goal.marked_slots::mark_below-returns-in_err-mark_slot-clause-cut
+marked_slots::mark_below-returns-in_err-mark_slot-clause-cut g t c =
     passed c.from_residual-in_err-mark_slot.result c.in_err-mark_slot.field-0.0 _
     c.from_residual-in_err-mark_slot.ensures.1
     (slot-stepped (g.S.Space.message c.args.space.now) c.args.marks.now c.args.level c.args.way.now.items c.args.number
@@ -657,8 +657,8 @@ mark_below-returns-in_err-mark_slot-clause-cut g t c =
 
 -- ---- the text of a row
 
-pub mark_row-returns-clause-shown : goal.mark_row-returns-clause-shown
-mark_row-returns-clause-shown g t c =
+pub marked_rows::mark_row-returns-clause-shown : goal.marked_rows::mark_row-returns-clause-shown
+marked_rows::mark_row-returns-clause-shown g t c =
     let m = (g.S.Space.message c.args.space.now) in
     let p = (outgoing g.W.Write.contents c.args.writer.now c.args.text.now.items) in
     let q = (outgoing g.W.Write.contents c.put_mark.new.writer c.put_mark.new.text.items) in
@@ -675,20 +675,20 @@ mark_row-returns-clause-shown g t c =
     c.in_ok-put_mark.ensures.shown)
     (c.in_ok-mark_body.ensures.shown ws ss h)))
 
-pub mark_row-returns-clause-kept : goal.mark_row-returns-clause-kept
-mark_row-returns-clause-kept g t c =
+pub marked_rows::mark_row-returns-clause-kept : goal.marked_rows::mark_row-returns-clause-kept
+marked_rows::mark_row-returns-clause-kept g t c =
     c.truncate.ensures.items
     ∙ ap₂ take c.way_length-above.ensures (c.in_ok-mark_body.ensures.kept ∙ c.in_ok-step_below.ensures.below)
     ∙ back c.args.marks.now.ways c.args.way.now.items c.args.number
 
-pub mark_row-returns-in_err-step_below-clause-cut : goal.mark_row-returns-in_err-step_below-clause-cut
-mark_row-returns-in_err-step_below-clause-cut g t c =
+pub marked_rows::mark_row-returns-in_err-step_below-clause-cut : goal.marked_rows::mark_row-returns-in_err-step_below-clause-cut
+marked_rows::mark_row-returns-in_err-step_below-clause-cut g t c =
     passed c.from_residual.result c.in_err-step_below.field-0.0 _ c.from_residual.ensures.1
     (λ ws ss h. unbegun (outgoing g.W.Write.contents c.args.writer.now c.args.text.now.items) _ _
     c.in_err-step_below.ensures.memory)
 
-pub mark_row-returns-in_err-put_mark-clause-cut : goal.mark_row-returns-in_err-put_mark-clause-cut
-mark_row-returns-in_err-put_mark-clause-cut g t c =
+pub marked_rows::mark_row-returns-in_err-put_mark-clause-cut : goal.marked_rows::mark_row-returns-in_err-put_mark-clause-cut
+marked_rows::mark_row-returns-in_err-put_mark-clause-cut g t c =
     let m = (g.S.Space.message c.args.space.now) in
     let p = (outgoing g.W.Write.contents c.args.writer.now c.args.text.now.items) in
     let q = (outgoing g.W.Write.contents c.put_mark.new.writer c.put_mark.new.text.items) in
@@ -705,8 +705,8 @@ mark_row-returns-in_err-put_mark-clause-cut g t c =
     (otherwise-broken p q _ _ _ (ap₂ (mark c.args.marks.now) c.byte_of-byte.ensures.is c.as_slice.ensures.value)
     c.in_err-put_mark.ensures.cut))))
 
-pub mark_row-returns-in_err-mark_body-clause-cut : goal.mark_row-returns-in_err-mark_body-clause-cut
-mark_row-returns-in_err-mark_body-clause-cut g t c =
+pub marked_rows::mark_row-returns-in_err-mark_body-clause-cut : goal.marked_rows::mark_row-returns-in_err-mark_body-clause-cut
+marked_rows::mark_row-returns-in_err-mark_body-clause-cut g t c =
     let m = (g.S.Space.message c.args.space.now) in
     let p = (outgoing g.W.Write.contents c.args.writer.now c.args.text.now.items) in
     let q = (outgoing g.W.Write.contents c.put_mark.new.writer c.put_mark.new.text.items) in
@@ -727,15 +727,15 @@ mark_row-returns-in_err-mark_body-clause-cut g t c =
 
 -- ---- slots, one after the other
 
-pub mark_slots-loop-i-init : goal.mark_slots-loop-i-init
-mark_slots-loop-i-init g t c = record {
+pub marked_slots::mark_slots-loop-i-init : goal.marked_slots::mark_slots-loop-i-init
+marked_slots::mark_slots-loop-i-init g t c = record {
   way = refl;
   rest = λ ts h n. same
       (outgoing g.W.Write.contents c.args.writer.now c.args.text.now.items);
 }
 
-pub mark_slots-loop-i-preserved : goal.mark_slots-loop-i-preserved
-mark_slots-loop-i-preserved g t c =
+pub marked_slots::mark_slots-loop-i-preserved : goal.marked_slots::mark_slots-loop-i-preserved
+marked_slots::mark_slots-loop-i-preserved g t c =
     let m = (g.S.Space.message c.args.space.now) in
     let i = c.loop-i.i in
     let lt = c.loop-i-test.true in
@@ -754,8 +754,8 @@ mark_slots-loop-i-preserved g t c =
           c.loop-i.invariant.way) (c.in_ok-mark_below.ensures.shown (tree_at ts i) (h i below)));
     }
 
-pub mark_slots-returns-clause-shown : goal.mark_slots-returns-clause-shown
-mark_slots-returns-clause-shown g t c ts h n =
+pub marked_slots::mark_slots-returns-clause-shown : goal.marked_slots::mark_slots-returns-clause-shown
+marked_slots::mark_slots-returns-clause-shown g t c ts h n =
     let m = (g.S.Space.message c.args.space.now) in
     let p = (outgoing g.W.Write.contents c.args.writer.now c.args.text.now.items) in
     let q = (outgoing g.W.Write.contents c.loop-i.writer c.loop-i.text.items) in
@@ -766,8 +766,8 @@ mark_slots-returns-clause-shown g t c ts h n =
     (listed ts) c.loop-i.i
     (omega arith) (c.loop-i.invariant.rest ts h n))
 
-pub mark_slots-returns-in_err-mark_below-clause-cut : goal.mark_slots-returns-in_err-mark_below-clause-cut
-mark_slots-returns-in_err-mark_below-clause-cut g t c =
+pub marked_slots::mark_slots-returns-in_err-mark_below-clause-cut : goal.marked_slots::mark_slots-returns-in_err-mark_below-clause-cut
+marked_slots::mark_slots-returns-in_err-mark_below-clause-cut g t c =
     passed c.from_residual.result c.in_err-mark_below.field-0.0 _ c.from_residual.ensures.1
     (λ ts h n. let m = (g.S.Space.message c.args.space.now) in
     let i = c.loop-i.i in
@@ -786,15 +786,15 @@ mark_slots-returns-in_err-mark_below-clause-cut g t c =
 
 -- ---- rows, one after the other
 
-pub mark_rows-loop-row-init : goal.mark_rows-loop-row-init
-mark_rows-loop-row-init g t c = record {
+pub marked_rows::mark_rows-loop-row-init : goal.marked_rows::mark_rows-loop-row-init
+marked_rows::mark_rows-loop-row-init g t c = record {
   next = omega arith;
   way = refl;
   rest = λ bs h n. same (outgoing g.W.Write.contents c.args.writer.now c.args.text.now.items);
 }
 
-pub mark_rows-loop-row-preserved : goal.mark_rows-loop-row-preserved
-mark_rows-loop-row-preserved g t c =
+pub marked_rows::mark_rows-loop-row-preserved : goal.marked_rows::mark_rows-loop-row-preserved
+marked_rows::mark_rows-loop-row-preserved g t c =
     let m = (g.S.Space.message c.args.space.now) in
     let s = c.args.first.segment in
     let a = c.args.words in
@@ -820,8 +820,8 @@ mark_rows-loop-row-preserved g t c =
           (h i below))));
     }
 
-pub mark_rows-returns-clause-shown : goal.mark_rows-returns-clause-shown
-mark_rows-returns-clause-shown g t c bs h n =
+pub marked_rows::mark_rows-returns-clause-shown : goal.marked_rows::mark_rows-returns-clause-shown
+marked_rows::mark_rows-returns-clause-shown g t c bs h n =
     let m = (g.S.Space.message c.args.space.now) in
     let p = (outgoing g.W.Write.contents c.args.writer.now c.args.text.now.items) in
     let q = (outgoing g.W.Write.contents c.loop-row.writer c.loop-row.text.items) in
@@ -833,8 +833,8 @@ mark_rows-returns-clause-shown g t c bs h n =
     (rows_listed bs) c.loop-row.row
     (omega arith) (c.loop-row.invariant.rest bs h n))
 
-pub mark_rows-returns-in_err-mark_row-clause-cut : goal.mark_rows-returns-in_err-mark_row-clause-cut
-mark_rows-returns-in_err-mark_row-clause-cut g t c =
+pub marked_rows::mark_rows-returns-in_err-mark_row-clause-cut : goal.marked_rows::mark_rows-returns-in_err-mark_row-clause-cut
+marked_rows::mark_rows-returns-in_err-mark_row-clause-cut g t c =
     passed c.from_residual.result c.in_err-mark_row.field-0.0 _ c.from_residual.ensures.1
     (λ bs h n. let m = (g.S.Space.message c.args.space.now) in
     let s = c.args.first.segment in

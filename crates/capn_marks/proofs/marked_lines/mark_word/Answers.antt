@@ -2,7 +2,7 @@ use Rattle.capn_marks.specs.Marked.{mark, word_line}
 use Rattle.capn_show.specs.Outgoing.{outgoing}
 use Rattle.capn_marks.proofs.Sequels.{ok-then, err-then}
 use Rattle.capn_show.proofs.shared.Appended.{passed, broken-before}
-use Rattle.capn_marks.proofs.marked_lists.mark_word.Goals as goal
+use Rattle.capn_marks.proofs.marked_lines.mark_word.Goals as goal
 
 pub returns-clause-shown : goal.returns-clause-shown
 returns-clause-shown g c =

@@ -4,7 +4,7 @@ use Rattle.capn_show.specs.Outgoing.{Adds, outgoing}
 use Rattle.capn_show.specs.ReadyPlaces.{AreDataWords}
 use Rattle.capn_marks.proofs.ItemTexts.{texts}
 use Rattle.capn_marks.proofs.MarkedItems.{line_item}
-use Rattle.capn_marks.proofs.marked_lists.mark_words.Given as goal
+use Rattle.capn_marks.proofs.marked_lines.mark_words.Given as goal
 
 abbrev pub invariant-loop-i : goal.invariant-loop-i
 invariant-loop-i g l = (ws : List ℕ)

@@ -5,7 +5,7 @@ use Rattle.capn_value.specs.Text.{line, named}
 use Rattle.capn_marks.specs.Marked.{marked_digits}
 use Rattle.capn_show.specs.Outgoing.{outgoing}
 use Rattle.capn_show.proofs.shared.Appended.{both, otherwise, otherwise-broken, then-broken, broken-before, passed}
-use Rattle.capn_marks.proofs.marked_lists.mark_digit_lines.Goals as goal
+use Rattle.capn_marks.proofs.marked_bytes.mark_digit_lines.Goals as goal
 
 pub returns-clause-shown : goal.returns-clause-shown
 returns-clause-shown g c =

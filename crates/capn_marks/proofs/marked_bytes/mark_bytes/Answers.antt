@@ -4,7 +4,7 @@ use Rattle.capn_words.specs.declared.pointer.Width.TheVariants.{W8}
 use Rattle.capn_marks.specs.Marked.{digit_lines, text_or_digits}
 use Rattle.capn_show.specs.Outgoing.{Adds, BreaksOff, outgoing}
 use Rattle.capn_show.specs.ReadyPlaces.{NumbersShown}
-use Rattle.capn_marks.proofs.marked_lists.mark_bytes.Goals as goal
+use Rattle.capn_marks.proofs.marked_bytes.mark_bytes.Goals as goal
 
 pub returns-then-marks-clause-shown : goal.returns-then-marks-clause-shown
 returns-then-marks-clause-shown g c =

@@ -6,7 +6,7 @@ use Rattle.capn_show.specs.Outgoing.{outgoing}
 use Rattle.capn_marks.proofs.ItemTexts.{item-more, item-cut, items-all}
 use Rattle.capn_marks.proofs.MarkedItems.{line_item, lines-items}
 use Rattle.capn_show.proofs.shared.Appended.{passed, same, otherwise, otherwise-broken}
-use Rattle.capn_marks.proofs.marked_lists.mark_words.Goals as goal
+use Rattle.capn_marks.proofs.marked_lines.mark_words.Goals as goal
 
 pub loop-i-init : goal.loop-i-init
 loop-i-init g c xs h n = same (outgoing g.W.Write.contents c.args.writer.now c.args.text.now.items)

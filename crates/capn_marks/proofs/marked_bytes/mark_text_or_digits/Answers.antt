@@ -6,7 +6,7 @@ use Rattle.capn_marks.specs.Marked.{digit_lines, text_or_digits}
 use Rattle.capn_marks.specs.declared.marks.Marks.{Marks}
 use Rattle.capn_show.proofs.shared.ReadBytes.{read-bytes}
 use Rattle.capn_show.proofs.shared.Appended.{otherwise, otherwise-broken}
-use Rattle.capn_marks.proofs.marked_lists.mark_text_or_digits.Goals as goal
+use Rattle.capn_marks.proofs.marked_bytes.mark_text_or_digits.Goals as goal
 
 module _ (marks : Marks) (level : ℕ) (way : List ℕ) (first : ℕ) (bs xs : List ℕ) (e : bs ≡ xs) where
   -- the lines of a list, by the answer whether the bytes that were read are a text

@@ -5,7 +5,7 @@ use Rattle.capn_show.specs.Outgoing.{Adds, outgoing}
 use Rattle.capn_show.specs.ReadyPlaces.{AreNumbers}
 use Rattle.capn_marks.proofs.ItemTexts.{texts}
 use Rattle.capn_marks.proofs.MarkedItems.{line_item}
-use Rattle.capn_marks.proofs.marked_lists.mark_numbers.Given as goal
+use Rattle.capn_marks.proofs.marked_lines.mark_numbers.Given as goal
 
 abbrev pub invariant-loop-i : goal.invariant-loop-i
 invariant-loop-i g l = (xs : List ℕ)
