@@ -27,9 +27,11 @@ fn mark_word<W: Write, A: Allocator>(
     word: u64,
 ) -> Result<(), Broken>
     ensures shown { OnOk result (Adds (outgoing W.contents writer.old text.old.items)
-        (outgoing W.contents writer.new text.new.items) (spec.mark marks.now byte way.now ++ spec.word_line level word)) }
+        (outgoing W.contents writer.new text.new.items)
+        (spec.mark marks.now byte way.now ++ spec.word_line level word)) }
     ensures cut { IfErr result (λ e. BreaksOff (outgoing W.contents writer.old text.old.items)
-        (outgoing W.contents writer.new text.new.items) e (spec.mark marks.now byte way.now ++ spec.word_line level word)) }
+        (outgoing W.contents writer.new text.new.items) e
+        (spec.mark marks.now byte way.now ++ spec.word_line level word)) }
 {
     put_mark(text, writer, marks, way, byte)?;
     word_line(text, writer, level, word)
@@ -46,9 +48,11 @@ fn mark_number<W: Write, A: Allocator>(
     n: u64,
 ) -> Result<(), Broken>
     ensures shown { OnOk result (Adds (outgoing W.contents writer.old text.old.items)
-        (outgoing W.contents writer.new text.new.items) (spec.mark marks.now byte way.now ++ spec.number_line level n)) }
+        (outgoing W.contents writer.new text.new.items)
+        (spec.mark marks.now byte way.now ++ spec.number_line level n)) }
     ensures cut { IfErr result (λ e. BreaksOff (outgoing W.contents writer.old text.old.items)
-        (outgoing W.contents writer.new text.new.items) e (spec.mark marks.now byte way.now ++ spec.number_line level n)) }
+        (outgoing W.contents writer.new text.new.items) e
+        (spec.mark marks.now byte way.now ++ spec.number_line level n)) }
 {
     put_mark(text, writer, marks, way, byte)?;
     number_line(text, writer, level, n)

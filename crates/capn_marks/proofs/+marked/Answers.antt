@@ -356,10 +356,12 @@ marked::mark_found-returns-in_ok-named_line-in-Link-clause-shown g t c =
     c.in_ok-named_line-in-Link.ensures.shown))
     c.mark_slots.ensures.shown
 
-pub marked::mark_found-returns-in_ok-named_line-in-Link-clause-cut : goal.marked::mark_found-returns-in_ok-named_line-in-Link-clause-cut
+pub marked::mark_found-returns-in_ok-named_line-in-Link-clause-cut :
+    goal.marked::mark_found-returns-in_ok-named_line-in-Link-clause-cut
 marked::mark_found-returns-in_ok-named_line-in-Link-clause-cut g t c =
     IfErr-weaker c.mark_slots.result _ _
-    (λ e. links-marked (g.S.Space.message c.args.space.now) c.args.marks.now c.args.level c.args.way.now.items (BreaksOff
+    (λ e. links-marked (g.S.Space.message c.args.space.now) c.args.marks.now c.args.level c.args.way.now.items
+    (BreaksOff
     (outgoing g.W.Write.contents c.args.writer.now c.args.text.now.items)
     (outgoing g.W.Write.contents c.mark_slots.new.writer c.mark_slots.new.text.items) e) c.args.found
     c.in-Content.segment
@@ -409,7 +411,8 @@ marked::mark_found-returns-in_ok-named_line-in-Rows-clause-shown g t c =
     c.in_ok-named_line-in-Rows.ensures.shown))
     c.mark_rows.ensures.shown
 
-pub marked::mark_found-returns-in_ok-named_line-in-Rows-clause-cut : goal.marked::mark_found-returns-in_ok-named_line-in-Rows-clause-cut
+pub marked::mark_found-returns-in_ok-named_line-in-Rows-clause-cut :
+    goal.marked::mark_found-returns-in_ok-named_line-in-Rows-clause-cut
 marked::mark_found-returns-in_ok-named_line-in-Rows-clause-cut g t c =
     IfErr-weaker c.mark_rows.result _ _
     (λ e. rows-marked (g.S.Space.message c.args.space.now) c.args.marks.now c.args.level c.args.way.now.items (BreaksOff
@@ -586,7 +589,8 @@ marked::mark_slot-returns-clause-shown g t c =
     let q = (outgoing g.W.Write.contents c.put_mark.new.writer c.put_mark.new.text.items) in
     let r = (outgoing g.W.Write.contents c.mark_found.new.writer c.mark_found.new.text.items) in
     on_ok_weaker c.mark_found.result
-    (slot-marked m c.args.marks.now c.args.level c.args.way.now.items c.views_show_values.ensures c.args.at c.in-Ok.found
+    (slot-marked m c.args.marks.now c.args.level c.args.way.now.items c.views_show_values.ensures c.args.at
+    c.in-Ok.found
     (sym c.resolve.ensures.exact ∙ c.in-Ok.is) (Adds p r) (Adds q r)
     (λ y. both p q r (mark c.args.marks.now (byte_at m c.args.marks.now c.args.at) c.args.way.now.items) y
     (otherwise p q _ _ (ap₂ (mark c.args.marks.now) c.byte_of-byte.ensures.is c.as_slice.ensures.value)
@@ -636,13 +640,15 @@ marked_slots::mark_below-returns-clause-kept g t c =
     ∙ ap₂ take c.way_length-above.ensures (c.in_ok-mark_slot.ensures.kept ∙ c.in_ok-step_below.ensures.below)
     ∙ back c.args.marks.now.ways c.args.way.now.items c.args.number
 
-pub marked_slots::mark_below-returns-in_err-step_below-clause-cut : goal.marked_slots::mark_below-returns-in_err-step_below-clause-cut
+pub marked_slots::mark_below-returns-in_err-step_below-clause-cut :
+    goal.marked_slots::mark_below-returns-in_err-step_below-clause-cut
 marked_slots::mark_below-returns-in_err-step_below-clause-cut g t c =
     passed c.from_residual.result c.in_err-step_below.field-0.0 _ c.from_residual.ensures.1
     (λ v i. unbegun (outgoing g.W.Write.contents c.args.writer.now c.args.text.now.items) _ _
     c.in_err-step_below.ensures.memory)
 
-pub marked_slots::mark_below-returns-in_err-mark_slot-clause-cut : goal.marked_slots::mark_below-returns-in_err-mark_slot-clause-cut
+pub marked_slots::mark_below-returns-in_err-mark_slot-clause-cut :
+    goal.marked_slots::mark_below-returns-in_err-mark_slot-clause-cut
 marked_slots::mark_below-returns-in_err-mark_slot-clause-cut g t c =
     passed c.from_residual-in_err-mark_slot.result c.in_err-mark_slot.field-0.0 _
     c.from_residual-in_err-mark_slot.ensures.1
@@ -681,13 +687,15 @@ marked_rows::mark_row-returns-clause-kept g t c =
     ∙ ap₂ take c.way_length-above.ensures (c.in_ok-mark_body.ensures.kept ∙ c.in_ok-step_below.ensures.below)
     ∙ back c.args.marks.now.ways c.args.way.now.items c.args.number
 
-pub marked_rows::mark_row-returns-in_err-step_below-clause-cut : goal.marked_rows::mark_row-returns-in_err-step_below-clause-cut
+pub marked_rows::mark_row-returns-in_err-step_below-clause-cut :
+    goal.marked_rows::mark_row-returns-in_err-step_below-clause-cut
 marked_rows::mark_row-returns-in_err-step_below-clause-cut g t c =
     passed c.from_residual.result c.in_err-step_below.field-0.0 _ c.from_residual.ensures.1
     (λ ws ss h. unbegun (outgoing g.W.Write.contents c.args.writer.now c.args.text.now.items) _ _
     c.in_err-step_below.ensures.memory)
 
-pub marked_rows::mark_row-returns-in_err-put_mark-clause-cut : goal.marked_rows::mark_row-returns-in_err-put_mark-clause-cut
+pub marked_rows::mark_row-returns-in_err-put_mark-clause-cut :
+    goal.marked_rows::mark_row-returns-in_err-put_mark-clause-cut
 marked_rows::mark_row-returns-in_err-put_mark-clause-cut g t c =
     let m = (g.S.Space.message c.args.space.now) in
     let p = (outgoing g.W.Write.contents c.args.writer.now c.args.text.now.items) in
@@ -696,7 +704,8 @@ marked_rows::mark_row-returns-in_err-put_mark-clause-cut g t c =
     let way = c.step_below.new.way.items in
     passed c.from_residual-in_err-put_mark.result c.in_err-put_mark.field-0.0 _
     c.from_residual-in_err-put_mark.ensures.1
-    (row-stepped m c.args.marks.now c.args.level c.args.way.now.items c.args.number (BreaksOff p q c.in_err-put_mark.field-0.0)
+    (row-stepped m c.args.marks.now c.args.level c.args.way.now.items c.args.number (BreaksOff p q
+    c.in_err-put_mark.field-0.0)
     c.args.start.segment c.args.start.word c.args.words c.args.slots
     (subst (λ (w : List ℕ). IsRowMarked m c.args.marks.now c.args.level w c.args.start.segment c.args.start.word
     c.args.words c.args.slots (BreaksOff p q c.in_err-put_mark.field-0.0)) c.in_ok-step_below.ensures.below
@@ -705,7 +714,8 @@ marked_rows::mark_row-returns-in_err-put_mark-clause-cut g t c =
     (otherwise-broken p q _ _ _ (ap₂ (mark c.args.marks.now) c.byte_of-byte.ensures.is c.as_slice.ensures.value)
     c.in_err-put_mark.ensures.cut))))
 
-pub marked_rows::mark_row-returns-in_err-mark_body-clause-cut : goal.marked_rows::mark_row-returns-in_err-mark_body-clause-cut
+pub marked_rows::mark_row-returns-in_err-mark_body-clause-cut :
+    goal.marked_rows::mark_row-returns-in_err-mark_body-clause-cut
 marked_rows::mark_row-returns-in_err-mark_body-clause-cut g t c =
     let m = (g.S.Space.message c.args.space.now) in
     let p = (outgoing g.W.Write.contents c.args.writer.now c.args.text.now.items) in
@@ -715,7 +725,8 @@ marked_rows::mark_row-returns-in_err-mark_body-clause-cut g t c =
     let way = c.step_below.new.way.items in
     passed c.from_residual-in_err-mark_body.result c.in_err-mark_body.field-0.0 _
     c.from_residual-in_err-mark_body.ensures.1
-    (row-stepped m c.args.marks.now c.args.level c.args.way.now.items c.args.number (BreaksOff p r c.in_err-mark_body.field-0.0)
+    (row-stepped m c.args.marks.now c.args.level c.args.way.now.items c.args.number (BreaksOff p r
+    c.in_err-mark_body.field-0.0)
     c.args.start.segment c.args.start.word c.args.words c.args.slots
     (subst (λ (w : List ℕ). IsRowMarked m c.args.marks.now c.args.level w c.args.start.segment c.args.start.word
     c.args.words c.args.slots (BreaksOff p r c.in_err-mark_body.field-0.0)) c.in_ok-step_below.ensures.below
@@ -766,7 +777,8 @@ marked_slots::mark_slots-returns-clause-shown g t c ts h n =
     (listed ts) c.loop-i.i
     (omega arith) (c.loop-i.invariant.rest ts h n))
 
-pub marked_slots::mark_slots-returns-in_err-mark_below-clause-cut : goal.marked_slots::mark_slots-returns-in_err-mark_below-clause-cut
+pub marked_slots::mark_slots-returns-in_err-mark_below-clause-cut :
+    goal.marked_slots::mark_slots-returns-in_err-mark_below-clause-cut
 marked_slots::mark_slots-returns-in_err-mark_below-clause-cut g t c =
     passed c.from_residual.result c.in_err-mark_below.field-0.0 _ c.from_residual.ensures.1
     (λ ts h n. let m = (g.S.Space.message c.args.space.now) in
@@ -777,8 +789,10 @@ marked_slots::mark_slots-returns-in_err-mark_below-clause-cut g t c =
     let r = (outgoing g.W.Write.contents c.mark_below.new.writer c.mark_below.new.text.items) in
     let below : i < count ts = omega arith in
     let long = length-listed ts in
-    otherwise-broken p r _ _ _ (slots-items m c.args.marks.now c.args.level c.args.way.now.items (nth c.args.first) 0 ts)
-    (item-cut (slot_item m c.args.marks.now c.args.level c.args.way.now.items (nth c.args.first)) nil p q (listed ts) i r _
+    otherwise-broken p r _ _ _ (slots-items m c.args.marks.now c.args.level c.args.way.now.items (nth c.args.first) 0
+    ts)
+    (item-cut (slot_item m c.args.marks.now c.args.level c.args.way.now.items (nth c.args.first)) nil p q (listed ts) i
+    r _
     (omega arith) (c.loop-i.invariant.rest ts h n)
     (otherwise-broken q r _ _ _ (item-is m c.args.marks.now c.args.level c.loop-i.way.items c.args.way.now.items
     (nth c.args.first) ts i
@@ -810,7 +824,8 @@ marked_rows::mark_rows-loop-row-preserved g t c =
       way = c.in_ok-mark_row.ensures.kept ∙ c.loop-row.invariant.way;
       rest = λ bs h n. let below : i < count_rows bs = omega arith in
           let long = length-rows_listed bs in
-          item-more (row_item m c.args.marks.now c.args.level c.args.way.now.items (nth_row c.args.first a b)) no_row p q
+          item-more (row_item m c.args.marks.now c.args.level c.args.way.now.items (nth_row c.args.first a b)) no_row p
+          q
           (rows_listed bs) i r (omega arith) (c.loop-row.invariant.rest bs h n)
           (otherwise q r _ _ (row-is m c.args.marks.now c.args.level c.loop-row.way.items c.args.way.now.items
           c.args.first a b
@@ -833,7 +848,8 @@ marked_rows::mark_rows-returns-clause-shown g t c bs h n =
     (rows_listed bs) c.loop-row.row
     (omega arith) (c.loop-row.invariant.rest bs h n))
 
-pub marked_rows::mark_rows-returns-in_err-mark_row-clause-cut : goal.marked_rows::mark_rows-returns-in_err-mark_row-clause-cut
+pub marked_rows::mark_rows-returns-in_err-mark_row-clause-cut :
+    goal.marked_rows::mark_rows-returns-in_err-mark_row-clause-cut
 marked_rows::mark_rows-returns-in_err-mark_row-clause-cut g t c =
     passed c.from_residual.result c.in_err-mark_row.field-0.0 _ c.from_residual.ensures.1
     (λ bs h n. let m = (g.S.Space.message c.args.space.now) in

@@ -24,8 +24,10 @@ returns-clause-shown g c =
     let r = (outgoing g.W.Write.contents c.show_bytes.new.writer c.show_bytes.new.text.items) in
     on_ok_weaker c.show_bytes.result
     (λ k xs h n. otherwise p r _ _
-    (digits-marked c.args.marks.now c.args.level c.args.way.now c.args.first (length xs) (encode_lower xs) (omega arith))
-    (both p q r (mark c.args.marks.now c.args.first c.args.way.now) (one_line c.args.level (length xs) (encode_lower xs))
+    (digits-marked c.args.marks.now c.args.level c.args.way.now c.args.first (length xs) (encode_lower xs) (omega
+    arith))
+    (both p q r (mark c.args.marks.now c.args.first c.args.way.now) (one_line c.args.level (length xs) (encode_lower
+    xs))
     c.in_ok-put_mark.ensures.shown (k xs h n)))
     c.show_bytes.ensures.shown
 
@@ -36,7 +38,8 @@ returns-clause-cut g c =
     let r = (outgoing g.W.Write.contents c.show_bytes.new.writer c.show_bytes.new.text.items) in
     IfErr-weaker c.show_bytes.result _ _
     (λ e k xs h n. otherwise-broken p r e _ _
-    (digits-marked c.args.marks.now c.args.level c.args.way.now c.args.first (length xs) (encode_lower xs) (omega arith))
+    (digits-marked c.args.marks.now c.args.level c.args.way.now c.args.first (length xs) (encode_lower xs) (omega
+    arith))
     (then-broken p q r e (mark c.args.marks.now c.args.first c.args.way.now) (one_line c.args.level (length xs)
     (encode_lower xs))
     c.in_ok-put_mark.ensures.shown (k xs h n)))
@@ -48,7 +51,8 @@ returns-in_err-put_mark-clause-cut g c =
     (λ xs h n. let p = (outgoing g.W.Write.contents c.args.writer.now c.args.text.now.items) in
     let q = (outgoing g.W.Write.contents c.put_mark.new.writer c.put_mark.new.text.items) in
     otherwise-broken p q _ _ _
-    (digits-marked c.args.marks.now c.args.level c.args.way.now c.args.first (length xs) (encode_lower xs) (omega arith))
+    (digits-marked c.args.marks.now c.args.level c.args.way.now c.args.first (length xs) (encode_lower xs) (omega
+    arith))
     (broken-before p q _ (mark c.args.marks.now c.args.first c.args.way.now) (one_line c.args.level (length xs)
     (encode_lower xs))
     c.in_err-put_mark.ensures.cut))

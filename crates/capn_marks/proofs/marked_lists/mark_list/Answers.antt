@@ -93,7 +93,8 @@ returns-in-W8-clause-cut g c =
 pub returns-in_ok-named_line-in-W16-clause-shown : goal.returns-in_ok-named_line-in-W16-clause-shown
 returns-in_ok-named_line-in-W16-clause-shown g c =
     on_ok_weaker c.mark_numbers.result
-    (numbers-marked (g.S.Space.message c.args.space.now) c.args.marks.now c.args.level c.args.way.now c.args.start.segment
+    (numbers-marked (g.S.Space.message c.args.space.now) c.args.marks.now c.args.level c.args.way.now
+    c.args.start.segment
     c.args.start.word c.args.count c.args.width (Adds (outgoing g.W.Write.contents c.args.writer.now
     c.args.text.now.items)
     (outgoing g.W.Write.contents c.mark_numbers.new.writer c.mark_numbers.new.text.items)) c.byte_of-first.result
@@ -128,7 +129,8 @@ pub returns-in_err-named_line-in-W16-clause-cut : goal.returns-in_err-named_line
 returns-in_err-named_line-in-W16-clause-cut g c =
     passed c.from_residual-in_err-named_line-in-W16.result c.in_err-named_line-in-W16.field-0.0 _
     c.from_residual-in_err-named_line-in-W16.ensures.1
-    (numbers-marked (g.S.Space.message c.args.space.now) c.args.marks.now c.args.level c.args.way.now c.args.start.segment
+    (numbers-marked (g.S.Space.message c.args.space.now) c.args.marks.now c.args.level c.args.way.now
+    c.args.start.segment
     c.args.start.word c.args.count c.args.width (BreaksOff (outgoing g.W.Write.contents c.args.writer.now
     c.args.text.now.items)
     (outgoing g.W.Write.contents c.named_line-in-W16.new.writer c.named_line-in-W16.new.text.items) _)
@@ -143,7 +145,8 @@ returns-in_err-named_line-in-W16-clause-cut g c =
 pub returns-in_ok-named_line-in-W32-clause-shown : goal.returns-in_ok-named_line-in-W32-clause-shown
 returns-in_ok-named_line-in-W32-clause-shown g c =
     on_ok_weaker c.mark_numbers-in-W32.result
-    (numbers-marked (g.S.Space.message c.args.space.now) c.args.marks.now c.args.level c.args.way.now c.args.start.segment
+    (numbers-marked (g.S.Space.message c.args.space.now) c.args.marks.now c.args.level c.args.way.now
+    c.args.start.segment
     c.args.start.word c.args.count c.args.width (Adds (outgoing g.W.Write.contents c.args.writer.now
     c.args.text.now.items)
     (outgoing g.W.Write.contents c.mark_numbers-in-W32.new.writer c.mark_numbers-in-W32.new.text.items))
@@ -178,7 +181,8 @@ pub returns-in_err-named_line-in-W32-clause-cut : goal.returns-in_err-named_line
 returns-in_err-named_line-in-W32-clause-cut g c =
     passed c.from_residual-in_err-named_line-in-W32.result c.in_err-named_line-in-W32.field-0.0 _
     c.from_residual-in_err-named_line-in-W32.ensures.1
-    (numbers-marked (g.S.Space.message c.args.space.now) c.args.marks.now c.args.level c.args.way.now c.args.start.segment
+    (numbers-marked (g.S.Space.message c.args.space.now) c.args.marks.now c.args.level c.args.way.now
+    c.args.start.segment
     c.args.start.word c.args.count c.args.width (BreaksOff (outgoing g.W.Write.contents c.args.writer.now
     c.args.text.now.items)
     (outgoing g.W.Write.contents c.named_line-in-W32.new.writer c.named_line-in-W32.new.text.items) _)
@@ -193,7 +197,8 @@ returns-in_err-named_line-in-W32-clause-cut g c =
 pub returns-in_ok-named_line-in-W64-clause-shown : goal.returns-in_ok-named_line-in-W64-clause-shown
 returns-in_ok-named_line-in-W64-clause-shown g c =
     on_ok_weaker c.mark_numbers-in-W64.result
-    (numbers-marked (g.S.Space.message c.args.space.now) c.args.marks.now c.args.level c.args.way.now c.args.start.segment
+    (numbers-marked (g.S.Space.message c.args.space.now) c.args.marks.now c.args.level c.args.way.now
+    c.args.start.segment
     c.args.start.word c.args.count c.args.width (Adds (outgoing g.W.Write.contents c.args.writer.now
     c.args.text.now.items)
     (outgoing g.W.Write.contents c.mark_numbers-in-W64.new.writer c.mark_numbers-in-W64.new.text.items))
@@ -228,7 +233,8 @@ pub returns-in_err-named_line-in-W64-clause-cut : goal.returns-in_err-named_line
 returns-in_err-named_line-in-W64-clause-cut g c =
     passed c.from_residual-in_err-named_line-in-W64.result c.in_err-named_line-in-W64.field-0.0 _
     c.from_residual-in_err-named_line-in-W64.ensures.1
-    (numbers-marked (g.S.Space.message c.args.space.now) c.args.marks.now c.args.level c.args.way.now c.args.start.segment
+    (numbers-marked (g.S.Space.message c.args.space.now) c.args.marks.now c.args.level c.args.way.now
+    c.args.start.segment
     c.args.start.word c.args.count c.args.width (BreaksOff (outgoing g.W.Write.contents c.args.writer.now
     c.args.text.now.items)
     (outgoing g.W.Write.contents c.named_line-in-W64.new.writer c.named_line-in-W64.new.text.items) _)

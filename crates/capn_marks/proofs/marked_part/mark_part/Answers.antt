@@ -36,7 +36,8 @@ returns-in-Ok-lead-clause-shown g c =
 pub returns-in-Ok-lead-clause-cut : goal.returns-in-Ok-lead-clause-cut
 returns-in-Ok-lead-clause-cut g c =
     IfErr-weaker c.mark_led.result _ _
-    (λ e k v i. led-marked (g.S.Space.message c.args.space.now) c.args.numbers.now v c.lead.new.way.items c.args.marks.now
+    (λ e k v i. led-marked (g.S.Space.message c.args.space.now) c.args.numbers.now v c.lead.new.way.items
+    c.args.marks.now
     (BreaksOff (outgoing g.W.Write.contents c.args.writer.now c.args.text.now.items)
     (outgoing g.W.Write.contents c.mark_led.new.writer c.mark_led.new.text.items) e)
     c.in-Ok-lead.found (c.in-Ok-lead.ensures.there v i) k)

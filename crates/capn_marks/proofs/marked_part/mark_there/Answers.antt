@@ -25,7 +25,8 @@ returns-clause-cut g c =
     let q = (outgoing g.W.Write.contents c.put_mark.new.writer c.put_mark.new.text.items) in
     let r = (outgoing g.W.Write.contents c.mark_found.new.writer c.mark_found.new.text.items) in
     IfErr-weaker c.mark_found.result _ _
-    (λ e k v h. then-broken p q r e (mark c.args.marks.now (byte_at m c.args.marks.now c.args.part.at) c.args.way.now.items)
+    (λ e k v h. then-broken p q r e (mark c.args.marks.now (byte_at m c.args.marks.now c.args.part.at)
+    c.args.way.now.items)
     (unmarked m c.args.marks.now 0 c.args.way.now.items c.args.part.found v)
     (otherwise p q _ _ (ap₂ (mark c.args.marks.now) c.byte_of-byte.ensures.is c.as_slice.ensures.value)
     c.in_ok-put_mark.ensures.shown) (k v h))
