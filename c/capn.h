@@ -7,10 +7,10 @@
  * What the caller owes beside:
  *   - Each pointer leads to what its type and the size after it say. A pointer to no bytes may be null, and so may
  *     limits, which are then the usual ones, and a report that is not wanted; no other may. (Code in C sees to that,
- *     which is tested, not proved.) Bytes may start at any address; limits, figures, entries and reports are aligned as
- *     their types are.
- *   - What a call writes (`out`, `digest`, `figures`, `entries`, `report`) overlaps nothing else that it is given, and
- *     nothing else reads or writes it while the call runs.
+ *     which is tested, not proved.) Bytes may start at any address; limits, figures, entries, the numbers of a way,
+ *     departures and reports are aligned as their types are.
+ *   - What a call writes (`out`, `digest`, `figures`, `entries`, `way`, `departed`, `report`) overlaps nothing else
+ *     that it is given, and nothing else reads or writes it while the call runs.
  *   - No call is made from a signal handler, nor from the child of a `fork` of a process with several threads.
  *   - malloc, realloc and free belong to one allocator, which aligns each block as C asks, up to 16 bytes.
  * Any numbers may be passed.
@@ -20,7 +20,8 @@
  * it back before it returns. Of bare words and of a stream of at most 64 segments, capn_canonical, capn_check,
  * capn_survey, capn_index and capn_is_canonical ask for none, nor does a call whose name ends in `_segments` but
  * capn_hash_segments. Memory is asked for by a packed text, by a stream of more segments, for the bytes that are
- * hashed, packed or unpacked, and for the text of capn_show; and by capn_first, capn_hash and capn_show, for the table
+ * hashed, packed or unpacked, for the text of capn_show, for a way and for the bytes that capn_departure compares; and
+ * by capn_first, capn_hash, capn_show, capn_departure and, where the walk is refused, capn_refusal_way, for the table
  * of a stream of two segments or more. A call takes at most 16 KiB of stack, and 304 bytes more for each level of depth
  * that the limits allow, capn_show 432, capn_index 560: 92 KiB at depth 256, capn_show 124 KiB, capn_index 156 KiB.
  *
@@ -124,10 +125,42 @@ typedef struct capn_entry {
     uint32_t kind;   /* CAPN_KIND_NULL to CAPN_KIND_CAPABILITY */
 } capn_entry;
 
+/* Where an accepted message leaves its canonical bytes. */
+enum capn_departure_kind {
+    CAPN_DEPARTS_NOT = 0,        /* nowhere: it has one segment, and that is its canonical bytes */
+    CAPN_DEPARTS_SEGMENTS = 1,   /* it has more segments than one: `count` */
+    CAPN_DEPARTS_CAPABILITY = 2, /* its value has a capability; the way leads to the first in preorder, of index
+                                    `count` */
+    CAPN_DEPARTS_WORD = 3,       /* `word` is `is`, and in the canonical bytes `canonical`, which is its owner's */
+    CAPN_DEPARTS_AFTER = 4       /* the canonical bytes end before `word`, which is `is` */
+};
+
+/* Whose a word of canonical bytes is, by the way to a slot. */
+enum capn_owner {
+    CAPN_OWNER_NONE = 0,     /* of no other kind than CAPN_DEPARTS_WORD is an owner told */
+    CAPN_OWNER_POINTER = 1,  /* it is the pointer of the slot, */
+    CAPN_OWNER_TAG = 2,      /* the tag of the list of structs that the slot names, */
+    CAPN_OWNER_LAST_WORD = 3 /* or the last word of the list of bits, bytes, u16 or u32 that it names */
+};
+
+/* The first reason why a message is not its canonical bytes. Words are counted from the first of its only segment. A
+ * field that the kind does not speak of is 0. */
+typedef struct capn_departed {
+    uint64_t is;        /* what the word is in the message, */
+    uint64_t canonical; /* and what in the canonical bytes */
+    uint32_t kind;      /* CAPN_DEPARTS_NOT to CAPN_DEPARTS_AFTER */
+    uint32_t owner;     /* CAPN_OWNER_NONE to CAPN_OWNER_LAST_WORD */
+    uint32_t word;      /* the number of the word */
+    uint32_t count;     /* of segments; the index of a capability */
+    uint32_t numbers;   /* of the way */
+    uint32_t zero;      /* always 0 */
+} capn_departed;
+
 /* The types have the sizes that the library gives them; else this is refused by any compiler of C and C++. */
 #define CAPN_SIZES_AGREE (sizeof(capn_limits) == 16 && sizeof(capn_report) == 32 && sizeof(capn_figures) == 32 \
                           && sizeof(capn_entry) == 24 && offsetof(capn_entry, kind) == 20 \
-                          && sizeof(capn_segment) == 16 && offsetof(capn_segment, count) == 8)
+                          && sizeof(capn_segment) == 16 && offsetof(capn_segment, count) == 8 \
+                          && sizeof(capn_departed) == 40 && offsetof(capn_departed, zero) == 36)
 #if defined(__cplusplus) && __cplusplus >= 201103L
 static_assert(CAPN_SIZES_AGREE, "as the library lays them out");
 #elif !defined(__cplusplus) && defined(__STDC_VERSION__) && __STDC_VERSION__ >= 201112L
@@ -264,6 +297,32 @@ capn_status capn_index(uint32_t form, const uint8_t *bytes, size_t size, const c
  * a message that is accepted, with too little room too: the text of a small message may be long, so have limits. */
 capn_status capn_show(uint32_t form, const uint8_t *bytes, size_t size, const capn_limits *limits, uint32_t style,
                       char *out, size_t room, capn_report *report);
+
+/* The calls that answer ways are there: capn_refusal_way and capn_departure. */
+#define CAPN_HAS_WAYS 1
+
+/* The way to the slot at which the walk of a message stopped. A way is the numbers that lead to a slot from the root: a
+ * number leads from a struct to a slot, from a list of pointers to an element, and from a list of structs to a row,
+ * whose slot the next number says. No number leads to the root, nor where there is none.
+ * It answers what capn_check answers of the same bytes, and reports the same; and where the status is a refusal of the
+ * walk, `length` is 4 * the numbers of the way: they stand at the start of `way` if `most_numbers`, which counts
+ * numbers, has room for all, and the rest is as it was; else `way` is as it was. So it is the length that says whether
+ * they had room: no status does. 2 * `depth` numbers are always enough. At any other status `way` is as it was.
+ * It takes memory where capn_check does, and where the walk is refused, for the way and for the table of two segments
+ * or more; there it walks up to three times, and unpacks twice. */
+capn_status capn_refusal_way(uint32_t form, const uint8_t *bytes, size_t size, const capn_limits *limits, uint32_t *way,
+                             size_t most_numbers, capn_report *report);
+
+/* Where one message leaves its canonical bytes, and why: as `capn explain` says it.
+ * It answers CAPN_OK for every message that is accepted, whether it is canonical or not, and fills `departed` in whole:
+ * `kind` says which. Where there is a way, of CAPN_DEPARTS_CAPABILITY and CAPN_DEPARTS_WORD, it is in `way` or had no
+ * room there, as capn_refusal_way has it, and `length` is 4 * `numbers`. The report has `length`, `paid` and `visits`.
+ * It accepts and refuses what capn_check does. Unless it answers CAPN_OK, `departed` and `way` are as they were.
+ * It takes memory for the table of two segments or more, for what is unpacked, and, of a message of one segment that is
+ * not canonical, for its canonical bytes and for the way. It walks a message several times, and unpacks a packed one
+ * twice. */
+capn_status capn_departure(uint32_t form, const uint8_t *bytes, size_t size, const capn_limits *limits,
+                           capn_departed *departed, uint32_t *way, size_t most_numbers, capn_report *report);
 
 /* The calls for a message that is held in segments are there: those that end in `_segments`. */
 #define CAPN_HAS_SEGMENTS 1
