@@ -1,0 +1,4 @@
+mod Reading
+mod WayLengths
+mod WaysTold
+mod DeparturesTold

@@ -1,0 +1,58 @@
+//! Where a message leaves its canonical bytes, in each form.
+
+ghost use Rattle.std.specs.Prelude.{◌≡◌, ◌≤◌, ◌*◌, length, ⊤, IfOk, IfErr, IsErrOf, MatchResult};
+ghost use Rattle.capn_value.specs.Tree.{Tree as Value};
+ghost use Rattle.capn_canon.specs.Denotes.{Denotes};
+ghost use Rattle.capn_canon.specs.Refusal.{IsUnacceptedIn};
+ghost use Rattle.capn_canon.specs.declared.refusal.Refusal.TheVariants as refusals;
+ghost use Rattle.capn_answers.specs.Departures.{IsDepartureIn, MayNeedDeparture, way_of};
+ghost use Rattle.capn_answers.specs.inner.Answered.{IsDepartureTold};
+
+use crate::input::{Task, read};
+use capn_canon::{Form, Refusal};
+use capn_departure::{Departure, departure};
+use capn_walk::Limits;
+use capn_words::Space;
+use std::alloc::Allocator;
+
+/// Where a message leaves its canonical bytes.
+struct Departs;
+
+impl<A: Allocator + Copy> Task<A> for Departs {
+    type Answer = Departure<A>;
+
+    ghost answers = { λ m limits r. IsDepartureTold m limits r };
+
+    fn run<S: Space>(alloc: A, message: &S, limits: Limits) -> Result<Departure<A>, Refusal> {
+        departure(alloc, message, limits)
+    }
+}
+
+/// Whether the message that bytes are in a form is canonical within the limits, and if not, the first reason: its
+/// segments, its first capability, or the first word that differs from its canonical bytes. A way has at most two
+/// numbers for each level of the depth limit.
+///
+/// It refuses what [`capn_canon::survey_bytes`] refuses, and as that does. `Memory` comes only where a growth was
+/// refused: for the table of two segments or more, for what is unpacked, and, of a message of one segment that is not
+/// canonical, for its canonical bytes and for the way. (Own.)
+pub fn departure_in<A: Allocator + Copy>(
+    alloc: A,
+    form: Form,
+    bytes: &[u8],
+    limits: Limits,
+) -> Result<Departure<A>, Refusal>
+    // What each answer means.
+    ensures found { IfOk result (λ d. IsDepartureIn form bytes.now limits d) }
+    // Bytes that denote a value are answered, unless memory runs out.
+    ensures only { (v : Value) → Denotes form bytes.now limits v
+        → MatchResult result (λ d. ⊤) (λ e. e ≡ refusals.Memory) }
+    // Two numbers for each level of depth are enough for a way.
+    ensures short { IfOk result (λ d. length (way_of d) ≤ 2 * limits.depth) }
+    // What each refusal means.
+    ensures refused { IfErr result (λ e. IsUnacceptedIn form bytes.now limits e) }
+    // Memory is needed only for where two segments or more end, for what a text packs, and for a message of one segment
+    // that is not canonical.
+    ensures memory { IsErrOf result refusals.Memory → MayNeedDeparture form bytes.now limits }
+{
+    read::<Departs, A>(alloc, form, bytes, limits)
+}
