@@ -76,6 +76,14 @@ WITH_LIMITS(capn_show,
             (uint32_t form, const uint8_t *bytes, size_t size, const capn_limits *limits, uint32_t style, char *out,
              size_t room, capn_report *report),
             (form, bytes, size, limits, style, out, room, report))
+WITH_LIMITS(capn_refusal_way,
+            (uint32_t form, const uint8_t *bytes, size_t size, const capn_limits *limits, uint32_t *way,
+             size_t most_numbers, capn_report *report),
+            (form, bytes, size, limits, way, most_numbers, report))
+WITH_LIMITS(capn_departure,
+            (uint32_t form, const uint8_t *bytes, size_t size, const capn_limits *limits, capn_departed *departed,
+             uint32_t *way, size_t most_numbers, capn_report *report),
+            (form, bytes, size, limits, departed, way, most_numbers, report))
 WITH_LIMITS(capn_canonical_segments,
             (const capn_segment *segments, size_t count, const capn_limits *limits, uint8_t *out, size_t room,
              capn_report *report),

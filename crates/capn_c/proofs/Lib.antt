@@ -15,3 +15,4 @@ pub mod Placed
 pub mod Short
 pub mod Shown
 pub mod Unpacked
+pub mod WayTold

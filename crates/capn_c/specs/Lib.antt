@@ -10,3 +10,5 @@ pub mod Held
 pub mod AsFramed
 pub mod MemoryAsked
 pub mod Shown
+pub mod WayNumbers
+pub mod Departed

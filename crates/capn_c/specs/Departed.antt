@@ -1,0 +1,64 @@
+-- Where a message leaves its canonical bytes, as C reads it. (Own.)
+use Rattle.std.specs.Prelude.{◌≡◌, ℕ, ◌*◌, List, length}
+use Rattle.std.specs.declared.alloc.Global.{Global}
+use Rattle.capn_walk.specs.Limits.{Bounds}
+use Rattle.capn_walk.specs.declared.survey_answer.Surveyed.{Surveyed}
+use Rattle.capn_canon.specs.SurveyedBytes.{Surveys}
+use Rattle.capn_canon.specs.declared.form.Form.{Form}
+use Rattle.capn_departure.specs.declared.answer.Departure.{Departure}
+use Rattle.capn_departure.specs.declared.answer.Departure.TheVariants.{Canonical, Segments, Capability, Word, After}
+use Rattle.capn_departure.specs.declared.whose.Whose.{Whose}
+use Rattle.capn_departure.specs.declared.whose.Whose.TheVariants.{Pointer, Tag, LastWord}
+use Rattle.capn_answers.specs.Departures.{IsDepartureIn, owner_way, way_of}
+use Rattle.capn_c.specs.StatusCodes.{answered}
+use Rattle.capn_c.specs.WayNumbers.{ArePlaced}
+use Rattle.capn_c.specs.declared.departed.CapnDeparted.{CapnDeparted}
+use Rattle.capn_c.specs.declared.report.CapnReport.{CapnReport}
+
+module _ {A : Type 0} where
+  -- the number of what an owner's word is
+  abbrev pub owner_number : Whose A → ℕ
+  owner_number (Pointer way) = 1
+  owner_number (Tag way) = 2
+  owner_number (LastWord way) = 3
+
+  -- the numbers of an answer; those that its kind does not speak of are 0
+  abbrev pub departed_of : Departure A → CapnDeparted
+  departed_of Canonical =
+      record { is = 0; canonical = 0; kind = 0; owner = 0; word = 0; count = 0; numbers = 0; zero = 0 }
+  departed_of (Segments n) =
+      record { is = 0; canonical = 0; kind = 1; owner = 0; word = 0; count = n; numbers = 0; zero = 0 }
+  departed_of (Capability k way) = record {
+    is = 0;
+    canonical = 0;
+    kind = 2;
+    owner = 0;
+    word = 0;
+    count = k;
+    numbers = length way.items;
+    zero = 0;
+  }
+  departed_of (Word w is canonical whose) = record {
+    is = is;
+    canonical = canonical;
+    kind = 3;
+    owner = owner_number whose;
+    word = w;
+    count = 0;
+    numbers = length (owner_way whose);
+    zero = 0;
+  }
+  departed_of (After w is) =
+      record { is = is; canonical = 0; kind = 4; owner = 0; word = w; count = 0; numbers = 0; zero = 0 }
+
+-- the bytes are read as a message, and where it leaves its canonical bytes is told; its way is placed in a room, and
+-- reported beside what its walk pays and visits
+pub record TellsDeparture (form : Form) (bs : List ℕ) (limits : Bounds) (departed : CapnDeparted)
+    (report : CapnReport) (old new : List ℕ) : Type 0 where
+  pub departure : Departure Global
+  pub is : IsDepartureIn form bs limits departure
+  pub told : departed ≡ departed_of departure
+  pub placed : ArePlaced (way_of departure) old new
+  pub survey : Surveyed
+  pub surveys : Surveys form bs limits survey
+  pub report_is : report ≡ answered (4 * length (way_of departure)) survey.paid survey.visits

@@ -1,0 +1,139 @@
+//! Where messages leave their canonical bytes.
+
+ghost use Rattle.std.specs.Prelude.{IsTrue, ◌≡◌, ◌≢◌, ◌⊎◌, ◌↔◌, ◌≤◌, ◌*◌, ℕ, List, length};
+ghost use Rattle.capn_value.specs.Tree.{Tree as Value};
+ghost use Rattle.capn_walk.specs.Accepted.{IsBounded};
+ghost use Rattle.capn_walk.specs.Limits.{Bounds};
+ghost use Rattle.capn_canon.specs.Denotes.{Denotes};
+ghost use Rattle.capn_canon.specs.Refusal.{IsUnacceptedIn};
+ghost use Rattle.capn_canon.specs.SurveyedBytes.{Surveys};
+ghost use Rattle.capn_canon.specs.declared.form.Form.{Form as Forms};
+ghost use Rattle.capn_canon.specs.declared.refusal.Refusal.{Refusal as Refusals};
+ghost use Rattle.capn_answers.specs.Departures as departures;
+ghost use Rattle.capn_answers.specs.Departures.{IsDepartureIn, MayNeedDeparture};
+ghost use Rattle.capn_c.specs.Calls.{IsForm, form_named, GiveLimits, IsTariff, bounds_of};
+ghost use Rattle.capn_c.specs.Departed.{TellsDeparture};
+ghost use Rattle.capn_c.specs.StatusCodes.{Reports, at_number, is_status};
+
+use crate::departed::{CapnDeparted, departed_of, way_of};
+use crate::limits::{CapnLimits, form_of, limits_of};
+use crate::report::{CapnReport, answer_of, report_at};
+use crate::status_codes::{BAD_FORM, DONE, refuse};
+use crate::survey_bytes::survey_bytes;
+use crate::way_numbers::place_way;
+use capn_answers::{Departure, departure_in};
+use capn_canon::{Form, Refusal};
+use capn_walk::{Limits, Surveyed};
+use std::alloc::Global;
+
+/// Tells where an accepted message leaves its canonical bytes.
+fn tell_departure(
+    found: &Departure<Global>,
+    surveyed: Surveyed,
+    departed: &mut CapnDeparted,
+    way: &mut [u32],
+    report: &mut CapnReport,
+)
+    requires few { length (departures.way_of found.now) ≤ 512 }
+    ensures told { (form : Forms) (bytes : List ℕ) (limits : Bounds) → IsDepartureIn form bytes limits found.now
+        → Surveys form bytes limits surveyed
+        → TellsDeparture form bytes limits departed.new report.new way.old way.new }
+    ensures long { report.new.length ≡ 4 * length (departures.way_of found.now) }
+    ensures paid { report.new.paid ≡ surveyed.paid }
+    ensures visits { report.new.visits ≡ surveyed.visits }
+{
+    let numbers = way_of(found);
+    *departed = departed_of(found, numbers.len() as u32);
+    *report = answer_of(4 * numbers.len() as u64, surveyed.paid, surveyed.visits);
+    place_way(numbers, way);
+}
+
+/// Where a message in a form leaves its canonical bytes.
+fn depart(
+    alloc: Global,
+    form: Form,
+    bytes: &[u8],
+    limits: Limits,
+    departed: &mut CapnDeparted,
+    way: &mut [u32],
+    report: &mut CapnReport,
+) -> u32
+    ensures possible { (result ≡ 0) ⊎ (8 ≤ result) }
+    ensures found { result ≡ 0
+        → TellsDeparture form bytes.now limits departed.new report.new way.old way.new }
+    ensures only { (v : Value) → Denotes form bytes.now limits v → (result ≡ 0) ⊎ (result ≡ 8) }
+    ensures short { result ≡ 0 → report.new.length ≤ 8 * limits.depth }
+    ensures listed { IsTrue (is_status result) }
+    ensures refused { 8 ≤ result → (e : Refusals) × Reports result report.new e
+        × IsUnacceptedIn form bytes.now limits e }
+    ensures memory { result ≡ 8 → MayNeedDeparture form bytes.now limits }
+    ensures bounded { IsBounded limits.budget report.new.paid report.new.visits }
+    ensures kept { result ≢ 0 → (departed.new ≡ departed.old) × (way.new ≡ way.old) }
+{
+    let _depth = limits.depth();
+    match survey_bytes(alloc, form, bytes, limits) {
+        Ok(surveyed) => match departure_in(alloc, form, bytes, limits) {
+            Ok(found) => {
+                tell_departure(&found, surveyed, departed, way, report);
+                DONE
+            }
+            Err(_) => refuse(Refusal::Memory, report),
+        },
+        Err(refusal) => refuse(refusal, report),
+    }
+}
+
+/// Whether an accepted message is canonical, and if not, the first reason, with the way to a slot, into a room.
+///
+/// 0: it is told; `length` is 4 bytes for each number of the way, and `paid` and `visits` are those of the walk. The
+/// numbers are at the start of the room if it has room for all of them; else it is as it was. 2, 3 and 4: the form, a
+/// limit or the tariff is out of its range. 8: memory was refused: for the table of two segments or more, for what is
+/// unpacked, and, of a message of one segment that is not canonical, for its canonical bytes and for the way. Others:
+/// the refusal, which is never that of a capability.
+///
+/// Two numbers for each level of the depth limit are enough.
+#[unsafe(no_mangle)]
+pub extern "C" fn capn_departure(
+    alloc: Global,
+    form: u32,
+    bytes: &[u8],
+    limits: &CapnLimits,
+    departed: &mut CapnDeparted,
+    way: &mut [u32],
+    report: &mut CapnReport,
+) -> u32
+    // The form and the limits are tested first.
+    ensures form { (result ≡ 2) ↔ (IsForm form → ⊥) }
+    ensures limits { (result ≡ 3) ↔ (IsForm form × (GiveLimits limits.now → ⊥)) }
+    ensures tariff { (result ≡ 4) ↔ (IsForm form × GiveLimits limits.now × (IsTariff limits.now.tariff → ⊥)) }
+    // The bytes are an accepted message, and this is where it leaves its canonical bytes; the way is in the room if
+    // that has room for it, and the report says its length, and what the walk pays and visits.
+    ensures found { result ≡ 0 → TellsDeparture (form_named form) bytes.now (bounds_of limits.now)
+        departed.new report.new way.old way.new }
+    // A message that is accepted is answered, unless memory runs out.
+    ensures only { IsForm form → GiveLimits limits.now → IsTariff limits.now.tariff → (v : Value)
+        → Denotes (form_named form) bytes.now (bounds_of limits.now) v → (result ≡ 0) ⊎ (result ≡ 8) }
+    // Two numbers for each level of depth are enough.
+    ensures short { result ≡ 0 → report.new.length ≤ 8 * limits.now.depth }
+    ensures blank { 1 ≤ result → result ≤ 4 → report.new ≡ at_number 0 }
+    ensures listed { IsTrue (is_status result) }
+    // What each refusal means; no other status stands for it.
+    ensures refused { 5 ≤ result → (e : Refusals) × Reports result report.new e
+        × IsUnacceptedIn (form_named form) bytes.now (bounds_of limits.now) e }
+    // Memory is needed only for where two segments or more end, for what a text packs, and for a message of one segment
+    // that is not canonical.
+    ensures memory { result ≡ 8 → MayNeedDeparture (form_named form) bytes.now (bounds_of limits.now) }
+    // No walk reports more paid than its budget.
+    ensures bounded { IsBounded limits.now.budget report.new.paid report.new.visits }
+    // Where nothing is told, the departure and the room are as they were.
+    ensures kept { result ≢ 0 → (departed.new ≡ departed.old) × (way.new ≡ way.old) }
+{
+    *report = report_at(0);
+    let Some(form) = form_of(form) else {
+        return BAD_FORM;
+    };
+    match limits_of(limits) {
+        Ok(limits) => depart(alloc, form, bytes, limits, departed, way, report),
+        Err(status) => status,
+    }
+}

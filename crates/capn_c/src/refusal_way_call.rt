@@ -1,0 +1,149 @@
+//! The ways to refusals.
+
+ghost use Rattle.std.specs.Prelude.{IsTrue, ◌≡◌, ◌⊎◌, ◌↔◌, ◌<◌, ◌≤◌, ◌*◌, ℕ, List};
+ghost use Rattle.capn_value.specs.Tree.{Tree as Value};
+ghost use Rattle.capn_walk.specs.Accepted.{IsBounded};
+ghost use Rattle.capn_walk.specs.declared.survey_answer.Surveyed.{Surveyed as Survey};
+ghost use Rattle.capn_walk.specs.declared.walk_answer.Stopped.{Stopped as Stop};
+ghost use Rattle.capn_canon.specs.Denotes.{Denotes};
+ghost use Rattle.capn_canon.specs.Refusal.{IsUnacceptedIn};
+ghost use Rattle.capn_canon.specs.SurveyedBytes.{Surveys};
+ghost use Rattle.capn_canon.specs.declared.refusal.Refusal.{Refusal as Refusals};
+ghost use Rattle.capn_answers.specs.Ways.{IsStoppedIn};
+ghost use Rattle.capn_c.specs.Calls.{IsForm, form_named, GiveLimits, IsTariff, bounds_of};
+ghost use Rattle.capn_c.specs.StatusCodes.{Reports, answered, at_number, is_status};
+ghost use Rattle.capn_c.specs.WayNumbers.{AreStopped, MayNeedItsWay, TellsWay};
+
+use crate::limits::{CapnLimits, form_of, limits_of};
+use crate::report::{CapnReport, answer_of, report_at};
+use crate::status_codes::{BAD_FORM, DONE, refuse};
+use crate::survey_bytes::survey_bytes;
+use crate::way_numbers::{stop_of, tell_way};
+use capn_answers::way_in;
+use capn_canon::{Form, Refusal};
+use capn_walk::{Limits, Stopped};
+use std::alloc::Global;
+
+/// The way to the slot at which the walk of a message stopped, as was found before.
+fn way_to_stop(
+    alloc: Global,
+    form: Form,
+    bytes: &[u8],
+    limits: Limits,
+    stopped: Stopped,
+    way: &mut [u32],
+    report: &mut CapnReport,
+) -> u32
+    requires stopped { AreStopped form bytes.now limits stopped }
+    requires bounded { IsBounded limits.budget stopped.paid stopped.visits }
+    ensures possible { (result ≡ 8) ⊎ (64 ≤ result) }
+    ensures listed { IsTrue (is_status result) }
+    ensures told { 64 ≤ result → (numbers : List ℕ) × IsStoppedIn form bytes.now limits stopped numbers
+        × TellsWay result report.new stopped numbers way.old way.new }
+    ensures short { 64 ≤ result → report.new.length ≤ 8 * limits.depth }
+    ensures refused { result < 64 → (e : Refusals) × Reports result report.new e
+        × IsUnacceptedIn form bytes.now limits e }
+    ensures bounded { IsBounded limits.budget report.new.paid report.new.visits }
+    ensures kept { result < 64 → way.new ≡ way.old }
+{
+    let _depth = limits.depth();
+    match way_in(alloc, form, bytes, limits) {
+        Ok(found) => match found {
+            Some(refused) => tell_way(stopped, refused.way.as_slice(), way, report),
+            None => unreachable!(),
+        },
+        Err(_) => refuse(Refusal::Memory, report),
+    }
+}
+
+/// The way to the slot at which the walk of a message in a form stopped.
+fn refusal_way(
+    alloc: Global,
+    form: Form,
+    bytes: &[u8],
+    limits: Limits,
+    way: &mut [u32],
+    report: &mut CapnReport,
+) -> u32
+    ensures possible { (result ≡ 0) ⊎ (8 ≤ result) }
+    ensures found { result ≡ 0 → (s : Survey) × Surveys form bytes.now limits s
+        × (report.new ≡ answered 0 s.paid s.visits) }
+    ensures only { (v : Value) → Denotes form bytes.now limits v → (result ≡ 0) ⊎ (result ≡ 8) }
+    ensures listed { IsTrue (is_status result) }
+    ensures refused { 8 ≤ result → result < 64 → (e : Refusals) × Reports result report.new e
+        × IsUnacceptedIn form bytes.now limits e }
+    ensures told { 64 ≤ result → (s : Stop) × (numbers : List ℕ) × IsStoppedIn form bytes.now limits s numbers
+        × TellsWay result report.new s numbers way.old way.new }
+    ensures short { 64 ≤ result → report.new.length ≤ 8 * limits.depth }
+    ensures memory { result ≡ 8 → MayNeedItsWay form bytes.now limits }
+    ensures bounded { IsBounded limits.budget report.new.paid report.new.visits }
+    ensures kept { result < 64 → way.new ≡ way.old }
+{
+    match survey_bytes(alloc, form, bytes, limits) {
+        Ok(surveyed) => {
+            *report = answer_of(0, surveyed.paid, surveyed.visits);
+            DONE
+        }
+        Err(refusal) => match stop_of(refusal) {
+            Some(stopped) => way_to_stop(alloc, form, bytes, limits, stopped, way, report),
+            None => refuse(refusal, report),
+        },
+    }
+}
+
+/// Whether a message is accepted within limits, and if its walk is refused, the way to the slot at which that stopped:
+/// the numbers that lead to it from the root, into a room.
+///
+/// 0: it is accepted; `paid` and `visits` are those of its walk. 2, 3 and 4: the form, a limit or the tariff is out of
+/// its range. 8: memory was refused: where `capn_check` takes it, or, if the walk is refused, for the table of two
+/// segments or more, for what is unpacked, or for the way. From 64 on: the walk is refused; `length` is 4 bytes for
+/// each number of the way. The numbers are at the start of the room if it has room for all of them; else it is as it
+/// was. Others: the refusal, which is never that of a capability.
+///
+/// Two numbers for each level of the depth limit are enough. A message that is refused is walked up to three times.
+#[unsafe(no_mangle)]
+pub extern "C" fn capn_refusal_way(
+    alloc: Global,
+    form: u32,
+    bytes: &[u8],
+    limits: &CapnLimits,
+    way: &mut [u32],
+    report: &mut CapnReport,
+) -> u32
+    // The form and the limits are tested first.
+    ensures form { (result ≡ 2) ↔ (IsForm form → ⊥) }
+    ensures limits { (result ≡ 3) ↔ (IsForm form × (GiveLimits limits.now → ⊥)) }
+    ensures tariff { (result ≡ 4) ↔ (IsForm form × GiveLimits limits.now × (IsTariff limits.now.tariff → ⊥)) }
+    // The bytes are an accepted message; the report says what its walk pays, how many visits it makes, and no more.
+    ensures found { result ≡ 0 → (s : Survey) × Surveys (form_named form) bytes.now (bounds_of limits.now) s
+        × (report.new ≡ answered 0 s.paid s.visits) }
+    // This is the answer for a message that is accepted, unless memory runs out.
+    ensures only { IsForm form → GiveLimits limits.now → IsTariff limits.now.tariff → (v : Value)
+        → Denotes (form_named form) bytes.now (bounds_of limits.now) v → (result ≡ 0) ⊎ (result ≡ 8) }
+    ensures blank { 1 ≤ result → result ≤ 4 → report.new ≡ at_number 0 }
+    ensures listed { IsTrue (is_status result) }
+    // What each refusal means that is none of the walk; no other status stands for it.
+    ensures refused { 5 ≤ result → result < 64 → (e : Refusals) × Reports result report.new e
+        × IsUnacceptedIn (form_named form) bytes.now (bounds_of limits.now) e }
+    // A refusal of the walk: where it stopped, and the way there, in the room if that has room for it.
+    ensures told { 64 ≤ result → (s : Stop) × (numbers : List ℕ)
+        × IsStoppedIn (form_named form) bytes.now (bounds_of limits.now) s numbers
+        × TellsWay result report.new s numbers way.old way.new }
+    // Two numbers for each level of depth are enough.
+    ensures short { 64 ≤ result → report.new.length ≤ 8 * limits.now.depth }
+    // Memory is needed only where a check may need it, and for a message that is refused by its walk.
+    ensures memory { result ≡ 8 → MayNeedItsWay (form_named form) bytes.now (bounds_of limits.now) }
+    // No walk reports more paid than its budget.
+    ensures bounded { IsBounded limits.now.budget report.new.paid report.new.visits }
+    // At any other status the room is as it was.
+    ensures kept { result < 64 → way.new ≡ way.old }
+{
+    *report = report_at(0);
+    let Some(form) = form_of(form) else {
+        return BAD_FORM;
+    };
+    match limits_of(limits) {
+        Ok(limits) => refusal_way(alloc, form, bytes, limits, way, report),
+        Err(status) => status,
+    }
+}
