@@ -4,7 +4,7 @@
 #define TEST "defaults"
 #include "wanted.h"
 
-enum { ROOM = 1 << 12, ENTRIES = 64 };
+enum { ROOM = 1 << 12, ENTRIES = 64, WAY = 128 };
 
 /* What a call is given, and where it writes. */
 struct given {
@@ -18,6 +18,11 @@ struct given {
         char text[ROOM];
         capn_entry entries[ENTRIES];
         capn_figures figures;
+        uint32_t way[WAY];
+        struct {
+            capn_departed departed;
+            uint32_t way[WAY];
+        } departs;
     } out;
 };
 
@@ -34,6 +39,8 @@ CALL(unpack_some, g->bytes, g->size, g->out.bytes, ROOM, g->report)
 CALL(survey, INPUT, &g->out.figures, g->report)
 CALL(index, INPUT, g->out.entries, ENTRIES, g->report)
 CALL(show, INPUT, CAPN_STYLE_TEXT, g->out.text, ROOM, g->report)
+CALL(refusal_way, INPUT, g->out.way, WAY, g->report)
+CALL(departure, INPUT, &g->out.departs.departed, g->out.departs.way, WAY, g->report)
 
 /* The words as two segments: so some pointers lead out of theirs. */
 #define HALVES {{g->bytes, g->size / 16}, {g->bytes + 8 * (g->size / 16), g->size / 8 - g->size / 16}}
@@ -54,8 +61,8 @@ static const struct {
 } calls[] = {
 #define ONE(name, of_forms) {#name, try_##name, of_forms}
     ONE(canonical, 1), ONE(is_canonical, 0), ONE(hash, 1), ONE(check, 1), ONE(pack, 0), ONE(unpack, 0), ONE(first, 0),
-    ONE(unpack_some, 0), ONE(survey, 1), ONE(index, 1), ONE(show, 1), ONE(canonical_segments, 1), ONE(hash_segments, 1),
-    ONE(check_segments, 1), ONE(survey_segments, 1)
+    ONE(unpack_some, 0), ONE(survey, 1), ONE(index, 1), ONE(show, 1), ONE(refusal_way, 1), ONE(departure, 1),
+    ONE(canonical_segments, 1), ONE(hash_segments, 1), ONE(check_segments, 1), ONE(survey_segments, 1)
 };
 enum { CALLS = sizeof calls / sizeof *calls };
 

@@ -111,10 +111,27 @@ static void indexed(uint32_t form, const uint8_t *bytes, size_t size, capn_statu
     free(all);
 }
 
+/* What the calls with ways report must agree with what check reported. */
+static void led(uint32_t form, const uint8_t *bytes, size_t size, capn_status check, const capn_report *checked) {
+    static uint32_t way[2 * 256];
+    capn_departed departed;
+    capn_report report;
+    need(capn_refusal_way(form, bytes, size, &limits, way, 2 * 256, &report) == check, "a way as check", bytes, size);
+    need(report.length <= 8 * (uint64_t)limits.depth, "its length", bytes, size);
+    report.length = 0;
+    need(!memcmp(&report, checked, sizeof report), "its report", bytes, size);
+    const capn_status status = capn_departure(form, bytes, size, &limits, &departed, way, 2 * 256, &report);
+    need(status == check, "a departure as check", bytes, size);
+    need(report.length <= 8 * (uint64_t)limits.depth, "its length", bytes, size);
+    report.length = 0;
+    need(!memcmp(&report, checked, sizeof report), "its report", bytes, size);
+}
+
 static void message(uint32_t form, const uint8_t *bytes, size_t size) {
     capn_report checked, report;
     uint8_t digest[32];
     capn_status check = capn_check(form, bytes, size, &limits, &checked);
+    led(form, bytes, size, check, &checked);
     capn_status status = capn_canonical(form, bytes, size, &limits, NULL, 0, &report);
     if (form != CAPN_PACKED) indexed(form, bytes, size, check, &checked);
     else {

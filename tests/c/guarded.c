@@ -7,7 +7,7 @@
 #include <signal.h>
 #include <unistd.h>
 
-enum { ROOM = ALL_PAGES, LONGEST = PAGE * 8, FILL = 0x5a, LINE = 1 << 20, STORED = 4096 };
+enum { ROOM = ALL_PAGES, LONGEST = PAGE * 8, FILL = 0x5a, LINE = 1 << 20, STORED = 4096, CALLS = 12 };
 
 static unsigned long calls, inputs;
 static const char *doing = "nothing";
@@ -262,6 +262,26 @@ static size_t call(uint32_t which, const uint8_t *bytes, size_t size, size_t eno
         kept(out, status ? 0 : sizeof(capn_figures), sizeof(capn_figures));
         return 0;
     }
+    case 9: {
+        doing = "capn_refusal_way";
+        const size_t most = room / 4;
+        out = filled(of_out, 4 * most);
+        status = capn_refusal_way(form, bytes, size, limits, (uint32_t *)(void *)out, most, r);
+        need(status < CAPN_NO_ROOT ? !r->length : r->length <= 8 * (uint64_t)limits->depth, "the length of a way");
+        kept(out, r->length <= 4 * most ? r->length : 0, 4 * most);
+        return r->length;
+    }
+    case 10: {
+        doing = "capn_departure";
+        const size_t most = room / 4;
+        capn_departed *told = (capn_departed *)(void *)filled(of_other, sizeof *told);
+        out = filled(of_out, 4 * most);
+        status = capn_departure(form, bytes, size, limits, told, (uint32_t *)(void *)out, most, r);
+        need(!r->length || !status, "the length of a way");
+        kept((uint8_t *)told, status ? 0 : sizeof *told, sizeof *told);
+        kept(out, r->length <= 4 * most ? r->length : 0, 4 * most);
+        return r->length;
+    }
     default: {
         doing = "capn_index";
         const size_t entries = room / 24;
@@ -316,13 +336,13 @@ int main(int count, char **arguments) {
     of_other = between_pages();
     while (calls < wanted) {
         const size_t size = next(bytes);
-        size_t enough[10];
+        size_t enough[CALLS];
         need(!mprotect(of_input, ROOM, PROT_READ | PROT_WRITE), "pages");
         uint8_t *in = part(of_input, size);
         if (size) memcpy(in, bytes, size);
         need(!mprotect(of_input, ROOM, PROT_READ), "pages");
-        for (int i = 0; i < 10; i++) enough[i] = size;
-        for (uint32_t i = 0; i < 40; i++) enough[i % 10] = call(i % 10, in, size, enough[i % 10]);
+        for (int i = 0; i < CALLS; i++) enough[i] = size;
+        for (uint32_t i = 0; i < 4 * CALLS; i++) enough[i % CALLS] = call(i % CALLS, in, size, enough[i % CALLS]);
         doing = "capn_status_text";
         need(strlen(capn_status_text((uint32_t)draw() >> any(32))) && strlen(capn_version()), "a text");
         need(!size || !memcmp(in, bytes, size), "the input is as it was");

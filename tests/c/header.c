@@ -8,6 +8,8 @@ int main(void) {
     capn_figures figures;
     capn_report report;
     char text[16];
+    uint32_t way[2];
+    capn_departed departed;
     if (CAPN_HAS_SHOW != 1) return 20;
     uint8_t out[16], digest[32];
     if (CAPN_VERSION < 100) return 1;
@@ -27,6 +29,10 @@ int main(void) {
     if (capn_hash_segments(&segment, 1, &limits, digest, &report) != CAPN_OK) return 14;
     if (capn_canonical_segments(&segment, 1, &limits, out, 16, &report) != CAPN_OK || report.length != 8) return 15;
     if (capn_survey_segments(&segment, 1, &limits, &figures, &report) != CAPN_OK || figures.words != 1) return 16;
+    if (CAPN_HAS_WAYS != 1) return 21;
+    if (capn_refusal_way(CAPN_BARE, null, 8, &limits, way, 2, &report) != CAPN_RANGE || report.length != 0) return 22;
+    if (capn_departure(CAPN_STREAM, null, 16, &limits, &departed, way, 2, &report) != CAPN_OK) return 23;
+    if (departed.kind != CAPN_DEPARTS_NOT || departed.owner != CAPN_OWNER_NONE) return 24;
     if (CAPN_HAS_SEGMENTS != 1 || capn_refusal_text(CAPN_FRAME_CUT, &report, text, 16) != 10) return 17;
     if (capn_status_name(CAPN_RANGE)[0] != 'R') return 18;
     if (!capn_version()[0] || !capn_status_text(CAPN_OK)[0]) return 10;

@@ -81,6 +81,14 @@ static capn_status surveyed(const input *in, capn_report *report) {
 static capn_status indexed(const input *in, capn_report *report) {
     return capn_index(in->form, in->bytes, in->size, &in->limits, (capn_entry *)out, ROOM / 24, report);
 }
+static capn_status led(const input *in, capn_report *report) {
+    return capn_refusal_way(in->form, in->bytes, in->size, &in->limits, (uint32_t *)(void *)out, ROOM / 4, report);
+}
+static capn_status departed(const input *in, capn_report *report) {
+    capn_departed *told = (capn_departed *)(void *)out;
+    uint32_t *way = (uint32_t *)(void *)(out + sizeof(capn_departed));
+    return capn_departure(in->form, in->bytes, in->size, &in->limits, told, way, ROOM / 8, report);
+}
 static capn_status counted(const input *in, capn_report *report) {
     return capn_index(in->form, in->bytes, in->size, &in->limits, NULL, 0, report);
 }
@@ -157,6 +165,11 @@ static void in_turn(void) {
     each("index, 65 segments", indexed, &more, 3);
     each("index, 65 segments, no room", counted, &more, 1);
     each("unpack_some", some, &pack, 1);
+    each("refusal_way, 65 segments", led, &more, 1);
+    each("refusal_way, packed", led, &pack, 3);
+    each("departure, bare", departed, &bare, 1);
+    each("departure, two segments", departed, &stream, 1);
+    each("departure, packed", departed, &pack, 3);
 }
 
 /* At any depth bare words and a stream of at most 64 segments need no memory, whether they are as deep or deeper; a
@@ -171,6 +184,7 @@ static void at_depth(uint32_t most, size_t depth, uint32_t wanted) {
     wants("no room, bare", measured, &bare, 0, room);
     wants("is_canonical", judged, &bare, 0, wanted == CAPN_OK ? CAPN_NOT_CANONICAL : wanted);
     wants("check, one segment", checked, &stream, 0, wanted);
+    if (wanted == CAPN_OK) wants("refusal_way, one segment", led, &stream, 0, wanted);
     wants("survey, bare", surveyed, &bare, 0, wanted);
     wants("survey, one segment", surveyed, &stream, 0, wanted);
     wants("index, bare", indexed, &bare, 0, wanted);
@@ -186,6 +200,7 @@ static void at_depth(uint32_t most, size_t depth, uint32_t wanted) {
     const input few = {CAPN_STREAM, many, frame(many, 64, deep, bare.size), limits};
     wants("check, 64 segments", checked, &few, 0, wanted);
     wants("canonical, 64 segments", canonical, &few, 0, wanted);
+    if (wanted == CAPN_OK) wants("refusal_way, 64 segments", led, &few, 0, wanted);
     wants("survey, 64 segments", surveyed, &few, 0, wanted);
     wants("index, 64 segments", indexed, &few, 0, wanted);
     wants("no room, 64 segments", measured, &few, 0, room);

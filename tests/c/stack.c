@@ -7,7 +7,7 @@
 #include <string.h>
 
 enum { ROOM = 1 << 20 };
-enum { MOST_SEGMENTS = 66, CALLS = 22, KINDS = 3 };
+enum { MOST_SEGMENTS = 66, CALLS = 26, KINDS = 3 };
 /* The calls that have a bound of their own, and the bytes of each level of depth. */
 static const char *const names[KINDS] = {"", "capn_show ", "capn_index "};
 static const size_t levels[KINDS] = {304, 432, 560};
@@ -25,9 +25,20 @@ static void put(size_t at, uint32_t low, uint32_t high) {
     }
 }
 
+/* The way to an object that is one level too deep, or to the end of what is paid. */
+static capn_status led(uint32_t form, const uint8_t *bytes, size_t count) {
+    const uint32_t most = depth > 1 ? depth - 1 : 1;
+    capn_limits limits = {1u << 28, depth > 1 ? 1u << 28 : 0, most, CAPN_PLAIN};
+    capn_report report;
+    uint32_t *way = (uint32_t *)(void *)out;
+    const capn_status status = capn_refusal_way(form, bytes, count, &limits, way, ROOM / 4, &report);
+    return status == CAPN_TOO_DEEP || status == CAPN_OVER_BUDGET ? CAPN_OK : status;
+}
+
 static void *run(void *status) {
     capn_limits limits = {1u << 28, 1u << 28, depth, CAPN_STRICT};
     capn_figures figures;
+    capn_departed departed;
     capn_report report;
     uint8_t digest[32];
     uint32_t *told = status;
@@ -53,6 +64,10 @@ static void *run(void *status) {
     case 18: *told = capn_canonical(CAPN_STREAM, framed, framed_size, &limits, out, ROOM, &report); break;
     case 19: *told = capn_hash(CAPN_STREAM, framed, framed_size, &limits, digest, &report); break;
     case 20: *told = capn_check(CAPN_STREAM, framed, framed_size, &limits, &report); break;
+    case 21: *told = led(CAPN_STREAM, framed, framed_size); break;
+    case 22: *told = led(CAPN_PACKED, text, packed_size); break;
+    case 23: *told = capn_departure(CAPN_BARE, in, size, &limits, &departed, (uint32_t *)out, ROOM / 4, &report); break;
+    case 24: *told = capn_departure(CAPN_PACKED, text, packed_size, &limits, &departed, NULL, 0, &report); break;
     default: *told = capn_unpack(text, packed_size, 1u << 20, out, ROOM, &report); break;
     }
     return NULL;

@@ -23,8 +23,8 @@ static void is(const char *what, capn_status status, capn_status wanted) {
 
 static const capn_limits usual = CAPN_USUAL_LIMITS;
 
-/* What canonical, with room and without, hash, check, survey and show answer of bytes, and index, which doesn't take
- * packed ones: check, survey, show and index say OK of a value with a capability. */
+/* What canonical, with room and without, hash, check, survey, show and the calls with ways answer of bytes, and index,
+ * which doesn't take packed ones: all but canonical and hash say OK of a value with a capability. */
 static capn_report each_call(const char *what, uint32_t form, const void *bytes, size_t size, const capn_limits *limits,
                              uint32_t wanted) {
     capn_report checked, report;
@@ -37,6 +37,12 @@ static capn_report each_call(const char *what, uint32_t form, const void *bytes,
     want("the report of a survey", memcmp(&report, &checked, sizeof report) != 0, 0);
     if (form != CAPN_PACKED) is(what, capn_index(form, bytes, size, limits, NULL, 0, &report), unread);
     is(what, capn_show(form, bytes, size, limits, CAPN_STYLE_LINES, NULL, 0, &report), unread);
+    uint32_t way[8];
+    capn_departed departed;
+    is(what, capn_departure(form, bytes, size, limits, &departed, way, 8, &report), told);
+    is(what, capn_refusal_way(form, bytes, size, limits, way, 8, &report), told);
+    report.length = 0;
+    want("the report of a way", memcmp(&report, &checked, sizeof report) != 0, 0);
     is(what, capn_hash(form, bytes, size, limits, out, &report), wanted);
     is(what, capn_canonical(form, bytes, size, limits, out, 64, &report), wanted);
     is(what, capn_canonical(form, bytes, size, limits, NULL, 0, &report), wanted == CAPN_OK ? CAPN_NO_ROOM : wanted);

@@ -9,7 +9,7 @@
 #define THREADS 4
 #define ROUNDS 100
 #endif
-enum { DEPTH = 200, WORDS = 2 * DEPTH, ROOM = 16 * WORDS, CALLS = 13 };
+enum { DEPTH = 200, WORDS = 2 * DEPTH, ROOM = 16 * WORDS, CALLS = 15 };
 static const capn_limits limits = {1u << 20, 1u << 20, 256, CAPN_STRICT};
 /* Structs of two pointers, each in the one before: as a stream of two segments, and packed. */
 static uint8_t stream[16 + 8 * WORDS], packed[10 * (WORDS + 2)];
@@ -22,6 +22,8 @@ typedef struct answers {
     uint8_t canonical[ROOM], digest[2][32], text[sizeof packed], words[sizeof stream], some[ROOM];
     capn_figures figures;
     capn_entry entries[WORDS + 1];
+    capn_departed departed;
+    uint32_t way[2][WORDS];
 } answers;
 static answers alone, each[THREADS];
 static pthread_barrier_t start;
@@ -44,6 +46,9 @@ static void make(answers *a) {
     a->status[10] = capn_unpack_some(packed, packed_size - 1, a->some, sizeof a->some, &r[10]);
     a->status[11] = capn_survey(CAPN_STREAM, stream, sizeof stream, &limits, &a->figures, &r[11]);
     a->status[12] = capn_index(CAPN_STREAM, stream, sizeof stream, &limits, a->entries, WORDS + 1, &r[12]);
+    a->status[13] = capn_refusal_way(CAPN_BARE, bare, sizeof stream - 24, &limits, a->way[0], WORDS, &r[13]);
+    uint32_t *way = a->way[1];
+    a->status[14] = capn_departure(CAPN_BARE, bare, sizeof stream - 16, &limits, &a->departed, way, WORDS, &r[14]);
 }
 
 static void *run(void *number) {
@@ -72,7 +77,8 @@ int main(void) {
     if (capn_pack(stream, sizeof stream, packed, sizeof packed, &report) != CAPN_OK) return 1;
     packed_size = report.length;
     make(&alone);
-    const capn_status wanted[CALLS] = {[1] = CAPN_NO_ROOM, [6] = CAPN_FRAME_CUT, [10] = CAPN_PACKED_CUT};
+    const capn_status wanted[CALLS] = {[1] = CAPN_NO_ROOM, [6] = CAPN_FRAME_CUT, [10] = CAPN_PACKED_CUT,
+                                        [13] = CAPN_RANGE};
     if (memcmp(alone.status, wanted, sizeof wanted) || alone.report[5].visits <= DEPTH) {
         printf("threads: another answer\n");
         return 1;
