@@ -7,7 +7,7 @@ import unittest
 import capn
 from test_program import PROGRAM
 from test_reading import archives, model
-from test_stored import STORED, digits
+from test_stored import digits, stored
 
 RUN = re.compile(r"(?:run|archive) [0-9]+ show (.*)")
 NAMES = {"--budget": "budget", "--depth": "depth", "--message-words": "message_words", "--tariff": "tariff"}
@@ -41,20 +41,19 @@ def ran(words, data):
 
 class Shown(unittest.TestCase):
     def test_stored(self):
-        lines = [(STORED / name).read_text().splitlines()[1::2] for name in ("stdin", "stdout")]
         tried = 0
-        for case, stored in zip(*lines, strict=True):
+        for case, answer in stored():
             found = RUN.fullmatch(case)
             words = found[1].split() if found else []
             # One has a message as its last word, and is a stored run of it. Offsets and ways are the program's alone.
-            if not found or not stored.startswith("status ") or stored.startswith("status 2"):
+            if not found or not answer.startswith("status ") or answer.startswith("status 2"):
                 continue
             if {"--offsets", "--ways"} & set(words):
                 continue
             with self.subTest(case=case):
                 out, error, status = ran(words[:-1], b"" if words[-1] == "-" else bytes.fromhex(words[-1]))
                 said = f", {error.strip()}" if error else ""
-                self.assertEqual(f"status {status}, {digits(out)}{said}", stored)
+                self.assertEqual(f"status {status}, {digits(out)}{said}", answer)
                 tried += 1
         self.assertGreaterEqual(tried, 100)
 

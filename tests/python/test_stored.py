@@ -13,10 +13,21 @@ CALLS = re.compile(
 )
 
 
+def stored():
+    """Each case with its answer. Its name stands before both on a line of its own, so an answer ends where the next
+    name comes: one of two lines, as a run with two lines on standard error has it, is one answer."""
+    asked, told = ((STORED / name).read_text().splitlines() for name in ("stdin", "stdout"))
+    begin = 0
+    for name, case, following in zip(asked[::2], asked[1::2], [*asked[2::2], None], strict=True):
+        assert told[begin] == name, f"the answers have no {name!r}"
+        end = told.index(following, begin + 1) if following is not None else len(told)
+        yield case, "\n".join(told[begin + 1:end])
+        begin = end
+
+
 def cases():
-    """The cases that a call answers, with their answers. Every other line is the name of a case."""
-    lines = [(STORED / name).read_text().splitlines()[1::2] for name in ("stdin", "stdout")]
-    return [both for both in zip(*lines, strict=True) if CALLS.fullmatch("|".join(both))]
+    """The cases that a call answers, with their answers. The others are of the program, or of crates, alone."""
+    return [both for both in stored() if CALLS.fullmatch("|".join(both))]
 
 
 def digits(data):
@@ -73,16 +84,16 @@ class Stored(unittest.TestCase):
     def test_each(self):
         answered = cases()
         self.assertGreater(len(answered), 500)
-        for case, stored in answered:
+        for case, wanted in answered:
             # The check of the library says nothing of capabilities, and what it unpacks is of no form.
-            stored = re.sub(r", (no capability|capability \d+)$", "", stored)
-            stored = re.sub(r"^(Cut|TooLong) at", r"packed: \g<0>", stored)
+            wanted = re.sub(r", (no capability|capability \d+)$", "", wanted)
+            wanted = re.sub(r"^(Cut|TooLong) at", r"packed: \g<0>", wanted)
             with self.subTest(case=case):
                 try:
                     got = answer(case.split())
                 except capn.Refusal as refusal:
                     got = str(refusal)
-                self.assertEqual(got, stored)
+                self.assertEqual(got, wanted)
 
 
 if __name__ == "__main__":
