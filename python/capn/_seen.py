@@ -30,7 +30,7 @@ class Seen(Messages):
     it does not, since another one has wound the file, read of it or changed it, the file is wound back, and read as
     others are."""
 
-    __slots__ = ("_rest", "_bytes_at", "_seek", "_look", "_out", "_some", "_text", "_ready", "_count",
+    __slots__ = ("_rest", "_bytes_at", "_seek", "_look", "_out", "_some", "_text", "_ready", "_found",
                  "_ends", "_takes", "_short", "_place")
 
     def __init__(
@@ -57,17 +57,17 @@ class Seen(Messages):
         # begins in the file, else -1.
         self._short, self._place = short, -1
         # How many messages were seen, and where they end in the unpacked bytes, and in what was seen.
-        self._count = 0
+        self._found = 0
         self._ends: list[int] = []
         self._takes: list[int] = []
 
     @property
     def number(self) -> int:
-        return self._number + self._count - len(self._ready)
+        return self._number + self._found - len(self._ready)
 
     @property
     def offset(self) -> int:
-        handed = self._count - len(self._ready)
+        handed = self._found - len(self._ready)
         return self._offset + (self._ends[handed - 1] if handed else 0)
 
     def __next__(self) -> bytes:
@@ -96,13 +96,13 @@ class Seen(Messages):
 
     def _close(self) -> None:
         """Counts the messages that were seen and handed out, and forgets the others."""
-        handed = self._count - len(self._ready)
+        handed = self._found - len(self._ready)
         if handed:
             self._number += handed
             self._offset += self._ends[handed - 1]
             self._taken += self._takes[handed - 1]
         self._ready.clear()
-        self._count = 0
+        self._found = 0
 
     def _is_found(self) -> bool:
         """Looks at the bytes that come next: whether there are whole messages."""
@@ -134,7 +134,7 @@ class Seen(Messages):
             ready.append((take - at, at, frame))
             begin, at = end, take
         ready.reverse()
-        self._count = len(ready)
+        self._found = len(ready)
         return bool(ready)
 
     def _long(self) -> bytes | None:
