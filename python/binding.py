@@ -39,6 +39,14 @@ DECLARED = """
         uint16_t words, slots;
         uint32_t kind;
     } capn_entry;
+    enum {
+        CAPN_DEPARTS_NOT, CAPN_DEPARTS_SEGMENTS, CAPN_DEPARTS_CAPABILITY, CAPN_DEPARTS_WORD, CAPN_DEPARTS_AFTER, ...
+    };
+    enum { CAPN_OWNER_NONE, CAPN_OWNER_POINTER, CAPN_OWNER_TAG, CAPN_OWNER_LAST_WORD, ... };
+    typedef struct {
+        uint64_t is, canonical;
+        uint32_t kind, owner, word, count, numbers, zero;
+    } capn_departed;
 
     typedef uint32_t capn_status;
     enum {
@@ -69,6 +77,10 @@ DECLARED = """
                            capn_entry *entries, size_t room, capn_report *report);
     capn_status capn_show(uint32_t form, const uint8_t *bytes, size_t size, const capn_limits *limits, uint32_t style,
                           char *out, size_t room, capn_report *report);
+    capn_status capn_refusal_way(uint32_t form, const uint8_t *bytes, size_t size, const capn_limits *limits,
+                                 uint32_t *way, size_t most_numbers, capn_report *report);
+    capn_status capn_departure(uint32_t form, const uint8_t *bytes, size_t size, const capn_limits *limits,
+                               capn_departed *departed, uint32_t *way, size_t most_numbers, capn_report *report);
     const char *capn_version(void);
 
     typedef struct {

@@ -10,11 +10,13 @@ change, as a `bytearray`, a mapped file or an array does, are copied first; `byt
 change can make the library read outside of them, which ends the process or ends up in the answer.
 
 `check`, `survey`, `canonical`, `is_canonical`, `digest`, `pack` and `unpack` take bytes; `read` makes a `Message` of
-them, whose root is a `Value`; `show` is its text; `messages`, `digests`, `amessages` and `Splitter` are for streams.
-`check_segments`, `survey_segments`, `canonical_segments` and `digest_segments` take a message in segments."""
+them, whose root is a `Value`; `show` is its text; `departure` says why it is not canonical; `messages`, `digests`,
+`amessages` and `Splitter` are for streams. `check_segments`, `survey_segments`, `canonical_segments` and
+`digest_segments` take a message in segments."""
 from ._calls import Checked, Surveyed, canonical, check, digest, is_canonical, pack, survey, unpack
 from ._capn import ffi as _ffi
 from ._capn import lib as _lib
+from ._departure import Departure, departure
 from ._limits import Limits
 from ._message import (
     Bits,
@@ -51,6 +53,7 @@ __all__ = [
     "Bytes",
     "Capability",
     "Checked",
+    "Departure",
     "Digests",
     "Limits",
     "List",
@@ -75,6 +78,7 @@ __all__ = [
     "canonical_segments",
     "check",
     "check_segments",
+    "departure",
     "digest",
     "digest_segments",
     "digests",

@@ -7,7 +7,7 @@ from typing import Any, Callable, Literal, NamedTuple
 from ._bytes import Buffer, taken
 from ._capn import ffi, lib
 from ._limits import Limits
-from ._refusal import failure
+from ._refusal import failure, failure_of_words, refused
 
 # How the bytes of a message are written, as `capn --form` has it.
 Form = Literal["stream", "packed", "bare"]
@@ -84,8 +84,11 @@ def _taken(data: Buffer, form: str, limits: Limits, in_place: bool) -> tuple[int
         return _form(form), taken(data, in_place), _laid_out(limits)
 
 
-def _filled(call: Callable[[Any, int, Any], int], room: int, of_words: bool = False) -> bytes:
-    """What a call writes: with this room or, if the answer does not fit, with the length that the call asks for."""
+def _filled(
+    call: Callable[[Any, int, Any], int], room: int, fault: Callable[[int, Any], Exception] = failure
+) -> bytes:
+    """What a call writes: with this room or, if the answer does not fit, with the length that the call asks for; or the
+    fault that it is."""
     report = _report()
     out = _room(_room_type, room)
     status = call(out, room, report)
@@ -94,7 +97,7 @@ def _filled(call: Callable[[Any, int, Any], int], room: int, of_words: bool = Fa
         out = _room(_room_type, room)
         status = call(out, room, report)
     if status != lib.CAPN_OK:
-        raise failure(status, report, of_words)
+        raise fault(status, report)
     answer = bytes(ffi.buffer(out, report.length))
     _reports.append(report)
     return answer
@@ -106,7 +109,7 @@ def _told(call: Callable[..., int], data: Buffer, form: str, limits: Limits, in_
     report = _report()
     status = call(number, given, len(given), bounds, *out, report)
     if status != lib.CAPN_OK:
-        raise failure(status, report)
+        raise refused(status, report, number, data, given, bounds)
     _reports.append(report)
 
 
@@ -124,7 +127,7 @@ def check(data: Buffer, form: Form = "stream", limits: Limits = _USUAL, *, in_pl
     report = _report()
     status = _capn_check(number, given, len(given), bounds, report)
     if status:
-        raise failure(status, report)
+        raise refused(status, report, number, data, given, bounds)
     checked = _new_tuple(Checked, (report.paid, report.visits))
     _reports.append(report)
     return checked
@@ -144,7 +147,9 @@ def canonical(data: Buffer, form: Form = "stream", limits: Limits = _USUAL, *, i
     size = len(given)
     # As long as the words that the message has: mostly enough. If it isn't, the call reports the length.
     room = 4 * size if form == "packed" else size
-    return _filled(lambda *out: lib.capn_canonical(number, given, size, bounds, *out), room)
+    return _filled(
+        lambda *out: lib.capn_canonical(number, given, size, bounds, *out), room,
+        lambda status, report: refused(status, report, number, data, given, bounds))
 
 
 def is_canonical(data: Buffer, limits: Limits = _USUAL, *, in_place: bool = False) -> bool:
@@ -152,7 +157,7 @@ def is_canonical(data: Buffer, limits: Limits = _USUAL, *, in_place: bool = Fals
     given, bounds, report = taken(data, in_place), _laid_out(limits), _report()
     status = lib.capn_is_canonical(given, len(given), bounds, report)
     if status not in (lib.CAPN_OK, lib.CAPN_NOT_CANONICAL):
-        raise failure(status, report)
+        raise refused(status, report, lib.CAPN_BARE, data, given, bounds)
     _reports.append(report)
     return bool(status == lib.CAPN_OK)
 
@@ -168,7 +173,7 @@ def pack(data: Buffer, *, in_place: bool = False) -> bytes:
     """The packed text of whole words."""
     given = taken(data, in_place)
     size = len(given)
-    return _filled(lambda *out: lib.capn_pack(given, size, *out), size // 8 * 10, of_words=True)
+    return _filled(lambda *out: lib.capn_pack(given, size, *out), size // 8 * 10, failure_of_words)
 
 
 def unpack(data: Buffer, max_words: int = _USUAL_WORDS, *, in_place: bool = False) -> bytes:
@@ -178,4 +183,5 @@ def unpack(data: Buffer, max_words: int = _USUAL_WORDS, *, in_place: bool = Fals
         raise ValueError(f"max_words is a number from 0 to {(1 << 32) - 1}, not {most}")
     given = taken(data, in_place)
     size = len(given)
-    return _filled(lambda *out: lib.capn_unpack(given, size, most, *out), min(4 * size, 8 * most))
+    room = min(4 * size, 8 * most)
+    return _filled(lambda *out: lib.capn_unpack(given, size, most, *out), room, failure_of_words)

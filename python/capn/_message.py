@@ -14,7 +14,7 @@ from ._calls import _USUAL, Form, _form, _laid_out, _report, _reports, _room
 from ._calls import unpack as _unpacked
 from ._capn import ffi, lib
 from ._limits import Limits
-from ._refusal import Refusal, failure
+from ._refusal import Refusal, let_go, refused
 
 _T = TypeVar("_T")
 _entries_type = ffi.typeof("capn_entry[]")
@@ -563,11 +563,15 @@ def read(
     if status == lib.CAPN_NO_ROOM:
         room = report.visits
         if 0 <= most < room:
+            let_go(given)
+            view.release()
             raise Refusal(f"too many slots: {room}", "TooManySlots", at=room)
         entries = _room(_entries_type, room)
         status = lib.capn_index(number, given, len(given), bounds, entries, room, report)
     if status != lib.CAPN_OK:
-        raise failure(status, report)
+        fault = refused(status, report, number, view, given, bounds)
+        view.release()
+        raise fault
     message = Message(view, entries, report.paid, report.visits, number, bounds, in_place)
     _reports.append(report)
     return message

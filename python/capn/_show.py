@@ -8,6 +8,7 @@ from ._calls import _USUAL, Form, _filled, _taken
 from ._capn import ffi, lib
 from ._limits import Limits
 from ._message import Message, Object, Row, read
+from ._refusal import refused
 
 _ESCAPED = {ord('"'): '\\"', ord("\\"): "\\\\", 0: "\\0"}
 _JSON_ESCAPED = {ord('"'): '\\"', ord("\\"): "\\\\", 9: "\\t", 10: "\\n", 13: "\\r"}
@@ -63,7 +64,9 @@ def _whole(message: Message | Buffer, form: Form, limits: Limits, style: int) ->
         return status
 
     # Mostly enough. If it isn't, the call reports the length, but makes the text for nothing.
-    return _filled(call, (16 if number == lib.CAPN_PACKED else 4) * size + 256).decode("utf-8")
+    room = (16 if number == lib.CAPN_PACKED else 4) * size + 256
+    text = _filled(call, room, lambda status, report: refused(status, report, number, message, given, bounds))
+    return text.decode("utf-8")
 
 
 def _lines(found: Any, is_text: bool) -> Iterator[str]:

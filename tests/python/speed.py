@@ -48,6 +48,22 @@ def rows(data):
     return [(row.words[0], bytes(row.slots[0])) for row in capn.read(data).root.slots[1]]
 
 
+def refused(data):
+    try:
+        capn.check(data)
+    except capn.Refusal as refusal:
+        return refusal
+
+
+def way(data):
+    return refused(data).way
+
+
+def cut(message):
+    """A message of one segment without its last word, and with a table that says so."""
+    return message[:4] + (len(message) // 8 - 2).to_bytes(4, "little") + message[8:-8]
+
+
 def streamed(**options):
     """What reads a stream of many messages, for each of them."""
     message, count = longer(), 2000
@@ -90,6 +106,9 @@ def main():
     message = longer()
     for call in capn.check, capn.digest, capn.canonical, capn.survey, capn.read, fields, rows:
         print(f"{call.__name__}, {len(message)} bytes: {shortest(call, message, 200, 100):.0f} ns")
+    print(f"departure, {len(message)} bytes: {shortest(capn.departure, message, 200, 100):.0f} ns")
+    for call, name in (refused, "refused"), (way, "refused, and its way"):
+        print(f"check, {name}: {shortest(call, cut(message), 200, 100):.0f} ns")
     for options in {}, {"packed": True}, {"read_ahead": True}, {"packed": True, "read_ahead": True}:
         print(f"messages, {' '.join(options) or 'no option'}: {streamed(**options):.0f} ns a message")
     pipes()

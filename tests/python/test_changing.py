@@ -34,11 +34,11 @@ other = threading.Thread(target=flip)
 other.start()
 sys.setswitchinterval(1e-6)
 while time.monotonic() < stop:
-    for call in capn.canonical, capn.digest, capn.check, capn.survey, capn.read:
+    for call in capn.canonical, capn.digest, capn.check, capn.survey, capn.read, capn.departure:
         try:
             call(data, in_place=in_place)
-        except capn.Refusal:
-            pass
+        except capn.Refusal as refusal:
+            refusal.way
 other.join()
 print("alive")
 """
@@ -55,7 +55,7 @@ class Changing(unittest.TestCase):
         # A list of pointers, all null: 16 MiB, so that another thread gets to run while the call does.
         count = (1 << 21) - 1
         data = bytearray(stream((1 | (6 | count << 3) << 32).to_bytes(8, "little") + bytes(8 * count)))
-        for call in capn.check, capn.survey, capn.canonical, capn.digest, capn.read:
+        for call in capn.check, capn.survey, capn.canonical, capn.digest, capn.read, capn.departure:
             done = threading.Event()
             thread = threading.Thread(target=lambda call=call, done=done: (call(data), done.set()))
             with memoryview(data):
@@ -89,22 +89,36 @@ class Changing(unittest.TestCase):
                         self.assertEqual(capn.pack(data, in_place=in_place), capn.pack(one))
                         self.assertEqual(capn.unpack(capn.pack(data), in_place=in_place), one)
                         self.assertEqual(capn.read(data, in_place=in_place), capn.read(one))
+                        self.assertEqual(capn.departure(data, in_place=in_place), capn.departure(one))
             self.assertEqual(capn.is_canonical(bytearray(words), in_place=True), capn.is_canonical(words))
             packed = capn.pack(one)
             for in_place in False, True:
                 self.assertEqual(capn.survey(bytearray(packed), "packed", in_place=in_place), capn.survey(one))
                 self.assertEqual(capn.read(bytearray(packed), "packed", in_place=in_place), capn.read(one))
+                departure = capn.departure(bytearray(packed), "packed", in_place=in_place)
+                self.assertEqual(departure, capn.departure(one))
+
+    def test_a_refusal_is_of_the_bytes_that_were_refused(self):
+        wrong = stream(bare(("pointers", [None] * 2000 + [("list", 5, 1, bytes(8))])))[:-8]
+        wrong = wrong[:4] + (len(wrong) // 8 - 1).to_bytes(4, "little") + wrong[8:]
+        for in_place in False, True:
+            data = bytearray(wrong)
+            with self.assertRaisesRegex(capn.Refusal, "Range at 0:2001") as caught:
+                capn.check(data, in_place=in_place)
+            data[:] = MESSAGE
+            self.assertEqual((caught.exception.way, caught.exception.byte), ((2000,), 8 * 2002))
 
     def test_none(self):
         for data in b"", bytearray(), memoryview(b""), memoryview(bytearray()), array.array("Q"):
-            for call in capn.check, capn.survey, capn.canonical, capn.digest, capn.read:
+            for call in capn.check, capn.survey, capn.canonical, capn.digest, capn.read, capn.departure:
                 for in_place in False, True:
                     with self.assertRaisesRegex(capn.Refusal, "frame: Empty"):
                         call(data, in_place=in_place)
             self.assertEqual((capn.pack(data), capn.unpack(data)), (b"", b""))
 
     def test_what_is_no_buffer(self):
-        for call in capn.check, capn.survey, capn.canonical, capn.digest, capn.read, capn.pack, capn.unpack:
+        calls = [capn.check, capn.survey, capn.canonical, capn.digest, capn.read, capn.departure]
+        for call in [*calls, capn.pack, capn.unpack]:
             for data in "text", 3, None, [1, 2], object():
                 for in_place in False, True:
                     with self.assertRaisesRegex(TypeError, "a message is an object with a buffer"):

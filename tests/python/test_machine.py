@@ -22,6 +22,23 @@ with open("/proc/self/statm") as file:
     used = int(file.read().split()[0]) * resource.getpagesize()
 resource.setrlimit(resource.RLIMIT_AS, (used + (8 << 20), resource.RLIM_INFINITY))
 """
+# A message of as many words, of which the root is refused.
+REFUSED = """
+import struct
+try:
+    capn.check(capn.pack(struct.pack("<IIQ", 0, 1 + (1 << 22), 7)) + PACKED, "packed")
+except capn.Refusal as refused:
+    refusal = refused
+"""
+# Without memory, and with it again.
+WAY = """
+try:
+    refusal.way
+except MemoryError as error:
+    print(f"MemoryError: {error}")
+resource.setrlimit(resource.RLIMIT_AS, (resource.RLIM_INFINITY, resource.RLIM_INFINITY))
+print(refusal.way, refusal.byte)
+"""
 
 
 def child(*code):
@@ -38,12 +55,19 @@ class Threads(unittest.TestCase):
         # No thread is made to leave the lock, so that another one runs only where a call gives it up.
         sys.setswitchinterval(1000)
         message = stream(SEGMENT)
-        packed = capn.pack(message)
+        packed, look = capn.pack(message), self.looks(message[:-8] + b"\7" + bytes(7))
         calls = [lambda: capn.pack(message), lambda: capn.unpack(packed), lambda: capn.canonical(message),
-                 lambda: capn.digest(message), lambda: capn.check(message), lambda: capn.is_canonical(SEGMENT)]
+                 lambda: capn.digest(message), lambda: capn.check(message), lambda: capn.is_canonical(SEGMENT),
+                 lambda: capn.departure(message), look]
         for number, call in enumerate(calls):
             with self.subTest(number=number):
                 self.assertTrue(any(self.runs_beside(call) for _ in range(50)))
+
+    def looks(self, message):
+        """What looks for the way to the slot at which a message is refused."""
+        with self.assertRaises(capn.Refusal) as caught:
+            capn.check(message)
+        return caught.exception._look
 
     def runs_beside(self, call):
         """Whether this thread runs before the call of another one ends."""
@@ -94,6 +118,13 @@ class Memory(unittest.TestCase):
     def test_there_is_none_for_the_answer(self):
         for call in "capn.unpack(PACKED)", "capn.canonical(PACKED, 'packed')":
             self.assertRegex(child(START, LITTLE, call), "^MemoryError")
+
+    def test_there_is_none_for_what_is_not_canonical(self):
+        self.assertRegex(child(START, LITTLE, "capn.departure(PACKED, 'packed')"), "^MemoryError")
+
+    def test_there_is_none_for_a_way(self):
+        # It is looked for again when there is memory.
+        self.assertEqual(child(START, REFUSED, LITTLE, WAY), "MemoryError: capn: out of memory\n() 8\n")
 
     def test_there_is_enough(self):
         self.assertEqual(child(START, "print(len(capn.unpack(PACKED)))"), f"{1 << 25}\n")

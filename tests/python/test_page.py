@@ -33,7 +33,7 @@ def programs():
 
 class Page(unittest.TestCase):
     def setUp(self):
-        self.check, self.verify, self.read, self.stream = programs()
+        self.check, self.verify, self.read, self.told, self.stream = programs()
 
     def run_on(self, message, program, more=""):
         with tempfile.TemporaryDirectory() as folder:
@@ -66,6 +66,18 @@ class Page(unittest.TestCase):
         status, wrote = self.run_on(TEXT.replace(b"\x22", b"\x1a"), self.read)
         self.assertEqual(status, 1)
         self.assertRegex(wrote, "\nrefused: the last byte of a text is zero")
+
+    def test_told(self):
+        # A zero word at the end of a struct, and more bytes in a list than there are.
+        for message, expected in (
+            (TEXT, "canonical"),
+            (MESSAGE, "not canonical: at byte 8: 0000000002000000 (struct of 2 words and 0 slots, offset 0), canonical"
+             " 0000000001000000 (struct of 1 words and 0 slots, offset 0), the pointer at root"),
+            (TEXT.replace(b"\x22", b"\x52"), "refused at byte 24, way (0,): Range at 0:2, paid 3, visits 2"),
+            (TEXT[:-1], "refused at byte None, way None: frame: Cut"),
+        ):
+            status, wrote = self.run_on(TEXT, self.told, f"print(told({message!r}))")
+            self.assertEqual((status, wrote.splitlines()[-1]), (0, expected))
 
     def test_stream(self):
         figures = capn.Surveyed(words=3, segments=1, paid=3, visits=1, depth=1, capability=None, canonical=False)

@@ -68,6 +68,16 @@ with socket.socket() as one, open("x", "rb") as file, capn.read(array.array("Q")
     assert_type(message.at(0, 1), capn.Value | capn.Row | None)
     assert_type(capn.Splitter("packed").feed(bytearray()), list[bytes])
     assert_type(capn.show(message, json=True, at=(0,)), str)
+    for departure in capn.departure(message), capn.departure(b"", "bare"):
+        assert_type(departure, capn.Departure | None)
+        if departure is not None and departure.way is not None:
+            assert_type(message.at(*departure.way), capn.Value | capn.Row | None)
+            assert_type((departure.byte, departure.word, departure.index), tuple[int | None, int | None, int | None])
+try:
+    capn.check(b"")
+except capn.Refusal as refusal:
+    assert_type(refusal.way, tuple[int, ...] | None)
+    assert_type(refusal.byte, int | None)
 """
 WRONG = """
 import capn
@@ -76,6 +86,10 @@ root.words
 capn.check(b"", "framed")
 capn.check("text")
 capn.canonical(b"", in_place=3)
+capn.departure(b"").kind
+capn.Departure("word").byte = 3
+capn.Refusal("Range", "Range").way = ()
+capn.Departure("words")
 """
 
 
@@ -141,7 +155,7 @@ class ForMypy(unittest.TestCase):
     def test_what_is_wrong(self):
         status, wrote = self.checked(WRONG)
         lines = [line for line in wrote.splitlines() if ": error:" in line]
-        self.assertEqual((status, sorted({line.split(":")[1] for line in lines})), (1, ["4", "5", "6", "7"]))
+        self.assertEqual((status, sorted({int(line.split(":")[1]) for line in lines})), (1, [*range(4, 12)]))
 
 
 if __name__ == "__main__":
