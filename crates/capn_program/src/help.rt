@@ -78,7 +78,9 @@ pub const EXPLAIN: Page = Page {
     more: "The lines `KEY: TEXT` say which message it is, where it begins and why it is
 refused. If its walk is refused, they also say the way from the root to the
 pointer, the byte at which that lies, and what it says. Bytes are counted from
-the beginning of the input; with `--form packed`, in what it unpacks to.
+the beginning of the input; with `--form packed`, in what it unpacks to. The 16
+digits of a word are its bytes in the order in which they lie. Rows count from
+0, as in a way, and `words A to B` end before B.
 Of a message that is accepted they say what reading it costs, and whether it is
 canonical; if not, its segments, its first capability, or the first word that
 differs from its canonical bytes, and whose that word is.
