@@ -54,8 +54,8 @@ run: program
 
 # The whole gate, line by line as .ci/README.md has it. What earlier checks built is removed first: after its run
 # `rt ci` would put that back in place of its own, and the library for C is built over its own. At the end the gate
-# packs twice what it built, compares, and writes build/PROVED: what passed, of which commit. With ANEW=--anew it proves
-# again what earlier runs have passed.
+# packs twice what it built, compares, and writes build/PROVED: what passed, of which commit. It prints how long `rt ci`
+# took, and at last the sums of what it built. With ANEW=--anew it proves again what earlier runs have passed.
 test:
 	.ci/lines
 	.ci/borders
@@ -71,7 +71,7 @@ test:
 	release/manual
 	rm -rf crates/*/out/rlib
 	mkdir -p $(BUILD) && rm -f $(BUILD)/PROVED
-	rt ci $(ANEW) 2>&1 | tee $(BUILD)/gate.log
+	@TIMEFORMAT='rt ci took %R seconds, and %U of processors'; time rt ci $(ANEW) 2>&1 | tee $(BUILD)/gate.log
 	tests/program/statuses
 	tests/program/full-disk
 	tests/program/failures
