@@ -56,6 +56,7 @@ run: program
 # `rt ci` would put that back in place of its own, and the library for C is built over its own. At the end the gate
 # packs twice what it built, compares, and writes build/PROVED: what passed, of which commit. It prints how long `rt ci`
 # took, and at last the sums of what it built. With ANEW=--anew it proves again what earlier runs have passed.
+test: export TIMEFORMAT := rt ci took %R seconds by the clock, and %U of processors
 test:
 	.ci/lines
 	.ci/borders
@@ -71,7 +72,7 @@ test:
 	release/manual
 	rm -rf crates/*/out/rlib
 	mkdir -p $(BUILD) && rm -f $(BUILD)/PROVED
-	@TIMEFORMAT='rt ci took %R seconds, and %U of processors'; time rt ci $(ANEW) 2>&1 | tee $(BUILD)/gate.log
+	time rt ci $(ANEW) 2>&1 | tee $(BUILD)/gate.log
 	tests/program/statuses
 	tests/program/full-disk
 	tests/program/failures
