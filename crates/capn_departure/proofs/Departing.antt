@@ -1,6 +1,7 @@
 -- What an answer says, and what it doesn't.
-use Rattle.std.proofs.Common.{◌≡◌, ◌≢◌, ◌↔◌, ℕ, List, length, Bool, false, ap, sym, subst}
+use Rattle.std.proofs.Common.{◌≡◌, ◌≢◌, ◌↔◌, ℕ, List, length, Bool, false, Result, IfOk, ap, sym, subst}
 use Rattle.std.proofs.Common.{◌∙◌, arith}
+use Rattle.std.proofs.lemmas.Result.{IfOk-weaker}
 use Rattle.std.specs.Bool.{IsTrue}
 use Rattle.capn_words.specs.Message.{segment_at, bytes, IsBare}
 use Rattle.capn_value.specs.Tree.{Tree}
@@ -8,10 +9,10 @@ use Rattle.capn_walk.specs.Limits.{Bounds}
 use Rattle.capn_walk.specs.Accepted.{IsValueOf, root}
 use Rattle.capn_walk.proofs.shared.Unique.{unique}
 use Rattle.capn_layout.specs.Layout.{canon}
-use Rattle.capn_canon.specs.Denotes.{AnswersMessage}
 use Rattle.capn_canon.specs.Measure.{IsCanonicalOf}
 use Rattle.capn_canon.proofs.shared.OneBare.{only-segment}
 use Rattle.capn_departure.specs.declared.answer.Departure.{Departure}
+use Rattle.capn_departure.specs.declared.finding.Finding.{Finding}
 use Rattle.capn_departure.specs.declared.answer.Departure.TheVariants.{Canonical, Segments, Capability}
 use Rattle.capn_departure.specs.declared.answer.Departure.TheVariants.{Word, After}
 use Rattle.capn_departure.specs.Departures.{IsDeparture, AnswersCanonical, AnswersSegments, Compares, HasCanonicalBytes}
@@ -49,21 +50,24 @@ module _ (m : List (List ℕ)) (limits : Bounds) where
     says-one (Word w is c whose) f o = ((λ t. absurd t), (λ h. absurd (h o)))
     says-one (After w is) f o = ((λ t. absurd t), (λ h. absurd (h o)))
 
-  -- what is answered as the canonical bytes of a message of one segment are compared with its words
-  pub compared : (cs : List ℕ) (price : ℕ) (other : List ℕ) → length m ≡ 1 → AnswersMessage m limits cs price
-      → IsBare cs other → Compares m limits (segment_at m 0) other
-  compared cs price other one a b = record {
-    value = a.value;
-    is = a.is;
-    free = a.free;
-    one = only-segment m one;
-    bare = subst (λ (bs : List ℕ). IsBare bs other) a.canonical b;
-  }
+    -- the same of what is found of a message that isn't canonical
+    pub finds-canonical : {B : Type 0} (r : Result (Finding A) B) → IfOk r (λ f. IsDeparture m limits f.departure)
+        → ((v : Tree) → IsValueOf m limits v → IsCanonicalOf m v → ⊥)
+        → IfOk r (λ f. (v : Tree) → IsValueOf m limits v → AnswersCanonical f.departure ↔ IsCanonicalOf m v)
+    finds-canonical r d n = IfOk-weaker r _ _ (λ f is v i. says-canonical f.departure v is i (λ h. absurd (n v i h))) d
 
-  -- words that aren't those of the canonical bytes
-  pub different : (cs : List ℕ) (price : ℕ) (other : List ℕ) (h : HasCanonicalBytes m limits)
-      → AnswersMessage m limits cs price → IsBare cs other → segment_at m 0 ≢ other
-  different cs price other h a b e =
-      let d = h.0 in
-      let same = ap canon (one-value d.value a.value d.is a.is) in
-      d.not (segment_at m 0, only-segment m d.one, h.1, same ∙ sym a.canonical ∙ b.same ∙ ap bytes (sym e))
+  module _ (h : HasCanonicalBytes m limits) (cs other : List ℕ) (laid : cs ≡ canon h.0.value) (bare : IsBare cs other)
+    where
+      -- the canonical bytes of a message of one segment are compared with its words
+      pub compared : Compares m limits (segment_at m 0) other
+      compared = record {
+        value = h.0.value;
+        is = h.0.is;
+        free = h.1;
+        one = only-segment m h.0.one;
+        bare = subst (λ (bs : List ℕ). IsBare bs other) laid bare;
+      }
+
+      -- words that aren't those of the canonical bytes
+      pub different : segment_at m 0 ≢ other
+      different e = h.0.not (segment_at m 0, only-segment m h.0.one, h.1, sym laid ∙ bare.same ∙ ap bytes (sym e))

@@ -13,6 +13,6 @@ mod RowsTold
 mod NumbersTold
 mod Belonging
 mod CanonicalWords
+mod Ready
 mod Leaving
 mod Departing
-mod Lengths

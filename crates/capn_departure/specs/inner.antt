@@ -1,5 +1,6 @@
 -- What no public clause cites.
 pub mod Difference
+pub mod Made
 pub mod Owned
 pub mod Search
 pub mod Seeks

@@ -1,17 +1,17 @@
 //! The lines of an accepted message.
 
-ghost use Rattle.std.specs.Prelude.{◌↔◌, IfOk, IsErr};
-ghost use Rattle.std.specs.Bool.{IsTrue};
+ghost use Rattle.std.specs.Prelude.{IfOk, IfSome, IsErr};
 ghost use Rattle.capn_value.specs.Tree.{Tree as Value};
 ghost use Rattle.capn_walk.specs.Accepted.{IsValueOf};
-ghost use Rattle.capn_canon.specs.Measure.{IsCanonicalOf};
+ghost use Rattle.capn_canon.specs.Measure.{IsMeasure};
 ghost use Rattle.capn_departure.specs.CanonicalLines.{AreLinesOf, AreLengths};
-ghost use Rattle.capn_departure.specs.Departures.{AnswersCanonical, Departs};
+ghost use Rattle.capn_departure.specs.Departures.{Departs};
+ghost use Rattle.capn_departure.specs.inner.Made.{HasCanonicalLength};
 
-use crate::answer::Departure;
 use crate::canonical_lines::CanonicalLines;
-use crate::message_departure::departure;
-use capn_canon::canonical_length;
+use crate::message_departure::finding_of;
+use capn_canon::{MeasuredBare, measure};
+use capn_layout::surveyed_length;
 use capn_walk::Limits;
 use capn_words::{Memory, Space, total_words};
 use std::alloc::Allocator;
@@ -20,7 +20,7 @@ use std::alloc::Allocator;
 ///
 /// `offset` is the byte of the stream at which the message begins, and `table` how many words its table takes: none of
 /// a bare message. `Memory` comes only for a message of one segment that is not canonical, where a growth was refused.
-/// Memory: that of [`departure`]. (Own.)
+/// Memory: that of [`departure`](crate::departure). (Own.)
 pub fn lines_of_accepted<S: Space, A: Allocator + Copy>(
     alloc: A,
     space: &S,
@@ -34,45 +34,80 @@ pub fn lines_of_accepted<S: Space, A: Allocator + Copy>(
     // Memory is needed only for a message of one segment that is not canonical.
     ensures memory { IsErr result → Departs (S.message space.now) limits }
 {
-    match departure(alloc, space, limits) {
-        Ok(departure) => {
-            let lengths = lengths_of(space, limits, is_canonical(&departure));
-            Ok(CanonicalLines {
-                departure,
-                offset,
-                table,
-                lengths,
-            })
-        }
-        Err(_) => Err(Memory),
+    match measure(alloc, space, limits) {
+        Ok(measured) => lines_of_measured(alloc, space, limits, measured, offset, table),
+        // A message that is accepted is measured.
+        Err(_) => unreachable!(),
     }
 }
 
-/// Whether this is answered of a canonical message.
-fn is_canonical<A: Allocator>(departure: &Departure<A>) -> bool
-    ensures { IsTrue result ↔ AnswersCanonical departure.now }
+/// The same lines of a message that was measured.
+///
+/// `measured` is what [`measure`] answers of this message within these limits, so it isn't surveyed again. Canonical
+/// bytes are laid out once, and only of a message of one segment that is not canonical; where it has more segments they
+/// are counted. The rest is as for [`lines_of_accepted`]. (Own.)
+pub fn lines_of_measured<S: Space, A: Allocator + Copy>(
+    alloc: A,
+    space: &S,
+    limits: Limits,
+    measured: MeasuredBare,
+    offset: u64,
+    table: u32,
+) -> Result<CanonicalLines<A>, Memory>
+    requires measured { IsMeasure (S.message space.now) limits measured }
+    // All that the lines tell.
+    ensures found { IfOk result (λ lines. AreLinesOf (S.message space.now) limits offset table lines) }
+    // Memory is needed only for a message of one segment that is not canonical.
+    ensures memory { IsErr result → Departs (S.message space.now) limits }
 {
-    matches!(departure, Departure::Canonical)
+    let finding = finding_of(alloc, space, limits, measured)?;
+    let lengths = lengths_of(space, limits, measured, finding.length);
+    Ok(CanonicalLines {
+        departure: finding.departure,
+        offset,
+        table,
+        lengths,
+    })
 }
 
-/// The bytes of the contents of a message and its canonical bytes, where they are told.
-fn lengths_of<S: Space>(space: &S, limits: Limits, is_canonical: bool) -> Option<(u64, u64)>
-    requires told { (v : Value) → IsValueOf (S.message space.now) limits v
-        → IsTrue is_canonical ↔ IsCanonicalOf (S.message space.now) v }
+/// The bytes of the contents of a message and its canonical bytes, where they are told. `made` are the canonical bytes
+/// that were made already.
+fn lengths_of<S: Space>(
+    space: &S,
+    limits: Limits,
+    measured: MeasuredBare,
+    made: Option<u64>,
+) -> Option<(u64, u64)>
+    requires measured { IsMeasure (S.message space.now) limits measured }
+    requires made { IfSome made (HasCanonicalLength (S.message space.now) limits) }
     ensures { (v : Value) → IsValueOf (S.message space.now) limits v → AreLengths (S.message space.now) v result }
 {
-    if is_canonical {
+    if measured.survey.is_canonical {
         return None;
     }
-    match canonical_length(space, limits) {
-        Ok(told) => {
-            let contents = 8 * total_words(space) as u64;
-            let canonical = told.length as u64;
-            if contents == canonical {
-                return None;
-            }
-            Some((contents, canonical))
-        }
-        Err(_) => None,
+    match measured.survey.capability {
+        Some(_) => return None,
+        None => {}
+    }
+    let contents = 8 * total_words(space) as u64;
+    let canonical = canonical_length(space, limits, made);
+    if contents == canonical {
+        return None;
+    }
+    Some((contents, canonical))
+}
+
+/// How many canonical bytes a message has: as many as were made, or else they are counted.
+fn canonical_length<S: Space>(space: &S, limits: Limits, made: Option<u64>) -> u64
+    requires accepted { (v : Value) × IsValueOf (S.message space.now) limits v }
+    requires made { IfSome made (HasCanonicalLength (S.message space.now) limits) }
+    ensures { HasCanonicalLength (S.message space.now) limits result }
+{
+    // The count needs what they promise of a message and of limits.
+    let _segments = space.segments();
+    let _budget = limits.budget();
+    match made {
+        Some(length) => length,
+        None => 8 * surveyed_length(space, limits.depth()) as u64,
     }
 }

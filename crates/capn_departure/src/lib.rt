@@ -4,7 +4,8 @@
 //!   more segments than one, its first capability, or the first word that differs from the same word of its canonical
 //!   bytes.
 //! - [`Whose`] says whose that word is, by the way to a slot.
-//! - [`lines_of_accepted`] answers the lines that explain the same of an accepted message, as [`CanonicalLines`].
+//! - [`lines_of_accepted`] answers the lines that explain the same of an accepted message, as [`CanonicalLines`];
+//!   [`lines_of_measured`] does so where the message was measured already.
 //!
 //! ```text
 //! match departure(alloc, &message, limits)? {
@@ -20,13 +21,15 @@ mod answer;
 mod canonical_lines;
 mod capability;
 mod difference;
+mod finding;
 mod message_departure;
+mod only_segment;
 mod owner;
 mod seek;
 mod sought;
 mod whose;
 
-pub use accepted::lines_of_accepted;
+pub use accepted::{lines_of_accepted, lines_of_measured};
 pub use answer::Departure;
 pub use canonical_lines::CanonicalLines;
 pub use message_departure::departure;

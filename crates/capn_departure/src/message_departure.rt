@@ -1,20 +1,25 @@
 //! Where a message leaves its canonical bytes.
 
-ghost use Rattle.std.specs.Prelude.{◌≡◌, ◌≢◌, ◌↔◌, [], ◌∷◌, length, ⊤, None, IfOk, IfErr, IsErrOf, MatchResult};
+ghost use Rattle.std.specs.Prelude.{◌≡◌, ◌≢◌, ◌↔◌, length, ⊤, IfOk, IfErr, IfSome};
+ghost use Rattle.std.specs.Prelude.{IsErr, IsErrOf, MatchResult};
 ghost use Rattle.capn_words.specs.Message.{segment_at};
 ghost use Rattle.capn_value.specs.Tree.{Tree as Value};
-ghost use Rattle.capn_walk.specs.Accepted.{IsValueOf};
-ghost use Rattle.capn_canon.specs.Measure.{IsCanonicalOf};
+ghost use Rattle.capn_walk.specs.Accepted.{IsValueOf, paid as price};
+ghost use Rattle.capn_canon.specs.Measure.{IsCanonicalOf, IsMeasure};
 ghost use Rattle.capn_canon.specs.Refusal.{IsUnaccepted};
 ghost use Rattle.capn_canon.specs.declared.refusal.Refusal.TheVariants as refusals;
 ghost use Rattle.capn_departure.specs.Departures.{IsDeparture, AnswersCanonical, AnswersSegments};
 ghost use Rattle.capn_departure.specs.Departures.{Compares, Departs, HasCanonicalBytes};
+ghost use Rattle.capn_departure.specs.inner.Made.{HasCanonicalLength};
 
 use crate::answer::Departure;
 use crate::capability::first_capability;
 use crate::difference::{Difference, first_difference};
+use crate::finding::Finding;
+use crate::only_segment::only_segment;
 use crate::owner::owner;
-use capn_canon::{Refusal, canonical_of, measure};
+use capn_canon::{MeasuredBare, Refusal, measure};
+use capn_layout::surveyed_layout;
 use capn_walk::Limits;
 use capn_words::{Bare, Memory, Space};
 use std::alloc::Allocator;
@@ -46,38 +51,80 @@ pub fn departure<S: Space, A: Allocator + Copy>(
     ensures memory { IsErrOf result refusals.Memory → Departs (S.message space.now) limits }
 {
     let measured = measure(alloc, space, limits)?;
+    let finding = finding_of(alloc, space, limits, measured)?;
+    Ok(finding.departure)
+}
+
+/// The same of a message that was measured within these limits.
+pub fn finding_of<S: Space, A: Allocator + Copy>(
+    alloc: A,
+    space: &S,
+    limits: Limits,
+    measured: MeasuredBare,
+) -> Result<Finding<A>, Memory>
+    requires measured { IsMeasure (S.message space.now) limits measured }
+    ensures found { IfOk result (λ f. IsDeparture (S.message space.now) limits f.departure) }
+    ensures canonical { IfOk result (λ f. (v : Value) → IsValueOf (S.message space.now) limits v
+        → AnswersCanonical f.departure ↔ IsCanonicalOf (S.message space.now) v) }
+    ensures segments { IfOk result (λ f. AnswersSegments f.departure ↔ (length (S.message space.now) ≢ 1)) }
+    ensures made { IfOk result (λ f. IfSome f.length (HasCanonicalLength (S.message space.now) limits)) }
+    ensures memory { IsErr result → Departs (S.message space.now) limits }
+{
     if measured.survey.is_canonical {
-        return Ok(Departure::Canonical);
+        return Ok(Finding::without_bytes(Departure::Canonical));
     }
     let segments = space.segments();
     if segments > 1 {
-        return Ok(Departure::Segments(segments));
+        return Ok(Finding::without_bytes(Departure::Segments(segments)));
     }
     match measured.survey.capability {
         Some(_) => {
             let (index, way) = first_capability(alloc, space, limits)?;
-            Ok(Departure::Capability(index, way))
+            Ok(Finding::without_bytes(Departure::Capability(index, way)))
         }
-        None => Ok(from_canonical(alloc, space, limits)?),
+        None => from_only_segment(alloc, space, limits, measured.survey.paid),
     }
 }
 
-/// The same of a message of one segment that is not canonical and has canonical bytes.
+/// The same of a message of one segment that is not canonical and has canonical bytes, which is read as that alone.
+fn from_only_segment<S: Space, A: Allocator + Copy>(
+    alloc: A,
+    space: &S,
+    limits: Limits,
+    paid: u32,
+) -> Result<Finding<A>, Memory>
+    requires departs { HasCanonicalBytes (S.message space.now) limits }
+    requires pays { paid ≡ price (S.message space.now) limits }
+    ensures found { IfOk result (λ f. IsDeparture (S.message space.now) limits f.departure) }
+    ensures made { IfOk result (λ f. IfSome f.length (HasCanonicalLength (S.message space.now) limits)) }
+{
+    let bare = only_segment(space);
+    from_canonical(alloc, &bare, limits, paid)
+}
+
+/// The same, by the canonical bytes, which are laid out without another survey.
 fn from_canonical<S: Space, A: Allocator + Copy>(
     alloc: A,
     space: &S,
     limits: Limits,
-) -> Result<Departure<A>, Memory>
+    paid: u32,
+) -> Result<Finding<A>, Memory>
     requires departs { HasCanonicalBytes (S.message space.now) limits }
-    ensures { IfOk result (λ d. IsDeparture (S.message space.now) limits d) }
+    requires pays { paid ≡ price (S.message space.now) limits }
+    ensures found { IfOk result (λ f. IsDeparture (S.message space.now) limits f.departure) }
+    ensures made { IfOk result (λ f. IfSome f.length (HasCanonicalLength (S.message space.now) limits)) }
 {
+    // The layout needs what they promise of a message and of limits.
     let _segments = space.segments();
-    match canonical_of(alloc, space, limits) {
-        Ok(canonical) => match Bare::new(canonical.bytes.as_slice()) {
-            Ok(other) => apart(alloc, space, &other, limits),
-            Err(_) => unreachable!(),
-        },
-        Err(_) => Err(Memory),
+    let _budget = limits.budget();
+    let bytes = surveyed_layout(alloc, space, limits.depth(), paid)?;
+    match Bare::new(bytes.as_slice()) {
+        Ok(canonical) => {
+            let departure = apart(alloc, space, &canonical, limits)?;
+            let length = Some(bytes.len() as u64);
+            Ok(Finding { departure, length })
+        }
+        Err(_) => unreachable!(),
     }
 }
 

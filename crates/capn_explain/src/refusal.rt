@@ -2,7 +2,7 @@
 
 ghost use Rattle.std.specs.Prelude.{◌≡◌, ℕ, ◌<◌, length, IfOk, IfSome, IfNone};
 ghost use Rattle.capn_words.specs.Message.{segment_at};
-ghost use Rattle.capn_walk.specs.Accepted.{IsAccepted};
+ghost use Rattle.capn_walk.specs.Accepted.{IsAccepted, IsWalkRefused};
 ghost use Rattle.capn_walk.specs.Limits.{Bounds};
 ghost use Rattle.capn_way.specs.Ways.{IsRefusedAt, IsWayTo};
 ghost use Rattle.capn_explain.specs.MessageTexts.{refused_lines};
@@ -15,7 +15,7 @@ use crate::holder_text::HolderText;
 use crate::message_text::{MessageHead, RefusedLines};
 use crate::segments_text::SegmentsText;
 use capn_walk::{Limits, Stopped};
-use capn_way::{Refused, holder_of, way_of_refusal};
+use capn_way::{Refused, holder_of, way_of_refusal, way_of_stop};
 use capn_words::{Memory, Place, Space};
 use std::alloc::{Allocator, Global};
 
@@ -56,6 +56,31 @@ pub fn explain_refusal<S: Space, A: Allocator + Copy>(
     }
 }
 
+/// The lines that explain a message, by why and where its walk stopped.
+///
+/// `stopped` is why and where the walk of this message stops within these limits, as [`survey`](capn_walk::survey)
+/// answers it; the rest is as for [`explain_refusal`]. It makes the visits up to the refused one, and no survey.
+/// Memory: that of [`explain_refusal`]. (Own.)
+pub fn explain_stop<S: Space, A: Allocator + Copy>(
+    alloc: A,
+    space: &S,
+    index: u64,
+    offset: u64,
+    table: u32,
+    limits: Limits,
+    stopped: Stopped,
+) -> Result<Told<A>, Memory>
+    requires refused { IsWalkRefused (S.message space.now) limits
+        stopped.fault stopped.place stopped.paid stopped.visits }
+    ensures told { IfOk result (λ told.
+        IsRefusalTold (S.message space.now) limits index offset table stopped told.text.items) }
+    ensures stopped { IfOk result (λ told. told.stopped ≡ stopped) }
+{
+    let way = way_of_stop(alloc, space, limits, stopped)?;
+    let refused = Refused { stopped, way };
+    tell(alloc, space, index, offset, table, limits, &refused)
+}
+
 /// The explanation of a message whose walk is refused, with the way to the slot where it stopped.
 fn tell<S: Space, A: Allocator + Copy>(
     alloc: A,
@@ -67,8 +92,9 @@ fn tell<S: Space, A: Allocator + Copy>(
     refused: &Refused<A>,
 ) -> Result<Told<A>, Memory>
     requires refused { IsRefusedAt (S.message space.now) limits refused.now.stopped refused.now.way.items }
-    ensures { IfOk result (λ told.
+    ensures told { IfOk result (λ told.
         IsRefusalTold (S.message space.now) limits index offset table told.stopped told.text.items) }
+    ensures stopped { IfOk result (λ told. told.stopped ≡ refused.now.stopped) }
 {
     let stopped = refused.stopped;
     let lines = RefusedLines {

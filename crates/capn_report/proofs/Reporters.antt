@@ -1,6 +1,6 @@
 -- A message that a reporter serves.
 use Rattle.std.proofs.Common.{◌≡◌, ℕ, List, [], Option, None, Some, Result, Ok, Err, refl, ap, sym, subst, ◌∙◌}
-use Rattle.std.proofs.Common.{append-nil}
+use Rattle.std.proofs.Common.{append-nil, false, inr}
 use Rattle.capn_walk.specs.Accepted.{IsAccepted}
 use Rattle.capn_serve.specs.declared.fault.ServeFault.{ServeFault}
 use Rattle.capn_serve.specs.declared.fault.ServeFault.TheVariants as faults
@@ -50,6 +50,13 @@ tells_inside order outcome first s view at message old new number is (text, told
           (state order outcomes.Accepted first)) (sym is) (told, refl),
       same,
     )
+
+-- what it told of a message that is accepted is what it reports
+pub puts_accepted : (s t : Reporting) (at : Position) (message : List (List ℕ)) (old new : List ℕ)
+    (r : Result (Unit {0}) ServeFault) → Puts (TellsAccepted s at message) old new r t
+    → Puts (ServesBy false s at message) old new r t
+puts_accepted s t at message old new (Ok u) (text, told, same) = (text, inr told, same)
+puts_accepted s t at message old new (Err fault) put = put
 
 -- what it appended is what the message writes
 pub puts_message : (s t : Reporting) (at : Position) (frame : List ℕ) (message : List (List ℕ)) (old new : List ℕ)

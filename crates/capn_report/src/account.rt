@@ -1,14 +1,14 @@
 //! What is told of a message that is accepted.
 
 ghost use Rattle.std.specs.Prelude.{◌≡◌, IfOk, IsErr};
-ghost use Rattle.capn_walk.specs.Accepted.{IsAccepted};
+ghost use Rattle.capn_canon.specs.Measure.{IsMeasure};
 ghost use Rattle.capn_departure.specs.Departures.{Departs};
 ghost use Rattle.capn_report.specs.Accounts as spec;
 ghost use Rattle.capn_report.specs.Accounts.{IsAccount};
 
 use crate::table::table_words;
-use capn_canon::{Form, MeasuredBare, measure};
-use capn_departure::{CanonicalLines, lines_of_accepted};
+use capn_canon::{Form, MeasuredBare};
+use capn_departure::{CanonicalLines, lines_of_measured};
 use capn_explain::{MessageHead, SegmentsText};
 use capn_serve::Position;
 use capn_walk::Limits;
@@ -72,28 +72,23 @@ fn account_by<S: Space, A: Allocator>(
     }
 }
 
-/// What is told of a message that is accepted within limits.
+/// What is told of a message that is accepted and was measured within limits.
 ///
 /// `Memory` comes only for a message of one segment that is not canonical, where a growth was refused. Memory: that of
-/// [`lines_of_accepted`].
+/// [`lines_of_measured`].
 pub(crate) fn account_of<S: Space, A: Allocator + Copy>(
     alloc: A,
     form: Form,
     at: Position,
     message: &S,
     limits: Limits,
+    measured: MeasuredBare,
 ) -> Result<Account<A>, Memory>
-    requires accepted { IsAccepted (S.message message.now) limits }
+    requires measured { IsMeasure (S.message message.now) limits measured }
     ensures found { IfOk result (λ account. IsAccount form at (S.message message.now) limits account) }
     ensures memory { IsErr result → Departs (S.message message.now) limits }
 {
-    match measure(alloc, message, limits) {
-        Ok(measured) => {
-            let table = table_words(form, message);
-            let lines = lines_of_accepted(alloc, message, limits, at.offset, table)?;
-            Ok(account_by(at, message, measured, lines))
-        }
-        // A message that is accepted is measured.
-        Err(_) => unreachable!(),
-    }
+    let table = table_words(form, message);
+    let lines = lines_of_measured(alloc, message, limits, measured, at.offset, table)?;
+    Ok(account_by(at, message, measured, lines))
 }

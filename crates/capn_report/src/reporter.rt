@@ -1,7 +1,8 @@
 //! The service that finds the message that is explained.
 
-ghost use Rattle.std.specs.Prelude.{◌≡◌, false, IfOk, IfErr, IfSome, IfNone, string_bytes};
-ghost use Rattle.capn_walk.specs.Accepted.{IsAccepted};
+ghost use Rattle.std.specs.Prelude.{◌≡◌, false, IfOk, IfErr, string_bytes};
+ghost use Rattle.capn_walk.specs.Accepted.{IsWalkRefused};
+ghost use Rattle.capn_canon.specs.Measure.{IsMeasure};
 ghost use Rattle.capn_serve.specs.declared.fault.ServeFault.TheVariants as faults;
 ghost use Rattle.capn_report.specs.Accounts.{account_text};
 ghost use Rattle.capn_report.specs.Reports as spec;
@@ -11,8 +12,10 @@ use crate::account::{Account, account_of};
 use crate::explain::Explain;
 use crate::outcome::Outcome;
 use crate::table::table_words;
-use capn_explain::{Told, explain_refusal};
+use capn_canon::{MeasuredBare, measure};
+use capn_explain::{Told, explain_stop};
 use capn_serve::{Position, ServeFault, Service, flush_long, number_of};
+use capn_walk::Stopped;
 use capn_words::{Memory, Space, Watched};
 use std::alloc::{Allocator, Global};
 use std::io::Write;
@@ -50,20 +53,30 @@ fn is_before(at: Position, number: Option<u64>) -> bool
     }
 }
 
-/// Whether a message is refused, and then the lines that explain it.
+/// The lines that explain a message, by where its walk stopped.
 fn told_of<S: Space, A: Allocator + Copy>(
     alloc: A,
     order: &Explain,
     at: Position,
     message: &S,
-) -> Result<Option<Told<A>>, ServeFault>
-    ensures refused { IfOk result (λ r. IfSome r (λ told.
-        IsTold order.now at (S.message message.now) told.stopped told.text.items)) }
-    ensures accepted { IfOk result (λ r. IfNone r (IsAccepted (S.message message.now) order.now.limits)) }
+    stopped: Stopped,
+) -> Result<Told<A>, ServeFault>
+    requires refused { IsWalkRefused (S.message message.now) order.now.limits
+        stopped.fault stopped.place stopped.paid stopped.visits }
+    ensures told { IfOk result (λ told.
+        IsTold order.now at (S.message message.now) told.stopped told.text.items) }
     ensures only { IfErr result (λ e. e ≡ faults.Memory) }
 {
     let table = table_words(order.form, message);
-    match explain_refusal(alloc, message, at.index, at.offset, table, order.limits) {
+    match explain_stop(
+        alloc,
+        message,
+        at.index,
+        at.offset,
+        table,
+        order.limits,
+        stopped,
+    ) {
         Ok(told) => Ok(told),
         Err(_) => Err(ServeFault::Memory),
     }
@@ -111,12 +124,13 @@ fn put_accepted<S: Space, A: Allocator + Copy>(
     order: &Explain,
     at: Position,
     message: &S,
+    measured: MeasuredBare,
     text: &mut Vec<u8, A>,
 ) -> Result<(), ServeFault>
-    requires accepted { IsAccepted (S.message message.now) order.now.limits }
+    requires measured { IsMeasure (S.message message.now) order.now.limits measured }
     ensures { PutsAccount order.now at (S.message message.now) text.old.items text.new.items result }
 {
-    match account_of(alloc, order.form, at, message, order.limits) {
+    match account_of(alloc, order.form, at, message, order.limits, measured) {
         Ok(account) => put_account(alloc, &account, text),
         Err(_) => Err(ServeFault::Memory),
     }
@@ -128,14 +142,15 @@ fn first_of<S: Space, A: Allocator + Copy>(
     order: &Explain,
     at: Position,
     message: &S,
+    measured: MeasuredBare,
 ) -> Option<Result<Account<A>, Memory>>
-    requires accepted { IsAccepted (S.message message.now) order.now.limits }
+    requires measured { IsMeasure (S.message message.now) order.now.limits measured }
     ensures { IsFirst order.now.form at (S.message message.now) order.now.limits (spec.lines_first result) }
 {
     if 0 < at.index {
         return None;
     }
-    Some(account_of(alloc, order.form, at, message, order.limits))
+    Some(account_of(alloc, order.form, at, message, order.limits, measured))
 }
 
 impl<B: Allocator> Reporter<B> {
@@ -174,24 +189,25 @@ impl<B: Allocator> Reporter<B> {
 }
 
 impl<B: Allocator + Copy> Reporter<B> {
-    /// Reports on a message that is accepted.
+    /// Reports on a message that is accepted, by what was measured of it.
     fn report_accepted<S: Space, A: Allocator + Copy>(
         &mut self,
         alloc: A,
         at: Position,
         message: &S,
+        measured: MeasuredBare,
         text: &mut Vec<u8, A>,
     ) -> Result<(), ServeFault>
-        requires accepted { IsAccepted (S.message message.now) self.old.order.limits }
+        requires measured { IsMeasure (S.message message.now) self.old.order.limits measured }
         ensures { Puts (TellsAccepted self.old at (S.message message.now)) text.old.items text.new.items result
             self.new }
     {
         match self.order.number {
             Some(_) => {
-                put_accepted(alloc, &self.order, at, message, text)?;
+                put_accepted(alloc, &self.order, at, message, measured, text)?;
                 self.outcome = Outcome::Accepted;
             }
-            None => self.first = first_of(self.alloc, &self.order, at, message),
+            None => self.first = first_of(self.alloc, &self.order, at, message, measured),
         }
         Ok(())
     }
@@ -207,13 +223,14 @@ impl<B: Allocator + Copy> Reporter<B> {
         ensures { Puts (ServesBy false self.old at (S.message message.now)) text.old.items text.new.items result
             self.new }
     {
-        match told_of(alloc, &self.order, at, message)? {
-            Some(told) => {
+        match measure(alloc, message, self.order.limits) {
+            Ok(measured) => self.report_accepted(alloc, at, message, measured, text),
+            Err(stopped) => {
+                let told = told_of(alloc, &self.order, at, message, stopped)?;
                 put_bytes(text, &told.text)?;
                 self.outcome = Outcome::Refused(at, told.stopped);
                 Ok(())
             }
-            None => self.report_accepted(alloc, at, message, text),
         }
     }
 

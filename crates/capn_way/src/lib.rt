@@ -5,6 +5,7 @@
 //! whose slot the next number says. No number leads to the root.
 //!
 //! - [`way_of_refusal`] says whether a message is refused, why, and the way to the slot where its walk stopped.
+//! - [`way_of_stop`] says that way of a walk that has stopped.
 //! - [`way_of_visit`] says the way to the slot of a visit by its number.
 //! - [`holder_of`] says which object holds the slot to which a way leads.
 //! - Module [`laws`] has what holds of ways apart from any call: one way at most leads to the slot of a visit, and one
@@ -24,5 +25,5 @@ mod seek;
 mod visit;
 
 pub use holder::{Holder, holder_of};
-pub use refusal::{Refused, way_of_refusal};
+pub use refusal::{Refused, way_of_refusal, way_of_stop};
 pub use visit::{Visited, way_of_visit};

@@ -34,14 +34,17 @@ pub fn way_of_refusal<S: Space, A: Allocator + Copy>(
     match survey(alloc, space, limits) {
         Ok(_) => Ok(None),
         Err(stopped) => {
-            let way = way_to(alloc, space, limits, stopped)?;
+            let way = way_of_stop(alloc, space, limits, stopped)?;
             Ok(Some(Refused { stopped, way }))
         }
     }
 }
 
-/// The way to the slot at which the walk of a message stopped.
-fn way_to<S: Space, A: Allocator + Copy>(
+/// The way to the slot at which the walk of a message stopped: none where it is the root's, or where there is no root.
+///
+/// `stopped` is why and where the walk of this message stops within these limits, as [`survey`] answers it. It makes
+/// the visits up to the refused one, and no survey. Memory: that of [`way_of_refusal`].
+pub fn way_of_stop<S: Space, A: Allocator + Copy>(
     alloc: A,
     space: &S,
     limits: Limits,

@@ -1,7 +1,7 @@
 use Rattle.capn_explain.proofs.refusal.tell.Goals as goal
 
-pub returns : goal.returns
-returns g c = record {
+pub returns-clause-told : goal.returns-clause-told
+returns-clause-told g c = record {
   way = c.args.refused.now.way.items;
   refused = c.requires.refused;
   slot = c.slot_lines.result;

@@ -1,5 +1,5 @@
 use Rattle.capn_way.proofs.Stopping.{refused-at}
-use Rattle.capn_way.proofs.refusal.way_to.Goals as goal
+use Rattle.capn_way.proofs.refusal.way_of_stop.Goals as goal
 
 pub returns : goal.returns
 returns g c =

@@ -1,0 +1,10 @@
+-- How many canonical bytes a message has.
+use Rattle.std.specs.Prelude.{◌≡◌, ℕ, List, length}
+use Rattle.capn_value.specs.Tree.{Tree}
+use Rattle.capn_walk.specs.Limits.{Bounds}
+use Rattle.capn_walk.specs.Accepted.{IsValueOf}
+use Rattle.capn_layout.specs.Layout.{canon}
+
+-- the canonical bytes of the value with which a message is accepted are so many (Own.)
+abbrev pub HasCanonicalLength : List (List ℕ) → Bounds → ℕ → Type 0
+HasCanonicalLength message limits n = (v : Tree) → IsValueOf message limits v → n ≡ length (canon v)

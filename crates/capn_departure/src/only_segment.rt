@@ -1,0 +1,19 @@
+//! The only segment of a message.
+
+ghost use Rattle.std.specs.Prelude.{◌≡◌, [], ◌∷◌, length};
+
+use capn_target::segment_length;
+use capn_words::{Bare, Place, Space};
+
+/// A message of one segment as the bytes of that alone, which are faster to read.
+pub fn only_segment<S: Space>(space: &S) -> Bare<'_>
+    requires one { length (S.message space.now) ≡ 1 }
+    ensures { S.message space.now ≡ result ∷ [] }
+{
+    let _segments = space.segments();
+    let words = segment_length(space, 0);
+    match Bare::new(space.bytes(Place::ROOT, 8 * words as usize)) {
+        Ok(bare) => bare,
+        Err(_) => unreachable!(),
+    }
+}
