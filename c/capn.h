@@ -268,8 +268,8 @@ capn_status capn_unpack_some(const uint8_t *bytes, size_t size, uint8_t *out, si
 
 /* The figures of one message; of CAPN_PACKED those of what it unpacks to. It accepts and refuses what capn_check does,
  * and takes memory where that does; the report has `paid` and `visits`. Unless it answers CAPN_OK, the figures are as
- * they were. It walks a message up to three times, and unpacks a packed one twice: use capn_check if what it reports is
- * enough. */
+ * they were. It walks a message twice at most, and once if it is canonical or has several segments: use capn_check if
+ * what it reports is enough. */
 capn_status capn_survey(uint32_t form, const uint8_t *bytes, size_t size, const capn_limits *limits,
                         capn_figures *figures, capn_report *report);
 

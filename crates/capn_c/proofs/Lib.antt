@@ -5,7 +5,6 @@ pub mod Figured
 pub mod Framed
 pub mod Least
 pub mod Listed
-pub mod Measures
 pub mod Named
 pub mod OfMessage
 pub mod OneBare

@@ -1,6 +1,5 @@
 -- What is reported of a message that is read. (Own.)
 use Rattle.std.specs.Prelude.{◌≡◌, ◌⊎◌, ◌↔◌, ◌≤◌, ℕ, zero, suc, List, length, Option, Some, None}
-use Rattle.std.specs.Bool.{IsTrue}
 use Rattle.capn_words.specs.Message.{bytes, segment_at, total}
 use Rattle.capn_value.specs.Tree.{Tree}
 use Rattle.capn_value.specs.FirstCap.{first_cap}
@@ -11,7 +10,6 @@ use Rattle.capn_canon.specs.Layout.{canon}
 use Rattle.capn_canon.specs.Reads.{Reads}
 use Rattle.capn_canon.specs.declared.form.Form.{Form}
 use Rattle.capn_c.specs.declared.figures.CapnFigures.{CapnFigures}
-use Rattle.capn_c.specs.declared.message_measures.Measured.{Measured}
 
 -- a number names a form whose bytes are those of the message itself
 abbrev pub IsFlat : ℕ → Type 0
@@ -24,19 +22,6 @@ pub record IsCanonicalMessage (message : List (List ℕ)) (limits : Bounds) : Ty
   pub is : IsValueOf message limits value
   pub free : first_cap value ≡ None
   pub same : canon value ≡ bytes (segment_at message 0)
-
--- how many words and segments a message has, how deep it is, and whether it is canonical
-pub record AreMeasures (message : List (List ℕ)) (limits : Bounds) (m : Measured) : Type 0 where
-  pub words : m.words ≡ total message
-  pub segments : m.segments ≡ length message
-  pub depth : IsDepth message limits m.depth
-  pub canonical : IsTrue m.canonical ↔ IsCanonicalMessage message limits
-
--- what the message that bytes are read as comes to
-pub record MeasuresIn (form : Form) (bs : List ℕ) (limits : Bounds) (m : Measured) : Type 0 where
-  pub message : List (List ℕ)
-  pub reads : Reads form bs limits.message_words message
-  pub are : AreMeasures message limits m
 
 -- the capability that two numbers stand for: whether there is one, and its index
 abbrev pub reported_cap : ℕ → ℕ → Option ℕ

@@ -13,9 +13,8 @@ use Rattle.capn_canon.specs.Denotes.{AnswersMessage}
 use Rattle.capn_canon.specs.Refusal.{IsRefusedMessage}
 use Rattle.capn_canon.specs.declared.refusal.Refusal.{Refusal}
 use Rattle.capn_canon.specs.declared.refusal.Refusal.TheVariants as refusals
-use Rattle.capn_c.specs.Figures.{AreFigures, AreMeasures}
+use Rattle.capn_c.specs.Figures.{AreFigures}
 use Rattle.capn_c.specs.declared.figures.CapnFigures.{CapnFigures}
-use Rattle.capn_c.specs.declared.message_measures.Measured.{Measured}
 
 -- the segments are a message within the limits, which is accepted with this value
 pub record DenotesHeld (message : List (List ℕ)) (limits : Bounds) (v : Tree) : Type 0 where
@@ -31,12 +30,6 @@ pub record AnswersHeld (message : List (List ℕ)) (limits : Bounds) (bytes : Li
 pub record SurveysHeld (message : List (List ℕ)) (limits : Bounds) (s : Surveyed) : Type 0 where
   pub held : IsHeld message limits.message_words
   pub survey : IsSurvey message limits s
-
--- beside it, what the message comes to
-pub record MeasuresHeld (message : List (List ℕ)) (limits : Bounds) (s : Surveyed) (m : Measured) : Type 0 where
-  pub held : IsHeld message limits.message_words
-  pub survey : IsSurvey message limits s
-  pub are : AreMeasures message limits m
 
 -- they are an accepted message within the limits, of which these are the figures
 pub record FiguresHeld (message : List (List ℕ)) (limits : Bounds) (f : CapnFigures) : Type 0 where

@@ -1,10 +1,18 @@
-//! The figures of a survey, as C reads them.
+//! The figures of a message, as C reads them.
 
-ghost use Rattle.std.specs.Prelude.{IsTrue, ◌≡◌, ◌↔◌, ◌≤◌};
-ghost use Rattle.capn_c.specs.Figures.{reported_cap};
+ghost use Rattle.std.specs.Prelude.{IsTrue, ◌≡◌, ◌≢◌, ◌↔◌, ◌≤◌, length};
+ghost use Rattle.std.specs.Prelude.{IfOk, IfErr, IsOk, MatchResult};
+ghost use Rattle.capn_words.specs.Message.{total};
+ghost use Rattle.capn_value.specs.Tree.{Tree as Value};
+ghost use Rattle.capn_walk.specs.Accepted.{IsBounded, IsValueOf};
+ghost use Rattle.capn_canon.specs.Refusal.{IsPaidWithin, IsUnaccepted};
+ghost use Rattle.capn_canon.specs.declared.refusal.Refusal.TheVariants as refusals;
+ghost use Rattle.capn_c.specs.Figures.{AreFigures, reported_cap};
 
-use crate::message_measures::Measured;
-use capn_walk::Surveyed;
+use capn_canon::{MeasuredBare, Refusal, measure};
+use capn_walk::Limits;
+use capn_words::{Space, total_words};
+use std::alloc::Global;
 
 /// What a survey says of a message.
 #[derive(Clone, Copy)]
@@ -28,29 +36,52 @@ pub struct CapnFigures {
     pub canonical: u32,
 }
 
-/// The figures of what was surveyed and measured.
-pub fn figures_of(surveyed: Surveyed, measured: Measured) -> CapnFigures
-    ensures words { result.words ≡ measured.words }
-    ensures segments { result.segments ≡ measured.segments }
-    ensures paid { result.paid ≡ surveyed.paid }
-    ensures visits { result.visits ≡ surveyed.visits }
+/// The figures of a message, by what was measured of it.
+fn figures_by<S: Space>(space: &S, measured: MeasuredBare) -> CapnFigures
+    ensures words { result.words ≡ total (S.message space.now) }
+    ensures segments { result.segments ≡ length (S.message space.now) }
+    ensures paid { result.paid ≡ measured.survey.paid }
+    ensures visits { result.visits ≡ measured.survey.visits }
     ensures depth { result.depth ≡ measured.depth }
-    ensures capability { reported_cap result.has_capability result.capability ≡ surveyed.capability }
-    ensures canonical { (result.canonical ≡ 1) ↔ IsTrue measured.canonical }
+    ensures capability { reported_cap result.has_capability result.capability ≡ measured.survey.capability }
+    ensures canonical { (result.canonical ≡ 1) ↔ IsTrue measured.survey.is_canonical }
     ensures flags { (result.has_capability ≤ 1) × (result.canonical ≤ 1) }
 {
-    let (has_capability, capability) = match surveyed.capability {
+    let survey = measured.survey;
+    let (has_capability, capability) = match survey.capability {
         Some(index) => (1, index),
         None => (0, 0),
     };
     CapnFigures {
-        words: measured.words,
-        segments: measured.segments,
-        paid: surveyed.paid,
-        visits: surveyed.visits,
+        words: total_words(space),
+        segments: space.segments(),
+        paid: survey.paid,
+        visits: survey.visits,
         depth: measured.depth,
         has_capability,
         capability,
-        canonical: measured.canonical as u32,
+        canonical: survey.is_canonical as u32,
+    }
+}
+
+/// The figures of a message, or why it is not accepted.
+///
+/// A message whose bytes are canonical is walked once, another of one segment twice at most, and one of more segments
+/// once. It takes no memory.
+pub fn figures_of<S: Space>(
+    alloc: Global,
+    space: &S,
+    limits: Limits,
+) -> Result<CapnFigures, Refusal>
+    ensures found { IfOk result (λ f. AreFigures (S.message space.now) limits f) }
+    ensures only { (v : Value) → IsValueOf (S.message space.now) limits v → IsOk result }
+    ensures refused { IfErr result (λ e. IsUnaccepted (S.message space.now) limits e) }
+    ensures no_memory { IfErr result (λ e. e ≢ refusals.Memory) }
+    ensures bounded { MatchResult result (λ f. IsBounded limits.budget f.paid f.visits)
+        (λ e. IsPaidWithin limits.budget e) }
+{
+    match measure(alloc, space, limits) {
+        Ok(measured) => Ok(figures_by(space, measured)),
+        Err(stopped) => Err(Refusal::Walk(stopped)),
     }
 }

@@ -12,10 +12,10 @@ ghost use Rattle.capn_canon.specs.MemoryNeed.{MayNeedBytes};
 ghost use Rattle.capn_canon.specs.Refusal.{IsPaidWithin, IsUnaccepted};
 ghost use Rattle.capn_canon.specs.declared.refusal.Refusal.TheVariants as refusals;
 ghost use Rattle.capn_segments.specs.Segments.{IsHeld, message_of};
-ghost use Rattle.capn_c.specs.Held.{AnswersHeld, DenotesHeld, IsHeldOr, IsRefusedHeld};
-ghost use Rattle.capn_c.specs.Held.{IsUnacceptedHeld, MeasuresHeld, SurveysHeld};
+ghost use Rattle.capn_c.specs.Held.{AnswersHeld, DenotesHeld, FiguresHeld, IsHeldOr, IsRefusedHeld};
+ghost use Rattle.capn_c.specs.Held.{IsUnacceptedHeld, SurveysHeld};
 
-use crate::message_measures::{Measured, survey_and_measure};
+use crate::figures::{CapnFigures, figures_of};
 use capn_canon::{Canonical, Refusal, canonical_of, survey};
 use capn_segments::{Segments, SegmentsFault};
 use capn_stream::FrameFault;
@@ -99,19 +99,19 @@ pub fn survey_held(
     survey_short(alloc, &message, limits)
 }
 
-/// What [`survey_held`] answers, and what the message comes to beside its price.
-pub fn measure_held(
+/// The figures of a message that is held in segments, or why they hold none or it is not accepted.
+pub fn figures_held(
     alloc: Global,
     segments: &[&[[u8; 8]]],
     limits: Limits,
-) -> Result<(Surveyed, Measured), Refusal>
-    ensures found { IfOk result (λ t. MeasuresHeld (message_of segments.now) limits t.0 t.1) }
+) -> Result<CapnFigures, Refusal>
+    ensures found { IfOk result (λ f. FiguresHeld (message_of segments.now) limits f) }
     ensures only { (v : Value) → DenotesHeld (message_of segments.now) limits v → IsOk result }
     ensures refused { IfErr result (λ e. IsUnacceptedHeld (message_of segments.now) limits e) }
     ensures no_memory { IfErr result (λ e. e ≢ refusals.Memory) }
-    ensures bounded { MatchResult result (λ t. IsBounded limits.budget t.0.paid t.0.visits)
+    ensures bounded { MatchResult result (λ f. IsBounded limits.budget f.paid f.visits)
         (λ e. IsPaidWithin limits.budget e) }
 {
     let message = held(segments, limits)?;
-    survey_and_measure(alloc, &message, limits)
+    figures_of(alloc, &message, limits)
 }

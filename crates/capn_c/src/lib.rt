@@ -27,7 +27,7 @@ mod index_call;
 mod is_canonical_call;
 pub mod laws;
 mod limits;
-mod message_measures;
+mod message_figures;
 mod message_text;
 mod output;
 mod pack_calls;

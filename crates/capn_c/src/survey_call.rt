@@ -1,6 +1,6 @@
 //! The figures of messages.
 
-ghost use Rattle.std.specs.Prelude.{IsTrue, ◌≡◌, ◌≢◌, ◌⊎◌, ◌↔◌, ◌≤◌, Some, None, IsSome, IfSome};
+ghost use Rattle.std.specs.Prelude.{IsTrue, ◌≡◌, ◌≢◌, ◌⊎◌, ◌↔◌, ◌≤◌};
 ghost use Rattle.capn_value.specs.Tree.{Tree as Value};
 ghost use Rattle.capn_walk.specs.Accepted.{IsBounded};
 ghost use Rattle.capn_canon.specs.Denotes.{Denotes};
@@ -9,33 +9,17 @@ ghost use Rattle.capn_canon.specs.MemoryNeed.{MayNeedMemory};
 ghost use Rattle.capn_canon.specs.declared.refusal.Refusal.{Refusal as Refusals};
 ghost use Rattle.capn_c.specs.Calls.{IsForm, form_named, GiveLimits, IsTariff, bounds_of};
 ghost use Rattle.capn_c.specs.StatusCodes.{Reports, answered, at_number, is_status};
-ghost use Rattle.capn_c.specs.Figures.{FiguresIn, MeasuresIn};
+ghost use Rattle.capn_c.specs.Figures.{FiguresIn};
 ghost use Rattle.capn_c.specs.MemoryAsked.{MayAsk};
 
-use crate::figures::{CapnFigures, figures_of};
+use crate::figures::CapnFigures;
 use crate::limits::{CapnLimits, form_of, limits_of};
-use crate::message_measures::{Measured, measure_bare, measure_frame, measure_packed};
+use crate::message_figures::figures_in;
 use crate::report::{CapnReport, answer_of, report_at};
 use crate::status_codes::{BAD_FORM, DONE, refuse};
-use crate::survey_bytes::survey_bytes;
-use capn_canon::{Form, Refusal};
+use capn_canon::Form;
 use capn_walk::Limits;
 use std::alloc::Global;
-
-/// What a message in a form comes to beside its price, or `None` where memory was refused.
-fn measure_in(alloc: Global, form: Form, bytes: &[u8], limits: Limits) -> Option<Measured>
-    ensures found { IfSome result (λ m. MeasuresIn form bytes.now limits m) }
-    ensures memory { (v : Value) → Denotes form bytes.now limits v → result ≡ None
-        → MayNeedMemory form bytes.now limits }
-    ensures asked { (v : Value) → Denotes form bytes.now limits v → result ≡ None
-        → MayAsk form bytes.now limits }
-{
-    match form {
-        Form::Stream => measure_frame(alloc, bytes, limits),
-        Form::Bare => measure_bare(alloc, bytes, limits),
-        Form::Packed => measure_packed(alloc, bytes, limits),
-    }
-}
 
 /// The figures of a message in a form.
 fn survey_in(
@@ -58,15 +42,12 @@ fn survey_in(
     ensures bounded { IsBounded limits.budget report.new.paid report.new.visits }
     ensures kept { result ≢ 0 → figures.new ≡ figures.old }
 {
-    match survey_bytes(alloc, form, bytes, limits) {
-        Ok(surveyed) => match measure_in(alloc, form, bytes, limits) {
-            Some(measured) => {
-                *figures = figures_of(surveyed, measured);
-                *report = answer_of(0, surveyed.paid, surveyed.visits);
-                DONE
-            }
-            None => refuse(Refusal::Memory, report),
-        },
+    match figures_in(alloc, form, bytes, limits) {
+        Ok(found) => {
+            *figures = found;
+            *report = answer_of(0, found.paid, found.visits);
+            DONE
+        }
         Err(refusal) => refuse(refusal, report),
     }
 }
@@ -77,7 +58,8 @@ fn survey_in(
 /// 0: they are there. 2, 3 and 4: the form, a limit or the tariff is out of its range. 8: memory was refused, as of
 /// `capn_check`. Others: the refusal, which is never that of a capability.
 ///
-/// It walks a message of one segment three times, or twice if its bytes are canonical, and others twice.
+/// It reads the form once, and walks a message of one segment once if its bytes are canonical, else twice at most, and
+/// others once.
 #[unsafe(no_mangle)]
 pub extern "C" fn capn_survey(
     alloc: Global,

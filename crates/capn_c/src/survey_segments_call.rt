@@ -9,8 +9,8 @@ ghost use Rattle.capn_c.specs.Calls.{GiveLimits, IsTariff, bounds_of};
 ghost use Rattle.capn_c.specs.Held.{DenotesHeld, FiguresHeld, IsUnacceptedHeld};
 ghost use Rattle.capn_c.specs.StatusCodes.{Reports, answered, at_number, is_status};
 
-use crate::figures::{CapnFigures, figures_of};
-use crate::held_message::measure_held;
+use crate::figures::CapnFigures;
+use crate::held_message::figures_held;
 use crate::limits::{CapnLimits, limits_of};
 use crate::report::{CapnReport, answer_of, report_at};
 use crate::status_codes::{DONE, refuse};
@@ -18,7 +18,7 @@ use capn_walk::Limits;
 use std::alloc::Global;
 
 /// The figures of a message that is held in segments.
-fn figures_held(
+fn tell_figures(
     alloc: Global,
     segments: &[&[[u8; 8]]],
     limits: Limits,
@@ -36,10 +36,10 @@ fn figures_held(
     ensures bounded { IsBounded limits.budget report.new.paid report.new.visits }
     ensures kept { result ≢ 0 → figures.new ≡ figures.old }
 {
-    match measure_held(alloc, segments, limits) {
-        Ok((surveyed, measured)) => {
-            *figures = figures_of(surveyed, measured);
-            *report = answer_of(0, surveyed.paid, surveyed.visits);
+    match figures_held(alloc, segments, limits) {
+        Ok(found) => {
+            *figures = found;
+            *report = answer_of(0, found.paid, found.visits);
             DONE
         }
         Err(refusal) => refuse(refusal, report),
@@ -84,7 +84,7 @@ pub extern "C" fn capn_survey_segments(
 {
     *report = report_at(0);
     match limits_of(limits) {
-        Ok(limits) => figures_held(alloc, segments, limits, figures, report),
+        Ok(limits) => tell_figures(alloc, segments, limits, figures, report),
         Err(status) => status,
     }
 }

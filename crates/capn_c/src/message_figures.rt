@@ -1,0 +1,74 @@
+//! The figures of a message in each form.
+
+ghost use Rattle.std.specs.Prelude.{IfOk, IfErr, IsErrOf, MatchResult};
+ghost use Rattle.capn_walk.specs.Accepted.{IsBounded};
+ghost use Rattle.capn_canon.specs.Refusal.{IsUnacceptedIn, IsPaidWithin};
+ghost use Rattle.capn_canon.specs.MemoryNeed.{MayNeedMemory};
+ghost use Rattle.capn_canon.specs.declared.form.Form.TheVariants as forms;
+ghost use Rattle.capn_canon.specs.declared.refusal.Refusal.TheVariants as refusals;
+ghost use Rattle.capn_c.specs.Figures.{FiguresIn};
+ghost use Rattle.capn_c.specs.MemoryAsked.{MayAsk};
+
+use crate::few_frame::read_frame;
+use crate::figures::{CapnFigures, figures_of};
+use capn_canon::{Form, Refusal};
+use capn_pack::unpack;
+use capn_stream::{MOST_TABLE_WORDS, first};
+use capn_walk::Limits;
+use capn_words::Bare;
+use std::alloc::Global;
+
+/// The figures of the message that a stream is. Memory is asked for only by a frame of more than 64 segments.
+fn figures_of_frame(alloc: Global, bytes: &[u8], limits: Limits) -> Result<CapnFigures, Refusal>
+    ensures found { IfOk result (λ f. FiguresIn forms.Stream bytes.now limits f) }
+    ensures refused { IfErr result (λ e. IsUnacceptedIn forms.Stream bytes.now limits e) }
+    ensures memory { IsErrOf result refusals.Memory → MayNeedMemory forms.Stream bytes.now limits }
+    ensures asked { IsErrOf result refusals.Memory → MayAsk forms.Stream bytes.now limits }
+    ensures bounded { MatchResult result (λ f. IsBounded limits.budget f.paid f.visits)
+        (λ e. IsPaidWithin limits.budget e) }
+{
+    if let Some(read) = read_frame(bytes, limits) {
+        return figures_of(alloc, &read?, limits);
+    }
+    let (message, taken) = first(alloc, bytes, limits.message_words())?;
+    if taken < bytes.len() {
+        return Err(Refusal::Trailing(taken as u64));
+    }
+    figures_of(alloc, &message, limits)
+}
+
+/// The figures of the message that a packed stream is.
+fn figures_of_packed(alloc: Global, bytes: &[u8], limits: Limits) -> Result<CapnFigures, Refusal>
+    ensures found { IfOk result (λ f. FiguresIn forms.Packed bytes.now limits f) }
+    ensures refused { IfErr result (λ e. IsUnacceptedIn forms.Packed bytes.now limits e) }
+    ensures memory { IsErrOf result refusals.Memory → MayNeedMemory forms.Packed bytes.now limits }
+    ensures bounded { MatchResult result (λ f. IsBounded limits.budget f.paid f.visits)
+        (λ e. IsPaidWithin limits.budget e) }
+{
+    let stream = unpack(alloc, bytes, limits.message_words() + MOST_TABLE_WORDS)?;
+    figures_of_frame(alloc, stream.as_slice(), limits)
+}
+
+/// The figures of the message that bytes are in a form, or why there is none or it is not accepted.
+///
+/// The form is read once, and the message walked as by [`figures_of`]. Memory is asked for only by a packed text, and
+/// by a frame of more than 64 segments.
+pub fn figures_in(
+    alloc: Global,
+    form: Form,
+    bytes: &[u8],
+    limits: Limits,
+) -> Result<CapnFigures, Refusal>
+    ensures found { IfOk result (λ f. FiguresIn form bytes.now limits f) }
+    ensures refused { IfErr result (λ e. IsUnacceptedIn form bytes.now limits e) }
+    ensures memory { IsErrOf result refusals.Memory → MayNeedMemory form bytes.now limits }
+    ensures asked { IsErrOf result refusals.Memory → MayAsk form bytes.now limits }
+    ensures bounded { MatchResult result (λ f. IsBounded limits.budget f.paid f.visits)
+        (λ e. IsPaidWithin limits.budget e) }
+{
+    match form {
+        Form::Stream => figures_of_frame(alloc, bytes, limits),
+        Form::Packed => figures_of_packed(alloc, bytes, limits),
+        Form::Bare => figures_of(alloc, &Bare::new(bytes)?, limits),
+    }
+}
