@@ -160,8 +160,8 @@ static void in_turn(void) {
     each("pack", packed, &stream, 1);
     each("unpack", unpacked, &pack, 1);
     each("first", first, &stream, 1);
-    each("survey, 65 segments", surveyed, &more, 2);
-    each("survey, packed", surveyed, &pack, 4);
+    each("survey, 65 segments", surveyed, &more, 1);
+    each("survey, packed", surveyed, &pack, 2);
     each("index, 65 segments", indexed, &more, 3);
     each("index, 65 segments, no room", counted, &more, 1);
     each("unpack_some", some, &pack, 1);
@@ -207,7 +207,7 @@ static void at_depth(uint32_t most, size_t depth, uint32_t wanted) {
     const input more = {CAPN_STREAM, many, frame(many, 65, deep, bare.size), limits};
     wants("check, 65 segments", checked, &more, 1, wanted);
     wants("no room, 65 segments", measured, &more, 1, room);
-    wants("survey, 65 segments", surveyed, &more, wanted == CAPN_OK ? 2 : 1, wanted);
+    wants("survey, 65 segments", surveyed, &more, 1, wanted);
     wants("index, 65 segments", indexed, &more, wanted == CAPN_OK ? 3 : 1, wanted);
 }
 
