@@ -16,3 +16,4 @@ mod CanonicalWords
 mod Ready
 mod Leaving
 mod Departing
+mod InCanonicalForm

@@ -5,7 +5,8 @@
 //!   bytes.
 //! - [`Whose`] says whose that word is, by the way to a slot.
 //! - [`lines_of_accepted`] answers the lines that explain the same of an accepted message, as [`CanonicalLines`];
-//!   [`lines_of_measured`] does so where the message was measured already.
+//!   [`lines_of_measured`] does so where the message was measured already, and [`measure_surveyed`] measures one that
+//!   was surveyed.
 //!
 //! ```text
 //! match departure(alloc, &message, limits)? {
@@ -27,10 +28,12 @@ mod only_segment;
 mod owner;
 mod seek;
 mod sought;
+mod surveyed;
 mod whose;
 
 pub use accepted::{lines_of_accepted, lines_of_measured};
 pub use answer::Departure;
 pub use canonical_lines::CanonicalLines;
 pub use message_departure::departure;
+pub use surveyed::measure_surveyed;
 pub use whose::Whose;

@@ -1,17 +1,17 @@
 //! What is told of a message that is accepted.
 
 ghost use Rattle.std.specs.Prelude.{◌≡◌, IfOk, IsErr};
-ghost use Rattle.capn_canon.specs.Measure.{IsMeasure};
 ghost use Rattle.capn_departure.specs.Departures.{Departs};
 ghost use Rattle.capn_report.specs.Accounts as spec;
 ghost use Rattle.capn_report.specs.Accounts.{IsAccount};
+ghost use Rattle.capn_report.specs.inner.Figures.{AreFigures};
 
 use crate::table::table_words;
 use capn_canon::{Form, MeasuredBare};
-use capn_departure::{CanonicalLines, lines_of_measured};
+use capn_departure::{CanonicalLines, lines_of_measured, measure_surveyed};
 use capn_explain::{MessageHead, SegmentsText};
 use capn_serve::Position;
-use capn_walk::Limits;
+use capn_walk::{Limits, Measured};
 use capn_words::{Memory, Space};
 use std::alloc::{Allocator, Global};
 use std::fmt;
@@ -72,7 +72,7 @@ fn account_by<S: Space, A: Allocator>(
     }
 }
 
-/// What is told of a message that is accepted and was measured within limits.
+/// What is told of a message that is accepted and was surveyed within limits.
 ///
 /// `Memory` comes only for a message of one segment that is not canonical, where a growth was refused. Memory: that of
 /// [`lines_of_measured`].
@@ -82,12 +82,13 @@ pub(crate) fn account_of<S: Space, A: Allocator + Copy>(
     at: Position,
     message: &S,
     limits: Limits,
-    measured: MeasuredBare,
+    surveyed: Measured,
 ) -> Result<Account<A>, Memory>
-    requires measured { IsMeasure (S.message message.now) limits measured }
+    requires surveyed { AreFigures (S.message message.now) limits surveyed }
     ensures found { IfOk result (λ account. IsAccount form at (S.message message.now) limits account) }
     ensures memory { IsErr result → Departs (S.message message.now) limits }
 {
+    let measured = measure_surveyed(message, limits, surveyed);
     let table = table_words(form, message);
     let lines = lines_of_measured(alloc, message, limits, measured, at.offset, table)?;
     Ok(account_by(at, message, measured, lines))

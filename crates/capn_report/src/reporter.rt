@@ -2,20 +2,19 @@
 
 ghost use Rattle.std.specs.Prelude.{◌≡◌, false, IfOk, IfErr, string_bytes};
 ghost use Rattle.capn_walk.specs.Accepted.{IsWalkRefused};
-ghost use Rattle.capn_canon.specs.Measure.{IsMeasure};
 ghost use Rattle.capn_serve.specs.declared.fault.ServeFault.TheVariants as faults;
 ghost use Rattle.capn_report.specs.Accounts.{account_text};
 ghost use Rattle.capn_report.specs.Reports as spec;
+ghost use Rattle.capn_report.specs.inner.Figures.{AreFigures};
 ghost use Rattle.capn_report.specs.Reports.{IsFirst, IsTold, Puts, PutsAccount, PutsText, ServesBy, TellsAccepted};
 
 use crate::account::{Account, account_of};
 use crate::explain::Explain;
 use crate::outcome::Outcome;
 use crate::table::table_words;
-use capn_canon::{MeasuredBare, measure};
 use capn_explain::{Told, explain_stop};
 use capn_serve::{Position, ServeFault, Service, flush_long, number_of};
-use capn_walk::Stopped;
+use capn_walk::{Measured, Stopped, survey_depth};
 use capn_words::{Memory, Space, Watched};
 use std::alloc::{Allocator, Global};
 use std::io::Write;
@@ -124,13 +123,13 @@ fn put_accepted<S: Space, A: Allocator + Copy>(
     order: &Explain,
     at: Position,
     message: &S,
-    measured: MeasuredBare,
+    surveyed: Measured,
     text: &mut Vec<u8, A>,
 ) -> Result<(), ServeFault>
-    requires measured { IsMeasure (S.message message.now) order.now.limits measured }
+    requires surveyed { AreFigures (S.message message.now) order.now.limits surveyed }
     ensures { PutsAccount order.now at (S.message message.now) text.old.items text.new.items result }
 {
-    match account_of(alloc, order.form, at, message, order.limits, measured) {
+    match account_of(alloc, order.form, at, message, order.limits, surveyed) {
         Ok(account) => put_account(alloc, &account, text),
         Err(_) => Err(ServeFault::Memory),
     }
@@ -142,15 +141,15 @@ fn first_of<S: Space, A: Allocator + Copy>(
     order: &Explain,
     at: Position,
     message: &S,
-    measured: MeasuredBare,
+    surveyed: Measured,
 ) -> Option<Result<Account<A>, Memory>>
-    requires measured { IsMeasure (S.message message.now) order.now.limits measured }
+    requires surveyed { AreFigures (S.message message.now) order.now.limits surveyed }
     ensures { IsFirst order.now.form at (S.message message.now) order.now.limits (spec.lines_first result) }
 {
     if 0 < at.index {
         return None;
     }
-    Some(account_of(alloc, order.form, at, message, order.limits, measured))
+    Some(account_of(alloc, order.form, at, message, order.limits, surveyed))
 }
 
 impl<B: Allocator> Reporter<B> {
@@ -189,25 +188,25 @@ impl<B: Allocator> Reporter<B> {
 }
 
 impl<B: Allocator + Copy> Reporter<B> {
-    /// Reports on a message that is accepted, by what was measured of it.
+    /// Reports on a message that is accepted, by what a survey found of it.
     fn report_accepted<S: Space, A: Allocator + Copy>(
         &mut self,
         alloc: A,
         at: Position,
         message: &S,
-        measured: MeasuredBare,
+        surveyed: Measured,
         text: &mut Vec<u8, A>,
     ) -> Result<(), ServeFault>
-        requires measured { IsMeasure (S.message message.now) self.old.order.limits measured }
+        requires surveyed { AreFigures (S.message message.now) self.old.order.limits surveyed }
         ensures { Puts (TellsAccepted self.old at (S.message message.now)) text.old.items text.new.items result
             self.new }
     {
         match self.order.number {
             Some(_) => {
-                put_accepted(alloc, &self.order, at, message, measured, text)?;
+                put_accepted(alloc, &self.order, at, message, surveyed, text)?;
                 self.outcome = Outcome::Accepted;
             }
-            None => self.first = first_of(self.alloc, &self.order, at, message, measured),
+            None => self.first = first_of(self.alloc, &self.order, at, message, surveyed),
         }
         Ok(())
     }
@@ -223,8 +222,8 @@ impl<B: Allocator + Copy> Reporter<B> {
         ensures { Puts (ServesBy false self.old at (S.message message.now)) text.old.items text.new.items result
             self.new }
     {
-        match measure(alloc, message, self.order.limits) {
-            Ok(measured) => self.report_accepted(alloc, at, message, measured, text),
+        match survey_depth(alloc, message, self.order.limits) {
+            Ok(surveyed) => self.report_accepted(alloc, at, message, surveyed, text),
             Err(stopped) => {
                 let told = told_of(alloc, &self.order, at, message, stopped)?;
                 put_bytes(text, &told.text)?;

@@ -12,7 +12,7 @@ pub returns-in-None : goal.returns-in-None
 returns-in-None g c =
     let kept = keeps_inside c.self.inside.order c.self.inside.outcome (lines_first c.self.inside.first)
     (lines_first c.first_of.result) c.args.self.now c.match-self-first_of.self c.self.view_is c.args.at
-    (g.S.Space.message c.args.message.now) c.args.text.now.items c.in-None.is c.requires.measured.checked.is.accepted
+    (g.S.Space.message c.args.message.now) c.args.text.now.items c.in-None.is c.requires.surveyed.survey.is.accepted
     c.first_of.ensures in
     elim c.match-self-first_of.branch [
       | in-Some+in-Ok+in-Capability-1 w ↦ kept w.self-is
