@@ -36,14 +36,15 @@ try:
 	@echo "capn $$(tr '\n' ' ' < $(PROGRAM)/args)"
 	@echo "in:"; od -An -v -tx1 -w8 $(PROGRAM)/stdin
 	@echo "out:"; cd $(PROGRAM) && rt try -- $$(cat args) < stdin | od -An -v -tx1 -w8
-	@echo "nothing was proved: this is not the proved program, which make run builds, in 10 to 30 minutes at first"
+	@echo "nothing was proved: this is not the proved program, which make run builds, in half an hour or more at first"
 
 # The program, proved and built: crates/capn/out/capn. What it needs is proved and nothing else, crate after crate,
-# each by as many processors as memory allows. All takes some 40 processor minutes, of which the longest chain has 25
-# (capn_words, value, target, walk, layout, canon, serve, tool, program, capn): crates side by side, with a processor
-# each, would take no less. More processors within a crate, or a shorter chain, would shorten it.
+# each by as many processors as memory allows. By kit 13b all takes some 70 processor minutes, of which the longest
+# chain has some 35 (capn_words, value, target, walk, layout, canon, serve, archive, program, capn): crates side by
+# side, with a processor each, would take no less. More processors within a crate shorten it, but take more minutes of
+# theirs in all; a shorter chain would shorten it, too.
 program:
-	@echo "proving and building capn: 10 to 30 minutes at first, less where an earlier check has left its work"
+	@echo "proving and building capn: half an hour or more at first, less where an earlier check has left its work"
 	@cd $(PROGRAM) && rt run -- $$(cat args) < stdin > /dev/null
 
 # Builds the proved program and shows its stored run: the bytes in and the bytes out.
