@@ -8,7 +8,7 @@ use anyhow::{Result, anyhow};
 use capn_archive::{run_archive, run_uniq};
 use capn_flow::{FlowFault, pack_stream, unpack_stream};
 use capn_make::{MakeFault, make, make_texts};
-use capn_program::{
+use capn_tool::{
     ArchiveFault, Flow, Order, RunFault, archive_text, order_of, pick_only, show_parts,
     status_of_archive,
 };

@@ -8,7 +8,7 @@ use crate::subject::{MOST, chain, limits};
 use crate::words::bytes_of;
 use capn_canon::{Form, Refusal, canonicalise, is_canonical};
 use capn_stream::{Framer, first, frame};
-use capn_tool::{Command, ToolFault};
+use capn_commands::{Command, ToolFault};
 use capn_walk::{Fault, walk};
 use capn_words::{Bare, Space};
 use std::alloc::{AllocError, Global};

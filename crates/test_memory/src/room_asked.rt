@@ -6,7 +6,7 @@ use crate::subject::limits;
 use crate::words::bytes_of;
 use capn_canon::Form;
 use capn_show::{Style, show_part};
-use capn_tool::Command;
+use capn_commands::Command;
 use capn_words::{Bare, Watched};
 use std::alloc::{AllocError, Global};
 use std::test::Fail;

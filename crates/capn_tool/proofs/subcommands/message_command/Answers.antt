@@ -2,7 +2,7 @@ use Rattle.std.proofs.Common.{◌≡◌, ap, ap₂, [], ◌∷◌, List, subst, 
 use Rattle.clap.specs.Words.{AddsArg, AddsInTurn, App, new_app, with_rule}
 use Rattle.clap.specs.declared.builder.arg.Arg.{Arg}
 use Rattle.capn_tool.specs.CommandLine.{HasLine, message_line}
-use Rattle.capn_tool.proofs.shared.CommandLines.{answers_options, with_options}
+use Rattle.capn_tool.proofs.CommandLines.{answers_options, with_options}
 use Rattle.capn_tool.proofs.subcommands.message_command.Goals as goal
 
 pub returns : goal.returns

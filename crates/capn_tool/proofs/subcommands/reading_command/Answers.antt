@@ -1,14 +1,9 @@
-use Rattle.std.proofs.Common.{ap, ◌∙◌, ◌≡◌, true}
-use Rattle.clap.specs.Words.{App, app_of}
-use Rattle.clap.specs.Simple.{app_of_fields}
-use Rattle.capn_tool.specs.CommandLine.{top_line}
+use Rattle.capn_tool.specs.CommandLine.{explain_line, show_line, top_line}
 use Rattle.capn_tool.proofs.subcommands.reading_command.Goals as goal
-
-abbrev required : App → App
-required a = record a { top = record a.top { subcommand_required = true } }
 
 pub returns : goal.returns
 returns c =
-    let top : app_of c.subcommand_required-top.result ≡ top_line = ap app_of_fields c.subcommand_required-top.ensures
-    ∙ ap required c.plain_command.ensures.app in
-    c.with_messages.ensures _ (c.with_messages-with_show.ensures top_line top)
+    c.with_command.ensures _ explain_line
+    (c.with_messages-with_check.ensures _
+    (c.with_command-with_show.ensures top_line show_line c.top_command.ensures c.show_command.ensures))
+    c.explain_command.ensures

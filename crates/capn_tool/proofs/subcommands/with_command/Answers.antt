@@ -2,7 +2,7 @@ use Rattle.std.proofs.Common.{◌≡◌}
 use Rattle.std.proofs.lemmas.Result.{IfOk-at_ok}
 use Rattle.clap.specs.Words.{app_of}
 use Rattle.capn_tool.specs.CommandLine.{HasLine}
-use Rattle.capn_tool.proofs.shared.CommandLines.{answers_command}
+use Rattle.capn_tool.proofs.CommandLines.{answers_command}
 use Rattle.capn_tool.proofs.subcommands.with_command.Goals as goal
 
 pub returns-in-Ok-command : goal.returns-in-Ok-command
