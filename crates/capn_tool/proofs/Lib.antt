@@ -1,4 +1,4 @@
-pub mod CommandLines
+pub mod Subcommands
 pub mod Entered
 pub mod ReadValues
 pub mod Written

@@ -202,7 +202,7 @@ pack_means rows o m = go o m (told (codes "pack", rows) o m)
 -- what `unpack` orders is over one input, without `--streaming`, or while bytes come in, without `--message-words`
 abbrev pub UnpackMeans : List Row → Type 0
 UnpackMeans rows =
-    ((c : Command) × Means (Some (codes "unpack", rows)) c × FlagIs rows (codes "streaming") false)
+    ((most : ℕ) × UnpackedIs rows most × FlagIs rows (codes "streaming") false)
     ⊎ (FlagIs rows (codes "streaming") true × IsUsual rows (codes "message-words"))
 
 pub unpack_means : (rows : List Row) (o : Order) → MeansOrder (Some (codes "unpack", rows)) o → UnpackMeans rows
@@ -215,7 +215,7 @@ unpack_means rows o m = go o m (told (codes "unpack", rows) o m)
     task tasks.Canonical e = omega arith
 
     go : (o : Order) → MeansOrder (Some (codes "unpack", rows)) o → 334 ≡ tell_of o → UnpackMeans rows
-    go (orders.Message (commands.Unpack k)) m e = inl (commands.Unpack k, m.0, m.1)
+    go (orders.Message (commands.Unpack k)) m e = inl (k, m.0.1, m.1)
     go (orders.Message commands.Pack) m e = absurd (omega arith)
     go (orders.Message (commands.Canonical f l)) m e = absurd (omega arith)
     go (orders.Message (commands.Show f l)) m e = absurd (omega arith)

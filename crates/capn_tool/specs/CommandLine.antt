@@ -1,5 +1,7 @@
 -- The command line: each subcommand with its options, their ranges and their usual values. (Own.)
-use Rattle.std.specs.Prelude.{ℕ, ◌≡◌, ◌-◌, ◌^◌, ℤ, pos, Some, codes, [], ◌∷◌, true, false}
+use Rattle.std.specs.Prelude.{ℕ, ◌≡◌, ◌-◌, ◌^◌, ℤ, pos, List, [], ◌∷◌, Some, codes, cond, true, false}
+use Rattle.std.specs.List.{list_any}
+use Rattle.std.specs.Str.{bytes_eq}
 use Rattle.capn_words.specs.Message.{most_message_words}
 use Rattle.capn_value.specs.Cost.{most_cost, most_height}
 use Rattle.clap.specs.Words.{App, Rule, Text, app_of, new_app, new_rule, with_rule, with_subcommand}
@@ -36,114 +38,13 @@ form_rule = usual_rule (codes "form") (codes "stream")
 abbrev pub tariff_rule : Rule
 tariff_rule = usual_rule (codes "tariff") (codes "strict")
 
--- a command has this line, and hands no option down to its subcommands
-abbrev pub HasLine : Command → App → Type 0
-HasLine command line = (app_of command ≡ line) × ((out-Command command).has_globals ≡ false)
-
--- a command over messages takes a form, three limits and a tariff
-abbrev pub message_line : Text → App
-message_line name =
-    with_rule (with_rule (with_rule (with_rule (with_rule (new_app name) form_rule) words_rule) budget_rule) depth_rule)
-    tariff_rule
-
--- an option of this name that takes no value
-abbrev pub flag_rule : Text → Rule
-flag_rule name = record (new_rule name) { long = Some name; action = Some actions.SetTrue }
-
--- whether a message that is refused is passed over
-abbrev pub keep_going_rule : Rule
-keep_going_rule = flag_rule (codes "keep-going")
-
--- whether canonical bytes are framed
-abbrev pub framed_rule : Rule
-framed_rule = flag_rule (codes "framed")
-
--- whether bytes are written while others come in
-abbrev pub streaming_rule : Rule
-streaming_rule = flag_rule (codes "streaming")
-
--- a command over an archive takes what one over messages takes, and `--keep-going`
-abbrev pub archive_line : Text → App
-archive_line name = with_rule (message_line name) keep_going_rule
-
--- such a command with one more option, which takes no value
-abbrev pub flagged_line : Text → Text → App
-flagged_line name option = with_rule (archive_line name) (flag_rule option)
-
--- `list` takes what such a command takes, and `--digest`
-abbrev pub list_line : App
-list_line = flagged_line (codes "list") (codes "digest")
-
--- `uniq` takes the same, and `--count`
-abbrev pub uniq_line : App
-uniq_line = flagged_line (codes "uniq") (codes "count")
-
 -- an option of this name that takes a value, and has none where it is not given
 abbrev pub asked_rule : Text → Rule
 asked_rule name = record (new_rule name) { long = Some name; value_names = 1 }
 
--- the way from the root to what is shown
-abbrev pub way_rule : Rule
-way_rule = asked_rule (codes "at")
-
--- whether lists of bytes that are texts are written so, and whether values are written in JSON
-abbrev pub text_rule : Rule
-text_rule = flag_rule (codes "text")
-
-abbrev pub json_rule : Rule
-json_rule = flag_rule (codes "json")
-
--- whether before each line stands the byte of what it is about, and whether the way to it does
-abbrev pub offsets_rule : Rule
-offsets_rule = flag_rule (codes "offsets")
-
-abbrev pub ways_rule : Rule
-ways_rule = flag_rule (codes "ways")
-
--- `show` with all but its marks takes what a command over messages takes, and `--at`, `--text` and `--json`
-abbrev pub unmarked_line : App
-unmarked_line = with_rule (with_rule (with_rule (message_line (codes "show")) way_rule) text_rule) json_rule
-
--- `show` takes these, and `--offsets` and `--ways`
-abbrev pub show_line : App
-show_line = with_rule (with_rule unmarked_line offsets_rule) ways_rule
-
--- `canonical` takes what a command over messages takes, and `--framed` and `--keep-going`
-abbrev pub canonical_line : App
-canonical_line = with_rule (with_rule (message_line (codes "canonical")) framed_rule) keep_going_rule
-
--- the number of the message that is explained
-abbrev pub explained_rule : Rule
-explained_rule = asked_rule (codes "number")
-
--- `explain` takes what a command over messages takes, and `--number`
-abbrev pub explain_line : App
-explain_line = with_rule (message_line (codes "explain")) explained_rule
-
--- the program, which needs a subcommand and has a version
-abbrev pub top_line : App
-top_line =
-    let a = new_app (codes "capn") in
-    record a { top = record a.top { subcommand_required = true; has_version = true } }
-
--- the program with the commands that show what messages hold and cost, and why one is refused
-abbrev pub reading_line : App
-reading_line =
-    let with_show = with_subcommand top_line show_line.top in
-    let with_check = with_subcommand with_show (message_line (codes "check")).top in
-    with_subcommand with_check explain_line.top
-
--- the same with those that show what an archive holds and needs
-abbrev pub surveying_line : App
-surveying_line =
-    let with_list = with_subcommand reading_line list_line.top in
-    with_subcommand with_list (archive_line (codes "limits")).top
-
--- the same with those that make bytes of values
-abbrev pub canonical_bytes_line : App
-canonical_bytes_line =
-    let with_canonical = with_subcommand surveying_line canonical_line.top in
-    with_subcommand with_canonical (message_line (codes "hash")).top
+-- an option of this name that takes no value
+abbrev pub flag_rule : Text → Rule
+flag_rule name = record (new_rule name) { long = Some name; action = Some actions.SetTrue }
 
 -- the greatest number of a message
 abbrev pub most_number : ℕ
@@ -153,40 +54,76 @@ most_number = 2 ^ 64 - 1
 abbrev pub place_rule : Text → Text → Rule
 place_rule name usual = record (usual_rule name usual) { parser = Some (parsers.Unsigned 1 most_number) }
 
--- the list of what is picked
-abbrev pub only_rule : Rule
-only_rule = asked_rule (codes "only")
+-- a command has this line, and hands no option down to its subcommands
+abbrev pub HasLine : Command → App → Type 0
+HasLine command line = (app_of command ≡ line) × ((out-Command command).has_globals ≡ false)
 
--- `pick` takes a form, the words of a message, the numbers of the first and of the last message, and a list
-abbrev pub pick_line : App
-pick_line =
-    with_rule
-    (with_rule
-    (with_rule (with_rule (with_rule (new_app (codes "pick")) form_rule) words_rule)
-    (place_rule (codes "from") (codes "1")))
-    (place_rule (codes "to") (codes "18446744073709551615")))
-    only_rule
+-- the commands over messages that take limits
+abbrev pub limited : List Text
+limited = codes "show" ∷ codes "check" ∷ codes "explain" ∷ codes "list" ∷ codes "limits" ∷ codes "canonical"
+    ∷ codes "hash" ∷ codes "uniq" ∷ []
 
--- the program with all commands over messages
-abbrev pub messages_line : App
-messages_line = with_subcommand (with_subcommand canonical_bytes_line uniq_line.top) pick_line.top
+-- each option, and the commands that take it: where an option is there twice, help says two things of it
+abbrev pub options : List (Rule × List Text)
+options = (
+  form_rule,
+  codes "show" ∷ codes "check" ∷ codes "explain" ∷ codes "list" ∷ codes "limits" ∷ codes "hash"
+      ∷ codes "uniq" ∷ [],
+)
+    ∷ (form_rule, codes "canonical" ∷ [])
+    ∷ (form_rule, codes "pick" ∷ [])
+    ∷ (form_rule, codes "make" ∷ [])
+    ∷ (words_rule, limited)
+    ∷ (words_rule, codes "pick" ∷ [])
+    ∷ (words_rule, codes "unpack" ∷ [])
+    ∷ (budget_rule, limited)
+    ∷ (depth_rule, limited)
+    ∷ (tariff_rule, limited)
+    ∷ (asked_rule (codes "at"), codes "show" ∷ [])
+    ∷ (flag_rule (codes "text"), codes "show" ∷ [])
+    ∷ (flag_rule (codes "json"), codes "show" ∷ [])
+    ∷ (flag_rule (codes "offsets"), codes "show" ∷ [])
+    ∷ (flag_rule (codes "ways"), codes "show" ∷ [])
+    ∷ (asked_rule (codes "number"), codes "explain" ∷ [])
+    ∷ (flag_rule (codes "framed"), codes "canonical" ∷ [])
+    ∷ (flag_rule (codes "keep-going"), codes "list" ∷ codes "limits" ∷ codes "uniq" ∷ [])
+    ∷ (flag_rule (codes "keep-going"), codes "canonical" ∷ [])
+    ∷ (flag_rule (codes "digest"), codes "list" ∷ [])
+    ∷ (flag_rule (codes "count"), codes "uniq" ∷ [])
+    ∷ (place_rule (codes "from") (codes "1"), codes "pick" ∷ [])
+    ∷ (place_rule (codes "to") (codes "18446744073709551615"), codes "pick" ∷ [])
+    ∷ (asked_rule (codes "only"), codes "pick" ∷ [])
+    ∷ (flag_rule (codes "text"), codes "make" ∷ [])
+    ∷ (flag_rule (codes "streaming"), codes "pack" ∷ [])
+    ∷ (flag_rule (codes "streaming"), codes "unpack" ∷ [])
+    ∷ []
 
--- `make` takes the form of what it writes, and `--text`
-abbrev pub make_line : App
-make_line = with_rule (with_rule (new_app (codes "make")) form_rule) text_rule
+-- the commands
+abbrev pub commands : List Text
+commands = codes "show" ∷ codes "check" ∷ codes "explain" ∷ codes "list" ∷ codes "limits" ∷ codes "canonical"
+    ∷ codes "hash" ∷ codes "uniq" ∷ codes "pick" ∷ codes "pack" ∷ codes "unpack" ∷ codes "make" ∷ []
 
--- `pack` takes `--streaming`
-abbrev pub pack_line : App
-pack_line = with_rule (new_app (codes "pack")) streaming_rule
+-- a line with those of some options more that the command of this name takes
+abbrev pub with_options : Text → App → List (Rule × List Text) → App
+with_options name line [] = line
+with_options name line (option ∷ rest) =
+    with_options name (cond (list_any (λ command. bytes_eq command name) option.1) (with_rule line option.0) line) rest
 
--- `unpack` takes the words of a message, and `--streaming`
-abbrev pub unpack_line : App
-unpack_line = with_rule (with_rule (new_app (codes "unpack")) words_rule) streaming_rule
+-- the line of the command of this name
+abbrev pub line_of : Text → App
+line_of name = with_options name (new_app name) options
 
--- the same with the commands over bytes
-abbrev pub bytes_line : App
-bytes_line = with_subcommand (with_subcommand messages_line pack_line.top) unpack_line.top
+-- the program, which needs a subcommand and has a version
+abbrev pub top_line : App
+top_line =
+    let a = new_app (codes "capn") in
+    record a { top = record a.top { subcommand_required = true; has_version = true } }
+
+-- a program with some commands more
+abbrev pub with_commands : App → List Text → App
+with_commands top [] = top
+with_commands top (name ∷ rest) = with_commands (with_subcommand top (line_of name).top) rest
 
 -- the whole command line
 abbrev pub program_line : App
-program_line = with_subcommand bytes_line make_line.top
+program_line = with_commands top_line commands

@@ -1,2 +1,3 @@
 -- What no public clause cites.
 pub mod Styles
+pub mod OptionRows

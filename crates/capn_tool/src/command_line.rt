@@ -1,8 +1,8 @@
 //! The order given by the words of the command line.
 
-ghost use Rattle.std.specs.Prelude.{◌≡◌, true, codes, map};
+ghost use Rattle.std.specs.Prelude.{◌≡◌, [], true, codes, map};
 ghost use Rattle.std.specs.Prelude.{IfErr, IfOk, IfSome, IsSome, Some};
-ghost use Rattle.clap.specs.Words.{Text, found_of, kind_of, rows_of, subcommand_of, takes};
+ghost use Rattle.clap.specs.Words.{Text, fault_of, found_of, kind_of, rows_of, subcommand_of, takes};
 ghost use Rattle.capn_tool.specs.Usage.{error_of, IsReason, Orders};
 ghost use Rattle.capn_archive.specs.declared.task.ArchiveOrder.{ArchiveOrder};
 ghost use Rattle.capn_archive.specs.declared.uniq_order.UniqOrder.{UniqOrder};
@@ -235,6 +235,8 @@ pub fn order_of<'a, S: AsStr>(alloc: Global, words: &'a [S]) -> Result<Order<'a>
     // Where the words are taken and mean an order, that order is given, unless memory is refused.
     ensures only { takes program_line (map S.text words.now) ≡ true → (order : Order)
         → MeansOrder (subcommand_of program_line (map S.text words.now)) order → Orders order result }
+    // Where one is given no step of the parser fails.
+    ensures passes { IfOk result (λ _. fault_of program_line (map S.text words.now) ≡ []) }
     // Where none is given, the kind of the answer is a reason why the words order nothing.
     ensures reason { IfErr result (λ usage. IsReason (map S.text words.now) (kind_of (error_of usage))) }
 {

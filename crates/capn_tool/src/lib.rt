@@ -30,6 +30,7 @@ mod messages_help;
 mod mistakes;
 mod only_run;
 mod option_help;
+mod option_rows;
 mod option_values;
 mod options;
 mod order;

@@ -35,6 +35,11 @@ pub returns-in-Some-named-clause-only : goal.returns-in-Some-named-clause-only
 returns-in-Some-named-clause-only g c taken order means =
     means_one_order _ c.in-Some-named.order order (returns-in-Some-named-clause-means g c) means
 
+pub returns-in-Some-named-clause-passes : goal.returns-in-Some-named-clause-passes
+returns-in-Some-named-clause-passes g c =
+    subst (λ (a : App). is_simple_and_free a ≡ true → fault_of a (map g.S.AsStr.text c.args.words.now) ≡ [])
+    c.in_ok-tool.ensures c.in_ok-matches.ensures.kinds refl
+
 -- if the error of clap says that memory ran out, that is reported
 told_memory : (order : Order) (e : Error) (r : Result Order Usage) → kind_of e ≡ kinds.OutOfMemory
     → IsErr r × IsErrAnd r (λ usage. error_of usage ≡ e) → Orders order r

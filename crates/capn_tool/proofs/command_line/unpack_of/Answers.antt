@@ -6,6 +6,13 @@ use Rattle.capn_tool.proofs.command_line.unpack_of.Goals as goal
 pub returns-in_err-flag_of-clause-served : goal.returns-in_err-flag_of-clause-served
 returns-in_err-flag_of-clause-served c order means =
     absurd (elim (unpack_means (rows_of (found_of c.args.matches.now)) order means) [
-      | inl (command, is, given) ↦ (let bad : false ≡ true = c.in_err-flag_of.ensures.served false given in cc)
+      | inl (most, are, given) ↦ (let bad : false ≡ true = c.in_err-flag_of.ensures.served false given in cc)
       | inr (given, usual) ↦ (let bad : false ≡ true = c.in_err-flag_of.ensures.served true given in cc)
+    ])
+
+pub returns-in_err-unpacked_words_of-clause-served : goal.returns-in_err-unpacked_words_of-clause-served
+returns-in_err-unpacked_words_of-clause-served c order means =
+    absurd (elim (unpack_means (rows_of (found_of c.args.matches.now)) order means) [
+      | inl (most, are, given) ↦ (let bad : false ≡ true = c.in_err-unpacked_words_of.ensures.served most are in cc)
+      | inr (given, usual) ↦ ?
     ])
