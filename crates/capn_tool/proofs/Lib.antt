@@ -1,4 +1,4 @@
-pub mod Subcommands
+pub mod CommandLines
 pub mod Entered
 pub mod ReadValues
 pub mod Written
@@ -8,7 +8,7 @@ pub mod NamedOrders
 pub mod WorkedLines
 pub mod Carried
 pub mod Shown
-pub mod Unordered
+pub mod UnorderedEnds
 pub mod Sources
 pub mod Ways
 pub mod RangeLists
