@@ -1,3 +1,3 @@
 -- What no public clause cites.
 pub mod Styles
-pub mod OptionRows
+pub mod Rows

@@ -14,13 +14,13 @@
 //! ```
 #![tactic(auto)]
 
+mod archive_faults;
 mod archives_help;
 mod bytes_help;
 mod command_line;
 mod command_order;
 mod endings;
 mod explain_options;
-mod fault_text;
 mod flushed_runs;
 mod help;
 mod input_options;
@@ -30,7 +30,6 @@ mod messages_help;
 mod mistakes;
 mod only_run;
 mod option_help;
-mod option_rows;
 mod option_values;
 mod options;
 mod order;
@@ -38,16 +37,17 @@ mod output;
 mod part_run;
 mod program_run;
 mod range_list;
+mod rows;
 mod show_options;
 mod subcommands;
 mod unordered;
 mod usage;
 mod way;
 
+pub use archive_faults::archive_text;
 pub use command_line::order_of;
 pub use command_order::command_of;
 pub use endings::{end_archive, end_flow, end_make, end_pick, status_of_archive};
-pub use fault_text::archive_text;
 pub use only_run::pick_only;
 pub use order::{Flow, Make, Only, Order, Show};
 pub use part_run::show_parts;

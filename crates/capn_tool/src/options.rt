@@ -2,9 +2,9 @@
 
 ghost use Rattle.std.specs.Prelude.{◌≡◌, false};
 ghost use Rattle.clap.specs.Words.{rule_of};
-ghost use Rattle.capn_tool.specs.inner.OptionRows.{rule_of_row};
+ghost use Rattle.capn_tool.specs.inner.Rows.{rule_of_row};
 
-use crate::option_rows::{OptionRow, Taken};
+use crate::rows::{OptionRow, Taken};
 use clap::builder::ValueParser;
 use clap::{Arg, ArgAction};
 use std::alloc::Global;

@@ -1,37 +1,18 @@
 //! The subcommands, with their options and their help.
 
-ghost use Rattle.std.specs.Prelude.{◌≡◌, IfOk, IsTrue, ◌↔◌, false, true};
-ghost use Rattle.clap.specs.Words.{App, Text, app_of, kind_of, new_app, with_subcommand};
+ghost use Rattle.std.specs.Prelude.{◌≡◌, IfOk, false};
+ghost use Rattle.clap.specs.Words.{App, app_of, kind_of, new_app};
 ghost use Rattle.clap.specs.declared.builder.command.Command.TheViews.{out-Command};
 ghost use Rattle.clap.specs.declared.error.ErrorKind.{ErrorKind};
 ghost use Rattle.capn_tool.specs.CommandLine.{HasLine, line_of, program_line, top_line, with_commands};
-ghost use Rattle.capn_tool.specs.inner.OptionRows.{is_taken, texts_of, with_rows};
+ghost use Rattle.capn_tool.specs.inner.Rows.{is_taken, texts_of, with_rows};
 
 use crate::help::{self, Page};
-use crate::option_rows::{COMMANDS, OPTIONS, OptionRow};
 use crate::options::option_of;
-use crate::{archives_help, bytes_help, messages_help};
+use crate::rows::{COMMANDS, OPTIONS, OptionRow, page_of};
 use clap::Command;
 use clap::error::ErrorKind;
 use std::alloc::{AllocError, Global};
-
-/// The page of help of a command.
-fn page_of(name: &str) -> Page {
-    match name {
-        "show" => messages_help::SHOW,
-        "check" => messages_help::CHECK,
-        "explain" => messages_help::EXPLAIN,
-        "list" => archives_help::LIST,
-        "limits" => archives_help::LIMITS,
-        "canonical" => archives_help::CANONICAL,
-        "uniq" => archives_help::UNIQ,
-        "pick" => archives_help::PICK,
-        "pack" => bytes_help::PACK,
-        "unpack" => bytes_help::UNPACK,
-        "make" => bytes_help::MAKE,
-        _ => messages_help::HASH,
-    }
-}
 
 /// A command of this name without options, with its page of help.
 fn plain_command<'a>(alloc: Global, name: &'a str, page: Page) -> Command<'a>

@@ -3,7 +3,7 @@ use Rattle.std.proofs.lemmas.List.{drop_more}
 use Rattle.std.proofs.lemmas.Result.{IfOk-at_ok}
 use Rattle.clap.specs.Words.{App, Text, app_of, with_subcommand}
 use Rattle.capn_tool.specs.CommandLine.{line_of, with_commands}
-use Rattle.capn_tool.specs.inner.OptionRows.{texts_of}
+use Rattle.capn_tool.specs.inner.Rows.{texts_of}
 use Rattle.capn_tool.proofs.CommandLines.{answers_command}
 use Rattle.capn_tool.proofs.subcommands.with_commands.Goals as goal
 

@@ -1,7 +1,7 @@
 use Rattle.std.proofs.Common.{◌≡◌, drop}
 use Rattle.clap.specs.Words.{app_of}
 use Rattle.capn_tool.specs.CommandLine.{with_commands}
-use Rattle.capn_tool.specs.inner.OptionRows.{texts_of}
+use Rattle.capn_tool.specs.inner.Rows.{texts_of}
 use Rattle.capn_tool.proofs.subcommands.with_commands.Given as goal
 
 abbrev pub invariant-loop-name : goal.invariant-loop-name

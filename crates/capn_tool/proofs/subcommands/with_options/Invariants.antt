@@ -1,7 +1,7 @@
 use Rattle.std.proofs.Common.{◌≡◌, false, drop}
 use Rattle.clap.specs.Words.{app_of}
 use Rattle.clap.specs.declared.builder.command.Command.TheViews.{out-Command}
-use Rattle.capn_tool.specs.inner.OptionRows.{with_rows}
+use Rattle.capn_tool.specs.inner.Rows.{with_rows}
 use Rattle.capn_tool.proofs.subcommands.with_options.Given as goal
 
 abbrev pub invariant-loop-row : goal.invariant-loop-row

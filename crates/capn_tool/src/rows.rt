@@ -1,6 +1,7 @@
-//! The options of all commands, a row for each.
+//! The commands and their options, a row for each.
 
-use crate::option_help;
+use crate::help::Page;
+use crate::{archives_help, bytes_help, messages_help, option_help};
 use capn_value::{MOST_COST, MOST_HEIGHT};
 use capn_words::MOST_MESSAGE_WORDS;
 
@@ -66,6 +67,24 @@ pub const COMMANDS: [&str; 12] = [
     "unpack",
     "make",
 ];
+
+/// The page of help of a command.
+pub(crate) fn page_of(name: &str) -> Page {
+    match name {
+        "show" => messages_help::SHOW,
+        "check" => messages_help::CHECK,
+        "explain" => messages_help::EXPLAIN,
+        "list" => archives_help::LIST,
+        "limits" => archives_help::LIMITS,
+        "canonical" => archives_help::CANONICAL,
+        "uniq" => archives_help::UNIQ,
+        "pick" => archives_help::PICK,
+        "pack" => bytes_help::PACK,
+        "unpack" => bytes_help::UNPACK,
+        "make" => bytes_help::MAKE,
+        _ => messages_help::HASH,
+    }
+}
 
 /// The options. Help lists those of a command in this order.
 pub const OPTIONS: [OptionRow; 27] = [
