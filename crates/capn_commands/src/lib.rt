@@ -2,9 +2,9 @@
 //! Each run goes from all of the input to all of the output.
 //!
 //! [`run`] carries a [`Command`] out: it writes exactly the text for its input, and its outcome says how it ended;
-//! [`status`] and [`fault_text`] are the exit status and the text for the user, and [`end`] writes that. `show`, `check`
-//! and `hash` take one bare message, or the messages of a stream, packed or not, as they come in; `canonical` takes one
-//! message in any of the three forms.
+//! [`status`] and [`fault_text`] are the exit status and the text for the user, and [`end`] writes that. `show`,
+//! `check` and `hash` take one bare message, or the messages of a stream, packed or not, as they come in; `canonical`
+//! takes one message in any of the three forms.
 //!
 //! ```text
 //! let command = Command::Canonical(Form::Bare, Limits::usual());

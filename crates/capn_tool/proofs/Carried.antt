@@ -3,7 +3,7 @@ use Rattle.std.proofs.Common.{◌≡◌, ◌⊎◌, ◌↔◌, inl, inr, ℕ, Li
 use Rattle.std.proofs.Common.{Ok, Err, IfSome, IsErrOf, refl, sym, subst, ◌∙◌}
 use Rattle.std.specs.Io.KnownBytes.{Keeps}
 use Rattle.capn_tool.specs.Flushed.{CarriesOut, EndsFlushed}
-use Rattle.capn_commands.specs.Program.{EndsByText}
+use Rattle.capn_tool.specs.Flushed.{EndsByText}
 use Rattle.capn_tool.specs.Course.{course}
 use Rattle.capn_commands.specs.CommandRun.{KeepsUp, PlanKeepsUp}
 use Rattle.capn_commands.specs.Plan.{plan_of}
@@ -74,8 +74,8 @@ abbrev InRun : Bool → Bool → Type 0
 InRun unread old = (unread ≡ true) ⊎ (old ≡ true)
 
 -- it ends with Io exactly where the run did, or the run was done and the flush failed
-io : (r s : Ending) (unread old new : Bool) → EndsFlushed faults.Io r old new s → (IsErrOf r faults.Io ↔ InRun unread old)
-    → IsErrOf s faults.Io ↔ (InRun unread old ⊎ ((r ≡ Ok tt) × (new ≡ true)))
+io : (r s : Ending) (unread old new : Bool) → EndsFlushed faults.Io r old new s
+    → (IsErrOf r faults.Io ↔ InRun unread old) → IsErrOf s faults.Io ↔ (InRun unread old ⊎ ((r ≡ Ok tt) × (new ≡ true)))
 io (Ok u) s unread old new (inl (is, same)) g = (
   λ bad. absurd (let no : Ok u ≡ Err faults.Io = sym is ∙ bad in cc),
   λ h. elim h [

@@ -4,7 +4,7 @@ use Rattle.std.proofs.Common.{arith, refl, sym, ap, ℕ, ◌==◌, ◌||◌}
 use Rattle.clap.specs.Words.{Row, Text, first_of}
 use Rattle.capn_walk.specs.Limits.{Bounds}
 use Rattle.capn_canon.specs.declared.form.Form.{Form}
-use Rattle.capn_tool.specs.OptionValues.{FormIs, LimitsAre, FlagIs, IsUsual}
+use Rattle.capn_tool.specs.OptionValues.{FlagIs, FormIs, IsUsual, LimitsAre, UnpackedIs}
 use Rattle.capn_tool.specs.Meaning.{Means, AreOptions, ExplainIs, IsTask, MeansOrder, OnlyIs, PickIs, MarksAre, StyleIs}
 use Rattle.capn_tool.specs.Meaning.{WayIs, is_plain}
 use Rattle.capn_commands.specs.declared.command.Command.{Command}

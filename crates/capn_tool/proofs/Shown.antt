@@ -21,8 +21,8 @@ abbrev stopped : ToolFault → Ending
 stopped fault = Err fault
 
 -- the writer failed within a text of help
-pub help_not_shown : (c d : Option (List ℕ)) (failed : Bool) (text : List ℕ) (fault : ToolFault) (r : Ending) → IsHelp text
-    → HasBegun c d text → (IsErrOf (stopped fault) faults.Io ↔ (failed ≡ true)) → fault ≡ faults.Io
+pub help_not_shown : (c d : Option (List ℕ)) (failed : Bool) (text : List ℕ) (fault : ToolFault) (r : Ending)
+    → IsHelp text → HasBegun c d text → (IsErrOf (stopped fault) faults.Io ↔ (failed ≡ true)) → fault ≡ faults.Io
     → IsErr r × IsErrAnd r (λ e. e ≡ fault) → ShowsHelp (course c d failed) r
 help_not_shown c d failed text fault (Ok u) help begun io is (is_err, same) = absurd same
 help_not_shown c d failed text fault (Err e) help begun io is (is_err, same) =
@@ -48,6 +48,7 @@ version_not_shown c d failed fault (Err e) begun io is (is_err, same) = rw (same
 pub version_shown : (c m d : Option (List ℕ)) (old new : Bool) (r : Ending) → Appends c m version_line
     → (IsErrOf done faults.Io ↔ (old ≡ true)) → Keeps m d → EndsFlushed faults.Io done old new r
     → ShowsVersion (course c d new) r
-version_shown c m d old new r written io k (inl (is, same)) = rw is (kept c m d version_line k written, same ∙ sound old io)
+version_shown c m d old new r written io k (inl (is, same)) =
+    rw is (kept c m d version_line k written, same ∙ sound old io)
 version_shown c m d old new r written io k (inr (is, failed)) =
     rw is (begun_all c d version_line (kept c m d version_line k written), failed)

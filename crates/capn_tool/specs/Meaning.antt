@@ -137,8 +137,8 @@ ShowIs rows show = FormIs rows show.form × LimitsAre rows show.limits × StyleI
     × MarksAre rows show.style show.offsets show.ways
     × WayIs rows (is_plain show.style show.offsets show.ways) show.way
 
--- the subcommand of this name is that of this command over messages or bytes, and the options that it shares with others
--- have these values
+-- the subcommand of this name is that of this command over messages or bytes, and the options that it shares with
+-- others have these values
 abbrev pub Means : Option (Text × List Row) → Command → Type 0
 Means None command = ⊥
 Means (Some s) (commands.Show form limits) = (s.0 ≡ codes "show") × FormIs s.1 form × LimitsAre s.1 limits

@@ -48,8 +48,8 @@ IsReason words kind = (kind ≡ kinds.OutOfMemory) ⊎ (IsAmong kind (fault_of p
     ⊎ ((fault_of program_line words ≡ []) × (kind ≡ kinds.InvalidValue)
     × ((order : Order) → MeansOrder (subcommand_of program_line words) order → ⊥)))
 
--- a reason of this kind why the words name none of the six commands over messages and bytes: one why they order nothing;
--- or no step of the parser fails, and they mean another order
+-- a reason of this kind why the words name none of the six commands over messages and bytes: one why they order
+-- nothing; or no step of the parser fails, and they mean another order
 abbrev pub IsNoCommand : List Text → ErrorKind → Type 0
 IsNoCommand words kind = IsReason words kind
     ⊎ ((fault_of program_line words ≡ []) × (kind ≡ kinds.InvalidSubcommand)

@@ -4,8 +4,8 @@
 //! [`program`] is all of it, from the words of the command line to the exit status, over any reader and writers.
 //! [`order_of`] reads the words. They order a command of [`capn_commands`]; that messages, or parts of them, are shown
 //! in a style, by [`show_parts`]; that a message is explained, by [`capn_report`]; a run over an archive, which is a
-//! stream of messages of any length, by [`capn_archive`] or [`capn_serve`]; that bytes are packed or unpacked while they
-//! come in, by [`capn_flow`]; or that messages are made from texts, by [`capn_make`]. [`end`], [`end_archive`],
+//! stream of messages of any length, by [`capn_archive`] or [`capn_serve`]; that bytes are packed or unpacked while
+//! they come in, by [`capn_flow`]; or that messages are made from texts, by [`capn_make`]. [`end`], [`end_archive`],
 //! [`end_pick`], [`end_flow`] and [`end_make`] report how such a run ended. [`command_of`] reads the words where they
 //! order a command of [`capn_commands`], and [`run`] carries it out.
 //!
@@ -29,7 +29,7 @@ mod message_number;
 mod messages_help;
 mod mistakes;
 mod only_run;
-mod option_help;
+mod option_mistakes;
 mod option_values;
 mod options;
 mod order;

@@ -6,7 +6,7 @@ ghost use Rattle.clap.specs.declared.error.ErrorKind.TheVariants as kinds;
 ghost use Rattle.capn_tool.specs.Usage.{error_of};
 
 use crate::input_options::{form_of, limits_of};
-use crate::option_help;
+use crate::option_mistakes;
 use crate::option_values::{flag_of, stream_form_of, text_in};
 use crate::range_list::is_range_list;
 use crate::subcommands::mistake;
@@ -20,17 +20,17 @@ use std::alloc::Global;
 /// what goes without that.
 fn said_of_pick(matches: &ArgMatches) -> &'static str {
     if stream_form_of(matches).is_none() {
-        return option_help::NO_FRAMED_FORM;
+        return option_mistakes::NO_FRAMED_FORM;
     }
     match text_in(matches, "only") {
         Some(list) => {
             if is_range_list(list) {
-                option_help::WITHOUT_FROM_AND_TO
+                option_mistakes::WITHOUT_FROM_AND_TO
             } else {
-                option_help::NO_LIST
+                option_mistakes::NO_LIST
             }
         }
-        None => option_help::NO_FRAMED_FORM,
+        None => option_mistakes::NO_FRAMED_FORM,
     }
 }
 
@@ -40,14 +40,14 @@ fn said_of_show(matches: &ArgMatches) -> &'static str {
     match text_in(matches, "at") {
         Some(way) => {
             if !is_way(way) {
-                return option_help::NO_WAY;
+                return option_mistakes::NO_WAY;
             }
         }
         None => {}
     }
     match flag_of(matches, "offsets") {
-        Some(true) => option_help::WITHOUT_OFFSETS,
-        _ => option_help::WITHOUT_WAYS,
+        Some(true) => option_mistakes::WITHOUT_OFFSETS,
+        _ => option_mistakes::WITHOUT_WAYS,
     }
 }
 
@@ -59,18 +59,18 @@ fn said_of(name: &str, matches: &ArgMatches) -> &'static str {
         return said_of_pick(matches);
     }
     if name == "unpack" {
-        return option_help::WITHOUT_MESSAGE_WORDS;
+        return option_mistakes::WITHOUT_MESSAGE_WORDS;
     }
     if form_of(matches).is_none() {
-        return option_help::NO_SUCH_FORM;
+        return option_mistakes::NO_SUCH_FORM;
     }
     if limits_of(matches).is_none() {
-        return option_help::NO_SUCH_TARIFF;
+        return option_mistakes::NO_SUCH_TARIFF;
     }
     match name {
         "show" => said_of_show(matches),
-        "explain" => option_help::NO_NUMBER,
-        _ => option_help::ONLY_FRAMED,
+        "explain" => option_mistakes::NO_NUMBER,
+        _ => option_mistakes::ONLY_FRAMED,
     }
 }
 
@@ -78,7 +78,7 @@ fn said_of(name: &str, matches: &ArgMatches) -> &'static str {
 fn mistake_of<'a>(matches: &'a ArgMatches) -> (&'a str, &'static str) {
     match matches.subcommand() {
         Some((name, found)) => (name, said_of(name, found)),
-        None => ("", option_help::NO_SUCH_FORM),
+        None => ("", option_mistakes::NO_SUCH_FORM),
     }
 }
 
@@ -101,7 +101,7 @@ pub(crate) fn no_command(alloc: Global) -> Usage
         alloc,
         ErrorKind::InvalidSubcommand,
         "capn",
-        option_help::NO_COMMAND,
+        option_mistakes::NO_COMMAND,
     ) {
         Ok(error) => error.into(),
         Err(error) => error.into(),

@@ -77,7 +77,8 @@ pub(crate) fn number_in(matches: &ArgMatches, id: &str, least: u64, most: u64) -
 /// The form of a stream that `--form` names, if it names one.
 pub(crate) fn stream_form_of(matches: &ArgMatches) -> Option<StreamForm>
     ensures named { IfSome result (λ form. FormIs (rows_of (found_of matches.now)) (meaning.form_of form)) }
-    ensures served { (form : StreamForm) → FormIs (rows_of (found_of matches.now)) (meaning.form_of form) → IsSome result }
+    ensures served { (form : StreamForm) → FormIs (rows_of (found_of matches.now)) (meaning.form_of form)
+        → IsSome result }
 {
     match form_of(matches)? {
         Form::Stream => Some(StreamForm::Stream),

@@ -55,7 +55,8 @@ fn with_options<'a>(
     command: Command<'a>,
     rows: &[OptionRow],
 ) -> Result<Command<'a>, AllocError>
-    ensures { (line : App) → HasLine command.entry line → IfOk result (λ c. HasLine c (with_rows name.now line rows.now)) }
+    ensures { (line : App) → HasLine command.entry line
+        → IfOk result (λ c. HasLine c (with_rows name.now line rows.now)) }
 {
     let mut command = command;
     for row in rows {

@@ -70,8 +70,8 @@ fn tell_mistake<E: Write>(alloc: Global, usage: &Usage, errors: &mut Watched<E>)
     tell_said(usage.text(alloc), errors);
 }
 
-/// Ends where the words of the command line order nothing, and answers the exit status. Help and the version are written
-/// to the writer, and what is said of a mistake, or the line of refused memory, to `errors`.
+/// Ends where the words of the command line order nothing, and answers the exit status. Help and the version are
+/// written to the writer, and what is said of a mistake, or the line of refused memory, to `errors`.
 pub(crate) fn end_unordered<W: Write, E: Write>(
     alloc: Global,
     usage: &Usage,

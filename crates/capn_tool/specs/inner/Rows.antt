@@ -28,7 +28,8 @@ is_taken name row = list_any (λ command. bytes_eq command.now name) row.command
 -- a line with the options of some rows more, those that the command of this name takes
 abbrev pub with_rows : Text → App → List OptionRow → App
 with_rows name line [] = line
-with_rows name line (row ∷ rest) = with_rows name (cond (is_taken name row) (with_rule line (rule_of_row row)) line) rest
+with_rows name line (row ∷ rest) =
+    with_rows name (cond (is_taken name row) (with_rule line (rule_of_row row)) line) rest
 
 -- the texts of names
 abbrev pub texts_of : List (Bor Text) → List Text

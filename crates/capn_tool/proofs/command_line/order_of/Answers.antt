@@ -8,7 +8,7 @@ use Rattle.capn_tool.specs.declared.usage.Usage.{Usage}
 use Rattle.capn_tool.specs.declared.order.Order.{Order}
 use Rattle.capn_tool.specs.Meaning.{MeansOrder}
 use Rattle.capn_tool.specs.CommandLine.{program_line}
-use Rattle.capn_commands.specs.Usage.{NeedsMemory}
+use Rattle.capn_tool.specs.Usage.{NeedsMemory}
 use Rattle.capn_tool.specs.Usage.{error_of, IsReason, Orders}
 use Rattle.capn_tool.proofs.OneOrder.{means_one_order}
 use Rattle.capn_tool.proofs.Entered.{entered, not_entered}

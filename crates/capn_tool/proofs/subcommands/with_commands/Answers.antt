@@ -12,7 +12,8 @@ blank = record { ref_ptr = (0, 0); now = [] }
 
 -- a program with the command of the next name
 step : (names : List (Bor Text)) (i : ℕ) (top new whole : App) → i < length names
-    → with_commands top (texts_of (drop i names)) ≡ whole → new ≡ with_subcommand top (line_of (get_or names i blank).now).top
+    → with_commands top (texts_of (drop i names)) ≡ whole
+    → new ≡ with_subcommand top (line_of (get_or names i blank).now).top
     → with_commands new (texts_of (drop (i + 1) names)) ≡ whole
 step names i top new whole less so_far is =
     ap (λ (a : App). with_commands a (texts_of (drop (i + 1) names))) is
