@@ -2,8 +2,7 @@
 use Rattle.std.proofs.Common.{◌≡◌, ◌⊎◌, ◌↔◌, inl, inr, ℕ, List, [], Bool, true, Option, Some, None, Result}
 use Rattle.std.proofs.Common.{Ok, Err, IfSome, IsErrOf, refl, sym, subst, ◌∙◌}
 use Rattle.std.specs.Io.KnownBytes.{Keeps}
-use Rattle.capn_tool.specs.Flushed.{CarriesOut, EndsFlushed}
-use Rattle.capn_tool.specs.Flushed.{EndsByText}
+use Rattle.capn_tool.specs.Flushed.{CarriesOut, EndsByText, EndsFlushed}
 use Rattle.capn_tool.specs.Course.{course}
 use Rattle.capn_commands.specs.CommandRun.{KeepsUp, PlanKeepsUp}
 use Rattle.capn_commands.specs.Plan.{plan_of}

@@ -5,9 +5,8 @@ use Rattle.clap.specs.Words.{Row, Text, first_of}
 use Rattle.capn_walk.specs.Limits.{Bounds}
 use Rattle.capn_canon.specs.declared.form.Form.{Form}
 use Rattle.capn_tool.specs.OptionValues.{FlagIs, FormIs, IsUsual, LimitsAre, UnpackedIs}
-use Rattle.capn_tool.specs.Meaning.{Means, AreOptions, ExplainIs, IsTask, MeansOrder, OnlyIs, PickIs, MarksAre, StyleIs}
+use Rattle.capn_tool.specs.Meaning.{AreOptions, ExplainIs, IsTask, MeansOrder, OnlyIs, PickIs, MarksAre, StyleIs}
 use Rattle.capn_tool.specs.Meaning.{WayIs, is_plain}
-use Rattle.capn_commands.specs.declared.command.Command.{Command}
 use Rattle.capn_commands.specs.declared.command.Command.TheVariants as commands
 use Rattle.capn_archive.specs.declared.task.ArchiveOrder.{ArchiveOrder}
 use Rattle.capn_archive.specs.declared.task.Task.{Task}
