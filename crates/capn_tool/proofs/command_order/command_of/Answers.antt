@@ -7,7 +7,6 @@ use Rattle.capn_tool.specs.declared.order.Order.{Order}
 use Rattle.capn_tool.specs.declared.order.Order.TheVariants as orders
 use Rattle.capn_tool.proofs.OneOrder.{means_one_order}
 use Rattle.capn_tool.proofs.command_order.command_of.Given.{Over}
-use Rattle.capn_tool.proofs.command_order.command_of.Goals.{In_default}
 use Rattle.capn_tool.proofs.command_order.command_of.Goals as goal
 
 -- the order that is the same as a command's is that one
@@ -23,7 +22,7 @@ same_command (orders.Flow flow) command is = is
 same_command (orders.Make make) command is = is
 
 -- the words order something else, so they mean no command
-no_command : (g : Over) (c : In_default g) (command : Command)
+no_command : (g : Over) (c : goal.After-no_command g) (command : Command)
     → MeansOrder (subcommand_of program_line (map g.S.AsStr.text c.args.words.now)) (orders.Message command) → ⊥
 no_command g c command means =
     let same = means_one_order _ c.in_ok-command.field-0 (orders.Message command) c.in_ok-command.ensures.means means in
