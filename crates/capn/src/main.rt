@@ -5,8 +5,7 @@
 //! memory refused, an input or output that failed, or an input that is too long.
 #![tactic(auto)]
 
-use capn_tool::program;
-use capn_tool::{ToolFault, end};
+use capn_tool::{ToolFault, end, program};
 use capn_words::Watched;
 use std::env;
 use std::io::{self, ErrorKind};

@@ -36,8 +36,7 @@ returns-in_default-clause-reason g c =
     elim c.no_command.ensures [
       | inl memory ↦ inl (inl memory)
       | inr other ↦
-          inr
-          (
+          inr (
             c.in_ok-command.ensures.passes,
             other,
             (c.in_ok-command.field-0, c.in_ok-command.ensures.means),
