@@ -12,7 +12,8 @@ use Rattle.capn_canon.specs.declared.refusal.Refusal.TheVariants as refusals
 use Rattle.capn_canon.proofs.shared.NotUnaccepted.{not_unaccepted, unaccepted_message}
 use Rattle.capn_departure.specs.declared.answer.Departure.{Departure}
 use Rattle.capn_answers.specs.Departures.{IsDepartureIn, MayNeedDeparture, way_of}
-use Rattle.capn_answers.specs.inner.Answered.{IsAnswered, IsDepartureTold, IsRefusedReading}
+use Rattle.capn_canon.specs.Answered.{IsAnswered, IsRefusedReading}
+use Rattle.capn_answers.specs.inner.Answered.{IsDepartureTold}
 use Rattle.capn_answers.proofs.Reading.{reading_unaccepted, reading_wanted}
 use Rattle.capn_answers.proofs.WayLengths.{departure_short}
 

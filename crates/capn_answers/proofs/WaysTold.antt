@@ -7,7 +7,8 @@ use Rattle.capn_canon.specs.declared.form.Form.{Form}
 use Rattle.capn_canon.specs.declared.refusal.Refusal.{Refusal}
 use Rattle.capn_canon.specs.declared.refusal.Refusal.TheVariants as refusals
 use Rattle.capn_answers.specs.Ways.{IsAcceptedIn, IsStoppedIn, IsUnread, MayNeedWay}
-use Rattle.capn_answers.specs.inner.Answered.{IsAnswered, IsRefusedReading, IsWayTold}
+use Rattle.capn_canon.specs.Answered.{IsAnswered, IsRefusedReading}
+use Rattle.capn_answers.specs.inner.Answered.{IsWayTold}
 use Rattle.capn_answers.proofs.Reading.{misread, reading_wanted}
 use Rattle.capn_answers.proofs.WayLengths.{stop_short}
 

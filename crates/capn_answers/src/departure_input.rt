@@ -8,22 +8,27 @@ ghost use Rattle.capn_canon.specs.declared.refusal.Refusal.TheVariants as refusa
 ghost use Rattle.capn_answers.specs.Departures.{IsDepartureIn, MayNeedDeparture, way_of};
 ghost use Rattle.capn_answers.specs.inner.Answered.{IsDepartureTold};
 
-use crate::input::{Task, read};
-use capn_canon::{Form, Refusal};
+use capn_canon::{Form, MessageTask, Refusal, run_task};
 use capn_departure::{Departure, departure};
 use capn_walk::Limits;
 use capn_words::Space;
 use std::alloc::Allocator;
 
 /// Where a message leaves its canonical bytes.
+#[derive(Clone, Copy)]
 struct Departs;
 
-impl<A: Allocator + Copy> Task<A> for Departs {
+impl<A: Allocator + Copy> MessageTask<A> for Departs {
     type Answer = Departure<A>;
 
-    ghost answers = { λ m limits r. IsDepartureTold m limits r };
+    ghost answers = { λ _ m limits r. IsDepartureTold m limits r };
 
-    fn run<S: Space>(alloc: A, message: &S, limits: Limits) -> Result<Departure<A>, Refusal> {
+    fn run<S: Space>(
+        &self,
+        alloc: A,
+        message: &S,
+        limits: Limits,
+    ) -> Result<Departure<A>, Refusal> {
         departure(alloc, message, limits)
     }
 }
@@ -54,5 +59,5 @@ pub fn departure_in<A: Allocator + Copy>(
     // that is not canonical.
     ensures memory { IsErrOf result refusals.Memory → MayNeedDeparture form bytes.now limits }
 {
-    read::<Departs, A>(alloc, form, bytes, limits)
+    run_task(alloc, &Departs, form, bytes, limits)
 }

@@ -14,7 +14,6 @@
 #![tactic(auto)]
 
 mod departure_input;
-mod input;
 mod way_input;
 
 pub use departure_input::departure_in;

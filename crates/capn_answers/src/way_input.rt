@@ -5,22 +5,27 @@ ghost use Rattle.capn_canon.specs.declared.refusal.Refusal.TheVariants as refusa
 ghost use Rattle.capn_answers.specs.Ways.{IsAcceptedIn, IsStoppedIn, IsUnread, MayNeedWay};
 ghost use Rattle.capn_answers.specs.inner.Answered.{IsWayTold};
 
-use crate::input::{Task, read};
-use capn_canon::{Form, Refusal};
+use capn_canon::{Form, MessageTask, Refusal, run_task};
 use capn_walk::Limits;
 use capn_way::{Refused, way_of_refusal};
 use capn_words::Space;
 use std::alloc::Allocator;
 
 /// The way to the slot at which a walk stopped.
+#[derive(Clone, Copy)]
 struct Way;
 
-impl<A: Allocator + Copy> Task<A> for Way {
+impl<A: Allocator + Copy> MessageTask<A> for Way {
     type Answer = Option<Refused<A>>;
 
-    ghost answers = { λ m limits r. IsWayTold m limits r };
+    ghost answers = { λ _ m limits r. IsWayTold m limits r };
 
-    fn run<S: Space>(alloc: A, message: &S, limits: Limits) -> Result<Option<Refused<A>>, Refusal> {
+    fn run<S: Space>(
+        &self,
+        alloc: A,
+        message: &S,
+        limits: Limits,
+    ) -> Result<Option<Refused<A>>, Refusal> {
         Ok(way_of_refusal(alloc, message, limits)?)
     }
 }
@@ -48,5 +53,5 @@ pub fn way_in<A: Allocator + Copy>(
     // Memory is needed only for where two segments or more end, for what a text packs, and for a message's way.
     ensures memory { IsErrOf result refusals.Memory → MayNeedWay form bytes.now limits }
 {
-    read::<Way, A>(alloc, form, bytes, limits)
+    run_task(alloc, &Way, form, bytes, limits)
 }

@@ -1,4 +1,5 @@
 pub mod inner
+pub mod Answered
 pub mod Canonicity
 pub mod Denotes
 pub mod Laws

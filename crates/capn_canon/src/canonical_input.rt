@@ -14,21 +14,27 @@ ghost use Rattle.capn_canon.specs.declared.refusal.Refusal.TheVariants as refusa
 
 use crate::canonical::{Canonical, canonical_by_segments};
 use crate::form::Form;
-use crate::input::{Task, read};
+use crate::input::{MessageTask, run_task};
 use crate::refusal::Refusal;
 use capn_walk::Limits;
 use capn_words::Space;
 use std::alloc::Allocator;
 
 /// The canonical bytes of a message.
+#[derive(Clone, Copy)]
 struct CanonicalBytes;
 
-impl<A: Allocator + Copy> Task<A> for CanonicalBytes {
+impl<A: Allocator + Copy> MessageTask<A> for CanonicalBytes {
     type Answer = Canonical<A>;
 
-    ghost answers = { λ m limits r. IsCanonicalised m limits r (λ c. c.bytes.items) (λ c. c.paid) };
+    ghost answers = { λ _ m limits r. IsCanonicalised m limits r (λ c. c.bytes.items) (λ c. c.paid) };
 
-    fn run<S: Space>(alloc: A, message: &S, limits: Limits) -> Result<Canonical<A>, Refusal> {
+    fn run<S: Space>(
+        &self,
+        alloc: A,
+        message: &S,
+        limits: Limits,
+    ) -> Result<Canonical<A>, Refusal> {
         canonical_by_segments(alloc, message, limits)
     }
 }
@@ -81,5 +87,5 @@ pub fn canonicalise<A: Allocator + Copy>(
     let _words = limits.message_words();
     let _budget = limits.budget();
     let _depth = limits.depth();
-    read::<CanonicalBytes, A>(alloc, form, bytes, limits)
+    run_task(alloc, &CanonicalBytes, form, bytes, limits)
 }

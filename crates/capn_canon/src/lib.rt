@@ -15,6 +15,7 @@
 //!   without this word to a message whose reads are counted: what they pay bounds how often all their passes read it.
 //! - [`own_canonical`] answers the bytes of a message where they are its canonical bytes already, so that nothing is
 //!   copied; [`measure`] reports what its walk pays and visits, how deep it is, and whether it is canonical.
+//! - [`run_task`] reads bytes in a form as a message, and answers what a [`MessageTask`] does of it.
 //! - [`survey_bytes`] and [`survey`] report what the walk of a message pays and visits, and write nothing.
 //! - [`layout`] writes the canonical bytes of a tree: one segment, its objects in preorder, every struct
 //!   cut to what it keeps. A tree with a capability has none, and is refused by the first one's index.
@@ -77,6 +78,7 @@ pub use canonical_survey::{
     measure_canonical, measure_canonical_counted, survey_canonical, survey_canonical_counted,
 };
 pub use form::Form;
+pub use input::{MessageTask, run_task};
 pub use length::{CanonicalLength, canonical_length, canonical_length_counted};
 pub use message_measure::measure;
 pub use message_refusal::{IntoRefusal, MessageRefusal};

@@ -13,7 +13,7 @@ ghost use Rattle.capn_canon.specs.MemoryNeed.{MayNeedMemory};
 ghost use Rattle.capn_canon.specs.declared.refusal.Refusal.TheVariants as refusals;
 
 use crate::form::Form;
-use crate::input::{Task, read};
+use crate::input::{MessageTask, run_task};
 use crate::message_survey::survey;
 use crate::refusal::Refusal;
 use capn_walk::{Limits, Surveyed};
@@ -21,14 +21,15 @@ use capn_words::Space;
 use std::alloc::Allocator;
 
 /// A survey of a message.
+#[derive(Clone, Copy)]
 struct Survey;
 
-impl<A: Allocator + Copy> Task<A> for Survey {
+impl<A: Allocator + Copy> MessageTask<A> for Survey {
     type Answer = Surveyed;
 
-    ghost answers = { λ m limits r. IsSurveyed m limits r };
+    ghost answers = { λ _ m limits r. IsSurveyed m limits r };
 
-    fn run<S: Space>(alloc: A, message: &S, limits: Limits) -> Result<Surveyed, Refusal> {
+    fn run<S: Space>(&self, alloc: A, message: &S, limits: Limits) -> Result<Surveyed, Refusal> {
         survey(alloc, message, limits)
     }
 }
@@ -63,5 +64,5 @@ pub fn survey_bytes<A: Allocator + Copy>(
     let _words = limits.message_words();
     let _budget = limits.budget();
     let _depth = limits.depth();
-    read::<Survey, A>(alloc, form, bytes, limits)
+    run_task(alloc, &Survey, form, bytes, limits)
 }

@@ -60,7 +60,8 @@ fn zeros_of(bytes: &[u8]) -> usize
     zeros
 }
 
-/// Where the dense words begin that come last, if a run may have as many and go on; else the end.
+/// The end of what can be packed now: the start of the last run of dense words, which may go on in the next bytes; the
+/// end of all words where that run is as long as one may be.
 fn before_dense(words: &[u8]) -> usize
     requires { length words.now % 8 ≡ 0 }
     ensures whole { result % 8 ≡ 0 }

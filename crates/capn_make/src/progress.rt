@@ -1,4 +1,4 @@
-//! How far an input is made that comes piece by piece.
+//! The messages made of an input that comes in pieces.
 
 ghost use Rattle.std.specs.Prelude.{◌≡◌, ◌≢◌, ◌≤◌, ℕ, List, [], ◌++◌, length, drop, true, false};
 ghost use Rattle.std.specs.Prelude.{IfOk, IfErr, IsErrOf, OnErr};

@@ -26,7 +26,7 @@ use capn_words::Watched;
 use std::alloc::Allocator;
 use std::io::{Read, Write};
 
-/// The most packed bytes that are unpacked at once, of which come at most 1,024 times as many.
+/// The most packed bytes that are unpacked at once. They unpack to at most 1,024 times as many.
 const SLICE: usize = 512;
 
 /// Serves all messages that a part makes whole, as far as `left` goes, until the service is done. Of a longer one the

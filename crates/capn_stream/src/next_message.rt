@@ -16,7 +16,7 @@ use std::io::Read;
 /// The most bytes that one call of a reader is asked for.
 const PIECE: usize = 16_384;
 
-/// Takes bytes of which the part that is waited for needs all, and then the message that waits, if one does.
+/// Feeds bytes that all belong to the frame that is being read, and takes its message if they complete it.
 fn take_in<A: Allocator + Copy>(
     framer: &mut Framer<A>,
     piece: &[u8],

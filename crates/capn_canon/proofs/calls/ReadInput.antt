@@ -23,8 +23,8 @@ use Rattle.capn_canon.specs.SurveyedBytes.{Surveys}
 use Rattle.capn_canon.specs.RefusalOf.{IsOfFrame, IsOfPacked}
 use Rattle.capn_canon.specs.Refusal.{IsRefused, IsUnacceptedIn, IsPaidWithin}
 use Rattle.capn_canon.specs.MemoryNeed.{MayNeedMemory}
-use Rattle.capn_canon.specs.inner.Outcomes.{AreCanonicalised, AreSurveyed, IsAnswered, IsCanonicalised, IsSurveyed}
-use Rattle.capn_canon.specs.inner.Outcomes.{IsUnread}
+use Rattle.capn_canon.specs.Answered.{IsAnswered, IsRefusedReading}
+use Rattle.capn_canon.specs.inner.Outcomes.{AreCanonicalised, AreSurveyed, IsCanonicalised, IsSurveyed}
 use Rattle.capn_canon.proofs.calls.Accounted.{surveyed_as}
 use Rattle.capn_canon.proofs.calls.InEachForm.{canonicalised_as}
 use Rattle.capn_canon.proofs.calls.MemoryNeeds.{bytes_wanted, packed_wanted}
@@ -32,7 +32,7 @@ use Rattle.capn_canon.proofs.calls.MemoryNeeds.{bytes_wanted, packed_wanted}
 -- ---- bytes that are not read
 
 unread_so : (bs text : List ℕ) (limits : Bounds) (e : Refusal) → Unpacks bs limits.message_words text
-    → IsUnread forms.Stream text limits e → IsUnread forms.Packed bs limits e
+    → IsRefusedReading forms.Stream text limits e → IsRefusedReading forms.Packed bs limits e
 unread_so bs text limits refusals.Memory u h = packed_wanted bs text limits u h
 unread_so bs text limits (refusals.Frame e) u h = (text, u, h)
 unread_so bs text limits (refusals.Trailing at) u h = (text, u, h)
@@ -42,7 +42,7 @@ unread_so bs text limits (refusals.Walk s) u h = absurd h
 unread_so bs text limits (refusals.Capability k) u h = absurd h
 
 -- no walk comes before the bytes are read,
-no-walk : (form : Form) (bs : List ℕ) (limits : Bounds) (e : Refusal) → IsUnread form bs limits e
+no-walk : (form : Form) (bs : List ℕ) (limits : Bounds) (e : Refusal) → IsRefusedReading form bs limits e
     → IsUnacceptedIn form bs limits e × IsPaidWithin limits.budget e
 no-walk form bs limits refusals.Memory h = (tt, tt)
 no-walk form bs limits (refusals.Frame e) h = (h, tt)
@@ -68,7 +68,7 @@ refused-in form bs limits (refusals.Walk s) h = h
 refused-in form bs limits (refusals.Capability k) h = absurd h
 
 -- and where memory was needed, it may be
-wanted-unread : {T : Type 0} (form : Form) (bs : List ℕ) (limits : Bounds) (e : Refusal) → IsUnread form bs limits e
+wanted-unread : {T : Type 0} (form : Form) (bs : List ℕ) (limits : Bounds) (e : Refusal) → IsRefusedReading form bs limits e
     → (r : Result T Refusal) → r ≡ Err e → IsErrOf r refusals.Memory → MayNeedMemory form bs limits
 wanted-unread form bs limits refusals.Memory h r is w = h
 wanted-unread form bs limits (refusals.Frame e) h r is w = absurd cc
@@ -87,7 +87,7 @@ module _ {T : Type 0} (answers : List (List ℕ) → Bounds → Result T Refusal
       → ReadsBare bs (Err f) → IsAnswered forms.Bare bs limits answers r
   bare_unread (Ok x) f is h = absurd is
   bare_unread (Err e) f is h =
-      inr (e, refl, subst (λ (x : Refusal). IsUnread forms.Bare bs limits x) (sym is) h)
+      inr (e, refl, subst (λ (x : Refusal). IsRefusedReading forms.Bare bs limits x) (sym is) h)
 
   -- of a frame,
   pub frame_unread : (r : Result T Refusal) (f : FrameFault) → IsErrAnd r (IsOfFrame f)
@@ -95,9 +95,9 @@ module _ {T : Type 0} (answers : List (List ℕ) → Bounds → Result T Refusal
       → IsAnswered forms.Stream bs limits answers r
   frame_unread (Ok x) f is h m = absurd is
   frame_unread (Err e) f (inl (memory, is)) h m =
-      inr (e, refl, subst (λ (x : Refusal). IsUnread forms.Stream bs limits x) (sym is) (m memory))
+      inr (e, refl, subst (λ (x : Refusal). IsRefusedReading forms.Stream bs limits x) (sym is) (m memory))
   frame_unread (Err e) f (inr (other, is)) h m =
-      inr (e, refl, subst (λ (x : Refusal). IsUnread forms.Stream bs limits x) (sym is) (other, h))
+      inr (e, refl, subst (λ (x : Refusal). IsRefusedReading forms.Stream bs limits x) (sym is) (other, h))
 
   -- and of a packed text
   pub packed_unread : (r : Result T Refusal) (f : UnpackFault) → IsErrAnd r (IsOfPacked f)
@@ -106,9 +106,9 @@ module _ {T : Type 0} (answers : List (List ℕ) → Bounds → Result T Refusal
       → IsAnswered forms.Packed bs limits answers r
   packed_unread (Ok x) f is h m = absurd is
   packed_unread (Err e) f (inl (memory, is)) h m =
-      inr (e, refl, subst (λ (x : Refusal). IsUnread forms.Packed bs limits x) (sym is) (m memory))
+      inr (e, refl, subst (λ (x : Refusal). IsRefusedReading forms.Packed bs limits x) (sym is) (m memory))
   packed_unread (Err e) f (inr (other, is)) h m =
-      inr (e, refl, subst (λ (x : Refusal). IsUnread forms.Packed bs limits x) (sym is) (other, h))
+      inr (e, refl, subst (λ (x : Refusal). IsRefusedReading forms.Packed bs limits x) (sym is) (other, h))
 
 -- ---- answers
 

@@ -1,5 +1,5 @@
 -- What private calls answer and refuse, of a message and of bytes in a form.
-use Rattle.std.specs.Prelude.{◌≡◌, ◌≢◌, ◌⊎◌, ℕ, ◌<◌, ◌≤◌, List, length, Option, Some, None, Result, Err, IfOk, IfErr}
+use Rattle.std.specs.Prelude.{◌≡◌, ◌≢◌, ℕ, ◌<◌, ◌≤◌, List, length, Option, Some, None, Result, IfOk, IfErr}
 use Rattle.std.specs.Prelude.{OnErr, IsErrOf, MatchResult}
 use Rattle.capn_value.specs.Tree.{Tree}
 use Rattle.capn_value.specs.FirstCap.{first_cap}
@@ -11,10 +11,9 @@ use Rattle.capn_canon.specs.declared.form.Form.{Form}
 use Rattle.capn_canon.specs.declared.refusal.Refusal.{Refusal}
 use Rattle.capn_canon.specs.declared.refusal.Refusal.TheVariants as refusals
 use Rattle.capn_layout.specs.Layout.{canon}
-use Rattle.capn_canon.specs.Reads.{Reads}
 use Rattle.capn_canon.specs.Denotes.{AnswersMessage, Answers}
 use Rattle.capn_canon.specs.SurveyedBytes.{Surveys}
-use Rattle.capn_canon.specs.Refusal.{IsMisread, IsRefusedMessage, IsRefused, IsUnaccepted, IsUnacceptedIn, IsPaidWithin}
+use Rattle.capn_canon.specs.Refusal.{IsRefusedMessage, IsRefused, IsUnaccepted, IsUnacceptedIn, IsPaidWithin}
 use Rattle.capn_canon.specs.declared.length.CanonicalLength.{CanonicalLength}
 use Rattle.capn_canon.specs.declared.message_refusal.MessageRefusal.{MessageRefusal}
 use Rattle.capn_canon.specs.declared.message_refusal.IntoRefusal.{IntoRefusal}
@@ -58,18 +57,6 @@ pub record IsSurveyed (message : List (List ℕ)) (limits : Bounds) (r : Result 
   pub refused : IfErr r (λ e. IsUnaccepted message limits e)
   pub no_memory : IfErr r (λ e. e ≢ refusals.Memory)
   pub bounded : MatchResult r (λ s. IsBounded limits.budget s.paid s.visits) (λ e. IsPaidWithin limits.budget e)
-
--- the bytes are not read, or memory may be needed for that
-abbrev pub IsUnread : Form → List ℕ → Bounds → Refusal → Type 0
-IsUnread form bs limits refusals.Memory = MayNeedMemory form bs limits
-IsUnread form bs limits e = IsMisread form bs limits.message_words e
-
--- the bytes are read as a message of which this is reported, or they are refused since they are not read
-abbrev pub IsAnswered : {T : Type 0} → Form → List ℕ → Bounds
-    → (List (List ℕ) → Bounds → Result T Refusal → Type 0) → Result T Refusal → Type 0
-IsAnswered form bs limits answers r =
-    ((message : List (List ℕ)) × Reads form bs limits.message_words message × answers message limits r)
-    ⊎ ((e : Refusal) × (r ≡ Err e) × IsUnread form bs limits e)
 
 -- there is room for n bytes, or there is not and this is their number
 abbrev pub IsBeyond : ℕ → ℕ → Option ℕ → Type 0

@@ -1,0 +1,21 @@
+-- What is answered of bytes in a form: that of the message that they are, or why they are none.
+use Rattle.std.specs.Prelude.{◌≡◌, ◌⊎◌, ℕ, List, Result, Err}
+use Rattle.capn_walk.specs.Limits.{Bounds}
+use Rattle.capn_canon.specs.declared.form.Form.{Form}
+use Rattle.capn_canon.specs.declared.refusal.Refusal.{Refusal}
+use Rattle.capn_canon.specs.declared.refusal.Refusal.TheVariants as refusals
+use Rattle.capn_canon.specs.MemoryNeed.{MayNeedMemory}
+use Rattle.capn_canon.specs.Reads.{Reads}
+use Rattle.capn_canon.specs.Refusal.{IsMisread}
+
+-- the bytes are not read, or memory may be needed for that (Own.)
+abbrev pub IsRefusedReading : Form → List ℕ → Bounds → Refusal → Type 0
+IsRefusedReading form bs limits refusals.Memory = MayNeedMemory form bs limits
+IsRefusedReading form bs limits e = IsMisread form bs limits.message_words e
+
+-- the bytes are read as a message of which this is reported, or they are refused since they are not read (Own.)
+abbrev pub IsAnswered : {T : Type 0} → Form → List ℕ → Bounds
+    → (List (List ℕ) → Bounds → Result T Refusal → Type 0) → Result T Refusal → Type 0
+IsAnswered form bs limits answers r =
+    ((message : List (List ℕ)) × Reads form bs limits.message_words message × answers message limits r)
+    ⊎ ((e : Refusal) × (r ≡ Err e) × IsRefusedReading form bs limits e)
