@@ -25,38 +25,64 @@ var ErrStyle = errors.New("capn: the style is none of the four")
 type Kind uint32
 
 const (
-	ErrNotWhole        Kind = 16 // the bytes are not whole words; At: how many bytes there are
-	ErrBareTooLong     Kind = 17 // At: how many words there are
-	ErrPackedCut       Kind = 32 // the packed text ends inside a group; At: the offset of the group's tag
-	ErrPackedTooLong   Kind = 33 // a group goes over the maximum of words; At: the offset of its tag
-	ErrFrameEmpty      Kind = 48 // there are no bytes
-	ErrTooManySegments Kind = 49 // At: how many are announced
-	ErrTooManyWords    Kind = 50 // At: how many are announced
-	ErrFrameCut        Kind = 51 // the frame is cut
-	ErrTrailing        Kind = 52 // bytes follow; At: the offset of the first, of Packed in the unpacked bytes
-	// The walk stopped at the slot that Segment and Word say.
-	ErrNoRoot     Kind = 64
-	ErrRootKind   Kind = 65
-	ErrReserved   Kind = 66
-	ErrNoSegment  Kind = 67
-	ErrPadRange   Kind = 68
-	ErrBadPad     Kind = 69
-	ErrRange      Kind = 70
-	ErrBadTag     Kind = 71
+	// c/statuses.txt: kinds in go
+
+	// ErrNotWhole: the bytes are not whole words; At: how many bytes there are.
+	ErrNotWhole Kind = 16
+	// ErrBareTooLong: more words than a bare message may have; At: how many words there are.
+	ErrBareTooLong Kind = 17
+	// ErrPackedCut: a group of the packed text is cut; At: the offset of the group's tag.
+	ErrPackedCut Kind = 32
+	// ErrPackedTooLong: a group of the packed text has more words than there is room for; At: the offset of the
+	// group's tag.
+	ErrPackedTooLong Kind = 33
+	// ErrFrameEmpty: there are no bytes.
+	ErrFrameEmpty Kind = 48
+	// ErrTooManySegments: more segments are announced than a message may have; At: how many are announced.
+	ErrTooManySegments Kind = 49
+	// ErrTooManyWords: more words are announced than the limit; At: how many are announced.
+	ErrTooManyWords Kind = 50
+	// ErrFrameCut: the frame is cut.
+	ErrFrameCut Kind = 51
+	// ErrTrailing: bytes follow the message; At: the offset of the first byte after the message; of a packed text,
+	// in the unpacked bytes.
+	ErrTrailing Kind = 52
+	// ErrNoRoot: the first segment has no word for the root.
+	ErrNoRoot Kind = 64
+	// ErrRootKind: the root is a capability.
+	ErrRootKind Kind = 65
+	// ErrReserved: a pointer of a reserved kind.
+	ErrReserved Kind = 66
+	// ErrNoSegment: a far pointer names a segment that is not there.
+	ErrNoSegment Kind = 67
+	// ErrPadRange: a landing pad lies outside of its segment.
+	ErrPadRange Kind = 68
+	// ErrBadPad: a landing pad is none.
+	ErrBadPad Kind = 69
+	// ErrRange: an object lies outside of its segment.
+	ErrRange Kind = 70
+	// ErrBadTag: the tag of a composite list is no struct pointer.
+	ErrBadTag Kind = 71
+	// ErrTagOverrun: the rows of a composite list go over its words.
 	ErrTagOverrun Kind = 72
-	ErrTooDeep    Kind = 73
+	// ErrTooDeep: an object lies deeper than the limit.
+	ErrTooDeep Kind = 73
+	// ErrOverBudget: the walk pays more than the budget.
 	ErrOverBudget Kind = 74
-	// The value has a capability, so it has no canonical form; At: the index of the first.
+	// ErrCapability: the value has a capability; At: the index of the first in preorder.
 	ErrCapability Kind = 80
+	// c/statuses.txt ends
 )
 
 var names = map[Kind]string{
-	ErrNotWhole: "NotWhole", ErrBareTooLong: "BareTooLong", ErrPackedCut: "PackedCut", ErrPackedTooLong: "PackedTooLong",
-	ErrFrameEmpty: "FrameEmpty", ErrTooManySegments: "TooManySegments", ErrTooManyWords: "TooManyWords",
-	ErrFrameCut: "FrameCut", ErrTrailing: "Trailing", ErrNoRoot: "NoRoot", ErrRootKind: "RootKind",
-	ErrReserved: "Reserved", ErrNoSegment: "NoSegment", ErrPadRange: "PadRange", ErrBadPad: "BadPad", ErrRange: "Range",
-	ErrBadTag: "BadTag", ErrTagOverrun: "TagOverrun", ErrTooDeep: "TooDeep", ErrOverBudget: "OverBudget",
-	ErrCapability: "Capability",
+	// c/statuses.txt: names in go
+	ErrNotWhole: "NotWhole", ErrBareTooLong: "BareTooLong", ErrPackedCut: "PackedCut",
+	ErrPackedTooLong: "PackedTooLong", ErrFrameEmpty: "FrameEmpty", ErrTooManySegments: "TooManySegments",
+	ErrTooManyWords: "TooManyWords", ErrFrameCut: "FrameCut", ErrTrailing: "Trailing", ErrNoRoot: "NoRoot",
+	ErrRootKind: "RootKind", ErrReserved: "Reserved", ErrNoSegment: "NoSegment", ErrPadRange: "PadRange",
+	ErrBadPad: "BadPad", ErrRange: "Range", ErrBadTag: "BadTag", ErrTagOverrun: "TagOverrun", ErrTooDeep: "TooDeep",
+	ErrOverBudget: "OverBudget", ErrCapability: "Capability",
+	// c/statuses.txt ends
 }
 
 // String is the name of a kind, as "Range".

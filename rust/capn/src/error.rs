@@ -93,15 +93,18 @@ macro_rules! kinds {
 }
 
 kinds! {
+    // c/statuses.txt: kinds in rust
     16 NotWhole "The bytes are not whole words; at: how many bytes there are.",
-    17 BareTooLong "More words than a bare message may have; at: how many there are.",
-    32 PackedCut "The packed text ends inside a group; at: the offset of its tag.",
-    33 PackedTooLong "A group goes over the maximum of words; at: the offset of its tag.",
+    17 BareTooLong "More words than a bare message may have; at: how many words there are.",
+    32 PackedCut "A group of the packed text is cut; at: the offset of the group's tag.",
+    33 PackedTooLong "A group of the packed text has more words than there is room for; at: the offset of the group's \
+        tag.",
     48 FrameEmpty "There are no bytes.",
-    49 TooManySegments "More segments are announced than a message may have; at: how many.",
-    50 TooManyWords "More words are announced than the limit; at: how many.",
+    49 TooManySegments "More segments are announced than a message may have; at: how many are announced.",
+    50 TooManyWords "More words are announced than the limit; at: how many are announced.",
     51 FrameCut "The frame is cut.",
-    52 Trailing "Bytes follow the message; at: the offset of the first, of a packed text in the unpacked bytes.",
+    52 Trailing "Bytes follow the message; at: the offset of the first byte after the message; of a packed text, in \
+        the unpacked bytes.",
     64 NoRoot "The first segment has no word for the root.",
     65 RootKind "The root is a capability.",
     66 Reserved "A pointer of a reserved kind.",
@@ -113,7 +116,8 @@ kinds! {
     72 TagOverrun "The rows of a composite list go over its words.",
     73 TooDeep "An object lies deeper than the limit.",
     74 OverBudget "The walk pays more than the budget.",
-    80 Capability "The value has a capability, so it has no canonical bytes; at: the index of the first.",
+    80 Capability "The value has a capability; at: the index of the first in preorder.",
+    // c/statuses.txt ends
 }
 
 impl Error {

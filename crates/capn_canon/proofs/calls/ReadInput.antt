@@ -68,8 +68,9 @@ refused-in form bs limits (refusals.Walk s) h = h
 refused-in form bs limits (refusals.Capability k) h = absurd h
 
 -- and where memory was needed, it may be
-wanted-unread : {T : Type 0} (form : Form) (bs : List ℕ) (limits : Bounds) (e : Refusal) → IsRefusedReading form bs limits e
-    → (r : Result T Refusal) → r ≡ Err e → IsErrOf r refusals.Memory → MayNeedMemory form bs limits
+wanted-unread : {T : Type 0} (form : Form) (bs : List ℕ) (limits : Bounds) (e : Refusal)
+    → IsRefusedReading form bs limits e → (r : Result T Refusal) → r ≡ Err e → IsErrOf r refusals.Memory
+    → MayNeedMemory form bs limits
 wanted-unread form bs limits refusals.Memory h r is w = h
 wanted-unread form bs limits (refusals.Frame e) h r is w = absurd cc
 wanted-unread form bs limits (refusals.Trailing at) h r is w = absurd cc

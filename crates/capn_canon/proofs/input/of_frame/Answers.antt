@@ -18,9 +18,10 @@ returns g c =
 
 pub returns-in_err-message : goal.returns-in_err-message
 returns-in_err-message g c =
+    let answers = g.T.MessageTask.answers c.args.task.now in
     let bs = c.args.bytes.now in
     let f = c.in_err-message.field-0.0 in
-    frame_unread (g.T.MessageTask.answers c.args.task.now) bs c.args.limits c.from_residual.result f c.from_residual.ensures.1
+    frame_unread answers bs c.args.limits c.from_residual.result f c.from_residual.ensures.1
     (subst (λ (n : ℕ). IsFrameRefused bs n f) c.message_words.ensures.value c.in_err-message.ensures.refused)
     (λ e. subst (λ (n : ℕ). HasTable bs n) c.message_words.ensures.value
     (c.in_err-message.ensures.memory (ap (λ (x : FrameFault). Err x) e)))

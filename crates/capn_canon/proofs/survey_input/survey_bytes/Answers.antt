@@ -28,5 +28,5 @@ returns-clause-only g c =
 pub returns-clause-short : goal.returns-clause-short
 returns-clause-short g c =
     let told = surveyed c.args.form c.args.bytes.now c.args.limits c.run_task.result c.run_task.ensures in
-    surveyed_short c.run_task.result c.args.form c.args.bytes.now c.args.limits (omega arith) (omega arith) (omega arith)
-    told.found
+    surveyed_short c.run_task.result c.args.form c.args.bytes.now c.args.limits (omega arith) (omega arith)
+    (omega arith) told.found
