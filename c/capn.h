@@ -21,9 +21,9 @@
  * capn_survey, capn_index and capn_is_canonical ask for none, nor does a call whose name ends in `_segments` but
  * capn_hash_segments. Memory is asked for by a packed text, by a stream of more segments, for the bytes that are
  * hashed, packed or unpacked, for the text of capn_show, for a way and for the bytes that capn_departure compares; and
- * by capn_first, capn_hash, capn_show, capn_departure and, where the walk is refused, capn_refusal_way, for the table
- * of a stream of two segments or more. A call takes at most 16 KiB of stack, and 304 bytes more for each level of depth
- * that the limits allow, capn_show 432, capn_index 560: 92 KiB at depth 256, capn_show 124 KiB, capn_index 156 KiB.
+ * by capn_first and capn_show for the table of a stream of two segments or more. A call takes at most 16 KiB of stack,
+ * and 304 bytes more for each level of depth that the limits allow, capn_show 432, capn_index 560: 92 KiB at depth 256,
+ * capn_show 124 KiB, capn_index 156 KiB.
  *
  * Each call answers a status and fills its report in; a field that the status does not speak of is 0. */
 #ifndef CAPN_H
@@ -225,8 +225,8 @@ capn_status capn_canonical(uint32_t form, const uint8_t *bytes, size_t size, con
  * first two every field of the report is 0. It takes no memory. */
 capn_status capn_is_canonical(const uint8_t *bytes, size_t size, const capn_limits *limits, capn_report *report);
 
-/* The SHA-256 of the canonical bytes of one message. It takes memory for these bytes, for the table of two segments or
- * more, and for what is unpacked. */
+/* The SHA-256 of the canonical bytes of one message. It takes memory for these bytes, for the table of more than 64
+ * segments, and for what is unpacked. */
 capn_status capn_hash(uint32_t form, const uint8_t *bytes, size_t size, const capn_limits *limits, uint8_t digest[32],
                       capn_report *report);
 
@@ -308,8 +308,7 @@ capn_status capn_show(uint32_t form, const uint8_t *bytes, size_t size, const ca
  * walk, `length` is 4 * the numbers of the way: they stand at the start of `way` if `most_numbers`, which counts
  * numbers, has room for all, and the rest is as it was; else `way` is as it was. So it is the length that says whether
  * they had room: no status does. 2 * `depth` numbers are always enough. At any other status `way` is as it was.
- * It takes memory where capn_check does, and where the walk is refused, for the way and for the table of two segments
- * or more; there it walks up to three times, and unpacks twice. */
+ * It takes memory where capn_check does, and where the walk is refused, for the way; there it walks twice at most. */
 capn_status capn_refusal_way(uint32_t form, const uint8_t *bytes, size_t size, const capn_limits *limits, uint32_t *way,
                              size_t most_numbers, capn_report *report);
 
@@ -318,9 +317,8 @@ capn_status capn_refusal_way(uint32_t form, const uint8_t *bytes, size_t size, c
  * `kind` says which. Where there is a way, of CAPN_DEPARTS_CAPABILITY and CAPN_DEPARTS_WORD, it is in `way` or had no
  * room there, as capn_refusal_way has it, and `length` is 4 * `numbers`. The report has `length`, `paid` and `visits`.
  * It accepts and refuses what capn_check does. Unless it answers CAPN_OK, `departed` and `way` are as they were.
- * It takes memory for the table of two segments or more, for what is unpacked, and, of a message of one segment that is
- * not canonical, for its canonical bytes and for the way. It walks a message several times, and unpacks a packed one
- * twice. */
+ * It takes memory for the table of more than 64 segments, for what is unpacked, and, of a message of one segment that
+ * is not canonical, for its canonical bytes and for the way. It walks a message several times. */
 capn_status capn_departure(uint32_t form, const uint8_t *bytes, size_t size, const capn_limits *limits,
                            capn_departed *departed, uint32_t *way, size_t most_numbers, capn_report *report);
 

@@ -153,7 +153,7 @@ static void in_turn(void) {
     each("canonical, packed, no room", measured, &pack, 3);
     each("canonical, 65 segments, no room", measured, &more, 1);
     each("hash, bare", hashed, &bare, 1);
-    each("hash, stream", hashed, &stream, 2);
+    each("hash, stream", hashed, &stream, 1);
     each("hash, packed", hashed, &pack, 4);
     each("check, 65 segments", checked, &more, 1);
     each("check, packed", checked, &pack, 3);
@@ -168,7 +168,7 @@ static void in_turn(void) {
     each("refusal_way, 65 segments", led, &more, 1);
     each("refusal_way, packed", led, &pack, 3);
     each("departure, bare", departed, &bare, 1);
-    each("departure, two segments", departed, &stream, 1);
+    each("departure, 65 segments", departed, &more, 1);
     each("departure, packed", departed, &pack, 3);
 }
 
@@ -201,6 +201,7 @@ static void at_depth(uint32_t most, size_t depth, uint32_t wanted) {
     wants("check, 64 segments", checked, &few, 0, wanted);
     wants("canonical, 64 segments", canonical, &few, 0, wanted);
     if (wanted == CAPN_OK) wants("refusal_way, 64 segments", led, &few, 0, wanted);
+    wants("departure, 64 segments", departed, &few, 0, wanted);
     wants("survey, 64 segments", surveyed, &few, 0, wanted);
     wants("index, 64 segments", indexed, &few, 0, wanted);
     wants("no room, 64 segments", measured, &few, 0, room);

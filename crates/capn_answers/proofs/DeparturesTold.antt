@@ -14,7 +14,7 @@ use Rattle.capn_departure.specs.declared.answer.Departure.{Departure}
 use Rattle.capn_answers.specs.Departures.{IsDepartureIn, MayNeedDeparture, way_of}
 use Rattle.capn_canon.specs.Answered.{IsAnswered, IsRefusedReading}
 use Rattle.capn_answers.specs.inner.Answered.{IsDepartureTold}
-use Rattle.capn_answers.proofs.Reading.{reading_unaccepted, reading_wanted}
+use Rattle.capn_answers.proofs.shared.Reading.{reading_unaccepted, reading_wanted}
 use Rattle.capn_answers.proofs.WayLengths.{departure_short}
 
 module _ {A : Type 0} (form : Form) (bs : List ℕ) (limits : Bounds) where

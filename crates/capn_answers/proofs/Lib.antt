@@ -1,4 +1,6 @@
-mod Reading
+pub mod shared
 mod WayLengths
 mod WaysTold
+mod WalksTold
 mod DeparturesTold
+mod SurveyedDepartures

@@ -9,7 +9,7 @@ use Rattle.capn_canon.specs.declared.refusal.Refusal.TheVariants as refusals
 use Rattle.capn_answers.specs.Ways.{IsAcceptedIn, IsStoppedIn, IsUnread, MayNeedWay}
 use Rattle.capn_canon.specs.Answered.{IsAnswered, IsRefusedReading}
 use Rattle.capn_answers.specs.inner.Answered.{IsWayTold}
-use Rattle.capn_answers.proofs.Reading.{misread, reading_wanted}
+use Rattle.capn_answers.proofs.shared.Reading.{misread, reading_wanted}
 use Rattle.capn_answers.proofs.WayLengths.{stop_short}
 
 module _ {A : Type 0} (form : Form) (bs : List ℕ) (limits : Bounds) where

@@ -1,3 +1,4 @@
 pub mod Ways
+pub mod Walked
 pub mod Departures
 pub mod inner

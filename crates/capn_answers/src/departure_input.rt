@@ -2,17 +2,20 @@
 
 ghost use Rattle.std.specs.Prelude.{◌≡◌, ◌≤◌, ◌*◌, length, ⊤, IfOk, IfErr, IsErrOf, MatchResult};
 ghost use Rattle.capn_value.specs.Tree.{Tree as Value};
+ghost use Rattle.capn_walk.specs.Accepted.{IsBounded};
 ghost use Rattle.capn_canon.specs.Denotes.{Denotes};
-ghost use Rattle.capn_canon.specs.Refusal.{IsUnacceptedIn};
+ghost use Rattle.capn_canon.specs.Refusal.{IsPaidWithin, IsUnacceptedIn};
+ghost use Rattle.capn_canon.specs.SurveyedBytes.{Surveys};
 ghost use Rattle.capn_canon.specs.declared.refusal.Refusal.TheVariants as refusals;
 ghost use Rattle.capn_answers.specs.Departures.{IsDepartureIn, MayNeedDeparture, way_of};
-ghost use Rattle.capn_answers.specs.inner.Answered.{IsDepartureTold};
+ghost use Rattle.capn_answers.specs.inner.Answered.{IsDepartureSurveyed, IsDepartureTold};
 
-use capn_canon::{Form, MessageTask, Refusal, run_task};
+use crate::input::run_few;
+use capn_canon::{Form, MessageTask, Refusal, run_task, survey};
 use capn_departure::{Departure, departure};
-use capn_walk::Limits;
+use capn_walk::{Limits, Surveyed};
 use capn_words::Space;
-use std::alloc::Allocator;
+use std::alloc::{Allocator, Global};
 
 /// Where a message leaves its canonical bytes.
 #[derive(Clone, Copy)]
@@ -60,4 +63,67 @@ pub fn departure_in<A: Allocator + Copy>(
     ensures memory { IsErrOf result refusals.Memory → MayNeedDeparture form bytes.now limits }
 {
     run_task(alloc, &Departs, form, bytes, limits)
+}
+
+/// Where a message leaves its canonical bytes, and what its walk pays and visits.
+#[derive(Debug, Drop)]
+pub struct SurveyedDeparture<A: Allocator = Global> {
+    /// What [`departure_in`] answers.
+    pub departure: Departure<A>,
+    /// What [`capn_canon::survey_bytes`] answers.
+    pub survey: Surveyed,
+}
+
+/// Where a message leaves its canonical bytes, and its survey.
+#[derive(Clone, Copy)]
+struct SurveyedDeparts;
+
+impl<A: Allocator + Copy> MessageTask<A> for SurveyedDeparts {
+    type Answer = SurveyedDeparture<A>;
+
+    ghost answers = { λ _ m limits r. IsDepartureSurveyed m limits r };
+
+    fn run<S: Space>(
+        &self,
+        alloc: A,
+        message: &S,
+        limits: Limits,
+    ) -> Result<SurveyedDeparture<A>, Refusal> {
+        let survey = survey(alloc, message, limits)?;
+        match departure(alloc, message, limits) {
+            Ok(departure) => Ok(SurveyedDeparture { departure, survey }),
+            Err(_) => Err(Refusal::Memory),
+        }
+    }
+}
+
+/// What [`departure_in`] and [`capn_canon::survey_bytes`] answer. The bytes are read once.
+///
+/// `Memory` comes only where a growth was refused: for the table of a frame of more than 64 segments, for what is
+/// unpacked, and, of a message of one segment that is not canonical, for its canonical bytes and for the way. (Own.)
+pub fn departure_and_survey_in<A: Allocator + Copy>(
+    alloc: A,
+    form: Form,
+    bytes: &[u8],
+    limits: Limits,
+) -> Result<SurveyedDeparture<A>, Refusal>
+    // What each answer means,
+    ensures found { IfOk result (λ d. IsDepartureIn form bytes.now limits d.departure) }
+    // and that the bytes are an accepted message, of which the survey is.
+    ensures surveyed { IfOk result (λ d. Surveys form bytes.now limits d.survey) }
+    // Bytes that denote a value are answered, unless memory runs out.
+    ensures only { (v : Value) → Denotes form bytes.now limits v
+        → MatchResult result (λ d. ⊤) (λ e. e ≡ refusals.Memory) }
+    // Two numbers for each level of depth are enough for a way.
+    ensures short { IfOk result (λ d. length (way_of d.departure) ≤ 2 * limits.depth) }
+    // What each refusal means.
+    ensures refused { IfErr result (λ e. IsUnacceptedIn form bytes.now limits e) }
+    // Memory is needed only for where two segments or more end, for what a text packs, and for a message of one segment
+    // that is not canonical.
+    ensures memory { IsErrOf result refusals.Memory → MayNeedDeparture form bytes.now limits }
+    // No walk pays beyond its budget.
+    ensures bounded { MatchResult result (λ d. IsBounded limits.budget d.survey.paid d.survey.visits)
+        (λ e. IsPaidWithin limits.budget e) }
+{
+    run_few(alloc, &SurveyedDeparts, form, bytes, limits)
 }

@@ -2,8 +2,11 @@
 //!
 //! - [`way_in`] says whether the walk of the message is refused, why, and the way to the slot where it stopped.
 //! - [`departure_in`] says where an accepted message leaves its canonical bytes, and why.
+//! - [`walk_in`] and [`departure_and_survey_in`] do the same, and also answer the survey of an accepted message.
 //!
-//! Both read the bytes as [`capn_canon::survey_bytes`] does, and refuse those that are no message as that does.
+//! All read the bytes once, and refuse those that are no message as [`capn_canon::survey_bytes`] does. The last two do
+//! so by [`run_few`], which runs any task of a message, and takes no memory for a stream of at most 64 segments; of
+//! these [`read_frame`] answers the message.
 //!
 //! ```text
 //! match way_in(alloc, Form::Packed, bytes, limits)? {
@@ -14,13 +17,20 @@
 #![tactic(auto)]
 
 mod departure_input;
+mod few_frame;
+mod input;
+mod walked;
 mod way_input;
 
-pub use departure_input::departure_in;
-pub use way_input::way_in;
+pub use departure_input::{SurveyedDeparture, departure_and_survey_in, departure_in};
+pub use few_frame::read_frame;
+pub use input::run_few;
+pub use walked::Walked;
+pub use way_input::{walk_in, way_in};
 
 // What the signatures above name.
-pub use capn_canon::{Form, Refusal};
+pub use capn_canon::{Form, MessageTask, Refusal};
 pub use capn_departure::{Departure, Whose};
-pub use capn_walk::Limits;
+pub use capn_few::FewSegments;
+pub use capn_walk::{Limits, Surveyed};
 pub use capn_way::Refused;

@@ -1,13 +1,18 @@
 //! The way to the slot at which the walk of a message stopped, in each form.
 
-ghost use Rattle.std.specs.Prelude.{◌≤◌, ◌*◌, length, IfOk, IfErr, IfSome, IfNone, IsErrOf};
+ghost use Rattle.std.specs.Prelude.{◌≡◌, ◌≤◌, ◌*◌, length, IfOk, IfErr, IfSome, IfNone, IsErrOf, MatchResult};
+ghost use Rattle.capn_value.specs.Tree.{Tree as Value};
+ghost use Rattle.capn_canon.specs.Denotes.{Denotes};
 ghost use Rattle.capn_canon.specs.declared.refusal.Refusal.TheVariants as refusals;
 ghost use Rattle.capn_answers.specs.Ways.{IsAcceptedIn, IsStoppedIn, IsUnread, MayNeedWay};
-ghost use Rattle.capn_answers.specs.inner.Answered.{IsWayTold};
+ghost use Rattle.capn_answers.specs.Walked.{AnswersAccepted, IsWalkedIn, IsWalkedWithin, MayNeedItsWay, walked_way};
+ghost use Rattle.capn_answers.specs.inner.Answered.{IsWalkTold, IsWayTold};
 
+use crate::input::run_few;
+use crate::walked::Walked;
 use capn_canon::{Form, MessageTask, Refusal, run_task};
-use capn_walk::Limits;
-use capn_way::{Refused, way_of_refusal};
+use capn_walk::{Limits, survey};
+use capn_way::{Refused, way_of_refusal, way_of_stop};
 use capn_words::Space;
 use std::alloc::Allocator;
 
@@ -54,4 +59,53 @@ pub fn way_in<A: Allocator + Copy>(
     ensures memory { IsErrOf result refusals.Memory → MayNeedWay form bytes.now limits }
 {
     run_task(alloc, &Way, form, bytes, limits)
+}
+
+/// The walk of a message, with the way to the slot where it stopped.
+#[derive(Clone, Copy)]
+struct Walk;
+
+impl<A: Allocator + Copy> MessageTask<A> for Walk {
+    type Answer = Walked<A>;
+
+    ghost answers = { λ _ m limits r. IsWalkTold m limits r };
+
+    fn run<S: Space>(&self, alloc: A, message: &S, limits: Limits) -> Result<Walked<A>, Refusal> {
+        match survey(alloc, message, limits) {
+            Ok(surveyed) => Ok(Walked::Accepted(surveyed)),
+            Err(stopped) => {
+                let way = way_of_stop(alloc, message, limits, stopped)?;
+                Ok(Walked::Refused(Refused { stopped, way }))
+            }
+        }
+    }
+}
+
+/// How the walk of the message that bytes are in a form ends: what [`way_in`] answers, and of an accepted message its
+/// survey. The bytes are read once.
+///
+/// `Memory` comes only where a growth was refused: for the table of a frame of more than 64 segments, for what is
+/// unpacked, or for the way. It walks a message twice at most. (Own.)
+pub fn walk_in<A: Allocator + Copy>(
+    alloc: A,
+    form: Form,
+    bytes: &[u8],
+    limits: Limits,
+) -> Result<Walked<A>, Refusal>
+    // The message is accepted, and the survey is of it; or its walk stops there, and the way leads to that slot.
+    ensures found { IfOk result (λ w. IsWalkedIn form bytes.now limits w) }
+    // Bytes that denote a value are accepted, unless memory runs out.
+    ensures only { (v : Value) → Denotes form bytes.now limits v
+        → MatchResult result (λ w. AnswersAccepted w) (λ e. e ≡ refusals.Memory) }
+    // Two numbers for each level of depth are enough.
+    ensures short { IfOk result (λ w. length (walked_way w) ≤ 2 * limits.depth) }
+    // What each refusal means.
+    ensures refused { IfErr result (λ e. IsUnread form bytes.now limits e) }
+    // Memory is needed only for where two segments or more end, for what a text packs, and for the way of a message
+    // that is refused by its walk.
+    ensures memory { IsErrOf result refusals.Memory → MayNeedItsWay form bytes.now limits }
+    // No walk pays beyond its budget.
+    ensures bounded { IfOk result (λ w. IsWalkedWithin limits.budget w) }
+{
+    run_few(alloc, &Walk, form, bytes, limits)
 }

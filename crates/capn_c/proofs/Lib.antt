@@ -1,5 +1,6 @@
 pub mod Counted
 pub mod Delivered
+pub mod Digests
 pub mod Entered
 pub mod Figured
 pub mod Framed

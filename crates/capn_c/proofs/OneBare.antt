@@ -1,8 +1,8 @@
 -- The words of a segment, and whether a message of one segment is canonical.
-use Rattle.std.proofs.Common.{◌≡◌, ◌↔◌, ℕ, ◌*◌, List, [], ◌∷◌, length, refl, ap, sym, subst, ◌∙◌}
+use Rattle.std.proofs.Common.{◌≡◌, ◌↔◌, ℕ, List, length, ap, sym, ◌∙◌}
 use Rattle.std.proofs.Common.{Option, Some, None}
 use Rattle.std.specs.Option.{unwrap_or}
-use Rattle.capn_words.specs.Message.{IsMessage, segment_at, bytes_at, words_of, bytes, IsBare}
+use Rattle.capn_words.specs.Message.{segment_at, words_of, bytes}
 use Rattle.capn_walk.specs.Accepted.{root}
 use Rattle.std.specs.Bool.{IsTrue}
 use Rattle.capn_value.specs.FirstCap.{first_cap}

@@ -16,7 +16,7 @@ use Rattle.capn_canon.specs.declared.form.Form.{Form}
 use Rattle.capn_canon.specs.declared.form.Form.TheVariants as forms
 use Rattle.capn_canon.specs.declared.refusal.Refusal.{Refusal}
 use Rattle.capn_canon.specs.declared.refusal.Refusal.TheVariants as refusals
-use Rattle.capn_canon.specs.Refusal.{IsRefused, IsUnacceptedIn}
+use Rattle.capn_canon.specs.Refusal.{IsRefused, IsUnaccepted, IsUnacceptedIn}
 use Rattle.capn_canon.specs.MemoryNeed.{MayNeedMemory}
 use Rattle.capn_c.specs.MemoryAsked.{MayAsk}
 use Rattle.capn_c.specs.Held.{IsMisheld, IsRefusedHeld, IsUnacceptedHeld}
@@ -117,6 +117,17 @@ unaccepted_held_memory m l (refusals.Packed e) h c = absurd h
 pub stopped_memory : (m : List (List ℕ)) (l : Bounds) (s : Stopped)
     → IsWalkRefused m l s.fault s.place s.paid s.visits → code (refusals.Walk s) ≡ 8 → ⊥
 stopped_memory m l s h c = plain-refusal m l s.fault s.place s.paid s.visits h (walk_memory s.fault c)
+
+-- so a message that is not accepted has the status 8 only if memory ran out
+pub message_memory : (m : List (List ℕ)) (l : Bounds) (r : Refusal) → IsUnaccepted m l r → code r ≡ 8
+    → r ≡ refusals.Memory
+message_memory m l refusals.Memory h c = refl
+message_memory m l (refusals.Walk s) h c = absurd (stopped_memory m l s h c)
+message_memory m l (refusals.Capability k) h c = absurd h
+message_memory m l (refusals.Frame e) h c = absurd h
+message_memory m l (refusals.Trailing at) h c = absurd h
+message_memory m l (refusals.Bare e) h c = absurd h
+message_memory m l (refusals.Packed e) h c = absurd h
 
 -- where memory may be asked for by bare words or a stream, it may be needed
 pub flat_needs : (f : Form) (bs : List ℕ) (l : Bounds) → (f ≡ forms.Stream) ⊎ (f ≡ forms.Bare) → MayAsk f bs l

@@ -1,17 +1,16 @@
 -- The words from the place of an entry on are in the bytes at its offset.
-use Rattle.std.proofs.Common.{◌≡◌, ◌≢◌, ℕ, zero, suc, ◌+◌, ◌*◌, ◌<◌, ◌≤◌, List, [], ◌∷◌, ◌++◌, length, take, drop}
+use Rattle.std.proofs.Common.{◌≡◌, ℕ, zero, suc, ◌+◌, ◌*◌, ◌<◌, ◌≤◌, List, [], ◌∷◌, ◌++◌, length, take, drop}
 use Rattle.std.proofs.Common.{get_or, map, refl, ap, sym, subst, ◌∙◌, arith, length-drop}
 use Rattle.std.specs.List.{sum_by}
 use Rattle.std.proofs.lemmas.List.{append-nil, drop-append-le, drop-drop, drop_at, take-append-le, take_all}
 use Rattle.std.proofs.lemmas.List.Sums.{sum_by-cons}
-use Rattle.capn_words.specs.Message.{bytes, bytes_at, segment_at, total, IsBare}
+use Rattle.capn_words.specs.Message.{bytes, segment_at, total, IsBare}
 use Rattle.capn_words.proofs.shared.Words.{length-bytes}
 use Rattle.capn_words.specs.declared.space.Place.{Place}
 use Rattle.capn_stream.specs.Frames.{contents}
 use Rattle.capn_stream.specs.FrameRefusal.{announced_segments, announced_words, head_length}
 use Rattle.capn_stream.proofs.shared.FrameLaws.{announces, stands_alone}
 use Rattle.capn_walk.specs.Index.{IndexesAreReadable, by_kind, entry_at, entry_of, entry_target, index_of}
-use Rattle.capn_walk.specs.Limits.{Bounds}
 use Rattle.capn_target.specs.Shapes.{IsContent}
 use Rattle.capn_target.specs.Target.{content_words}
 use Rattle.capn_target.specs.Shapes.{IsInMessage}
@@ -20,10 +19,9 @@ use Rattle.capn_walk.specs.declared.kind.Kind.{Kind}
 use Rattle.capn_walk.specs.declared.kind.Kind.TheVariants as kinds
 use Rattle.capn_target.specs.declared.target.Target.TheVariants as targets
 use Rattle.capn_words.specs.declared.pointer.Width.TheVariants.{W0, W1, W8, W16, W32, W64, Link}
-use Rattle.capn_canon.specs.Reads.{IsFramed, Reads}
-use Rattle.capn_canon.specs.declared.form.Form.{Form}
+use Rattle.capn_canon.specs.Reads.{IsFramed}
 use Rattle.capn_canon.specs.declared.form.Form.TheVariants as forms
-use Rattle.capn_c.specs.Entries.{IndexedIn, c_entry, starts_from, table_length}
+use Rattle.capn_c.specs.Entries.{c_entry, starts_from, table_length}
 use Rattle.capn_c.specs.Offsets.{OffsetsAreOfContents, OffsetsAreOfPlaces, StandAt, StandsAt, entry_place}
 use Rattle.capn_c.specs.declared.entries.CapnEntry.{CapnEntry}
 use Rattle.capn_c.proofs.Entered.{start_at}

@@ -1,5 +1,5 @@
 -- Where a walk stopped, and what is reported of it.
-use Rattle.std.proofs.Common.{◌≡◌, ◌<◌, ◌≤◌, ℕ, List, Some, None, refl, sym, subst, arith}
+use Rattle.std.proofs.Common.{◌≡◌, ◌<◌, ◌≤◌, ℕ, List, refl, sym, subst, arith}
 use Rattle.capn_pack.specs.declared.fault.UnpackFault.{UnpackFault}
 use Rattle.capn_pack.specs.declared.fault.UnpackFault.TheVariants as packed
 use Rattle.capn_pack.specs.UnpackRefusal as packs
@@ -10,7 +10,7 @@ use Rattle.capn_words.specs.declared.bare.BareFault.{BareFault}
 use Rattle.capn_words.specs.declared.bare.BareFault.TheVariants as bare
 use Rattle.capn_target.specs.declared.target.Fault.{Fault}
 use Rattle.capn_target.specs.declared.target.Fault.TheVariants as walk
-use Rattle.capn_walk.specs.Accepted.{IsBounded, IsWalkRefused}
+use Rattle.capn_walk.specs.Accepted.{IsBounded}
 use Rattle.capn_walk.specs.Limits.{Bounds}
 use Rattle.capn_walk.specs.declared.walk_answer.Stopped.{Stopped}
 use Rattle.capn_walk.proofs.shared.Plain.{plain-refusal}
@@ -18,13 +18,10 @@ use Rattle.capn_canon.specs.declared.form.Form.{Form}
 use Rattle.capn_canon.specs.declared.form.Form.TheVariants as forms
 use Rattle.capn_canon.specs.declared.refusal.Refusal.{Refusal}
 use Rattle.capn_canon.specs.declared.refusal.Refusal.TheVariants as refusals
-use Rattle.capn_canon.specs.Refusal.{IsPaidWithin, IsUnacceptedIn}
-use Rattle.capn_canon.proofs.shared.NotRefused.{accepted-not_refused}
-use Rattle.capn_canon.proofs.shared.OneReading.{one_message}
-use Rattle.capn_canon.proofs.shared.OneRefusal.{one_stop}
-use Rattle.capn_answers.specs.Ways.{IsAcceptedIn, IsStoppedIn}
+use Rattle.capn_canon.specs.Refusal.{IsPaidWithin}
+use Rattle.capn_answers.specs.Ways.{IsStoppedIn, IsUnread}
 use Rattle.capn_c.specs.StatusCodes.{Reports, bare_code, packed_code, frame_code, walk_code, code, report_of}
-use Rattle.capn_c.specs.WayNumbers.{AreStopped, stop_of, with_length}
+use Rattle.capn_c.specs.WayNumbers.{with_length}
 use Rattle.capn_c.specs.declared.report.CapnReport.{CapnReport}
 
 -- ---- the status of a stop is 64 or more
@@ -43,10 +40,10 @@ fault_status walk.TooDeep n = omega arith
 fault_status walk.OverBudget n = omega arith
 fault_status walk.Memory n = absurd (n refl)
 
-pub stop_status : (form : Form) (bs : List ℕ) (l : Bounds) (s : Stopped) → AreStopped form bs l s
+pub stop_status : (form : Form) (bs : List ℕ) (l : Bounds) (s : Stopped) (way : List ℕ) → IsStoppedIn form bs l s way
     → 64 ≤ walk_code s.fault
-stop_status form bs l s (m, reads, h) =
-    fault_status s.fault (λ e. plain-refusal m l s.fault s.place s.paid s.visits h e)
+stop_status form bs l s way h =
+    fault_status s.fault (λ e. plain-refusal h.message l s.fault s.place s.paid s.visits h.at.refused e)
 
 -- ---- and that of any other refusal is less
 
@@ -68,63 +65,35 @@ frame_status bs most (frame.TooManyWords n) h = omega arith
 frame_status bs most frame.Cut h = omega arith
 frame_status bs most frame.Failed h = absurd h
 
-pub other_status : (form : Form) (bs : List ℕ) (l : Bounds) (e : Refusal) → IsUnacceptedIn form bs l e
-    → stop_of e ≡ None → code e < 64
-other_status form bs l (refusals.Walk s) h n = absurd cc
-other_status form bs l (refusals.Capability k) h n = absurd h
-other_status form bs l refusals.Memory h n = omega arith
-other_status form bs l (refusals.Bare e) h n = bare_status e
-other_status form bs l (refusals.Trailing at) h n = omega arith
-other_status forms.Bare bs l (refusals.Packed e) h n = absurd h
-other_status forms.Stream bs l (refusals.Packed e) h n = absurd h
-other_status forms.Packed bs l (refusals.Packed e) h n = packed_status bs _ e h.1
-other_status forms.Bare bs l (refusals.Frame e) h n = absurd h
-other_status forms.Stream bs l (refusals.Frame e) h n = frame_status bs l.message_words e h.1
-other_status forms.Packed bs l (refusals.Frame e) h n = frame_status h.0 l.message_words e h.2.1
+pub unread_status : (form : Form) (bs : List ℕ) (l : Bounds) (e : Refusal) → IsUnread form bs l e → code e < 64
+unread_status form bs l refusals.Memory h = omega arith
+unread_status form bs l (refusals.Bare e) h = bare_status e
+unread_status form bs l (refusals.Trailing at) h = omega arith
+unread_status forms.Bare bs l (refusals.Walk s) h = absurd (h (λ x. cc))
+unread_status forms.Stream bs l (refusals.Walk s) h = absurd (h (λ x. cc))
+unread_status forms.Packed bs l (refusals.Walk s) h = absurd ((h (λ x. cc)).2)
+unread_status forms.Bare bs l (refusals.Capability k) h = absurd (h (λ x. cc))
+unread_status forms.Stream bs l (refusals.Capability k) h = absurd (h (λ x. cc))
+unread_status forms.Packed bs l (refusals.Capability k) h = absurd ((h (λ x. cc)).2)
+unread_status forms.Bare bs l (refusals.Packed e) h = absurd (h (λ x. cc))
+unread_status forms.Stream bs l (refusals.Packed e) h = absurd (h (λ x. cc))
+unread_status forms.Packed bs l (refusals.Packed e) h = packed_status bs _ e ((h (λ x. cc)).1)
+unread_status forms.Bare bs l (refusals.Frame e) h = absurd (h (λ x. cc))
+unread_status forms.Stream bs l (refusals.Frame e) h = frame_status bs l.message_words e ((h (λ x. cc)).1)
+unread_status forms.Packed bs l (refusals.Frame e) h =
+    let (text, u, is) = h (λ x. cc) in frame_status text l.message_words e is.1
 
--- ---- where a walk stopped is one
+-- ---- what a refusal reports as paid
 
--- it is the refusal
-pub stopped_in : (form : Form) (bs : List ℕ) (l : Bounds) (e : Refusal) (s : Stopped) → IsUnacceptedIn form bs l e
-    → stop_of e ≡ Some s → AreStopped form bs l s
-stopped_in form bs l (refusals.Walk t) s h i =
-    let same : t ≡ s = cc in
-    subst (λ (x : Stopped). AreStopped form bs l x) same h
-stopped_in form bs l (refusals.Bare e) s h i = absurd cc
-stopped_in form bs l (refusals.Packed e) s h i = absurd cc
-stopped_in form bs l (refusals.Frame e) s h i = absurd cc
-stopped_in form bs l (refusals.Trailing at) s h i = absurd cc
-stopped_in form bs l (refusals.Capability k) s h i = absurd cc
-stopped_in form bs l refusals.Memory s h i = absurd cc
-
-pub stop_bounded : (budget : ℕ) (e : Refusal) (s : Stopped) → IsPaidWithin budget e → stop_of e ≡ Some s
-    → IsBounded budget s.paid s.visits
-stop_bounded budget (refusals.Walk t) s h i =
-    let same : t ≡ s = cc in
-    subst (λ (x : Stopped). IsBounded budget x.paid x.visits) same h
-stop_bounded budget (refusals.Bare e) s h i = absurd cc
-stop_bounded budget (refusals.Packed e) s h i = absurd cc
-stop_bounded budget (refusals.Frame e) s h i = absurd cc
-stop_bounded budget (refusals.Trailing at) s h i = absurd cc
-stop_bounded budget (refusals.Capability k) s h i = absurd cc
-stop_bounded budget refusals.Memory s h i = absurd cc
-
--- a way that was found leads to it
-pub way_of_stop : (form : Form) (bs : List ℕ) (l : Bounds) (s t : Stopped) (way : List ℕ) → AreStopped form bs l s
-    → IsStoppedIn form bs l t way → IsStoppedIn form bs l s way
-way_of_stop form bs l s t way (m, reads, h) found =
-    let same = one_message form bs l.message_words m found.message reads found.reads in
-    let here = subst (λ (x : List (List ℕ)). IsWalkRefused x l s.fault s.place s.paid s.visits) same h in
-    let e : t ≡ s = one_stop found.message l t s found.at.refused here in
-    subst (λ (x : Stopped). IsStoppedIn form bs l x way) e found
-
--- and the message is not accepted
-pub not_accepted : (form : Form) (bs : List ℕ) (l : Bounds) (s : Stopped) → AreStopped form bs l s
-    → IsAcceptedIn form bs l → ⊥
-not_accepted form bs l s (m, reads, h) a =
-    let same = one_message form bs l.message_words m a.message reads a.reads in
-    accepted-not_refused a.message l s a.accepted
-    (subst (λ (x : List (List ℕ)). IsWalkRefused x l s.fault s.place s.paid s.visits) same h)
+pub refusal_bounded : (budget : ℕ) (e : Refusal) → IsPaidWithin budget e
+    → IsBounded budget (report_of e).paid (report_of e).visits
+refusal_bounded budget (refusals.Walk s) h = h
+refusal_bounded budget (refusals.Capability k) h = record { within = omega arith; few = omega arith }
+refusal_bounded budget (refusals.Bare e) h = record { within = omega arith; few = omega arith }
+refusal_bounded budget (refusals.Packed e) h = record { within = omega arith; few = omega arith }
+refusal_bounded budget (refusals.Frame e) h = record { within = omega arith; few = omega arith }
+refusal_bounded budget (refusals.Trailing at) h = record { within = omega arith; few = omega arith }
+refusal_bounded budget refusals.Memory h = record { within = omega arith; few = omega arith }
 
 -- ---- a report with another length reports the same but for that
 pub but_length : (status n : ℕ) (r : CapnReport) (s : Stopped) → Reports status r (refusals.Walk s)

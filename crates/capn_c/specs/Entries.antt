@@ -1,5 +1,5 @@
 -- The index of a message, as C reads it. (Own.)
-use Rattle.std.specs.Prelude.{◌≡◌, ℕ, ◌+◌, ◌*◌, ◌≤◌, List, [], ◌∷◌, ◌++◌, length, drop, get_or, map}
+use Rattle.std.specs.Prelude.{◌≡◌, ℕ, ◌+◌, ◌*◌, List, [], ◌∷◌, ◌++◌, length, drop, get_or, map}
 use Rattle.capn_stream.specs.FrameRefusal.{head_length}
 use Rattle.capn_walk.specs.Accepted.{IsAccepted}
 use Rattle.capn_walk.specs.Index.{index_of}
@@ -66,9 +66,3 @@ pub record HasEntries (form : Form) (bs : List ℕ) (limits : Bounds) (count : �
   pub reads : Reads form bs limits.message_words message
   pub accepted : IsAccepted message limits
   pub each : count ≡ length (index_of message limits)
-
--- and a room has as many
-pub record HasRoom (form : Form) (bs : List ℕ) (limits : Bounds) (room : List CapnEntry) : Type 0 where
-  pub count : ℕ
-  pub entries : HasEntries form bs limits count
-  pub fits : count ≤ length room

@@ -12,3 +12,4 @@ pub mod MemoryAsked
 pub mod Shown
 pub mod WayNumbers
 pub mod Departed
+pub mod inner

@@ -15,11 +15,11 @@ ghost use Rattle.capn_c.specs.Calls.{Delivers};
 ghost use Rattle.capn_c.specs.MemoryAsked.{MayAsk};
 ghost use Rattle.capn_c.specs.StatusCodes.{Reports, answered, is_status};
 
-use crate::few_frame::read_frame;
 use crate::output::deliver;
 use crate::report::{CapnReport, answer_of};
 use crate::status_codes::refuse;
 use crate::written_message::write_message;
+use capn_answers::read_frame;
 use capn_canon::{Form, Refusal, canonicalise};
 use capn_walk::Limits;
 use capn_words::Bare;

@@ -19,10 +19,9 @@ use crate::departed::{CapnDeparted, departed_of, way_of};
 use crate::limits::{CapnLimits, form_of, limits_of};
 use crate::report::{CapnReport, answer_of, report_at};
 use crate::status_codes::{BAD_FORM, DONE, refuse};
-use crate::survey_bytes::survey_bytes;
 use crate::way_numbers::place_way;
-use capn_answers::{Departure, departure_in};
-use capn_canon::{Form, Refusal};
+use capn_answers::{Departure, departure_and_survey_in};
+use capn_canon::Form;
 use capn_walk::{Limits, Surveyed};
 use std::alloc::Global;
 
@@ -71,14 +70,11 @@ fn depart(
     ensures kept { result ≢ 0 → (departed.new ≡ departed.old) × (way.new ≡ way.old) }
 {
     let _depth = limits.depth();
-    match survey_bytes(alloc, form, bytes, limits) {
-        Ok(surveyed) => match departure_in(alloc, form, bytes, limits) {
-            Ok(found) => {
-                tell_departure(&found, surveyed, departed, way, report);
-                DONE
-            }
-            Err(_) => refuse(Refusal::Memory, report),
-        },
+    match departure_and_survey_in(alloc, form, bytes, limits) {
+        Ok(found) => {
+            tell_departure(&found.departure, found.survey, departed, way, report);
+            DONE
+        }
         Err(refusal) => refuse(refusal, report),
     }
 }
@@ -87,7 +83,7 @@ fn depart(
 ///
 /// 0: it is told; `length` is 4 bytes for each number of the way, and `paid` and `visits` are those of the walk. The
 /// numbers are at the start of the room if it has room for all of them; else it is as it was. 2, 3 and 4: the form, a
-/// limit or the tariff is out of its range. 8: memory was refused: for the table of two segments or more, for what is
+/// limit or the tariff is out of its range. 8: memory was refused: for the table of more than 64 segments, for what is
 /// unpacked, and, of a message of one segment that is not canonical, for its canonical bytes and for the way. Others:
 /// the refusal, which is never that of a capability.
 ///

@@ -1,68 +1,27 @@
 //! Digests of canonical bytes.
 
-ghost use Rattle.std.specs.Prelude.{IsTrue, ◌≡◌, ◌≢◌, ◌⊎◌, ◌↔◌, ◌≤◌, ℕ, List, None, IfSome};
+ghost use Rattle.std.specs.Prelude.{IsTrue, ◌≡◌, ◌≢◌, ◌⊎◌, ◌↔◌, ◌≤◌, ℕ, List, None};
 ghost use Rattle.sha2.specs.Sha256.{sha256};
 ghost use Rattle.capn_value.specs.Tree.{Tree as Value};
 ghost use Rattle.capn_value.specs.FirstCap.{first_cap};
 ghost use Rattle.capn_walk.specs.Accepted.{IsBounded};
 ghost use Rattle.capn_canon.specs.Layout.{canon};
-ghost use Rattle.capn_canon.specs.Denotes.{Denotes};
-ghost use Rattle.capn_canon.specs.Denotes.{Answers, AnswersMessage};
+ghost use Rattle.capn_canon.specs.Denotes.{Answers, Denotes};
 ghost use Rattle.capn_canon.specs.Refusal.{IsRefused};
 ghost use Rattle.capn_canon.specs.MemoryNeed.{MayNeedBytesIn};
 ghost use Rattle.capn_canon.specs.declared.refusal.Refusal.{Refusal as Refusals};
 ghost use Rattle.capn_c.specs.Calls.{IsForm, form_named, GiveLimits, IsTariff, bounds_of};
 ghost use Rattle.capn_c.specs.StatusCodes.{Reports, answered, at_number, is_status};
 
-use crate::few_frame::read_frame;
 use crate::limits::{CapnLimits, form_of, limits_of};
+use crate::message_digest::digest_in;
 use crate::report::{CapnReport, answer_of, report_at};
 use crate::status_codes::{BAD_FORM, DONE, refuse};
-use capn_canon::{Form, canonicalise, own_canonical};
+use capn_canon::Form;
 use capn_walk::Limits;
-use capn_words::{Bare, Space};
-use sha2::{Digest, Sha256};
 use std::alloc::Global;
 
-/// The digest of canonical bytes, and the words that the walk of their message pays.
-#[derive(Drop)]
-struct Digested {
-    digest: [u8; 32],
-    paid: u32,
-}
-
-/// The digest of a message that is canonical, which is hashed where it lies; `None` of any other.
-fn digest_in_place<S: Space>(space: &S, limits: Limits) -> Option<Digested>
-    ensures { IfSome result (λ d. (text : List ℕ) × AnswersMessage (S.message space.now) limits text d.paid
-        × (d.digest ≡ sha256 text)) }
-{
-    let own = own_canonical(space, limits)?;
-    let digest = Sha256::digest(own.bytes);
-    Some(Digested {
-        digest,
-        paid: own.paid,
-    })
-}
-
-/// The digest of the message of a frame or of bare words, if it is canonical.
-fn digest_of_own(form: Form, bytes: &[u8], limits: Limits) -> Option<Digested>
-    ensures { IfSome result (λ d. (text : List ℕ) × Answers form bytes.now limits text d.paid
-        × (d.digest ≡ sha256 text)) }
-{
-    match form {
-        Form::Stream => match read_frame(bytes, limits)? {
-            Ok(message) => digest_in_place(&message, limits),
-            Err(_) => None,
-        },
-        Form::Bare => match Bare::new(bytes) {
-            Ok(message) => digest_in_place(&message, limits),
-            Err(_) => None,
-        },
-        Form::Packed => None,
-    }
-}
-
-/// The SHA-256 of the canonical bytes of a message. Of one that is canonical, and not packed, no copy is made.
+/// The SHA-256 of the canonical bytes of a message in a form.
 fn hash(
     alloc: Global,
     form: Form,
@@ -83,16 +42,11 @@ fn hash(
     ensures bounded { IsBounded limits.budget report.new.paid report.new.visits }
     ensures kept { result ≢ 0 → digest.new ≡ digest.old }
 {
-    if let Some(own) = digest_of_own(form, bytes, limits) {
-        *report = answer_of(0, own.paid, 0);
-        let found = own.digest;
-        *digest = found;
-        return DONE;
-    }
-    match canonicalise(alloc, form, bytes, limits) {
-        Ok(canonical) => {
-            *report = answer_of(0, canonical.paid, 0);
-            *digest = Sha256::digest(canonical.bytes.as_slice());
+    match digest_in(alloc, form, bytes, limits) {
+        Ok(found) => {
+            *report = answer_of(0, found.paid, 0);
+            let sum = found.digest;
+            *digest = sum;
             DONE
         }
         Err(refusal) => refuse(refusal, report),

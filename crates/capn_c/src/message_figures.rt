@@ -9,8 +9,8 @@ ghost use Rattle.capn_canon.specs.declared.refusal.Refusal.TheVariants as refusa
 ghost use Rattle.capn_c.specs.Figures.{FiguresIn};
 ghost use Rattle.capn_c.specs.MemoryAsked.{MayAsk};
 
-use crate::few_frame::read_frame;
 use crate::figures::{CapnFigures, figures_of};
+use capn_answers::read_frame;
 use capn_canon::{Form, Refusal};
 use capn_pack::unpack;
 use capn_stream::{MOST_TABLE_WORDS, first};

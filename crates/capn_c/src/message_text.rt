@@ -1,16 +1,18 @@
 //! The text of a message, held as a whole.
 
-ghost use Rattle.std.specs.Prelude.{◌≡◌, ◌++◌, IfSome};
-ghost use Rattle.capn_canon.specs.declared.form.Form.TheVariants as forms;
-ghost use Rattle.capn_c.specs.Shown.{ShowsIn, ShowsMessage};
+ghost use Rattle.std.specs.Prelude.{◌≡◌, ◌++◌, IfSome, IfOk, IfErr, IsErrOf, MatchResult};
+ghost use Rattle.capn_walk.specs.Accepted.{IsBounded};
+ghost use Rattle.capn_canon.specs.Refusal.{IsPaidWithin, IsUnacceptedIn};
+ghost use Rattle.capn_canon.specs.SurveyedBytes.{Surveys};
+ghost use Rattle.capn_canon.specs.declared.refusal.Refusal.TheVariants as refusals;
+ghost use Rattle.capn_c.specs.Shown.{MayNeedText, ShowsIn, ShowsMessage};
+ghost use Rattle.capn_c.specs.inner.Told.{IsTextTold};
 
 use crate::styles::end_of;
-use capn_canon::Form;
-use capn_pack::unpack;
+use capn_canon::{Form, MessageTask, Refusal, run_task, survey};
 use capn_show::{Style, show_part};
-use capn_stream::{MOST_TABLE_WORDS, first};
-use capn_walk::Limits;
-use capn_words::{Bare, Space, Watched};
+use capn_walk::{Limits, Surveyed};
+use capn_words::{Space, Watched};
 use std::alloc::Global;
 
 /// The second text after the first, or `None` where memory was refused.
@@ -41,54 +43,55 @@ fn text_of<S: Space>(alloc: Global, space: &S, limits: Limits, style: Style) -> 
     }
 }
 
-/// The text of the message that a stream is.
-fn text_of_frame(alloc: Global, bytes: &[u8], limits: Limits, style: Style) -> Option<Vec<u8>>
-    ensures { IfSome result (λ text. ShowsIn forms.Stream bytes.now limits style text.items) }
-{
-    match first(alloc, bytes, limits.message_words()) {
-        Ok((message, taken)) => {
-            if taken < bytes.len() {
-                return None;
-            }
-            text_of(alloc, &message, limits, style)
+/// The text of a message, and what its walk pays and visits.
+#[derive(Drop)]
+pub struct ShownText {
+    /// The text.
+    pub text: Vec<u8>,
+    /// The survey of the message.
+    pub survey: Surveyed,
+}
+
+/// The text of a message in this style.
+#[derive(Clone, Copy)]
+struct Show {
+    style: Style,
+}
+
+impl MessageTask<Global> for Show {
+    type Answer = ShownText;
+
+    ghost answers = { λ task m limits r. IsTextTold m limits task.style r };
+
+    fn run<S: Space>(
+        &self,
+        alloc: Global,
+        message: &S,
+        limits: Limits,
+    ) -> Result<ShownText, Refusal> {
+        let survey = survey(alloc, message, limits)?;
+        match text_of(alloc, message, limits, self.style) {
+            Some(text) => Ok(ShownText { text, survey }),
+            None => Err(Refusal::Memory),
         }
-        Err(_) => None,
     }
 }
 
-/// The text of the message that a packed stream is.
-fn text_of_packed(alloc: Global, bytes: &[u8], limits: Limits, style: Style) -> Option<Vec<u8>>
-    ensures { IfSome result (λ text. ShowsIn forms.Packed bytes.now limits style text.items) }
-{
-    match unpack(alloc, bytes, limits.message_words() + MOST_TABLE_WORDS) {
-        Ok(stream) => text_of_frame(alloc, stream.as_slice(), limits, style),
-        Err(_) => None,
-    }
-}
-
-/// The text of the message that bare words are.
-fn text_of_bare(alloc: Global, bytes: &[u8], limits: Limits, style: Style) -> Option<Vec<u8>>
-    ensures { IfSome result (λ text. ShowsIn forms.Bare bytes.now limits style text.items) }
-{
-    match Bare::new(bytes) {
-        Ok(space) => text_of(alloc, &space, limits, style),
-        Err(_) => None,
-    }
-}
-
-/// The text of the message that bytes are in a form, or `None` where it is not accepted, or memory was refused.
+/// The text of the message that bytes are in a form, and what its walk pays and visits, or why there is none or it is
+/// not accepted. The bytes are read once.
 pub fn text_in(
     alloc: Global,
     form: Form,
     bytes: &[u8],
     limits: Limits,
     style: Style,
-) -> Option<Vec<u8>>
-    ensures { IfSome result (λ text. ShowsIn form bytes.now limits style text.items) }
+) -> Result<ShownText, Refusal>
+    ensures found { IfOk result (λ x. ShowsIn form bytes.now limits style x.text.items) }
+    ensures surveyed { IfOk result (λ x. Surveys form bytes.now limits x.survey) }
+    ensures refused { IfErr result (λ e. IsUnacceptedIn form bytes.now limits e) }
+    ensures memory { IsErrOf result refusals.Memory → MayNeedText form bytes.now limits }
+    ensures bounded { MatchResult result (λ x. IsBounded limits.budget x.survey.paid x.survey.visits)
+        (λ e. IsPaidWithin limits.budget e) }
 {
-    match form {
-        Form::Stream => text_of_frame(alloc, bytes, limits, style),
-        Form::Packed => text_of_packed(alloc, bytes, limits, style),
-        Form::Bare => text_of_bare(alloc, bytes, limits, style),
-    }
+    run_task(alloc, &Show { style }, form, bytes, limits)
 }

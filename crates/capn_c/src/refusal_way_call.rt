@@ -9,52 +9,20 @@ ghost use Rattle.capn_canon.specs.Denotes.{Denotes};
 ghost use Rattle.capn_canon.specs.Refusal.{IsUnacceptedIn};
 ghost use Rattle.capn_canon.specs.SurveyedBytes.{Surveys};
 ghost use Rattle.capn_canon.specs.declared.refusal.Refusal.{Refusal as Refusals};
+ghost use Rattle.capn_answers.specs.Walked.{MayNeedItsWay};
 ghost use Rattle.capn_answers.specs.Ways.{IsStoppedIn};
 ghost use Rattle.capn_c.specs.Calls.{IsForm, form_named, GiveLimits, IsTariff, bounds_of};
 ghost use Rattle.capn_c.specs.StatusCodes.{Reports, answered, at_number, is_status};
-ghost use Rattle.capn_c.specs.WayNumbers.{AreStopped, MayNeedItsWay, TellsWay};
+ghost use Rattle.capn_c.specs.WayNumbers.{TellsWay};
 
 use crate::limits::{CapnLimits, form_of, limits_of};
 use crate::report::{CapnReport, answer_of, report_at};
 use crate::status_codes::{BAD_FORM, DONE, refuse};
-use crate::survey_bytes::survey_bytes;
-use crate::way_numbers::{stop_of, tell_way};
-use capn_answers::way_in;
-use capn_canon::{Form, Refusal};
-use capn_walk::{Limits, Stopped};
+use crate::way_numbers::tell_way;
+use capn_answers::{Walked, walk_in};
+use capn_canon::Form;
+use capn_walk::Limits;
 use std::alloc::Global;
-
-/// The way to the slot at which the walk of a message stopped, as was found before.
-fn way_to_stop(
-    alloc: Global,
-    form: Form,
-    bytes: &[u8],
-    limits: Limits,
-    stopped: Stopped,
-    way: &mut [u32],
-    report: &mut CapnReport,
-) -> u32
-    requires stopped { AreStopped form bytes.now limits stopped }
-    requires bounded { IsBounded limits.budget stopped.paid stopped.visits }
-    ensures possible { (result ≡ 8) ⊎ (64 ≤ result) }
-    ensures listed { IsTrue (is_status result) }
-    ensures told { 64 ≤ result → (numbers : List ℕ) × IsStoppedIn form bytes.now limits stopped numbers
-        × TellsWay result report.new stopped numbers way.old way.new }
-    ensures short { 64 ≤ result → report.new.length ≤ 8 * limits.depth }
-    ensures refused { result < 64 → (e : Refusals) × Reports result report.new e
-        × IsUnacceptedIn form bytes.now limits e }
-    ensures bounded { IsBounded limits.budget report.new.paid report.new.visits }
-    ensures kept { result < 64 → way.new ≡ way.old }
-{
-    let _depth = limits.depth();
-    match way_in(alloc, form, bytes, limits) {
-        Ok(found) => match found {
-            Some(refused) => tell_way(stopped, refused.way.as_slice(), way, report),
-            None => unreachable!(),
-        },
-        Err(_) => refuse(Refusal::Memory, report),
-    }
-}
 
 /// The way to the slot at which the walk of a message in a form stopped.
 fn refusal_way(
@@ -79,15 +47,18 @@ fn refusal_way(
     ensures bounded { IsBounded limits.budget report.new.paid report.new.visits }
     ensures kept { result < 64 → way.new ≡ way.old }
 {
-    match survey_bytes(alloc, form, bytes, limits) {
-        Ok(surveyed) => {
-            *report = answer_of(0, surveyed.paid, surveyed.visits);
-            DONE
-        }
-        Err(refusal) => match stop_of(refusal) {
-            Some(stopped) => way_to_stop(alloc, form, bytes, limits, stopped, way, report),
-            None => refuse(refusal, report),
+    let _depth = limits.depth();
+    match walk_in(alloc, form, bytes, limits) {
+        Ok(walked) => match walked {
+            Walked::Accepted(surveyed) => {
+                *report = answer_of(0, surveyed.paid, surveyed.visits);
+                DONE
+            }
+            Walked::Refused(refused) => {
+                tell_way(refused.stopped, refused.way.as_slice(), way, report)
+            }
         },
+        Err(refusal) => refuse(refusal, report),
     }
 }
 
@@ -95,12 +66,11 @@ fn refusal_way(
 /// the numbers that lead to it from the root, into a room.
 ///
 /// 0: it is accepted; `paid` and `visits` are those of its walk. 2, 3 and 4: the form, a limit or the tariff is out of
-/// its range. 8: memory was refused: where `capn_check` takes it, or, if the walk is refused, for the table of two
-/// segments or more, for what is unpacked, or for the way. From 64 on: the walk is refused; `length` is 4 bytes for
-/// each number of the way. The numbers are at the start of the room if it has room for all of them; else it is as it
-/// was. Others: the refusal, which is never that of a capability.
+/// its range. 8: memory was refused: where `capn_check` takes it, or, if the walk is refused, for the way. From 64 on:
+/// the walk is refused; `length` is 4 bytes for each number of the way. The numbers are at the start of the room if it
+/// has room for all of them; else it is as it was. Others: the refusal, which is never that of a capability.
 ///
-/// Two numbers for each level of the depth limit are enough. A message that is refused is walked up to three times.
+/// Two numbers for each level of the depth limit are enough. A message that is refused is walked twice at most.
 #[unsafe(no_mangle)]
 pub extern "C" fn capn_refusal_way(
     alloc: Global,

@@ -18,7 +18,7 @@ use crate::output::deliver;
 use crate::report::{CapnReport, answer_of, report_at};
 use crate::status_codes::{BAD_FORM, BAD_STYLE, refuse};
 use crate::styles::style_of;
-use capn_canon::{Form, Refusal, survey_bytes};
+use capn_canon::Form;
 use capn_show::Style;
 use capn_walk::Limits;
 use std::alloc::Global;
@@ -47,14 +47,12 @@ fn show_in(
     ensures bounded { IsBounded limits.budget report.new.paid report.new.visits }
     ensures kept { result ≢ 0 → out.new ≡ out.old }
 {
-    match survey_bytes(alloc, form, bytes, limits) {
-        Ok(surveyed) => match text_in(alloc, form, bytes, limits, style) {
-            Some(text) => {
-                *report = answer_of(text.len() as u64, surveyed.paid, surveyed.visits);
-                deliver(text.as_slice(), out)
-            }
-            None => refuse(Refusal::Memory, report),
-        },
+    match text_in(alloc, form, bytes, limits, style) {
+        Ok(shown) => {
+            let survey = shown.survey;
+            *report = answer_of(shown.text.len() as u64, survey.paid, survey.visits);
+            deliver(shown.text.as_slice(), out)
+        }
         Err(refusal) => refuse(refusal, report),
     }
 }

@@ -14,8 +14,8 @@ ghost use Rattle.capn_canon.specs.declared.form.Form.TheVariants as forms;
 ghost use Rattle.capn_canon.specs.declared.refusal.Refusal.TheVariants as refusals;
 ghost use Rattle.capn_c.specs.MemoryAsked.{MayAsk};
 
-use crate::few_frame::read_frame;
 use crate::held_message::survey_short;
+use capn_answers::read_frame;
 use capn_canon::{Form, Refusal};
 use capn_walk::{Limits, Surveyed};
 use std::alloc::Global;

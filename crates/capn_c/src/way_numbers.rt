@@ -1,28 +1,12 @@
 //! The numbers of a way, into a caller's room.
 
 ghost use Rattle.std.specs.Prelude.{◌≡◌, ◌≤◌, ◌*◌, length};
-ghost use Rattle.capn_c.specs.WayNumbers as numbers;
 ghost use Rattle.capn_c.specs.WayNumbers.{ArePlaced, TellsWay};
 
 use crate::report::{CapnReport, report_at};
 use crate::status_codes::refuse;
 use capn_canon::Refusal;
 use capn_walk::Stopped;
-
-/// Where a walk stopped, if that is the refusal.
-pub fn stop_of(refusal: Refusal) -> Option<Stopped>
-    ensures { result ≡ numbers.stop_of refusal }
-{
-    match refusal {
-        Refusal::Walk(stopped) => Some(stopped),
-        Refusal::Bare(_) => None,
-        Refusal::Packed(_) => None,
-        Refusal::Frame(_) => None,
-        Refusal::Trailing(_) => None,
-        Refusal::Capability(_) => None,
-        Refusal::Memory => None,
-    }
-}
 
 /// Writes the numbers of a way at the start of a room, if it has room for all of them.
 pub fn place_way(way: &[u32], room: &mut [u32])

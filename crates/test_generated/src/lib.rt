@@ -9,6 +9,8 @@ mod accepted;
 #[cfg(test)]
 mod agreement;
 #[cfg(test)]
+mod answers;
+#[cfg(test)]
 mod changed;
 #[cfg(test)]
 mod hostile;

@@ -1,7 +1,9 @@
--- A refusal with the status 8 says that memory ran out.
-use Rattle.std.proofs.Common.{inr, refl, ap, sym, ◌∙◌, Err}
+-- A refusal with the status 8 says that memory ran out; the digest is that of the canonical bytes of the one value.
+use Rattle.std.proofs.Common.{inl, inr, refl, ap, sym, ◌∙◌, Err}
 use Rattle.sha2.specs.Sha256.{sha256}
+use Rattle.capn_canon.proofs.shared.NotRefused.{not_refused}
 use Rattle.capn_canon.proofs.shared.OneReading.{answers_only}
+use Rattle.capn_c.specs.StatusCodes.{code}
 use Rattle.capn_c.proofs.OutOfMemory.{refused_memory}
 use Rattle.capn_c.proofs.hash_call.hash.Goals as goal
 
@@ -12,10 +14,14 @@ returns-in-Err-clause-memory c e =
     (refused_memory c.args.form c.args.bytes.now c.args.limits c.in-Err.refusal c.in-Err.ensures.refused
     (sym c.refuse.ensures.status_is ∙ e)))
 
--- the digest of bytes that are canonical is that of the canonical bytes of their value
-pub returns-in-Some-clause-only : goal.returns-in-Some-clause-only
-returns-in-Some-clause-only c v d free =
-    let (text, answers, is) = c.in-Some.ensures in
+pub returns-in-Err-clause-only : goal.returns-in-Err-clause-only
+returns-in-Err-clause-only c v d free =
+    inl (c.refuse.ensures.status_is ∙ ap code
+    (not_refused c.args.form c.args.bytes.now c.args.limits v c.in-Err.refusal d free c.in-Err.ensures.refused))
+
+pub returns-in-Ok-clause-only : goal.returns-in-Ok-clause-only
+returns-in-Ok-clause-only c v d free =
+    let (text, answers, is) = c.in-Ok.ensures.found in
     let same =
-    answers_only c.args.form c.args.bytes.now c.args.limits text c.in-Some.own.paid answers v d in
+    answers_only c.args.form c.args.bytes.now c.args.limits text c.in-Ok.found.paid answers v d in
     inr (refl, is ∙ ap sha256 same)

@@ -1,25 +1,136 @@
--- What is accepted is refused only if memory runs out; a refusal of the walk is where it stopped.
-use Rattle.std.proofs.Common.{◌≡◌, Some, None, inr, ap, sym, ◌∙◌}
-use Rattle.capn_c.specs.StatusCodes.{code}
-use Rattle.capn_c.specs.WayNumbers.{stop_of}
-use Rattle.capn_c.proofs.WayTold.{stopped_in, stop_bounded}
+-- A message is accepted, or its walk stopped and the status is the one of that; else the bytes are not read.
+use Rattle.std.proofs.Common.{ℕ, List, length, inr, ap, sym, subst, ◌∙◌, arith, Err}
+use Rattle.std.specs.Bool.{IsTrue}
+use Rattle.capn_walk.specs.Accepted.{IsBounded}
+use Rattle.capn_answers.proofs.shared.Reading.{unread_unaccepted, unread_within}
+use Rattle.capn_c.specs.StatusCodes.{code, is_status}
+use Rattle.capn_c.specs.WayNumbers.{TellsWay}
+use Rattle.capn_c.specs.declared.report.CapnReport.{CapnReport}
+use Rattle.capn_c.proofs.Digests.{unaccepted_refused}
+use Rattle.capn_c.proofs.Listed.{refused_listed}
+use Rattle.capn_c.proofs.OutOfMemory.{unaccepted_memory}
+use Rattle.capn_c.proofs.WayTold.{refusal_bounded, stop_status, unread_status}
 use Rattle.capn_c.proofs.refusal_way_call.refusal_way.Goals as goal
 
-pub way_to_stop-requires-clause-stopped : goal.way_to_stop-requires-clause-stopped
-way_to_stop-requires-clause-stopped c =
-    stopped_in c.args.form c.args.bytes.now c.args.limits c.in-Err.refusal c.in-Some.stopped c.in-Err.ensures.refused
-    (sym c.stop_of.ensures ∙ c.in-Some.is)
+-- ---- a message that is accepted
 
-pub way_to_stop-requires-clause-bounded : goal.way_to_stop-requires-clause-bounded
-way_to_stop-requires-clause-bounded c =
-    stop_bounded c.args.limits.budget c.in-Err.refusal c.in-Some.stopped c.in-Err.ensures.bounded
-    (sym c.stop_of.ensures ∙ c.in-Some.is)
+pub returns-in-Accepted-clause-found : goal.returns-in-Accepted-clause-found
+returns-in-Accepted-clause-found c e =
+    (c.in-Accepted.surveyed, (rw c.in-Accepted.is at c.in-Ok.ensures.found), c.answer_of.ensures)
 
-pub returns-in-Some-clause-only : goal.returns-in-Some-clause-only
-returns-in-Some-clause-only c v d =
-    let none : None ≡ Some c.in-Some.stopped =
-    sym (ap stop_of (c.in-Err.ensures.only v d)) ∙ sym c.stop_of.ensures ∙ c.in-Some.is in
-    absurd cc
+pub returns-in-Accepted-clause-bounded : goal.returns-in-Accepted-clause-bounded
+returns-in-Accepted-clause-bounded c =
+    subst (λ (r : CapnReport). IsBounded c.args.limits.budget r.paid r.visits) (sym c.answer_of.ensures)
+    (rw c.in-Accepted.is at c.in-Ok.ensures.bounded)
 
-pub returns-in-None-clause-only : goal.returns-in-None-clause-only
-returns-in-None-clause-only c v d = inr (c.refuse.ensures.status_is ∙ ap code (c.in-Err.ensures.only v d))
+-- ---- one whose walk stopped
+
+pub tell_way-requires : goal.tell_way-requires
+tell_way-requires c =
+    let few = (rw c.in-Refused.is at c.in-Ok.ensures.short) in
+    omega (arith, few, ap length c.as_slice.ensures.value)
+
+pub returns-in-Refused-clause-possible : goal.returns-in-Refused-clause-possible
+returns-in-Refused-clause-possible c =
+    let f = c.in-Refused.refused in
+    let much = stop_status c.args.form c.args.bytes.now c.args.limits f.stopped f.way.items
+    (rw c.in-Refused.is at c.in-Ok.ensures.found) in
+    inr (omega (arith, much, c.tell_way.ensures.told.reports.status_is))
+
+pub returns-in-Refused-clause-found : goal.returns-in-Refused-clause-found
+returns-in-Refused-clause-found c h =
+    let f = c.in-Refused.refused in
+    let much = stop_status c.args.form c.args.bytes.now c.args.limits f.stopped f.way.items
+    (rw c.in-Refused.is at c.in-Ok.ensures.found) in
+    absurd (omega (arith, h, much, c.tell_way.ensures.told.reports.status_is))
+
+pub returns-in-Refused-clause-only : goal.returns-in-Refused-clause-only
+returns-in-Refused-clause-only c v d =
+    absurd (rw c.in-Refused.is at (c.in-Ok.ensures.only v d))
+
+pub returns-in-Refused-clause-refused : goal.returns-in-Refused-clause-refused
+returns-in-Refused-clause-refused c e h =
+    let f = c.in-Refused.refused in
+    let much = stop_status c.args.form c.args.bytes.now c.args.limits f.stopped f.way.items
+    (rw c.in-Refused.is at c.in-Ok.ensures.found) in
+    absurd (omega (arith, h, much, c.tell_way.ensures.told.reports.status_is))
+
+pub returns-in-Refused-clause-told : goal.returns-in-Refused-clause-told
+returns-in-Refused-clause-told c h = (
+  c.in-Refused.refused.stopped,
+  c.in-Refused.refused.way.items,
+  (rw c.in-Refused.is at c.in-Ok.ensures.found),
+  subst (λ (x : List ℕ). TellsWay c.tell_way.result c.tell_way.new.report c.in-Refused.refused.stopped x
+      c.args.way.now c.tell_way.new.room) c.as_slice.ensures.value c.tell_way.ensures.told,
+)
+
+pub returns-in-Refused-clause-short : goal.returns-in-Refused-clause-short
+returns-in-Refused-clause-short c h =
+    let few = (rw c.in-Refused.is at c.in-Ok.ensures.short) in
+    omega (arith, few, ap length c.as_slice.ensures.value, c.tell_way.ensures.told.long)
+
+pub returns-in-Refused-clause-memory : goal.returns-in-Refused-clause-memory
+returns-in-Refused-clause-memory c h =
+    let f = c.in-Refused.refused in
+    let much = stop_status c.args.form c.args.bytes.now c.args.limits f.stopped f.way.items
+    (rw c.in-Refused.is at c.in-Ok.ensures.found) in
+    absurd (omega (arith, h, much, c.tell_way.ensures.told.reports.status_is))
+
+pub returns-in-Refused-clause-bounded : goal.returns-in-Refused-clause-bounded
+returns-in-Refused-clause-bounded c =
+    let within = (rw c.in-Refused.is at c.in-Ok.ensures.bounded) in
+    subst (λ (n : ℕ). IsBounded c.args.limits.budget n c.tell_way.new.report.visits) (sym c.tell_way.ensures.paid)
+    (subst (λ (n : ℕ). IsBounded c.args.limits.budget c.in-Refused.refused.stopped.paid n)
+    (sym c.tell_way.ensures.visits) within)
+
+pub returns-in-Refused-clause-kept : goal.returns-in-Refused-clause-kept
+returns-in-Refused-clause-kept c h =
+    let f = c.in-Refused.refused in
+    let much = stop_status c.args.form c.args.bytes.now c.args.limits f.stopped f.way.items
+    (rw c.in-Refused.is at c.in-Ok.ensures.found) in
+    absurd (omega (arith, h, much, c.tell_way.ensures.told.reports.status_is))
+
+-- ---- bytes that are not read
+
+pub returns-in-Err-clause-only : goal.returns-in-Err-clause-only
+returns-in-Err-clause-only c v d = inr (c.refuse.ensures.status_is ∙ ap code (c.in-Err.ensures.only v d))
+
+pub returns-in-Err-clause-listed : goal.returns-in-Err-clause-listed
+returns-in-Err-clause-listed c =
+    let unaccepted = unread_unaccepted c.args.form c.args.bytes.now c.args.limits c.in-Err.refusal
+    c.in-Err.ensures.refused in
+    subst (λ (n : ℕ). IsTrue (is_status n)) (sym c.refuse.ensures.status_is)
+    (refused_listed c.args.form c.args.bytes.now c.args.limits c.in-Err.refusal
+    (unaccepted_refused c.args.form c.args.bytes.now c.args.limits c.in-Err.refusal unaccepted))
+
+pub returns-in-Err-clause-refused : goal.returns-in-Err-clause-refused
+returns-in-Err-clause-refused c e h = (
+  c.in-Err.refusal,
+  c.refuse.ensures,
+  unread_unaccepted c.args.form c.args.bytes.now c.args.limits c.in-Err.refusal c.in-Err.ensures.refused,
+)
+
+pub returns-in-Err-clause-told : goal.returns-in-Err-clause-told
+returns-in-Err-clause-told c h =
+    let less = unread_status c.args.form c.args.bytes.now c.args.limits c.in-Err.refusal c.in-Err.ensures.refused in
+    absurd (omega (arith, h, less, c.refuse.ensures.status_is))
+
+pub returns-in-Err-clause-short : goal.returns-in-Err-clause-short
+returns-in-Err-clause-short c h =
+    let less = unread_status c.args.form c.args.bytes.now c.args.limits c.in-Err.refusal c.in-Err.ensures.refused in
+    absurd (omega (arith, h, less, c.refuse.ensures.status_is))
+
+pub returns-in-Err-clause-memory : goal.returns-in-Err-clause-memory
+returns-in-Err-clause-memory c e =
+    let unaccepted = unread_unaccepted c.args.form c.args.bytes.now c.args.limits c.in-Err.refusal
+    c.in-Err.ensures.refused in
+    c.in-Err.ensures.memory
+    (ap Err
+    (unaccepted_memory c.args.form c.args.bytes.now c.args.limits c.in-Err.refusal unaccepted
+    (sym c.refuse.ensures.status_is ∙ e)))
+
+pub returns-in-Err-clause-bounded : goal.returns-in-Err-clause-bounded
+returns-in-Err-clause-bounded c =
+    subst (λ (r : CapnReport). IsBounded c.args.limits.budget r.paid r.visits) (sym c.refuse.ensures.report_is)
+    (refusal_bounded c.args.limits.budget c.in-Err.refusal
+    (unread_within c.args.form c.args.bytes.now c.args.limits c.in-Err.refusal c.in-Err.ensures.refused))

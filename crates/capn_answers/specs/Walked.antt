@@ -1,0 +1,43 @@
+-- How the walk of the message ended which bytes are in a form. (Own.)
+use Rattle.std.specs.Prelude.{◌⊎◌, ℕ, List, [], ⊤}
+use Rattle.capn_walk.specs.Accepted.{IsBounded, IsWalkRefused}
+use Rattle.capn_walk.specs.Limits.{Bounds}
+use Rattle.capn_walk.specs.declared.walk_answer.Stopped.{Stopped}
+use Rattle.capn_canon.specs.MemoryNeed.{MayNeedMemory}
+use Rattle.capn_canon.specs.Reads.{Reads}
+use Rattle.capn_canon.specs.SurveyedBytes.{Surveys}
+use Rattle.capn_canon.specs.declared.form.Form.{Form}
+use Rattle.capn_answers.specs.Ways.{IsStoppedIn}
+use Rattle.capn_answers.specs.declared.walked.Walked.{Walked}
+use Rattle.capn_answers.specs.declared.walked.Walked.TheVariants.{Accepted, Refused}
+
+module _ {A : Type 0} where
+  -- the bytes are read as an accepted message, of which the survey is; or as one whose walk stops there, and the way
+  -- leads to that slot
+  abbrev pub IsWalkedIn : Form → List ℕ → Bounds → Walked A → Type 0
+  IsWalkedIn form bs limits (Accepted s) = Surveys form bs limits s
+  IsWalkedIn form bs limits (Refused f) = IsStoppedIn form bs limits f.stopped f.way.items
+
+  -- the answer is that the message is accepted
+  abbrev pub AnswersAccepted : Walked A → Type 0
+  AnswersAccepted (Accepted s) = ⊤
+  AnswersAccepted (Refused f) = ⊥
+
+  -- the way to where the walk stopped, or no numbers
+  abbrev pub walked_way : Walked A → List ℕ
+  walked_way (Accepted s) = []
+  walked_way (Refused f) = f.way.items
+
+  -- what the walk pays is within a budget, and the visits are at most one more
+  abbrev pub IsWalkedWithin : ℕ → Walked A → Type 0
+  IsWalkedWithin budget (Accepted s) = IsBounded budget s.paid s.visits
+  IsWalkedWithin budget (Refused f) = IsBounded budget f.stopped.paid f.stopped.visits
+
+-- the bytes are read as a message, which is refused by its walk
+abbrev pub AreStopped : Form → List ℕ → Bounds → Stopped → Type 0
+AreStopped form bs limits s = (message : List (List ℕ)) × Reads form bs limits.message_words message
+    × IsWalkRefused message limits s.fault s.place s.paid s.visits
+
+-- memory may be needed: for a check, or for the way of a message that is refused by its walk
+abbrev pub MayNeedItsWay : Form → List ℕ → Bounds → Type 0
+MayNeedItsWay form bs limits = MayNeedMemory form bs limits ⊎ ((s : Stopped) × AreStopped form bs limits s)

@@ -1,0 +1,46 @@
+//! Messages read from bytes in any form, with less memory.
+
+ghost use Rattle.capn_canon.specs.Answered.{IsAnswered};
+ghost use Rattle.capn_canon.specs.declared.form.Form.TheVariants as forms;
+
+use crate::few_frame::read_frame;
+use capn_canon::{Form, MessageTask, Refusal, run_task};
+use capn_walk::Limits;
+use std::alloc::Allocator;
+
+/// Of a frame.
+fn of_frame<T: MessageTask<A>, A: Allocator + Copy>(
+    alloc: A,
+    task: &T,
+    bytes: &[u8],
+    limits: Limits,
+) -> Result<T::Answer, Refusal>
+    ensures { IsAnswered forms.Stream bytes.now limits (T.answers task.now) result }
+{
+    let Some(read) = read_frame(bytes, limits) else {
+        return run_task(alloc, task, Form::Stream, bytes, limits);
+    };
+    match read {
+        Ok(message) => task.run(alloc, &message, limits),
+        Err(refusal) => Err(refusal),
+    }
+}
+
+/// What [`capn_canon::run_task`] answers, with less memory: reading asks for it only for the table of a frame of more
+/// than 64 segments, and for a packed text. (Own.)
+pub fn run_few<T: MessageTask<A>, A: Allocator + Copy>(
+    alloc: A,
+    task: &T,
+    form: Form,
+    bytes: &[u8],
+    limits: Limits,
+) -> Result<T::Answer, Refusal>
+    // The task's answer of the message that the bytes are, or why they are none.
+    ensures { IsAnswered form bytes.now limits (T.answers task.now) result }
+{
+    match form {
+        Form::Stream => of_frame(alloc, task, bytes, limits),
+        Form::Packed => run_task(alloc, task, form, bytes, limits),
+        Form::Bare => run_task(alloc, task, form, bytes, limits),
+    }
+}

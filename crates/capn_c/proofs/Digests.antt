@@ -1,0 +1,64 @@
+-- What is told of a message's digest is so of the bytes that are read as it.
+use Rattle.std.proofs.Common.{◌≡◌, ◌≤◌, inl, inr, ℕ, List, subst, Result, Ok, Err, IfOk, IfErr, IsErrOf}
+use Rattle.std.proofs.Common.{MatchResult}
+use Rattle.sha2.specs.Sha256.{sha256}
+use Rattle.capn_walk.specs.Limits.{Bounds}
+use Rattle.capn_canon.specs.Answered.{IsAnswered, IsRefusedReading}
+use Rattle.capn_canon.specs.Denotes.{Answers}
+use Rattle.capn_canon.specs.MemoryNeed.{MayNeedBytesIn}
+use Rattle.capn_canon.specs.Refusal.{IsPaidWithin, IsRefused, IsUnacceptedIn}
+use Rattle.capn_canon.specs.declared.form.Form.{Form}
+use Rattle.capn_canon.specs.declared.refusal.Refusal.{Refusal}
+use Rattle.capn_canon.specs.declared.refusal.Refusal.TheVariants as refusals
+use Rattle.capn_canon.proofs.shared.NotRefused.{refused_message}
+use Rattle.capn_answers.proofs.shared.Reading.{reading_unaccepted, reading_wanted, reading_within}
+use Rattle.capn_c.specs.declared.message_digest.Digested.{Digested}
+use Rattle.capn_c.specs.inner.Told.{IsDigestTold}
+
+-- what is not accepted is refused
+pub unaccepted_refused : (form : Form) (bs : List ℕ) (limits : Bounds) (e : Refusal) → IsUnacceptedIn form bs limits e
+    → IsRefused form bs limits e
+unaccepted_refused form bs limits refusals.Memory h = tt
+unaccepted_refused form bs limits (refusals.Frame e) h = h
+unaccepted_refused form bs limits (refusals.Trailing at) h = h
+unaccepted_refused form bs limits (refusals.Bare e) h = h
+unaccepted_refused form bs limits (refusals.Packed e) h = h
+unaccepted_refused form bs limits (refusals.Walk s) h = h
+unaccepted_refused form bs limits (refusals.Capability k) h = absurd h
+
+module _ (form : Form) (bs : List ℕ) (limits : Bounds) where
+  -- how bytes are answered
+  abbrev AreTold : Result Digested Refusal → Type 0
+  AreTold r = IsAnswered form bs limits (λ m l x. IsDigestTold m l x) r
+
+  pub digest_found : (r : Result Digested Refusal) → AreTold r
+      → IfOk r (λ d. (text : List ℕ) × Answers form bs limits text d.paid × (d.digest ≡ sha256 text))
+  digest_found (Ok d) (inl (m, is, h)) =
+      let (text, answer, same) = h.found in
+      (text, record { message = m; reads = is; answer = answer }, same)
+  digest_found (Ok d) (inr (e, is, h)) = absurd cc
+  digest_found (Err e) told = tt
+
+  pub digest_refused : (r : Result Digested Refusal) → AreTold r → IfErr r (λ e. IsRefused form bs limits e)
+  digest_refused (Err e) (inl (m, is, h)) = refused_message form bs limits m e is h.refused
+  digest_refused (Err e) (inr (f, is, h)) =
+      let same : f ≡ e = cc in
+      unaccepted_refused form bs limits e
+      (reading_unaccepted form bs limits e (subst (λ (x : Refusal). IsRefusedReading form bs limits x) same h))
+  digest_refused (Ok d) told = tt
+
+  pub digest_wanted : (r : Result Digested Refusal) → AreTold r → IsErrOf r refusals.Memory
+      → MayNeedBytesIn form bs limits
+  digest_wanted r (inl (m, is, h)) w =
+      let (v, value, free) = h.memory w in
+      inr (v, record { message = m; reads = is; value = value }, free)
+  digest_wanted r (inr (e, is, h)) w = inl (reading_wanted form bs limits r e is h w)
+
+  pub digest_bounded : (r : Result Digested Refusal) → AreTold r
+      → MatchResult r (λ d. d.paid ≤ limits.budget) (λ e. IsPaidWithin limits.budget e)
+  digest_bounded (Ok d) (inl (m, is, h)) = h.bounded
+  digest_bounded (Ok d) (inr (e, is, h)) = absurd cc
+  digest_bounded (Err e) (inl (m, is, h)) = h.bounded
+  digest_bounded (Err e) (inr (f, is, h)) =
+      let same : f ≡ e = cc in
+      reading_within form bs limits e (subst (λ (x : Refusal). IsRefusedReading form bs limits x) same h)

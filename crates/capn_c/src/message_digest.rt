@@ -1,0 +1,83 @@
+//! Digests of messages in each form.
+
+ghost use Rattle.std.specs.Prelude.{◌≡◌, ◌≤◌, ℕ, List, IfSome, IfOk, IfErr, IsErrOf, MatchResult};
+ghost use Rattle.sha2.specs.Sha256.{sha256};
+ghost use Rattle.capn_canon.specs.Denotes.{Answers, AnswersMessage};
+ghost use Rattle.capn_canon.specs.MemoryNeed.{MayNeedBytesIn};
+ghost use Rattle.capn_canon.specs.Refusal.{IsPaidWithin, IsRefused};
+ghost use Rattle.capn_canon.specs.declared.refusal.Refusal.TheVariants as refusals;
+ghost use Rattle.capn_c.specs.inner.Told.{IsDigestTold};
+
+use capn_answers::run_few;
+use capn_canon::{Form, MessageTask, Refusal, canonical_of, own_canonical};
+use capn_walk::Limits;
+use capn_words::Space;
+use sha2::{Digest, Sha256};
+use std::alloc::Global;
+
+/// The digest of canonical bytes, and the words that the walk of their message pays.
+#[derive(Drop)]
+pub struct Digested {
+    /// The digest.
+    pub digest: [u8; 32],
+    /// The words.
+    pub paid: u32,
+}
+
+/// The digest of a message that is canonical, which is hashed where it lies; `None` of any other.
+fn digest_in_place<S: Space>(space: &S, limits: Limits) -> Option<Digested>
+    ensures { IfSome result (λ d. (text : List ℕ) × AnswersMessage (S.message space.now) limits text d.paid
+        × (d.digest ≡ sha256 text)) }
+{
+    let own = own_canonical(space, limits)?;
+    let digest = Sha256::digest(own.bytes);
+    Some(Digested {
+        digest,
+        paid: own.paid,
+    })
+}
+
+/// The digest of the canonical bytes of a message.
+#[derive(Clone, Copy)]
+struct Hash;
+
+impl MessageTask<Global> for Hash {
+    type Answer = Digested;
+
+    ghost answers = { λ _ m limits r. IsDigestTold m limits r };
+
+    fn run<S: Space>(
+        &self,
+        alloc: Global,
+        message: &S,
+        limits: Limits,
+    ) -> Result<Digested, Refusal> {
+        if let Some(own) = digest_in_place(message, limits) {
+            return Ok(own);
+        }
+        let canonical = canonical_of(alloc, message, limits)?;
+        let digest = Sha256::digest(canonical.bytes.as_slice());
+        Ok(Digested {
+            digest,
+            paid: canonical.paid,
+        })
+    }
+}
+
+/// The digest of the canonical bytes of the message that bytes are in a form, or why it has none.
+///
+/// The bytes are read once, and no copy is made of a message that is canonical.
+pub fn digest_in(
+    alloc: Global,
+    form: Form,
+    bytes: &[u8],
+    limits: Limits,
+) -> Result<Digested, Refusal>
+    ensures found { IfOk result (λ d. (text : List ℕ) × Answers form bytes.now limits text d.paid
+        × (d.digest ≡ sha256 text)) }
+    ensures refused { IfErr result (λ e. IsRefused form bytes.now limits e) }
+    ensures memory { IsErrOf result refusals.Memory → MayNeedBytesIn form bytes.now limits }
+    ensures bounded { MatchResult result (λ d. d.paid ≤ limits.budget) (λ e. IsPaidWithin limits.budget e) }
+{
+    run_few(alloc, &Hash, form, bytes, limits)
+}

@@ -1,0 +1,255 @@
+//! Indexes of messages that are streams or bare.
+
+ghost use Rattle.std.specs.Prelude.{IsTrue, ◌≡◌, ◌≢◌, ◌⊎◌, ◌<◌, ◌≤◌, ◌*◌, ◌++◌, length, drop, false, IfOk, IfErr};
+ghost use Rattle.capn_few.specs.Few.{most_few};
+ghost use Rattle.capn_stream.specs.FrameRefusal.{head_length};
+ghost use Rattle.capn_value.specs.Tree.{Tree as Value};
+ghost use Rattle.capn_walk.specs.Accepted.{IsAccepted, IsBounded, IsValueOf};
+ghost use Rattle.capn_walk.specs.Index.{index_of};
+ghost use Rattle.capn_walk.specs.Surveyed.{IsSurvey};
+ghost use Rattle.capn_walk.specs.declared.survey_answer.Surveyed.{Surveyed as Survey};
+ghost use Rattle.capn_canon.specs.Denotes.{Denotes};
+ghost use Rattle.capn_canon.specs.Reads.{Reads};
+ghost use Rattle.capn_canon.specs.Refusal.{IsPaidWithin, IsUnaccepted, IsUnacceptedIn};
+ghost use Rattle.capn_canon.specs.SurveyedBytes.{Surveys};
+ghost use Rattle.capn_canon.specs.declared.form.Form.TheVariants as forms;
+ghost use Rattle.capn_canon.specs.declared.refusal.Refusal.{Refusal as Refusals};
+ghost use Rattle.capn_c.specs.Entries.{IndexedIn, c_index, starts_from};
+ghost use Rattle.capn_c.specs.MemoryAsked.{MayAsk};
+ghost use Rattle.capn_c.specs.StatusCodes.{Reports, answered, is_status};
+
+use crate::entries::{CapnEntry, Offsets, put_starts};
+use crate::frame_need::head_of;
+use crate::report::{CapnReport, answer_of};
+use crate::status_codes::{DONE, NO_ROOM, refuse};
+use capn_answers::read_frame;
+use capn_canon::{Refusal, survey};
+use capn_stream::{Framed, first};
+use capn_walk::laws::indexes;
+use capn_walk::{Limits, Surveyed, index_into_form};
+use capn_words::{Bare, Space};
+use std::alloc::Global;
+
+/// Writes the index of an accepted message, which comes after a table of this number of bytes and has its segments at
+/// these starts, into a room that it fits.
+fn write_index<S: Space>(
+    space: &S,
+    limits: Limits,
+    table: u32,
+    starts: &[u32],
+    out: &mut [CapnEntry],
+)
+    requires accepted { IsAccepted (S.message space.now) limits }
+    requires fits { length (index_of (S.message space.now) limits) ≤ length out.old }
+    requires starts { starts.now ≡ starts_from 0 (S.message space.now) }
+    ensures { out.new ≡ c_index table (S.message space.now) limits
+        ++ drop (length (index_of (S.message space.now) limits)) out.old }
+{
+    match index_into_form(space, limits, &Offsets { table, starts }, out) {
+        Ok(_) => {}
+        Err(_) => unreachable!(),
+    }
+}
+
+/// The same, once memory is found for where the segments start; false where it is refused.
+fn write_many<S: Space>(
+    alloc: Global,
+    space: &S,
+    limits: Limits,
+    table: u32,
+    out: &mut [CapnEntry],
+) -> bool
+    requires accepted { IsAccepted (S.message space.now) limits }
+    requires fits { length (index_of (S.message space.now) limits) ≤ length out.old }
+    ensures written { IsTrue result → out.new ≡ c_index table (S.message space.now) limits
+        ++ drop (length (index_of (S.message space.now) limits)) out.old }
+    ensures kept { result ≡ false → out.new ≡ out.old }
+{
+    let count = space.segments() as usize;
+    let Ok(mut starts) = vec![in alloc; 0u32; count] else {
+        return false;
+    };
+    put_starts(space, &mut starts);
+    write_index(space, limits, table, &starts, out);
+    true
+}
+
+/// The same. Memory is asked for only by more than 64 segments.
+fn write_entries<S: Space>(
+    alloc: Global,
+    space: &S,
+    limits: Limits,
+    table: u32,
+    out: &mut [CapnEntry],
+) -> bool
+    requires accepted { IsAccepted (S.message space.now) limits }
+    requires fits { length (index_of (S.message space.now) limits) ≤ length out.old }
+    ensures written { IsTrue result → out.new ≡ c_index table (S.message space.now) limits
+        ++ drop (length (index_of (S.message space.now) limits)) out.old }
+    ensures kept { result ≡ false → out.new ≡ out.old }
+    ensures asked { result ≡ false → most_few < length (S.message space.now) }
+{
+    let count = space.segments() as usize;
+    if count > 64 {
+        return write_many(alloc, space, limits, table, out);
+    }
+    let mut starts = [0; 64];
+    put_starts(space, &mut starts);
+    write_index(space, limits, table, &starts[..count], out);
+    true
+}
+
+/// The report of an index: 24 bytes for each entry, what the walk pays, and the number of entries.
+fn report_of_index(surveyed: Surveyed) -> CapnReport
+    ensures { result ≡ answered (24 * surveyed.visits) surveyed.paid surveyed.visits }
+{
+    answer_of(24 * surveyed.visits as u64, surveyed.paid, surveyed.visits)
+}
+
+/// The index of a message that comes after a table of this number of bytes, into a room. Memory is asked for only by
+/// more than 64 segments.
+fn index_message<S: Space>(
+    alloc: Global,
+    space: &S,
+    limits: Limits,
+    table: u32,
+    out: &mut [CapnEntry],
+    report: &mut CapnReport,
+) -> u32
+    ensures possible { (result ≤ 1) ⊎ (8 ≤ result) }
+    ensures counted { result ≤ 1 → (s : Survey) × IsSurvey (S.message space.now) limits s
+        × (report.new ≡ answered (24 * s.visits) s.paid s.visits) }
+    ensures written { result ≡ 0 → (report.new.visits ≤ length out.old)
+        × (out.new ≡ c_index table (S.message space.now) limits
+        ++ drop (length (index_of (S.message space.now) limits)) out.old) }
+    ensures no_room { result ≡ 1 → length out.old < report.new.visits }
+    ensures only { (v : Value) → IsValueOf (S.message space.now) limits v → (result ≤ 1) ⊎ (result ≡ 8) }
+    ensures listed { IsTrue (is_status result) }
+    ensures refused { 8 ≤ result → (e : Refusals) × Reports result report.new e
+        × IsUnaccepted (S.message space.now) limits e }
+    ensures asked { result ≡ 8 → most_few < length (S.message space.now) }
+    ensures bounded { IsBounded limits.budget report.new.paid report.new.visits }
+    ensures kept { result ≢ 0 → out.new ≡ out.old }
+{
+    indexes();
+    match survey(alloc, space, limits) {
+        Ok(surveyed) => {
+            *report = report_of_index(surveyed);
+            if surveyed.visits as usize > out.len() {
+                return NO_ROOM;
+            }
+            if write_entries(alloc, space, limits, table, out) {
+                return DONE;
+            }
+            refuse(Refusal::Memory, report)
+        }
+        Err(refusal) => refuse(refusal, report),
+    }
+}
+
+/// How many bytes the table of a message takes in a stream.
+fn table_of<S: Space>(space: &S) -> u32
+    ensures { result ≡ head_length (length (S.message space.now)) }
+{
+    head_of(space.segments() as usize) as u32
+}
+
+/// The message that a stream is, of any number of segments.
+fn read_many<'a>(alloc: Global, bytes: &'a [u8], limits: Limits) -> Result<Framed<'a>, Refusal>
+    ensures read { IfOk result (λ m. Reads forms.Stream bytes.now limits.message_words m) }
+    ensures refused { IfErr result (λ e. IsUnacceptedIn forms.Stream bytes.now limits e) }
+    ensures bounded { IfErr result (λ e. IsPaidWithin limits.budget e) }
+{
+    let (message, taken) = first(alloc, bytes, limits.message_words())?;
+    if taken < bytes.len() {
+        return Err(Refusal::Trailing(taken as u64));
+    }
+    Ok(message)
+}
+
+/// The index of a stream, into a room.
+#[inline(never)]
+fn index_many(
+    alloc: Global,
+    bytes: &[u8],
+    limits: Limits,
+    out: &mut [CapnEntry],
+    report: &mut CapnReport,
+) -> u32
+    ensures possible { (result ≤ 1) ⊎ (8 ≤ result) }
+    ensures counted { result ≤ 1 → (s : Survey) × Surveys forms.Stream bytes.now limits s
+        × (report.new ≡ answered (24 * s.visits) s.paid s.visits) }
+    ensures written { result ≡ 0 → (report.new.visits ≤ length out.old)
+        × IndexedIn forms.Stream bytes.now limits out.old out.new }
+    ensures no_room { result ≡ 1 → length out.old < report.new.visits }
+    ensures only { (v : Value) → Denotes forms.Stream bytes.now limits v → (result ≤ 1) ⊎ (result ≡ 8) }
+    ensures listed { IsTrue (is_status result) }
+    ensures refused { 8 ≤ result → (e : Refusals) × Reports result report.new e
+        × IsUnacceptedIn forms.Stream bytes.now limits e }
+    ensures bounded { IsBounded limits.budget report.new.paid report.new.visits }
+    ensures kept { result ≢ 0 → out.new ≡ out.old }
+{
+    match read_many(alloc, bytes, limits) {
+        Ok(message) => index_message(alloc, &message, limits, table_of(&message), out, report),
+        Err(refusal) => refuse(refusal, report),
+    }
+}
+
+/// The same. Memory is asked for only by a frame of more than 64 segments.
+pub fn index_frame(
+    alloc: Global,
+    bytes: &[u8],
+    limits: Limits,
+    out: &mut [CapnEntry],
+    report: &mut CapnReport,
+) -> u32
+    ensures possible { (result ≤ 1) ⊎ (8 ≤ result) }
+    ensures counted { result ≤ 1 → (s : Survey) × Surveys forms.Stream bytes.now limits s
+        × (report.new ≡ answered (24 * s.visits) s.paid s.visits) }
+    ensures written { result ≡ 0 → (report.new.visits ≤ length out.old)
+        × IndexedIn forms.Stream bytes.now limits out.old out.new }
+    ensures no_room { result ≡ 1 → length out.old < report.new.visits }
+    ensures only { (v : Value) → Denotes forms.Stream bytes.now limits v → (result ≤ 1) ⊎ (result ≡ 8) }
+    ensures listed { IsTrue (is_status result) }
+    ensures refused { 8 ≤ result → (e : Refusals) × Reports result report.new e
+        × IsUnacceptedIn forms.Stream bytes.now limits e }
+    ensures asked { result ≡ 8 → MayAsk forms.Stream bytes.now limits }
+    ensures bounded { IsBounded limits.budget report.new.paid report.new.visits }
+    ensures kept { result ≢ 0 → out.new ≡ out.old }
+{
+    let Some(read) = read_frame(bytes, limits) else {
+        return index_many(alloc, bytes, limits, out, report);
+    };
+    match read {
+        Ok(message) => index_message(alloc, &message, limits, table_of(&message), out, report),
+        Err(refusal) => refuse(refusal, report),
+    }
+}
+
+/// The index of bare words, into a room.
+pub fn index_bare(
+    alloc: Global,
+    bytes: &[u8],
+    limits: Limits,
+    out: &mut [CapnEntry],
+    report: &mut CapnReport,
+) -> u32
+    ensures possible { (result ≤ 1) ⊎ (8 ≤ result) }
+    ensures counted { result ≤ 1 → (s : Survey) × Surveys forms.Bare bytes.now limits s
+        × (report.new ≡ answered (24 * s.visits) s.paid s.visits) }
+    ensures written { result ≡ 0 → (report.new.visits ≤ length out.old)
+        × IndexedIn forms.Bare bytes.now limits out.old out.new }
+    ensures no_room { result ≡ 1 → length out.old < report.new.visits }
+    ensures only { (v : Value) → Denotes forms.Bare bytes.now limits v → (result ≤ 1) ⊎ (result ≡ 8) }
+    ensures listed { IsTrue (is_status result) }
+    ensures refused { 8 ≤ result → (e : Refusals) × Reports result report.new e
+        × IsUnacceptedIn forms.Bare bytes.now limits e }
+    ensures no_memory { result ≢ 8 }
+    ensures bounded { IsBounded limits.budget report.new.paid report.new.visits }
+    ensures kept { result ≢ 0 → out.new ≡ out.old }
+{
+    match Bare::new(bytes) {
+        Ok(space) => index_message(alloc, &space, limits, 0, out, report),
+        Err(fault) => refuse(Refusal::Bare(fault), report),
+    }
+}

@@ -1,0 +1,53 @@
+//! Departures and walks of bytes, with their surveys.
+
+use crate::writing::message;
+use capn_answers::{Departure, Walked, departure_and_survey_in, walk_in};
+use capn_canon::{Form, Refusal, survey_bytes};
+use capn_walk::Limits;
+use std::alloc::Global;
+use std::test::Fail;
+
+// Whether a walk ends as a survey of the same stream, and why it stopped if it did.
+fn is_walked(alloc: Global, stream: &[u8], limits: Limits) -> bool {
+    match (
+        survey_bytes(alloc, Form::Stream, stream, limits),
+        walk_in(alloc, Form::Stream, stream, limits),
+    ) {
+        (Ok(survey), Ok(Walked::Accepted(found))) => found == survey,
+        (Err(Refusal::Walk(stopped)), Ok(Walked::Refused(found))) => found.stopped == stopped,
+        _ => false,
+    }
+}
+
+// Whether a departure comes with the survey of the same stream, and names its segments if it has more than one.
+fn is_departed(alloc: Global, stream: &[u8], segments: u64, limits: Limits) -> bool {
+    match (
+        survey_bytes(alloc, Form::Stream, stream, limits),
+        departure_and_survey_in(alloc, Form::Stream, stream, limits),
+    ) {
+        (Ok(survey), Ok(found)) => {
+            let is_named = match found.departure {
+                Departure::Segments(count) => count as u64 == segments,
+                _ => segments == 1,
+            };
+            found.survey == survey && is_named
+        }
+        (Err(refusal), Err(other)) => refusal == other,
+        _ => false,
+    }
+}
+
+#[test]
+fn surveys_beside_answers(rt: HostRuntime) -> Result<(), Fail> {
+    let small = Limits::new(1_000, 8, 64).unwrap_or(Limits::usual());
+    for seed in 0..60u64 {
+        let segments = 1 + seed % 3;
+        let stream = message(rt.alloc(), seed, segments)?;
+        for limits in [Limits::usual(), small] {
+            let is_told = is_walked(rt.alloc(), &stream, limits)
+                && is_departed(rt.alloc(), &stream, segments, limits);
+            assert!(rt; is_told, "at seed {seed}");
+        }
+    }
+    Ok(())
+}
