@@ -162,7 +162,7 @@ static void in_turn(void) {
     each("first", first, &stream, 1);
     each("survey, 65 segments", surveyed, &more, 1);
     each("survey, packed", surveyed, &pack, 2);
-    each("index, 65 segments", indexed, &more, 3);
+    each("index, 65 segments", indexed, &more, 2);
     each("index, 65 segments, no room", counted, &more, 1);
     each("unpack_some", some, &pack, 1);
     each("refusal_way, 65 segments", led, &more, 1);
@@ -209,7 +209,7 @@ static void at_depth(uint32_t most, size_t depth, uint32_t wanted) {
     wants("check, 65 segments", checked, &more, 1, wanted);
     wants("no room, 65 segments", measured, &more, 1, room);
     wants("survey, 65 segments", surveyed, &more, 1, wanted);
-    wants("index, 65 segments", indexed, &more, wanted == CAPN_OK ? 3 : 1, wanted);
+    wants("index, 65 segments", indexed, &more, wanted == CAPN_OK ? 2 : 1, wanted);
 }
 
 /* What is refused as it is read needs no memory: nothing to pack or unpack, no whole words, a first group that is cut
