@@ -1,6 +1,7 @@
 mod Steps
 mod FoundFirst
 mod Searches
+mod Reaching
 mod CapsMet
 mod FirstCapability
 mod Owning

@@ -1,5 +1,5 @@
 -- Whose a word is that a search has found.
-use Rattle.std.proofs.Common.{◌≡◌, ℕ, ◌+◌, ◌<◌, ◌≤◌, ◌==◌, ◌&&◌, nat_lt, Bool, true, false, List, [], ◌∷◌, length}
+use Rattle.std.proofs.Common.{◌≡◌, ℕ, ◌+◌, ◌<◌, ◌≤◌, ◌==◌, ◌&&◌, nat_lt, Bool, true, false, List, [], ◌∷◌}
 use Rattle.std.proofs.Common.{Option, Some, None, Ok, Err, Result, refl, ap₂, arith, if◌then◌else◌}
 use Rattle.std.proofs.lemmas.Bool.{and_parts, eqb-true}
 use Rattle.std.proofs.lemmas.Bool.Decides.{nat_tests}
@@ -20,7 +20,7 @@ use Rattle.capn_departure.specs.declared.sought.Found.{Found}
 use Rattle.capn_departure.specs.declared.sought.Found.TheVariants as found
 use Rattle.capn_departure.specs.Owner.{place, IsTag, IsSmall, IsLastWord, LeadsTo}
 use Rattle.capn_departure.specs.inner.Search.{is_at, is_small, ends_at, found_in, found_there, finds}
-use Rattle.capn_departure.specs.inner.Seeks.{Seeks}
+use Rattle.capn_departure.specs.inner.Reached.{Reaches}
 use Rattle.capn_way.specs.Ways.{IsWayTo}
 
 -- what is found at a slot, at this place, which names this
@@ -110,29 +110,29 @@ tells word at r x =
     pointer (found.Capability k) a z = absurd cc
 
 module _ (words : List ℕ) (limits : Bounds) (word : ℕ) where
-  abbrev Search : List ℕ → Found → Type 0
+  abbrev pub Search : List ℕ → Found → Type 0
   Search new x =
-      Seeks (words ∷ []) (base limits.tariff) (Word (place word)) limits.depth root [] new (Some x)
+      Reaches (words ∷ []) (base limits.tariff) (place word) limits.depth root [] new x
 
-  way : (new : List ℕ) (x : Found) (g : Search new x) → IsWayTo (words ∷ []) limits (length g.before) new g.to
+  way : (new : List ℕ) (x : Found) (g : Search new x) → IsWayTo (words ∷ []) limits g.number new g.to
   way new x g = let f = g.is in rw f g.leads
 
   pub pointer-owned : (new : List ℕ) → Search new found.Pointer
       → (number : ℕ) × IsWayTo (words ∷ []) limits number new (place word)
   pointer-owned new g =
       let t = tells word g.to (target (words ∷ []) g.to) found.Pointer g.finds in
-      (length g.before, rw t at (way new found.Pointer g))
+      (g.number, rw t at (way new found.Pointer g))
 
   pub tag-owned : (new : List ℕ) → Search new found.Tag → LeadsTo (words ∷ []) limits new (IsTag word)
   tag-owned new g =
       let t = tells word g.to (target (words ∷ []) g.to) found.Tag g.finds in
-      record { number = length g.before; slot = g.to; leads = way new found.Tag g; found = t.0; names = t.1; is = t.2 }
+      record { number = g.number; slot = g.to; leads = way new found.Tag g; found = t.0; names = t.1; is = t.2 }
 
   pub last-owned : (new : List ℕ) → Search new found.LastWord → LeadsTo (words ∷ []) limits new (IsLastWord word)
   last-owned new g =
       let t = tells word g.to (target (words ∷ []) g.to) found.LastWord g.finds in
       record {
-        number = length g.before;
+        number = g.number;
         slot = g.to;
         leads = way new found.LastWord g;
         found = t.0;

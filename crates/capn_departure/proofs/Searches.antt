@@ -26,14 +26,14 @@ use Rattle.capn_departure.proofs.Steps.{length-places, length-rows, stays, desce
 use Rattle.capn_departure.proofs.FoundFirst.{found-append, found-alone, begins}
 
 -- the numbers say which of an object's slots is meant, and there are some
-numbers-of : (shape : Shape) (s start pads k : ℕ) (numbers : List ℕ) → AreNumbersIn shape k numbers
+pub numbers-of : (shape : Shape) (s start pads k : ℕ) (numbers : List ℕ) → AreNumbersIn shape k numbers
     → AreNumbersOf (targets.Content s start shape pads) k numbers × (0 < length numbers)
 numbers-of (shapes.Node a b) s start pads k numbers h = rw h (refl, omega arith)
 numbers-of (shapes.Many width n) s start pads k numbers h = rw h (refl, omega arith)
 numbers-of (shapes.Rows n a b span) s start pads k numbers h = rw h.are ((h.small, h.count), omega arith)
 
 -- something in the middle of the second of three lists
-middle : {A : Type 0} (xs before : List A) (x : A) (behind ys : List A)
+pub middle : {A : Type 0} (xs before : List A) (x : A) (behind ys : List A)
     → xs ++ ((before ++ x ∷ behind) ++ ys) ≡ (xs ++ before) ++ x ∷ (behind ++ ys)
 middle xs before x behind ys =
     ap (λ zs. xs ++ zs) (append_assoc before (x ∷ behind) ys) ∙ sym (append_assoc xs before (x ∷ (behind ++ ys)))
@@ -53,6 +53,15 @@ no-slots s w a b zero z = refl
 no-slots s w a b (suc n) z =
     let e : places s (w + a) b ≡ [] = rw z refl in
     ap (λ (ps : List Place). ps ++ row_places s (w + a + b) a b n) e ∙ no-slots s (w + a + b) a b n z
+
+-- the slots of the rows before row i, its own, and those of the rows after it
+pub row-split : (s w a b i n : ℕ) → i < n
+    → row_places s w a b n
+    ≡ row_places s w a b i
+    ++ (places s (w + i * (a + b) + a) b ++ row_places s (w + i * (a + b) + a + b) a b (n - suc i))
+row-split s w a b i n lt =
+    let e : n ≡ i + suc (n - suc i) = omega arith in
+    ap (row_places s w a b) e ∙ row_places-add s w a b i (suc (n - suc i))
 
 module _ (m : List (List ℕ)) (base : ℕ) (what : Sought) where
   -- ---- from a slot on
@@ -207,9 +216,7 @@ module _ (m : List (List ℕ)) (base : ℕ) (what : Sought) where
     later_rows i n = row_places s (w + i * (a + b) + a + b) a b (n - suc i)
 
     split : (i n : ℕ) → i < n → row_places s w a b n ≡ row_places s w a b i ++ (row i ++ later_rows i n)
-    split i n lt =
-        let e : n ≡ i + suc (n - suc i) = omega arith in
-        ap (row_places s w a b) e ∙ row_places-add s w a b i (suc (n - suc i))
+    split i n lt = row-split s w a b i n lt
 
     visits-split : (i n : ℕ) → i < n
         → visits_of m base d (row_places s w a b n)

@@ -59,7 +59,7 @@ AreLengths message v (Some lengths) =
     × (lengths.1 ≡ length (canon v)) × (lengths.0 ≢ lengths.1)
 AreLengths message v None = IsCanonicalOf message v ⊎ (first_cap v ≢ None) ⊎ (8 * total message ≡ length (canon v))
 
--- what the lines of an accepted message tell, whose words begin behind so many bytes and a table of so many words
+-- what the lines of an accepted message tell, whose table begins at byte `offset` and has `table` words
 pub record AreLinesOf {A : Type 0} (message : List (List ℕ)) (limits : Bounds) (offset table : ℕ)
     (lines : CanonicalLines A) : Type 0 where
   pub value : Tree

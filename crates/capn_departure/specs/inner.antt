@@ -2,5 +2,6 @@
 pub mod Difference
 pub mod Made
 pub mod Owned
+pub mod Reached
 pub mod Search
 pub mod Seeks

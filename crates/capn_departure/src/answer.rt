@@ -1,4 +1,4 @@
-//! What is answered of where a message leaves its canonical bytes.
+//! A departure from canonical bytes.
 
 use crate::whose::Whose;
 use std::alloc::{Allocator, Global};

@@ -1,4 +1,4 @@
-//! The lines that say whether an accepted message is canonical.
+//! The lines about the canonical form of an accepted message.
 
 ghost use Rattle.std.specs.Prelude.{◌≡◌};
 ghost use Rattle.capn_explain.specs.MessageTexts.{canonical_text};

@@ -1,4 +1,4 @@
-//! The first word at which two messages of one segment differ.
+//! The first difference of two messages of one segment.
 
 ghost use Rattle.std.specs.Prelude.{◌≡◌, [], ◌∷◌};
 ghost use Rattle.capn_words.specs.Message.{segment_at, IsMessage};

@@ -1,4 +1,4 @@
-//! Where a message leaves its canonical bytes, and why.
+//! The departure of a message from its canonical bytes.
 //!
 //! - [`departure`] says whether a message that its walk accepts is canonical, and if not, the first reason: that it has
 //!   more segments than one, its first capability, or the first word that differs from the same word of its canonical
@@ -21,12 +21,15 @@ mod accepted;
 mod answer;
 mod canonical_lines;
 mod capability;
+mod descent;
 mod difference;
 mod finding;
+mod likely;
 mod message_departure;
 mod only_segment;
 mod owner;
 mod seek;
+mod slot_rows;
 mod sought;
 mod surveyed;
 mod whose;

@@ -1,4 +1,4 @@
-//! Where a message leaves its canonical bytes.
+//! The search for the departure of a message.
 
 ghost use Rattle.std.specs.Prelude.{◌≡◌, ◌≢◌, ◌↔◌, length, ⊤, IfOk, IfErr, IfSome};
 ghost use Rattle.std.specs.Prelude.{IsErr, IsErrOf, MatchResult};

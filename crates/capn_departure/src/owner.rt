@@ -1,9 +1,13 @@
 //! The owner of a word of canonical bytes.
 
-ghost use Rattle.std.specs.Prelude.{◌<◌, length, IfOk};
-ghost use Rattle.capn_departure.specs.Owner.{IsOwner};
+ghost use Rattle.std.specs.Prelude.{◌<◌, [], ◌∷◌, length, IfOk};
+ghost use Rattle.capn_value.specs.Cost.{base};
+ghost use Rattle.capn_walk.specs.Accepted.{root};
+ghost use Rattle.capn_departure.specs.Owner.{IsOwner, place};
 ghost use Rattle.capn_departure.specs.inner.Owned.{HasOwner};
+ghost use Rattle.capn_departure.specs.inner.Reached.{Reaches};
 
+use crate::descent::descend;
 use crate::seek::seek_slot;
 use crate::sought::{Found, Sought};
 use crate::whose::Whose;
@@ -22,15 +26,43 @@ pub fn owner<A: Allocator + Copy>(
     requires owned { HasOwner canonical.now limits word }
     ensures { IfOk result (λ whose. IsOwner canonical.now limits word whose) }
 {
+    let (found, way) = slot_of(alloc, canonical, limits, word)?;
+    match found {
+        Found::Pointer => Ok(Whose::Pointer(way)),
+        Found::Tag => Ok(Whose::Tag(way)),
+        Found::LastWord => Ok(Whose::LastWord(way)),
+        Found::Capability(_) => unreachable!(),
+    }
+}
+
+/// What the word is at the slot whose it is, and the way there: by the descent, or where it finds nothing by a search
+/// among all visits, of which the proof knows that it finds something.
+fn slot_of<A: Allocator + Copy>(
+    alloc: A,
+    canonical: &Bare<'_>,
+    limits: Limits,
+    word: u32,
+) -> Result<(Found, Vec<u32, A>), Memory>
+    requires some { 0 < length canonical.now }
+    requires owned { HasOwner canonical.now limits word }
+    ensures { IfOk result (λ r. Reaches (canonical.now ∷ []) (base limits.tariff) (place word) limits.depth root
+        [] r.1.items r.0) }
+{
     let mut way = Vec::new(alloc);
-    let sought = Sought::Word(Place { segment: 0, word });
-    match seek_slot(canonical, Place::ROOT, limits.depth(), sought, &mut way)? {
-        Some(found) => match found {
-            Found::Pointer => Ok(Whose::Pointer(way)),
-            Found::Tag => Ok(Whose::Tag(way)),
-            Found::LastWord => Ok(Whose::LastWord(way)),
-            Found::Capability(_) => unreachable!(),
-        },
+    let word = Place { segment: 0, word };
+    match descend(canonical, Place::ROOT, limits.depth(), word, &mut way)? {
+        Some(found) => return Ok((found, way)),
+        None => {}
+    }
+    way.clear();
+    match seek_slot(
+        canonical,
+        Place::ROOT,
+        limits.depth(),
+        Sought::Word(word),
+        &mut way,
+    )? {
+        Some(found) => Ok((found, way)),
         None => unreachable!(),
     }
 }

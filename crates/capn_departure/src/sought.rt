@@ -1,4 +1,4 @@
-//! What a search among the visits of a walk looks for.
+//! The aims and the finds of a search among visits.
 
 ghost use Rattle.std.specs.Prelude.{◌≡◌, ◌<◌, ◌^◌};
 ghost use Rattle.capn_departure.specs.inner.Search as search;

@@ -1,4 +1,4 @@
-//! The measure of a message that was surveyed.
+//! The measure of a surveyed message.
 
 ghost use Rattle.std.specs.Prelude.{◌↔◌};
 ghost use Rattle.std.specs.Bool.{IsTrue};

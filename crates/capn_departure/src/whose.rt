@@ -1,4 +1,4 @@
-//! Whose a word of canonical bytes is.
+//! The kinds of owner of a word.
 
 use std::alloc::{Allocator, Global};
 

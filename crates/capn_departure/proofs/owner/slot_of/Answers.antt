@@ -1,0 +1,22 @@
+use Rattle.std.proofs.Common.{[], ◌∷◌}
+use Rattle.capn_value.specs.Cost.{base}
+use Rattle.capn_walk.specs.Accepted.{root}
+use Rattle.capn_departure.specs.Owner.{place}
+use Rattle.capn_departure.proofs.Reaching.{reaches-met}
+use Rattle.capn_departure.proofs.owner.slot_of.Goals as goal
+
+pub returns-in-Some : goal.returns-in-Some
+returns-in-Some g c =
+    let h = rw (c.in-Some.is, c.depth.ensures.value, c.new-way.ensures.items) at c.in_ok-found.ensures in
+    h (base c.args.limits.tariff)
+
+pub unreachable-requires : goal.unreachable-requires
+unreachable-requires g c =
+    let h = rw (c.in-None-2.is, c.depth-2.ensures.value) at c.in_ok-found-2.ensures in
+    c.requires.owned (h (base c.args.limits.tariff)).1
+
+pub returns : goal.returns
+returns g c =
+    let h = rw (c.in-Some-2.is, c.depth-2.ensures.value, c.clear.ensures.items) at c.in_ok-found-2.ensures in
+    reaches-met (c.args.canonical.now ∷ []) (base c.args.limits.tariff) (place c.args.word) c.args.limits.depth root
+    [] c.seek_slot.new.way.items c.in-Some-2.found (h (base c.args.limits.tariff))
