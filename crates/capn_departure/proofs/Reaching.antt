@@ -27,7 +27,8 @@ pub record AreIn (s start : ℕ) (shape : Shape) (row number : ℕ) (at : Place)
   pub named : AreNumbersIn shape (length before) (numbers shape row number)
 
 -- one of slots that lie one after the other
-one-among : (s w n i v : ℕ) → i < n → v ≡ w + i → places s w n ≡ places s w i ++ slot s v ∷ places s (w + i + 1) (n - suc i)
+one-among : (s w n i v : ℕ) → i < n → v ≡ w + i
+    → places s w n ≡ places s w i ++ slot s v ∷ places s (w + i + 1) (n - suc i)
 one-among s w n i v lt e = rw e (places-split s w i n lt)
 
 many-in : (width : Width) (s start n row i : ℕ)
