@@ -41,7 +41,7 @@ try:
 # The program, proved and built: crates/capn/out/capn. What it needs is proved and nothing else, crate after crate,
 # each by as many processors as memory allows. By kit 13b all takes some 70 processor minutes (in part estimated: the
 # crates capn_pack, stream, value and target were not counted by themselves), of which the longest
-# chain has some 35 (capn_words, value, target, walk, layout, canon, serve, archive, program, capn): crates side by
+# chain has some 35 (capn_words, value, target, walk, layout, canon, serve, archive, tool, capn): crates side by
 # side, with a processor each, would take no less. More processors within a crate shorten it, but take more minutes of
 # theirs in all; a shorter chain would shorten it, too.
 program:

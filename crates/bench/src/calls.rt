@@ -2,9 +2,9 @@
 
 use anyhow::{Result, anyhow};
 use capn_canon::{Form, canonical_of, is_canonical};
+use capn_commands::{Command, run};
 use capn_pack::{pack, unpack};
 use capn_stream::{Framed, Framer, first};
-use capn_tool::{Command, run};
 use capn_value::Tree;
 use capn_walk::{Entry, Limits, Walked, index_into, survey, walk};
 use capn_words::{MOST_MESSAGE_WORDS, Space, Watched};

@@ -1,12 +1,11 @@
 //! The entry point of the program `capn`.
 //!
-//! What it does is said at `capn_program::program`. This file hands it the words of the command line, standard input,
+//! What it does is said at `capn_tool::program`. This file hands it the words of the command line, standard input,
 //! standard output and standard error, and ends with its status: 0 done, 1 refused, 2 a mistake on the command line, 3
 //! memory refused, an input or output that failed, or an input that is too long.
 #![tactic(auto)]
 
-use capn_program::program;
-use capn_tool::{ToolFault, end};
+use capn_tool::{ToolFault, end, program};
 use capn_words::Watched;
 use std::env;
 use std::io::{self, ErrorKind};

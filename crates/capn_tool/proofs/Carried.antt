@@ -2,17 +2,17 @@
 use Rattle.std.proofs.Common.{◌≡◌, ◌⊎◌, ◌↔◌, inl, inr, ℕ, List, [], Bool, true, Option, Some, None, Result}
 use Rattle.std.proofs.Common.{Ok, Err, IfSome, IsErrOf, refl, sym, subst, ◌∙◌}
 use Rattle.std.specs.Io.KnownBytes.{Keeps}
-use Rattle.capn_tool.specs.Program.{CarriesOut, EndsOnly, course}
-use Rattle.capn_tool.specs.CommandRun.{KeepsUp, PlanKeepsUp}
-use Rattle.capn_tool.specs.Plan.{plan_of}
-use Rattle.capn_tool.specs.Outgoing.{EndsFlushed}
-use Rattle.capn_tool.specs.Text.{Begins, EndsAs, EndsBy, HasEnded, IsDue}
-use Rattle.capn_tool.specs.declared.command.Command.{Command}
-use Rattle.capn_tool.specs.declared.plan.Plan.{Plan}
-use Rattle.capn_tool.specs.declared.plan.Plan.TheVariants as plans
-use Rattle.capn_tool.specs.declared.fault.ToolFault.{ToolFault}
-use Rattle.capn_tool.specs.declared.fault.ToolFault.TheVariants as faults
-use Rattle.capn_tool.proofs.shared.Written.{kept}
+use Rattle.capn_tool.specs.Flushed.{CarriesOut, EndsByText, EndsFlushed}
+use Rattle.capn_tool.specs.Course.{course}
+use Rattle.capn_commands.specs.CommandRun.{KeepsUp, PlanKeepsUp}
+use Rattle.capn_commands.specs.Plan.{plan_of}
+use Rattle.capn_commands.specs.Text.{Begins, EndsAs, EndsBy, HasEnded, IsDue}
+use Rattle.capn_commands.specs.declared.command.Command.{Command}
+use Rattle.capn_commands.specs.declared.plan.Plan.{Plan}
+use Rattle.capn_commands.specs.declared.plan.Plan.TheVariants as plans
+use Rattle.capn_commands.specs.declared.fault.ToolFault.{ToolFault}
+use Rattle.capn_commands.specs.declared.fault.ToolFault.TheVariants as faults
+use Rattle.capn_tool.proofs.Written.{kept}
 
 abbrev Ending : Type 0
 Ending = Result (Unit {0}) ToolFault
@@ -21,7 +21,7 @@ Ending = Result (Unit {0}) ToolFault
 abbrev Flushed : Ending → Ending → Type 0
 Flushed r s = (s ≡ r) ⊎ (s ≡ Err faults.Io)
 
-flushed : (r s : Ending) (old new : Bool) → EndsFlushed r old new s → Flushed r s
+flushed : (r s : Ending) (old new : Bool) → EndsFlushed faults.Io r old new s → Flushed r s
 flushed (Ok u) s old new (inl (is, same)) = inl is
 flushed (Ok u) s old new (inr (is, failed)) = inr is
 flushed (Err fault) s old new (is, failed) = inl is
@@ -47,7 +47,7 @@ exact command None c m d r s k f h = tt
 exact command (Some input) c m d r s k f h = ended _ _ _ c m d r s k f h
 
 only : (command : Command) (a c m d : Option (List ℕ)) (r s : Ending) → Keeps m d → Flushed r s
-    → IfSome a (EndsOnly command c m r) → IfSome a (EndsOnly command c d s)
+    → IfSome a (EndsByText command c m r) → IfSome a (EndsByText command c d s)
 only command None c m d r s k f h = tt
 only command (Some input) c m d r s k f h = λ text due is. ended_by c m d r s text due k f (h text due is)
 
@@ -73,8 +73,8 @@ abbrev InRun : Bool → Bool → Type 0
 InRun unread old = (unread ≡ true) ⊎ (old ≡ true)
 
 -- it ends with Io exactly where the run did, or the run was done and the flush failed
-io : (r s : Ending) (unread old new : Bool) → EndsFlushed r old new s → (IsErrOf r faults.Io ↔ InRun unread old)
-    → IsErrOf s faults.Io ↔ (InRun unread old ⊎ ((r ≡ Ok tt) × (new ≡ true)))
+io : (r s : Ending) (unread old new : Bool) → EndsFlushed faults.Io r old new s
+    → (IsErrOf r faults.Io ↔ InRun unread old) → IsErrOf s faults.Io ↔ (InRun unread old ⊎ ((r ≡ Ok tt) × (new ≡ true)))
 io (Ok u) s unread old new (inl (is, same)) g = (
   λ bad. absurd (let no : Ok u ≡ Err faults.Io = sym is ∙ bad in cc),
   λ h. elim h [
@@ -89,9 +89,9 @@ io (Err fault) s unread old new (is, failed) g = (
 )
 
 pub carried : (command : Command) (a b c m d : Option (List ℕ)) (unread old new : Bool) (r s : Ending)
-    → IfSome a (EndsAs command c m r) → IfSome a (EndsOnly command c m r)
+    → IfSome a (EndsAs command c m r) → IfSome a (EndsByText command c m r)
     → (IsErrOf r faults.Io ↔ ((unread ≡ true) ⊎ (old ≡ true)))
-    → Begins command a b c m → (unread ≡ true → KeepsUp command a b c m) → Keeps m d → EndsFlushed r old new s
+    → Begins command a b c m → (unread ≡ true → KeepsUp command a b c m) → Keeps m d → EndsFlushed faults.Io r old new s
     → CarriesOut command (course a b unread) (course c d new) s
 carried command a b c m d unread old new r s e o i g h k f = record {
   run = r;

@@ -3,24 +3,25 @@ use Rattle.std.proofs.Common.{◌≡◌, List, ℕ, refl, true, codes, [], ◌�
 use Rattle.clap.specs.Words.{subcommand_of, takes}
 use Rattle.clap.specs.Takes.{walk_passes}
 use Rattle.clap.specs.Walk.{walked}
-use Rattle.capn_tool.specs.CommandLine.{tool_line}
-use Rattle.capn_tool.specs.Meaning.{Means}
-use Rattle.capn_tool.specs.declared.command.Command.TheVariants as commands
+use Rattle.capn_commands.specs.declared.command.Command.TheVariants as commands
+use Rattle.capn_tool.specs.CommandLine.{program_line}
+use Rattle.capn_tool.specs.Meaning.{MeansOrder}
+use Rattle.capn_tool.specs.declared.order.Order.TheVariants as orders
 
 abbrev pack_words : List (List ℕ)
 pack_words = codes "capn" ∷ codes "pack" ∷ []
 
-pack_taken : takes tool_line pack_words ≡ true
+pack_taken : takes program_line pack_words ≡ true
 unfolding walk_passes walked
 pack_taken = refl
 
-pack_means : Means (subcommand_of tool_line pack_words) commands.Pack
+pack_means : MeansOrder (subcommand_of program_line pack_words) (orders.Message commands.Pack)
 unfolding walked
-pack_means = refl
+pack_means = (refl, refl)
 
 abbrev check_words : List (List ℕ)
 check_words = codes "capn" ∷ codes "check" ∷ codes "--form" ∷ codes "bare" ∷ codes "--depth=2" ∷ []
 
-check_taken : takes tool_line check_words ≡ true
+check_taken : takes program_line check_words ≡ true
 unfolding walk_passes walked
 check_taken = refl

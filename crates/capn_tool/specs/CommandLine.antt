@@ -1,11 +1,14 @@
 -- The command line: each subcommand with its options, their ranges and their usual values. (Own.)
-use Rattle.std.specs.Prelude.{◌≡◌, ℤ, pos, Some, codes, [], ◌∷◌, true, false}
+use Rattle.std.specs.Prelude.{ℕ, ◌≡◌, ◌-◌, ◌^◌, ℤ, pos, List, [], ◌∷◌, Some, codes, cond, true, false}
+use Rattle.std.specs.List.{list_any}
+use Rattle.std.specs.Str.{bytes_eq}
 use Rattle.capn_words.specs.Message.{most_message_words}
 use Rattle.capn_value.specs.Cost.{most_cost, most_height}
 use Rattle.clap.specs.Words.{App, Rule, Text, app_of, new_app, new_rule, with_rule, with_subcommand}
+use Rattle.clap.specs.declared.builder.action.ArgAction.TheVariants as actions
 use Rattle.clap.specs.declared.builder.command.Command.{Command}
 use Rattle.clap.specs.declared.builder.command.Command.TheViews.{out-Command}
-use Rattle.clap.specs.declared.builder.value_parser.ValueParser.TheVariants as vp
+use Rattle.clap.specs.declared.builder.value_parser.ValueParser.TheVariants as parsers
 
 -- an option of this name that takes a value, and has the usual one where it is not given
 abbrev pub usual_rule : Text → Text → Rule
@@ -13,7 +16,7 @@ usual_rule name usual = record (new_rule name) { long = Some name; value_names =
 
 -- such an option that takes a number from the least to the most
 abbrev pub number_rule : Text → Text → ℤ → ℤ → Rule
-number_rule name usual least most = record (usual_rule name usual) { parser = Some (vp.Signed least most) }
+number_rule name usual least most = record (usual_rule name usual) { parser = Some (parsers.Signed least most) }
 
 -- the words of a message
 abbrev pub words_rule : Rule
@@ -35,40 +38,92 @@ form_rule = usual_rule (codes "form") (codes "stream")
 abbrev pub tariff_rule : Rule
 tariff_rule = usual_rule (codes "tariff") (codes "strict")
 
+-- an option of this name that takes a value, and has none where it is not given
+abbrev pub asked_rule : Text → Rule
+asked_rule name = record (new_rule name) { long = Some name; value_names = 1 }
+
+-- an option of this name that takes no value
+abbrev pub flag_rule : Text → Rule
+flag_rule name = record (new_rule name) { long = Some name; action = Some actions.SetTrue }
+
+-- the greatest number of a message
+abbrev pub most_number : ℕ
+most_number = 2 ^ 64 - 1
+
+-- an option of this name that takes the number of a message, with its usual value
+abbrev pub place_rule : Text → Text → Rule
+place_rule name usual = record (usual_rule name usual) { parser = Some (parsers.Unsigned 1 most_number) }
+
 -- a command has this line, and hands no option down to its subcommands
 abbrev pub HasLine : Command → App → Type 0
 HasLine command line = (app_of command ≡ line) × ((out-Command command).has_globals ≡ false)
 
--- a command over messages takes a form, three limits and a tariff
-abbrev pub message_line : Text → App
-message_line name =
-    with_rule (with_rule (with_rule (with_rule (with_rule (new_app name) form_rule) words_rule) budget_rule) depth_rule)
-    tariff_rule
+-- the commands over messages that take limits
+abbrev pub limited : List Text
+limited = codes "show" ∷ codes "check" ∷ codes "explain" ∷ codes "list" ∷ codes "limits" ∷ codes "canonical"
+    ∷ codes "hash" ∷ codes "uniq" ∷ []
 
--- `pack` takes no option
-abbrev pub pack_line : App
-pack_line = new_app (codes "pack")
+-- each option, and the commands that take it: where an option is there twice, help says two things of it
+abbrev pub options : List (Rule × List Text)
+options = (
+  form_rule,
+  codes "show" ∷ codes "check" ∷ codes "explain" ∷ codes "list" ∷ codes "limits" ∷ codes "hash"
+      ∷ codes "uniq" ∷ [],
+)
+    ∷ (form_rule, codes "canonical" ∷ [])
+    ∷ (form_rule, codes "pick" ∷ [])
+    ∷ (form_rule, codes "make" ∷ [])
+    ∷ (words_rule, limited)
+    ∷ (words_rule, codes "pick" ∷ [])
+    ∷ (words_rule, codes "unpack" ∷ [])
+    ∷ (budget_rule, limited)
+    ∷ (depth_rule, limited)
+    ∷ (tariff_rule, limited)
+    ∷ (asked_rule (codes "at"), codes "show" ∷ [])
+    ∷ (flag_rule (codes "text"), codes "show" ∷ [])
+    ∷ (flag_rule (codes "json"), codes "show" ∷ [])
+    ∷ (flag_rule (codes "offsets"), codes "show" ∷ [])
+    ∷ (flag_rule (codes "ways"), codes "show" ∷ [])
+    ∷ (asked_rule (codes "number"), codes "explain" ∷ [])
+    ∷ (flag_rule (codes "framed"), codes "canonical" ∷ [])
+    ∷ (flag_rule (codes "keep-going"), codes "list" ∷ codes "limits" ∷ codes "uniq" ∷ [])
+    ∷ (flag_rule (codes "keep-going"), codes "canonical" ∷ [])
+    ∷ (flag_rule (codes "digest"), codes "list" ∷ [])
+    ∷ (flag_rule (codes "count"), codes "uniq" ∷ [])
+    ∷ (place_rule (codes "from") (codes "1"), codes "pick" ∷ [])
+    ∷ (place_rule (codes "to") (codes "18446744073709551615"), codes "pick" ∷ [])
+    ∷ (asked_rule (codes "only"), codes "pick" ∷ [])
+    ∷ (flag_rule (codes "text"), codes "make" ∷ [])
+    ∷ (flag_rule (codes "streaming"), codes "pack" ∷ [])
+    ∷ (flag_rule (codes "streaming"), codes "unpack" ∷ [])
+    ∷ []
 
--- `unpack` takes the words of a message alone
-abbrev pub unpack_line : App
-unpack_line = with_rule (new_app (codes "unpack")) words_rule
+-- the commands
+abbrev pub commands : List Text
+commands = codes "show" ∷ codes "check" ∷ codes "explain" ∷ codes "list" ∷ codes "limits" ∷ codes "canonical"
+    ∷ codes "hash" ∷ codes "uniq" ∷ codes "pick" ∷ codes "pack" ∷ codes "unpack" ∷ codes "make" ∷ []
 
--- the program, which needs a subcommand
+-- a line with those of some options more that the command of this name takes
+abbrev pub with_options : Text → App → List (Rule × List Text) → App
+with_options name line [] = line
+with_options name line (option ∷ rest) =
+    with_options name (cond (list_any (λ command. bytes_eq command name) option.1) (with_rule line option.0) line) rest
+
+-- the line of the command of this name
+abbrev pub line_of : Text → App
+line_of name = with_options name (new_app name) options
+
+-- the program, which needs a subcommand and has a version
 abbrev pub top_line : App
-top_line = let a = new_app (codes "capn") in record a { top = record a.top { subcommand_required = true } }
+top_line =
+    let a = new_app (codes "capn") in
+    record a { top = record a.top { subcommand_required = true; has_version = true } }
 
--- the program with the commands that report what messages hold and cost
-abbrev pub reading_line : App
-reading_line =
-    let with_show = with_subcommand top_line (message_line (codes "show")).top in
-    with_subcommand with_show (message_line (codes "check")).top
-
--- the program with the four commands over messages
-abbrev pub messages_line : App
-messages_line =
-    let with_canonical = with_subcommand reading_line (message_line (codes "canonical")).top in
-    with_subcommand with_canonical (message_line (codes "hash")).top
+-- a program with some commands more
+abbrev pub with_commands : App → List Text → App
+with_commands top [] = top
+with_commands top (name ∷ rest) = with_commands (with_subcommand top (line_of name).top) rest
 
 -- the whole command line
-abbrev pub tool_line : App
-tool_line = with_subcommand (with_subcommand messages_line pack_line.top) unpack_line.top
+abbrev pub program_line : App
+program_line = with_commands top_line commands

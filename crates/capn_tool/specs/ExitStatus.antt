@@ -1,25 +1,35 @@
--- How the program ends.
+-- How the program ends. After a run it ends with 0 where that is done, and else with the status of its fault. (Own.)
 use Rattle.std.specs.Prelude.{ℕ, Result}
 use Rattle.clap.specs.declared.error.ErrorKind.{ErrorKind}
 use Rattle.clap.specs.declared.error.ErrorKind.TheVariants as kinds
 use Rattle.capn_endings.specs.Ending.{status_of_ending}
-use Rattle.capn_tool.specs.declared.fault.ToolFault.{ToolFault}
-use Rattle.capn_tool.specs.declared.fault.ToolFault.TheVariants as faults
+use Rattle.capn_serve.specs.FaultText as served
+use Rattle.capn_serve.specs.declared.fault.RunFault.{RunFault}
+use Rattle.capn_archive.specs.FaultText as archived
+use Rattle.capn_archive.specs.declared.fault.ArchiveFault.{ArchiveFault}
+use Rattle.capn_make.specs.FaultText as made
+use Rattle.capn_make.specs.declared.fault.MakeFault.{MakeFault}
+use Rattle.capn_flow.specs.FaultText as flowing
+use Rattle.capn_flow.specs.declared.fault.FlowFault.{FlowFault}
 
--- after a run that a fault ended: 1 where the input is refused, 3 where it could not be carried out (Own.)
-abbrev pub exit_of : ToolFault → ℕ
-exit_of faults.Memory = 3
-exit_of faults.Io = 3
-exit_of faults.InputTooLong = 3
-exit_of (faults.NotWhole n) = 1
-exit_of (faults.Refused refusal) = 1
+-- after a run over an archive
+abbrev pub archive_status : Result (Unit {0}) ArchiveFault → ℕ
+archive_status = status_of_ending archived.status_of
 
--- after a run: 0 where it is done (Own.)
-abbrev pub status_of : Result (Unit {0}) ToolFault → ℕ
-status_of = status_of_ending exit_of
+-- after one that picks messages
+abbrev pub pick_status : Result (Unit {0}) RunFault → ℕ
+pick_status = status_of_ending served.status_of
 
--- if the words of the command line name no command: 3 if memory ran out, 0 for a request for help, 2 for any other
--- (Own.)
+-- after one over texts
+abbrev pub make_status : Result (Unit {0}) MakeFault → ℕ
+make_status = status_of_ending made.status_of
+
+-- and after one that lets bytes flow
+abbrev pub flow_status : Result (Unit {0}) FlowFault → ℕ
+flow_status = status_of_ending flowing.status_of
+
+-- for words that order nothing: 3 if memory ran out, 0 for a request for help, 2 for any other; the program ends with 0
+-- after it has shown the version
 abbrev pub usage_status_of : ErrorKind → ℕ
 usage_status_of kinds.OutOfMemory = 3
 usage_status_of kinds.DisplayHelp = 0

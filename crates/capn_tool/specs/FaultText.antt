@@ -1,23 +1,37 @@
--- The texts that say why a run stopped. (Own.)
-use Rattle.std.specs.Prelude.{ℕ, List, ◌++◌, codes, Bool, Option, Result}
-use Rattle.std.specs.Fmt.{decimal}
+-- What is said of a run that was not done. (Own.)
+use Rattle.std.specs.Prelude.{ℕ, ◌≡◌, List, codes, Bool, Option, Result, refl}
+use Rattle.std.specs.Fmt.{digits}
 use Rattle.capn_endings.specs.Ending.{WritesEnding, fault_text_line}
-use Rattle.capn_canon.specs.Display.{refusal_text}
-use Rattle.capn_tool.specs.declared.fault.ToolFault.{ToolFault}
-use Rattle.capn_tool.specs.declared.fault.ToolFault.TheVariants as faults
+use Rattle.capn_serve.specs.FaultText as served
+use Rattle.capn_serve.specs.declared.fault.RunFault.{RunFault}
+use Rattle.capn_archive.specs.FaultText.{archive_text}
+use Rattle.capn_archive.specs.declared.fault.ArchiveFault.{ArchiveFault}
+use Rattle.capn_archive.specs.declared.fault.ArchiveFault.TheVariants as faults
+use Rattle.capn_make.specs.FaultText as made
+use Rattle.capn_make.specs.declared.fault.MakeFault.{MakeFault}
+use Rattle.capn_flow.specs.FaultText as flowing
+use Rattle.capn_flow.specs.declared.fault.FlowFault.{FlowFault}
 
--- why a run stopped
-abbrev pub fault_text : ToolFault → List ℕ
-fault_text faults.Memory = codes "out of memory"
-fault_text faults.Io = codes "input or output failed"
-fault_text faults.InputTooLong = codes "input too long"
-fault_text (faults.NotWhole n) = codes "NotWhole(" ++ decimal n ++ codes ")"
-fault_text (faults.Refused refusal) = refusal_text refusal
+skipped : fault_text_line (archive_text (faults.Skipped (record {
+  refused = 3;
+  messages = 12;
+  first = record { index = 2; offset = 40 };
+}))) ≡ codes "capn: 3 of 12 messages refused, the first is 3 at 40\n"
+unfolding digits
+skipped = refl
 
--- the line that says why a run stopped
-abbrev pub fault_line : ToolFault → List ℕ
-fault_line fault = fault_text_line (fault_text fault)
+-- the ending of a run over an archive was written
+abbrev pub WritesArchiveEnding : Result (Unit {0}) ArchiveFault → Option (List ℕ) → Option (List ℕ) → Bool → Type 0
+WritesArchiveEnding = WritesEnding archive_text
 
--- why a run ended has been reported: nothing if it is done, and else the line of its fault
-abbrev pub ReportsEnding : Result (Unit {0}) ToolFault → Option (List ℕ) → Option (List ℕ) → Bool → Type 0
-ReportsEnding = WritesEnding fault_text
+-- that of a run that picks messages was written
+abbrev pub WritesPickEnding : Result (Unit {0}) RunFault → Option (List ℕ) → Option (List ℕ) → Bool → Type 0
+WritesPickEnding = WritesEnding served.fault_text
+
+-- that of a run over texts was written
+abbrev pub WritesMakeEnding : Result (Unit {0}) MakeFault → Option (List ℕ) → Option (List ℕ) → Bool → Type 0
+WritesMakeEnding = WritesEnding made.fault_text
+
+-- and of one that lets bytes flow
+abbrev pub WritesFlowEnding : Result (Unit {0}) FlowFault → Option (List ℕ) → Option (List ℕ) → Bool → Type 0
+WritesFlowEnding = WritesEnding flowing.fault_text

@@ -1,5 +1,3 @@
 -- What no public clause cites.
-pub mod MessageTexts
-pub mod Pending
-pub mod PriceRoom
-pub mod ReadInput
+pub mod Styles
+pub mod Rows

@@ -1,49 +1,70 @@
-//! The work of the program `capn`: command lines and runs.
+//! The program `capn`: its command line, and its runs.
 //! Each run goes from all of the input to all of the output.
 //!
 //! [`program`] is all of it, from the words of the command line to the exit status, over any reader and writers.
-//! [`command_of`] reads the words, and [`run`] carries the command out: it writes exactly the text for its input, and
-//! its outcome says how it ended; [`status`] and [`fault_text`] are the exit status and the text for the user, and
-//! [`end`] writes that. `show`, `check` and `hash` take one bare message, or the messages of a stream, packed or not,
-//! as they come in; `canonical` takes one message in any of the three forms.
+//! [`order_of`] reads the words. They order a command of [`capn_commands`]; that messages, or parts of them, are shown
+//! in a style, by [`show_parts`]; that a message is explained, by [`capn_report`]; a run over an archive, which is a
+//! stream of messages of any length, by [`capn_archive`] or [`capn_serve`]; that bytes are packed or unpacked while
+//! they come in, by [`capn_flow`]; or that messages are made from texts, by [`capn_make`]. [`end`], [`end_archive`],
+//! [`end_pick`], [`end_flow`] and [`end_make`] report how such a run ended. [`command_of`] reads the words where they
+//! order a command of [`capn_commands`], and [`run`] carries it out.
 //!
 //! ```text
-//! let command = command_of(alloc, &["capn", "canonical", "--form", "bare"])?;
-//! let outcome = run(alloc, command, &mut Watched::new(input), &mut Watched::new(output));
+//! let order = order_of(alloc, &["capn", "list", "--keep-going"])?;
 //! ```
 #![tactic(auto)]
 
-mod bare_message;
-mod command;
+mod archive_faults;
+mod archives_help;
+mod bytes_help;
 mod command_line;
-mod command_run;
-mod exit_status;
-mod fault;
-pub mod help;
+mod command_order;
+mod endings;
+mod explain_options;
+mod flushed_runs;
+mod help;
+mod input_options;
 pub mod laws;
-mod message_stream;
-mod message_text;
-mod message_texts;
+mod message_number;
+mod messages_help;
+mod mistakes;
+mod only_run;
+mod option_mistakes;
+mod option_values;
+mod options;
+mod order;
 mod output;
-pub mod parts;
-mod pending;
-mod plan;
-mod price_line;
+mod part_run;
 mod program_run;
+mod range_list;
+mod rows;
+mod show_options;
 mod subcommands;
+mod unordered;
 mod usage;
-mod whole_input;
+mod way;
 
-pub use command::Command;
-pub use command_line::command_of;
-pub use command_run::run;
-pub use exit_status::{end, fault_text, status};
-pub use fault::ToolFault;
+pub use archive_faults::archive_text;
+pub use command_line::order_of;
+pub use command_order::command_of;
+pub use endings::{end_archive, end_flow, end_make, end_pick, status_of_archive};
+pub use only_run::pick_only;
+pub use order::{Flow, Make, Only, Order, Show};
+pub use part_run::show_parts;
 pub use program_run::program;
-pub use subcommands::tool_command;
+pub use subcommands::program_command;
 pub use usage::Usage;
 
+// The commands over messages and bytes, their run and how it ends.
+pub use capn_commands::{Command, ToolFault, end, fault_text, run, status};
+
 // What the signatures above name.
+pub use capn_archive::{ArchiveFault, ArchiveOrder, Position, RunFault, Skipped, Task, UniqOrder};
 pub use capn_canon::{Form, Limits, Refusal, Tariff};
+pub use capn_flow::FlowFault;
+pub use capn_make::{MakeFault, Misfit};
+pub use capn_report::Explain;
+pub use capn_serve::{Pick, StreamForm};
+pub use capn_show::Style;
 pub use capn_value::Memory;
 pub use capn_words::Watched;

@@ -3,14 +3,14 @@
 ghost use Rattle.std.specs.Prelude.{◌≡◌, ◌↔◌, true, false, OnOk, IsErrOf, IsOkUnless};
 ghost use Rattle.std.specs.Io.KnownBytes.{Appends, Keeps};
 ghost use Rattle.capn_words.specs.Watched.{HasBegun, inner_of, has_failed};
-ghost use Rattle.capn_tool.specs.Outgoing.{EndsFlushed};
+ghost use Rattle.capn_tool.specs.Flushed.{EndsFlushed};
 
-use crate::fault::ToolFault;
+use capn_commands::ToolFault;
 use capn_words::Watched;
 use std::io::Write;
 
 /// Writes all of the text, or a beginning of it where the writer fails.
-pub fn write_all<W: Write>(writer: &mut Watched<W>, text: &[u8]) -> Result<(), ToolFault>
+pub(crate) fn write_all<W: Write>(writer: &mut Watched<W>, text: &[u8]) -> Result<(), ToolFault>
     requires { has_failed writer.old ≡ false }
     ensures ok { OnOk result (Appends (W.contents (inner_of writer.old)) (W.contents (inner_of writer.new)) text.now) }
     ensures begun { HasBegun (W.contents (inner_of writer.old)) (W.contents (inner_of writer.new)) text.now }
@@ -23,19 +23,22 @@ pub fn write_all<W: Write>(writer: &mut Watched<W>, text: &[u8]) -> Result<(), T
     }
 }
 
-/// Flushes the writer after a run that ended so. A run that was done ends with `Io` if the flush fails; any other ends
-/// as it did.
-pub fn flush_behind<W: Write>(
-    outcome: Result<(), ToolFault>,
+/// Flushes the writer after a run that ended so. A run that was done ends with this fault of an output that failed, if
+/// the flush fails; any other ends as it did.
+pub(crate) fn flush_after<F: Copy, W: Write>(
+    outcome: Result<(), F>,
+    io: F,
     writer: &mut Watched<W>,
-) -> Result<(), ToolFault>
+) -> Result<(), F>
     ensures kept { Keeps (W.contents (inner_of writer.old)) (W.contents (inner_of writer.new)) }
-    ensures ended { EndsFlushed outcome (has_failed writer.old) (has_failed writer.new) result }
+    ensures ended { EndsFlushed io outcome (has_failed writer.old) (has_failed writer.new) result }
 {
     let flushed = writer.flush();
-    outcome?;
-    match flushed {
-        Ok(()) => Ok(()),
-        Err(_) => Err(ToolFault::Io),
+    match outcome {
+        Ok(()) => match flushed {
+            Ok(()) => Ok(()),
+            Err(_) => Err(io),
+        },
+        Err(fault) => Err(fault),
     }
 }

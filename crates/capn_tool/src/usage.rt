@@ -1,4 +1,4 @@
-//! Command lines without a command: help, mistakes, refused memory.
+//! Command lines that order nothing: help, mistakes, refused memory.
 
 ghost use Rattle.std.specs.Prelude.{◌≡◌, ◌↔◌, IfOk, IsTrue, string_bytes};
 ghost use Rattle.clap.specs.Words.{kind_of};
@@ -8,7 +8,7 @@ use crate::help::TITLE;
 use clap::error::ErrorKind;
 use std::alloc::{AllocError, Allocator};
 
-/// Why a command line names no command: a request for help, a mistake, or no memory.
+/// Why a command line orders nothing: a request for help or for the version, a mistake, or no memory.
 #[derive(Drop)]
 pub struct Usage {
     /// What the parser of the command line says of them.
@@ -16,9 +16,10 @@ pub struct Usage {
 }
 
 impl Usage {
-    ghost use Rattle.capn_tool.specs.Usage.{IsHelp, NeedsMemory, WishesHelp, error_of};
+    ghost use Rattle.capn_tool.specs.Usage.{IsHelp, NeedsMemory, WishesHelp, WishesVersion, error_of};
 
-    /// The exit status: 3 if memory ran out, 0 for a request for help, 2 for any other.
+    /// The exit status: 3 if memory ran out, 0 for a request for help, 2 for any other. [`program`](crate::program)
+    /// shows the version instead and ends with 0.
     pub fn status(&self) -> u8
         ensures { result ≡ usage_status_of (kind_of (error_of self.now)) }
     {
@@ -41,6 +42,13 @@ impl Usage {
         ensures { IsTrue result ↔ WishesHelp self.now }
     {
         matches!(self.error.kind(), ErrorKind::DisplayHelp)
+    }
+
+    /// Whether the version is asked for.
+    pub fn is_version(&self) -> bool
+        ensures { IsTrue result ↔ WishesVersion self.now }
+    {
+        matches!(self.error.kind(), ErrorKind::DisplayVersion)
     }
 
     /// The text for the user: help below its title, or what is said of a mistake.

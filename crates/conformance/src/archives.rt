@@ -8,12 +8,12 @@ use anyhow::{Result, anyhow};
 use capn_archive::{run_archive, run_uniq};
 use capn_flow::{FlowFault, pack_stream, unpack_stream};
 use capn_make::{MakeFault, make, make_texts};
-use capn_program::{
+use capn_report::run_explain;
+use capn_serve::run_pick;
+use capn_tool::{
     ArchiveFault, Flow, Order, RunFault, archive_text, order_of, pick_only, show_parts,
     status_of_archive,
 };
-use capn_report::run_explain;
-use capn_serve::run_pick;
 use capn_words::Watched;
 use std::alloc::Global;
 

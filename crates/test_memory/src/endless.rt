@@ -2,9 +2,9 @@
 //! It holds no more, and answers what is right of all.
 
 use capn_canon::{Form, Refusal};
+use capn_commands::{Command, ToolFault, run};
 use capn_pack::UnpackFault;
 use capn_stream::FrameFault;
-use capn_tool::{Command, ToolFault, run};
 use capn_walk::Limits;
 use capn_words::Watched;
 use std::alloc::Global;

@@ -8,7 +8,7 @@ use crate::short_values::*;
 use crate::subject::{Answer, Subject, judged, limits, packed_of, subject_of, wanting};
 use crate::words::bytes_of;
 use capn_canon::Form;
-use capn_tool::{Command, ToolFault};
+use capn_commands::{Command, ToolFault};
 use capn_value::{copy, trim};
 use std::alloc::Global;
 use std::process::Abort;

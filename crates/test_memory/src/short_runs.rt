@@ -4,7 +4,7 @@ use crate::subject::{Answer, Subject, judged, limits, wanting};
 use capn_canon::{
     Canonical, Form, Refusal, canonical_of, canonicalise, is_canonical, layout, survey_bytes,
 };
-use capn_tool::{Command, ToolFault, fault_text, run};
+use capn_commands::{Command, ToolFault, fault_text, run};
 use capn_walk::Limits;
 use capn_words::Watched;
 use std::alloc::{Allocator, Global};

@@ -1,7 +1,7 @@
 //! Orders of command lines over archives.
 
 use crate::orders::expect_usage;
-use capn_program::{
+use capn_tool::{
     ArchiveOrder, Form, Limits, Only, Order, Pick, StreamForm, Tariff, Task, UniqOrder, order_of,
 };
 use std::alloc::Global;

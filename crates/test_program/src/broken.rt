@@ -1,6 +1,6 @@
 //! Runs over failing readers and writers.
 
-use capn_program::{Watched, program};
+use capn_tool::{Watched, program};
 use std::alloc::Global;
 use std::io::{self, ErrorKind, Read, Write};
 

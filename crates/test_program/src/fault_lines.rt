@@ -2,7 +2,7 @@
 
 use crate::broken::Short;
 use capn_endings::Line;
-use capn_program::{
+use capn_tool::{
     ArchiveFault, FlowFault, MakeFault, Position, Refusal, RunFault, Skipped, Watched,
     archive_text, end_archive, end_flow, end_make, end_pick,
 };

@@ -1,6 +1,6 @@
 //! Orders of command lines.
 
-use capn_program::{Command, Explain, Flow, Form, Limits, Make, Order, Style, Tariff, order_of};
+use capn_tool::{Command, Explain, Flow, Form, Limits, Make, Order, Style, Tariff, order_of};
 use std::alloc::Global;
 use std::process::Abort;
 

@@ -1,6 +1,6 @@
 //! Picks of messages by a list.
 
-use capn_program::{Limits, Only, StreamForm, Watched, pick_only};
+use capn_tool::{Limits, Only, StreamForm, Watched, pick_only};
 use std::test::Fail;
 
 /// Frames of 16 bytes, with a null root; of 16 bytes, of two empty segments, with a byte of padding that is not zero;

@@ -1,5 +1,5 @@
-use Rattle.capn_tool.proofs.shared.OneMeaning.{means_one}
+use Rattle.capn_tool.proofs.OneOrder.{means_one_order}
 use Rattle.capn_tool.proofs.laws.meaning.Goals as goal
 
 pub returns : goal.returns
-returns c = means_one
+returns c = means_one_order

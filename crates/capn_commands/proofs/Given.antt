@@ -1,0 +1,74 @@
+-- A reader that gives an input, read by read.
+use Rattle.std.proofs.Common.{◌≡◌, inl, inr, ℕ, ◌+◌, ◌≤◌, ◌<◌, ◌^◌, List, [], ◌++◌, length, take, refl}
+use Rattle.std.proofs.Common.{subst}
+use Rattle.std.proofs.Common.{arith, length-append, length-take-le, append-nil, Option, Bool, true}
+use Rattle.std.proofs.Common.{false}
+use Rattle.std.proofs.Common.{Result, Ok, Err}
+use Rattle.std.specs.Io.KnownBytes.{Consumes, IsAtEnd}
+use Rattle.std.proofs.KnownBytes.{Consumes-nil, Consumes-trans}
+use Rattle.capn_pack.specs.WholeGroups.{most_group}
+use Rattle.capn_commands.specs.inner.Pending.{IsPending}
+use Rattle.capn_serve.specs.WholeInput.{HasGiven, HasGivenAll}
+use Rattle.capn_commands.specs.inner.ReadInput.{IsUntaken, TakesAll}
+use Rattle.capn_commands.specs.declared.fault.ToolFault.{ToolFault}
+use Rattle.capn_commands.specs.declared.fault.ToolFault.TheVariants as faults
+
+-- a reader has given `taken` bytes, of which these words are unpacked and the beginning of a group is held
+pub record Unpacked (old new : Option (List ℕ)) (failed : Bool) (most taken : ℕ) (words : List ℕ) (len : ℕ)
+    (held : List ℕ) (at left : ℕ) (long : Bool) : Type 0 where
+  pub seen : List ℕ
+  pub given : HasGiven old new failed seen
+  pub size : length seen ≡ taken
+  pub pending : IsPending most seen words held at left long
+  pub short : len < most_group
+
+-- nothing was read
+pub given_none : (old : Option (List ℕ)) (failed : Bool) → failed ≡ false → HasGiven old old failed []
+given_none old failed fine = record { read = Consumes-nil old; bounded = omega arith; fine = fine }
+
+-- one more read
+pub given_more : (a b c : Option (List ℕ)) (f g : Bool) (seen buf : List ℕ) (n : ℕ) → HasGiven a b f seen
+    → Consumes b c (take n buf) → n ≤ length buf → length seen + n ≤ 2 ^ 32 + 1 → g ≡ false
+    → HasGiven a c g (seen ++ take n buf)
+given_more a b c f g seen buf n h more within bound fine = record {
+  read = Consumes-trans a b c seen (take n buf) h.read more;
+  bounded = omega (arith, bound, length-append seen (take n buf), length-take-le n buf within);
+  fine = fine;
+}
+
+-- the read that found the end
+pub given_all : (a b c : Option (List ℕ)) (f g : Bool) (seen buf : List ℕ) (n : ℕ) → HasGiven a b f seen → n ≡ 0
+    → Consumes b c (take n buf) × (n ≡ 0 → 0 < length buf → IsAtEnd c) → 0 < length buf → length seen ≤ 2 ^ 32
+    → g ≡ false → HasGivenAll a c g seen
+given_all a b c f g seen buf n h zero more some short fine =
+    let none : Consumes b c [] = subst (λ (k : ℕ). Consumes b c (take k buf)) zero more.0 in
+    record {
+      given = record {
+        read = subst (Consumes a c) (append-nil seen) (Consumes-trans a b c seen [] h.read none);
+        bounded = h.bounded;
+        fine = fine;
+      };
+      within = short;
+      ended = more.1 zero some;
+    }
+
+-- the read that failed
+pub given_broken : (a b c : Option (List ℕ)) (f g : Bool) (seen : List ℕ) → HasGiven a b f seen → Consumes a c seen
+    → g ≡ true → IsUntaken a c g faults.Io
+given_broken a b c f g seen h read broken = (seen, inr (read, h.bounded, broken, refl))
+
+-- memory was refused
+pub given_memory : (a b : Option (List ℕ)) (f : Bool) (seen : List ℕ) → HasGiven a b f seen
+    → IsUntaken a b f faults.Memory
+given_memory a b f seen h = (seen, inl (h, inl refl))
+
+-- there are more bytes than a run takes
+pub given_long : (a b : Option (List ℕ)) (f : Bool) (seen : List ℕ) → HasGiven a b f seen → 2 ^ 32 < length seen
+    → IsUntaken a b f faults.InputTooLong
+given_long a b f seen h long = (seen, inl (h, inr (refl, long)))
+
+-- what is answered of an input that was read to its end
+pub takes_so : {T : Type 0} (P : List ℕ → Result T ToolFault → Type 0) (a b : Option (List ℕ)) (f : Bool)
+    (r : Result T ToolFault) (bytes : List ℕ) → HasGivenAll a b f bytes → P bytes r → TakesAll P a b f r
+takes_so P a b f (Ok x) bytes all p = (bytes, all, p)
+takes_so P a b f (Err fault) bytes all p = inr (bytes, all, p)

@@ -1,0 +1,140 @@
+-- What is made of an input, from what was read of it.
+use Rattle.std.proofs.Common.{◌≡◌, ◌⊎◌, inl, inr, ℕ, ◌+◌, ◌*◌, ◌<◌, ◌^◌, List, Bool, Option, Result, Ok}
+use Rattle.std.proofs.Common.{Err, IsErr, IsErrAnd}
+use Rattle.std.proofs.Common.{Vec, ap, sym, subst, ◌∙◌, arith, take_all}
+use Rattle.capn_words.specs.Message.{ReadsBare}
+use Rattle.capn_words.specs.declared.bare.BareFault.{BareFault}
+use Rattle.capn_stream.specs.Frames.{most_table_words}
+use Rattle.capn_walk.specs.Limits.{Bounds}
+use Rattle.capn_canon.specs.Refusal.{IsRefused}
+use Rattle.capn_canon.specs.declared.form.Form.{Form}
+use Rattle.capn_canon.specs.declared.form.Form.TheVariants as forms
+use Rattle.capn_canon.specs.declared.refusal.Refusal.{Refusal}
+use Rattle.capn_canon.specs.declared.refusal.Refusal.TheVariants as refusals
+use Rattle.capn_serve.specs.BareRun.{IsShortBare, IsUnbare}
+use Rattle.capn_serve.specs.WholeInput.{HasGivenAll, IsBeginning}
+use Rattle.capn_serve.specs.WholeInput as served
+use Rattle.capn_serve.specs.declared.fault.RunFault.{RunFault}
+use Rattle.capn_serve.specs.declared.position.Position.{Position}
+use Rattle.capn_serve.specs.declared.whole_input.WholeInput.{WholeInput}
+use Rattle.capn_commands.specs.CommandRun.{unplaced}
+use Rattle.capn_commands.specs.inner.ReadInput.{IsUntaken, TakesAll}
+use Rattle.capn_commands.specs.WholeInput.{Gives, IsFaultOf, MakesNothing}
+use Rattle.capn_commands.specs.declared.plan.MessageText.{MessageText}
+use Rattle.capn_commands.specs.declared.plan.Whole.{Whole}
+use Rattle.capn_commands.specs.declared.plan.Whole.TheVariants as wholes
+use Rattle.capn_commands.specs.declared.fault.ToolFault.{ToolFault}
+use Rattle.capn_commands.specs.declared.fault.ToolFault.TheVariants as faults
+use Rattle.capn_commands.proofs.FirstBytes.{fails_unpacked, gives_first, gives_packed}
+use Rattle.capn_commands.proofs.Given.{takes_so}
+
+-- why nothing is made, or that memory was refused
+abbrev Fails : Whole → List ℕ → ToolFault → Type 0
+Fails whole bytes fault = (fault ≡ faults.Memory) ⊎ MakesNothing whole bytes fault
+
+-- an input was not taken, or was read to its end and fails so
+abbrev TakesNone : (List ℕ → Type 0) → Option (List ℕ) → Option (List ℕ) → Bool → ToolFault → Type 0
+TakesNone P a b f fault = IsUntaken a b f fault ⊎ ((bytes : List ℕ) × HasGivenAll a b f bytes × P bytes)
+
+-- why bytes are no segment
+abbrev FailsBare : List ℕ → ToolFault → Type 0
+FailsBare bytes fault = (e : BareFault) × (fault ≡ faults.Refused (refusals.Bare e)) × ReadsBare bytes (Err e)
+
+-- an input that was not read to its end
+untaken : (a b : Option (List ℕ)) (f : Bool) (fault : RunFault) → served.IsUntaken a b f fault
+    → IsUntaken a b f (unplaced fault)
+untaken a b f fault (bytes, inl (given, inl (is, some))) = (bytes, inl (given, inl (ap unplaced is)))
+untaken a b f fault (bytes, inl (given, inr (is, long))) = (bytes, inl (given, inr (ap unplaced is, long)))
+untaken a b f fault (bytes, inr (read, bound, broken, is)) = (bytes, inr (read, bound, broken, ap unplaced is))
+
+-- of no bytes was anything else said
+pub unread : (a b : Option (List ℕ)) (f : Bool) (fault : RunFault) (whole : Whole)
+    → served.IsUntaken a b f fault ⊎ ((bytes : List ℕ) × HasGivenAll a b f bytes × ⊥)
+    → TakesNone (λ bytes. Fails whole bytes (unplaced fault)) a b f (unplaced fault)
+unread a b f fault whole (inl h) = inl (untaken a b f fault h)
+unread a b f fault whole (inr (bytes, all, none)) = absurd none
+
+-- or they are no segment
+pub unread_bare : (a b : Option (List ℕ)) (f : Bool) (fault : RunFault) (at : Position)
+    → served.IsUntaken a b f fault ⊎ ((bytes : List ℕ) × HasGivenAll a b f bytes × IsUnbare at bytes fault)
+    → TakesNone (λ bytes. FailsBare bytes (unplaced fault)) a b f (unplaced fault)
+unread_bare a b f fault at (inl h) = inl (untaken a b f fault h)
+unread_bare a b f fault at (inr (bytes, all, (e, is, why))) = inr (bytes, all, (e, ap unplaced is, why))
+
+module _ (a b : Option (List ℕ)) (f : Bool) (fault : ToolFault) where
+  none_else : (P Q : List ℕ → Type 0) → ((bytes : List ℕ) → P bytes → Q bytes) → TakesNone P a b f fault
+      → TakesNone Q a b f fault
+  none_else P Q change (inl untaken) = inl untaken
+  none_else P Q change (inr (bytes, all, p)) = inr (bytes, all, change bytes p)
+
+  -- a packed text that packs no words
+  pub unmade_packed : (limits : Bounds) (most : ℕ) → most ≡ limits.message_words + most_table_words
+      → TakesNone (λ bytes. Fails (wholes.Unpacked most) bytes fault) a b f fault
+      → TakesNone (λ bytes. Fails (wholes.Canonical forms.Packed limits) bytes fault) a b f fault
+  unmade_packed limits most is h =
+      none_else (λ bytes. Fails (wholes.Unpacked (limits.message_words + most_table_words)) bytes fault)
+      (λ bytes. Fails (wholes.Canonical forms.Packed limits) bytes fault)
+      (λ bytes why. fails_unpacked limits bytes fault why)
+      (subst (λ (n : ℕ). TakesNone (λ bytes. Fails (wholes.Unpacked n) bytes fault) a b f fault) is h)
+
+  -- bytes that are no segment
+  pub unmade_canonical : (limits : Bounds) → TakesNone (λ bytes. FailsBare bytes fault) a b f fault
+      → TakesNone (λ bytes. Fails (wholes.Canonical forms.Bare limits) bytes fault) a b f fault
+  unmade_canonical limits h =
+      none_else (λ bytes. FailsBare bytes fault) (λ bytes. Fails (wholes.Canonical forms.Bare limits) bytes fault)
+      (λ bytes why. inr (refusals.Bare why.0, why.1, apart why.0, why.2)) h
+    where
+      apart : (e : BareFault) → refusals.Bare e ≡ refusals.Memory → ⊥
+      apart e same = cc
+
+  pub unmade_piece : (piece : MessageText) (limits : Bounds) → TakesNone (λ bytes. FailsBare bytes fault) a b f fault
+      → TakesNone (λ bytes. Fails (wholes.Bare piece limits) bytes fault) a b f fault
+  unmade_piece piece limits h =
+      none_else (λ bytes. FailsBare bytes fault) (λ bytes. Fails (wholes.Bare piece limits) bytes fault)
+      (λ bytes why. inr (inl why)) h
+
+-- bytes that have no canonical bytes
+pub gives_refused : {A : Type 0} (form : Form) (bytes : List ℕ) (limits : Bounds) (r : Refusal)
+    (result : Result (Vec ℕ A) ToolFault) → IsRefused form bytes limits r
+    → IsErr result × IsErrAnd result (IsFaultOf r) → Gives (wholes.Canonical form limits) bytes result
+gives_refused form bytes limits r (Ok text) refused (is_err, is) = absurd cc
+gives_refused form bytes limits r (Err fault) refused (is_err, inl (memory, is)) = inl is
+gives_refused form bytes limits r (Err fault) refused (is_err, inr (other, is)) = inr (r, is, other, refused)
+
+module _ {A : Type 0} (a b : Option (List ℕ)) (f : Bool) where
+  -- all of it is held
+  pub made_held : (whole : Whole) (input : WholeInput A) (held : List ℕ) (r : Result (Vec ℕ A) ToolFault)
+      → served.TakesAll (IsBeginning (2 ^ 32)) a b f (Ok input) → held ≡ input.bytes.items
+      → Gives whole held r → TakesAll (Gives whole) a b f r
+  made_held whole input held r (bytes, all, is) same gives =
+      takes_so (Gives whole) a b f r bytes all
+      (subst (λ (xs : List ℕ). Gives whole xs r) (same ∙ sym is.0 ∙ take_all (2 ^ 32) bytes all.within) gives)
+
+  -- of a frame its beginning is
+  pub made_framed : (limits : Bounds) (n : ℕ) (input : WholeInput A) (held : List ℕ) (r : Result (Vec ℕ A) ToolFault)
+      → 8 * (limits.message_words + most_table_words) < n → served.TakesAll (IsBeginning n) a b f (Ok input)
+      → held ≡ input.bytes.items → Gives (wholes.Canonical forms.Stream limits) held r
+      → TakesAll (Gives (wholes.Canonical forms.Stream limits)) a b f r
+  made_framed limits n input held r enough (bytes, all, is) same gives =
+      let P : List ℕ → Type 0 = λ xs. Gives (wholes.Canonical forms.Stream limits) xs r in
+      takes_so (Gives (wholes.Canonical forms.Stream limits)) a b f r bytes all
+      (gives_first n limits bytes enough r (subst P (same ∙ sym is.0) gives))
+
+  -- of a packed text its words are
+  pub made_packed : (limits : Bounds) (most : ℕ) (words : Vec ℕ A) (held : List ℕ) (r : Result (Vec ℕ A) ToolFault)
+      → most ≡ limits.message_words + most_table_words → TakesAll (Gives (wholes.Unpacked most)) a b f (Ok words)
+      → held ≡ words.items → Gives (wholes.Canonical forms.Stream limits) held r
+      → TakesAll (Gives (wholes.Canonical forms.Packed limits)) a b f r
+  made_packed limits most words held r is (bytes, all, packs) same gives =
+      let P : List ℕ → Type 0 = λ xs. Gives (wholes.Canonical forms.Stream limits) xs r in
+      takes_so (Gives (wholes.Canonical forms.Packed limits)) a b f r bytes all
+      (gives_packed limits bytes words.items packs.0 (omega (arith, is, packs.1)) r (subst P same gives))
+
+  -- ---- bare bytes
+
+  pub made_bare : (at : Position) (whole : Whole) (input : Vec ℕ A) (held : List ℕ) (r : Result (Vec ℕ A) ToolFault)
+      → served.TakesAll (IsShortBare at) a b f (Ok input) → held ≡ input.items → Gives whole held r
+      → TakesAll (Gives whole) a b f r
+  made_bare at whole input held r (bytes, all, is) same gives =
+      takes_so (Gives whole) a b f r bytes all
+      (subst (λ (xs : List ℕ). Gives whole xs r) (same ∙ sym is) gives)

@@ -1,0 +1,261 @@
+-- A packed input whose words are unpacked while it comes.
+use Rattle.std.proofs.Common.{◌≡◌, ◌⊎◌, inl, inr, ℕ, ◌+◌, ◌*◌, ◌<◌, ◌≤◌, List, [], ◌∷◌, ◌++◌, length, take, drop}
+use Rattle.std.proofs.Common.{slice_index, refl, ap, sym, subst, ◌∙◌, arith, append_assoc, append-nil, length-append}
+use Rattle.std.proofs.Common.{take-append-drop, length-take, Bool, true, false, Ok, Err, Vec}
+use Rattle.std.specs.Prelude.{◌==◌, if◌then◌else◌}
+use Rattle.std.proofs.lemmas.Grind.{flat_map-append}
+use Rattle.std.proofs.lemmas.List.{get_or_append_left}
+use Rattle.capn_pack.specs.Packed.{Group, text, content, Packs, texts, contents}
+use Rattle.capn_pack.specs.UnpackRefusal.{HasHead, IsCut, IsTooLong, Stands, head_len, words_at}
+use Rattle.capn_pack.specs.WholeGroups.{StandsNext, UnpacksSome, most_group}
+use Rattle.capn_pack.proofs.shared.GroupLemmas.{count_append, each_append, length_contents}
+use Rattle.capn_pack.specs.declared.whole_groups.Next.{Next}
+use Rattle.capn_pack.specs.declared.whole_groups.Next.TheVariants as nexts
+use Rattle.capn_pack.specs.declared.fault.UnpackFault.TheVariants as unpack_faults
+use Rattle.capn_canon.specs.declared.refusal.Refusal.TheVariants as refusals
+use Rattle.capn_commands.specs.inner.Pending.{Holds, IsPending}
+use Rattle.capn_commands.specs.WholeInput.{Gives}
+use Rattle.capn_commands.specs.declared.plan.Whole.TheVariants as wholes
+use Rattle.capn_commands.specs.declared.fault.ToolFault.TheVariants as faults
+
+-- nothing has come
+pub begins_pending : (most : ℕ) → Holds most [] [] [] 0 most
+begins_pending most = record {
+  groups = [];
+  each = tt;
+  text = refl;
+  content = refl;
+  offset = refl;
+  counted = omega arith;
+  begun = inl refl;
+}
+
+-- the words that a tag announces, by the bytes that give their number
+abbrev announced : ℕ → ℕ → ℕ → ℕ
+announced tag zeros raw = if tag == 0 then 1 + zeros else (if tag == 255 then 1 + raw else 1)
+
+same_words : (z f : Bool) (a b c d : ℕ) → (z ≡ true → a ≡ b) → (z ≡ false → f ≡ true → c ≡ d)
+    → (if z then 1 + a else (if f then 1 + c else 1)) ≡ (if z then 1 + b else (if f then 1 + d else 1))
+same_words true f a b c d p q = ap (λ (n : ℕ). 1 + n) (p refl)
+same_words false true a b c d p q = ap (λ (n : ℕ). 1 + n) (q refl refl)
+same_words false false a b c d p q = refl
+
+-- a head stays as more bytes come, and so do the words that it announces
+head_stays : (rest more : List ℕ) → 0 < length rest → HasHead rest
+    → HasHead (rest ++ more) × (words_at (rest ++ more) ≡ words_at rest)
+head_stays rest more some head =
+    let tag : ℕ = slice_index rest 0 in
+    let at = λ (i : ℕ) (h : i < length rest). get_or_append_left rest more 0 i h in (
+      omega (arith, ap head_len (at 0 some), head, length-append rest more),
+      ap (λ (t : ℕ). announced t (slice_index (rest ++ more) 1) (slice_index (rest ++ more) 9)) (at 0 some)
+          ∙ same_words (tag == 0) (tag == 255) (slice_index (rest ++ more) 1) (slice_index rest 1)
+          (slice_index (rest ++ more) 9) (slice_index rest 9)
+          (λ z. at 1 (omega (arith, rw z at head)))
+          (λ z f. at 9 (omega (arith, rw (z, f) at head))),
+    )
+
+-- so does a group that has more words than there is room for
+long_stays : (room : ℕ) (rest more : List ℕ) → IsTooLong room rest → IsTooLong room (rest ++ more)
+long_stays room rest more long =
+    let stays = head_stays rest more long.0 long.1 in
+    (omega (arith, long.0, length-append rest more), stays.0, omega (arith, long.2, stays.1))
+
+pub refused_stays : (most : ℕ) (seen more : List ℕ) (at : ℕ) → Stands IsTooLong seen most at
+    → Stands IsTooLong (seen ++ more) most at
+refused_stays most seen more at s = record {
+  groups = s.groups;
+  rest = s.rest ++ more;
+  each = s.each;
+  text = ap (λ (xs : List ℕ). xs ++ more) s.text ∙ append_assoc (texts s.groups) s.rest more;
+  offset = s.offset;
+  left = s.left;
+  counted = s.counted;
+  fault = long_stays s.left s.rest more s.fault;
+}
+
+module _ (most : ℕ) (seen words held piece : List ℕ) (at left : ℕ) (h : Holds most seen words held at left)
+    (new : List ℕ) (taken count : ℕ) where
+  -- what follows the groups that a piece made whole
+  split : (groups : List Group) → take taken (held ++ piece) ≡ texts groups
+      → seen ++ piece ≡ texts (h.groups ++ groups) ++ drop taken (held ++ piece)
+  split groups e =
+      ap (λ (xs : List ℕ). xs ++ piece) h.text
+      ∙ append_assoc (texts h.groups) held piece
+      ∙ ap (λ (xs : List ℕ). texts h.groups ++ xs) (sym (take-append-drop taken (held ++ piece)))
+      ∙ ap (λ (xs : List ℕ). texts h.groups ++ (xs ++ drop taken (held ++ piece))) e
+      ∙ sym (append_assoc (texts h.groups) (texts groups) (drop taken (held ++ piece)))
+      ∙ ap (λ (xs : List ℕ). xs ++ drop taken (held ++ piece)) (sym (flat_map-append text h.groups groups))
+
+  -- the piece ends there, or a group is cut
+  pub goes_on : (next : Next) (rest : List ℕ) (to room : ℕ)
+      → UnpacksSome (held ++ piece) left words new taken count next
+      → rest ≡ drop taken (held ++ piece) → to ≡ at + taken → room + count ≡ left
+      → (rest ≡ []) ⊎ IsCut room rest → Holds most (seen ++ piece) new rest to room
+  goes_on next rest to room u is further less begun = record {
+    groups = h.groups ++ u.groups;
+    each = each_append h.groups u.groups h.each u.each;
+    text = split u.groups u.text ∙ ap (λ (xs : List ℕ). texts (h.groups ++ u.groups) ++ xs) (sym is);
+    content =
+        u.content
+        ∙ ap (λ (xs : List ℕ). xs ++ contents u.groups) h.content
+        ∙ sym (flat_map-append content h.groups u.groups);
+    offset = omega (
+      arith,
+      further,
+      h.offset,
+      u.inside,
+      ap length u.text,
+      length-take taken (held ++ piece),
+      ap length (flat_map-append text h.groups u.groups),
+      length-append (texts h.groups) (texts u.groups),
+    );
+    counted = omega (arith, less, h.counted, u.counted, count_append h.groups u.groups);
+    begun = begun;
+  }
+
+  -- or one has more words than are left
+  pub stops_long : (to : ℕ) → UnpacksSome (held ++ piece) left words new taken count nexts.TooLong → to ≡ at + taken
+      → Stands IsTooLong (seen ++ piece) most to
+  stops_long to u further = record {
+    groups = h.groups ++ u.groups;
+    rest = drop taken (held ++ piece);
+    each = each_append h.groups u.groups h.each u.each;
+    text = split u.groups u.text;
+    offset = omega (
+      arith,
+      further,
+      h.offset,
+      u.inside,
+      ap length u.text,
+      length-take taken (held ++ piece),
+      ap length (flat_map-append text h.groups u.groups),
+      length-append (texts h.groups) (texts u.groups),
+    );
+    left = u.left;
+    counted = omega (arith, u.fits, h.counted, u.counted, count_append h.groups u.groups);
+    fault = u.stops;
+  }
+
+-- the input ends after whole groups
+pub all_unpacked : (most : ℕ) (seen words held : List ℕ) (at left : ℕ) → Holds most seen words held at left
+    → length held ≡ 0 → Packs seen words × (length words ≤ 8 * most)
+all_unpacked most seen words held at left h none = (
+  record {
+    groups = h.groups;
+    each = h.each;
+    text = h.text ∙ ap (λ (xs : List ℕ). texts h.groups ++ xs) (nothing held none) ∙ append-nil (texts h.groups);
+    content = h.content;
+  },
+  omega (arith, h.counted, ap length h.content, length_contents h.groups h.each),
+)
+  where
+    nothing : (xs : List ℕ) → length xs ≡ 0 → xs ≡ []
+    nothing [] e = refl
+    nothing (x ∷ xs) e = absurd (omega (arith, e))
+
+-- or within a group
+pub cut_pending : (most : ℕ) (seen words held : List ℕ) (at left : ℕ) → Holds most seen words held at left
+    → 0 < length held → Stands IsCut seen most at
+cut_pending most seen words held at left h some = record {
+  groups = h.groups;
+  rest = held;
+  each = h.each;
+  text = h.text;
+  offset = h.offset;
+  left = left;
+  counted = h.counted;
+  fault = elim h.begun [ inl none ↦ absurd (omega (arith, some, ap length none)) | inr cut ↦ cut ];
+}
+
+-- the offset is within the bytes that came
+pub offset_within : (most : ℕ) (seen words held : List ℕ) (at left : ℕ) (long : Bool)
+    → IsPending most seen words held at left long → at ≤ length seen
+offset_within most seen words held at left false h =
+    omega (arith, h.offset, ap length h.text, length-append (texts h.groups) held)
+offset_within most seen words held at left true s =
+    omega (arith, s.offset, ap length s.text, length-append (texts s.groups) s.rest)
+
+-- a piece that comes where the input is refused already
+pub stays_long : (most : ℕ) (seen words held more : List ℕ) (at left : ℕ) (long : Bool) → long ≡ true
+    → IsPending most seen words held at left long → IsPending most (seen ++ more) words held at left long
+stays_long most seen words held more at left false e p = absurd (let bad : false ≡ true = e in cc)
+stays_long most seen words held more at left true e p = refused_stays most seen more at p
+
+-- the answers where the input ends
+pub ends_long : (A : Type 0) (most : ℕ) (seen words held : List ℕ) (at left : ℕ) (long : Bool) → long ≡ true
+    → IsPending most seen words held at left long
+    → Gives {A = A} (wholes.Unpacked most) seen (Err (faults.Refused (refusals.Packed (unpack_faults.TooLong at))))
+ends_long A most seen words held at left false e p = absurd (let bad : false ≡ true = e in cc)
+ends_long A most seen words held at left true e p =
+    inr (unpack_faults.TooLong at, refl, (λ same. cc), p)
+
+pub ends_cut : (A : Type 0) (most : ℕ) (seen words held : List ℕ) (at left : ℕ) (long : Bool) → long ≡ false
+    → 0 < length held → IsPending most seen words held at left long
+    → Gives {A = A} (wholes.Unpacked most) seen (Err (faults.Refused (refusals.Packed (unpack_faults.Cut at))))
+ends_cut A most seen words held at left true e some p = absurd (let bad : true ≡ false = e in cc)
+ends_cut A most seen words held at left false e some p =
+    inr (unpack_faults.Cut at, refl, (λ same. cc), cut_pending most seen words held at left p some)
+
+pub ends_whole : {A : Type 0} (most : ℕ) (seen held : List ℕ) (words : Vec ℕ A) (at left : ℕ) (long : Bool)
+    → long ≡ false → length held ≡ 0 → IsPending most seen words.items held at left long
+    → Gives (wholes.Unpacked most) seen (Ok words)
+ends_whole most seen held words at left true e none p = absurd (let bad : true ≡ false = e in cc)
+ends_whole most seen held words at left false e none p = all_unpacked most seen words.items held at left p none
+
+-- a piece that was taken: the end of it, or a group that is cut
+pub taken_piece : (most : ℕ) (seen words held piece : List ℕ) (at left : ℕ) (long : Bool) (new : List ℕ)
+    (taken count : ℕ) (next is : Next) (rest : List ℕ) (to room : ℕ) → long ≡ false
+    → UnpacksSome (held ++ piece) left words new taken count next → next ≡ is
+    → (is ≡ nexts.End) ⊎ (is ≡ nexts.Cut)
+    → rest ≡ drop taken (held ++ piece) → to ≡ at + taken → room + count ≡ left
+    → IsPending most seen words held at left long → IsPending most (seen ++ piece) new rest to room long
+taken_piece most seen words held piece at left true new taken count next is rest to room off u e kind r further less p =
+    absurd (let bad : true ≡ false = off in cc)
+taken_piece most seen words held piece at left false new taken count next is rest to room off u e kind r further less
+    p =
+    goes_on most seen words held piece at left p new taken count next rest to room u r further less begun
+  where
+    same_room : u.left ≡ room
+    same_room = omega (arith, u.fits, less)
+
+    begun : (rest ≡ []) ⊎ IsCut room rest
+    begun = elim kind [
+      | inl end ↦
+          (let s : StandsNext nexts.End u.left (drop taken (held ++ piece)) =
+          subst (λ (n : Next). StandsNext n u.left (drop taken (held ++ piece))) (e ∙ end) u.stops in
+          inl (r ∙ s))
+      | inr cut ↦
+          (let s : StandsNext nexts.Cut u.left (drop taken (held ++ piece)) =
+          subst (λ (n : Next). StandsNext n u.left (drop taken (held ++ piece))) (e ∙ cut) u.stops in
+          inr (subst (λ (xs : List ℕ). IsCut room xs) (sym r)
+          (subst (λ (n : ℕ). IsCut n (drop taken (held ++ piece))) same_room s.0)))
+    ]
+
+-- the end of it
+pub taken_end : (most : ℕ) (seen words held piece : List ℕ) (at left : ℕ) (long : Bool) (new : List ℕ)
+    (taken count : ℕ) (next : Next) (to room : ℕ) → long ≡ false
+    → UnpacksSome (held ++ piece) left words new taken count next → next ≡ nexts.End
+    → to ≡ at + taken → room + count ≡ left
+    → IsPending most seen words held at left long → IsPending most (seen ++ piece) new [] to room long
+taken_end most seen words held piece at left long new taken count next to room off u e further less p =
+    let s : StandsNext nexts.End u.left (drop taken (held ++ piece)) =
+    subst (λ (n : Next). StandsNext n u.left (drop taken (held ++ piece))) e u.stops in
+    taken_piece most seen words held piece at left long new taken count next nexts.End [] to room off u e (inl refl)
+    (sym s) further less p
+
+-- or a group that has more words than are left
+pub taken_long : (most : ℕ) (seen words held piece : List ℕ) (at left : ℕ) (long : Bool) (new : List ℕ)
+    (taken count : ℕ) (next : Next) (rest : List ℕ) (to room : ℕ) → long ≡ false
+    → UnpacksSome (held ++ piece) left words new taken count next → next ≡ nexts.TooLong → to ≡ at + taken
+    → IsPending most seen words held at left long → IsPending most (seen ++ piece) new rest to room true
+taken_long most seen words held piece at left true new taken count next rest to room off u e further p =
+    absurd (let bad : true ≡ false = off in cc)
+taken_long most seen words held piece at left false new taken count next rest to room off u e further p =
+    stops_long most seen words held piece at left p new taken count to
+    (subst (λ (n : Next). UnpacksSome (held ++ piece) left words new taken count n) e u) further
+
+-- what is held of a group that is cut
+pub cut_short : (next : Next) (room : ℕ) (rest : List ℕ) → next ≡ nexts.Cut → StandsNext next room rest
+    → length rest < most_group
+cut_short next room rest e s =
+    (subst (λ (n : Next). StandsNext n room rest) e s).1

@@ -1,0 +1,39 @@
+use Rattle.std.proofs.Common.{◌≡◌, ℕ, List, Result, ap, sym, subst}
+use Rattle.capn_show.specs.Outgoing.{outgoing}
+use Rattle.capn_commands.specs.MessageText.{PutsMessageText}
+use Rattle.capn_commands.specs.inner.MessageTexts.{message_texts}
+use Rattle.capn_commands.specs.declared.message_texts.MessageTexts.{MessageTexts}
+use Rattle.capn_commands.specs.declared.plan.MessageText.{MessageText}
+use Rattle.capn_commands.specs.declared.plan.MessageText.TheVariants as kinds
+use Rattle.capn_commands.specs.declared.fault.ToolFault.{ToolFault}
+use Rattle.capn_commands.proofs.ShownMessage.{does_shown}
+use Rattle.capn_commands.proofs.message_texts.MessageTextsService.serve.Goals as goal
+
+-- the piece of the service was put
+puts : (this : MessageText) (s : MessageTexts) (message : List (List ℕ)) (old new : List ℕ)
+    (r : Result (Unit {0}) ToolFault) → s.piece ≡ this → PutsMessageText this message s.limits old new r
+    → PutsMessageText s.piece message s.limits old new r
+puts this s message old new r is put =
+    subst (λ (k : MessageText). PutsMessageText k message s.limits old new r) (sym is) put
+
+pub returns-in-Text : goal.returns-in-Text
+returns-in-Text g c =
+    does_shown (g.S.Space.message c.args.message.now) c.args.self.now.limits c.args.self.now c.args._at
+    c.args._frame.now (outgoing g.W.Write.contents c.args.writer.now c.args.text.now.items)
+    (outgoing g.W.Write.contents c.add_shown.new.writer c.add_shown.new.text.items) c.add_shown.result
+    (ap (λ (k : MessageText). message_texts k c.args.self.now.limits) c.in-Text.is) c.requires.fine
+    c.add_shown.ensures
+
+pub returns-in-Price : goal.returns-in-Price
+returns-in-Price g c =
+    c.end_piece.ensures c.args.self.now c.args._at c.args._frame.now (g.S.Space.message c.args.message.now)
+    c.args.text.now.items
+    (puts kinds.Price c.args.self.now (g.S.Space.message c.args.message.now) c.args.text.now.items
+    c.put_price-put.new.text.items c.put_price-put.result c.in-Price.is c.put_price-put.ensures)
+
+pub returns-in-Digest : goal.returns-in-Digest
+returns-in-Digest g c =
+    c.end_piece-in-Digest.ensures c.args.self.now c.args._at c.args._frame.now
+    (g.S.Space.message c.args.message.now) c.args.text.now.items
+    (puts kinds.Digest c.args.self.now (g.S.Space.message c.args.message.now) c.args.text.now.items
+    c.put_digest-put.new.text.items c.put_digest-put.result c.in-Digest.is c.put_digest-put.ensures)

@@ -1,0 +1,17 @@
+-- How a run of a command ends the program.
+use Rattle.std.specs.Prelude.{ℕ, Result}
+use Rattle.capn_endings.specs.Ending.{status_of_ending}
+use Rattle.capn_commands.specs.declared.fault.ToolFault.{ToolFault}
+use Rattle.capn_commands.specs.declared.fault.ToolFault.TheVariants as faults
+
+-- after a run that a fault ended: 1 where the input is refused, 3 where it could not be carried out (Own.)
+abbrev pub exit_of : ToolFault → ℕ
+exit_of faults.Memory = 3
+exit_of faults.Io = 3
+exit_of faults.InputTooLong = 3
+exit_of (faults.NotWhole n) = 1
+exit_of (faults.Refused refusal) = 1
+
+-- after a run: 0 where it is done (Own.)
+abbrev pub status_of : Result (Unit {0}) ToolFault → ℕ
+status_of = status_of_ending exit_of

@@ -1,0 +1,10 @@
+pub mod inner
+pub mod Limits
+pub mod Plan
+pub mod MessageText
+pub mod WholeInput
+pub mod Streams
+pub mod Text
+pub mod CommandRun
+pub mod ExitStatus
+pub mod FaultText

@@ -1,0 +1,26 @@
+-- What each command does with its input. (Own.)
+use Rattle.capn_walk.specs.Limits.{Bounds}
+use Rattle.capn_canon.specs.declared.form.Form.{Form}
+use Rattle.capn_canon.specs.declared.form.Form.TheVariants as forms
+use Rattle.capn_commands.specs.declared.command.Command.{Command}
+use Rattle.capn_commands.specs.declared.command.Command.TheVariants as commands
+use Rattle.capn_commands.specs.declared.plan.MessageText.{MessageText}
+use Rattle.capn_commands.specs.declared.plan.MessageText.TheVariants as kinds
+use Rattle.capn_commands.specs.declared.plan.Whole.TheVariants as wholes
+use Rattle.capn_commands.specs.declared.plan.Plan.{Plan}
+use Rattle.capn_commands.specs.declared.plan.Plan.TheVariants as plans
+
+-- a piece of each message: the one bare message that the input is, or the messages of a stream, packed or not
+abbrev pub pieces_of : MessageText → Form → Bounds → Plan
+pieces_of piece forms.Bare limits = plans.Whole (wholes.Bare piece limits)
+pieces_of piece forms.Stream limits = plans.Each piece limits
+pieces_of piece forms.Packed limits = plans.Packed piece limits
+
+-- what a command does with its input
+abbrev pub plan_of : Command → Plan
+plan_of (commands.Show form limits) = pieces_of kinds.Text form limits
+plan_of (commands.Check form limits) = pieces_of kinds.Price form limits
+plan_of (commands.Hash form limits) = pieces_of kinds.Digest form limits
+plan_of commands.Pack = plans.Whole wholes.Packed
+plan_of (commands.Unpack most) = plans.Whole (wholes.Unpacked most)
+plan_of (commands.Canonical form limits) = plans.Whole (wholes.Canonical form limits)

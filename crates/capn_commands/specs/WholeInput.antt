@@ -1,0 +1,50 @@
+-- What is made of an input that is taken whole, and why nothing is. (Own.)
+use Rattle.std.specs.Prelude.{◌≡◌, ◌≢◌, ◌⊎◌, ℕ, ◌*◌, ◌%◌, ◌≤◌, List, [], ◌∷◌, length, Result, Ok, Err, Vec}
+use Rattle.capn_words.specs.Message.{IsBare, ReadsBare}
+use Rattle.capn_words.specs.declared.bare.BareFault.{BareFault}
+use Rattle.capn_pack.specs.Packed.{Packs}
+use Rattle.capn_pack.specs.Chosen.{Chosen}
+use Rattle.capn_pack.specs.UnpackRefusal as packs
+use Rattle.capn_pack.specs.declared.fault.UnpackFault.{UnpackFault}
+use Rattle.capn_pack.specs.declared.fault.UnpackFault.TheVariants as unpack_faults
+use Rattle.capn_canon.specs.Denotes.{Answers}
+use Rattle.capn_canon.specs.Refusal.{IsRefused}
+use Rattle.capn_canon.specs.declared.refusal.Refusal.{Refusal}
+use Rattle.capn_canon.specs.declared.refusal.Refusal.TheVariants as refusals
+use Rattle.capn_commands.specs.MessageText.{IsBareMessageText, IsNoMessageText}
+use Rattle.capn_commands.specs.declared.plan.Whole.{Whole}
+use Rattle.capn_commands.specs.declared.plan.Whole.TheVariants as wholes
+use Rattle.capn_commands.specs.declared.fault.ToolFault.{ToolFault}
+use Rattle.capn_commands.specs.declared.fault.ToolFault.TheVariants as faults
+
+-- the fault of a run if an input is refused so: memory was refused if and only if it was for the answer
+abbrev pub IsFaultOf : Refusal → ToolFault → Type 0
+IsFaultOf r fault =
+    ((r ≡ refusals.Memory) × (fault ≡ faults.Memory)) ⊎ ((r ≢ refusals.Memory) × (fault ≡ faults.Refused r))
+
+-- What is made of the bytes: the packer's text of them; the words that they pack, at most `most`; the canonical bytes
+-- of the message that they are in a form; or a piece of the bare message that they are.
+abbrev pub Makes : Whole → List ℕ → List ℕ → Type 0
+Makes wholes.Packed bytes text = Chosen text bytes
+Makes (wholes.Unpacked most) bytes text = Packs bytes text × (length text ≤ 8 * most)
+Makes (wholes.Canonical form limits) bytes text = (price : ℕ) × Answers form bytes limits text price
+Makes (wholes.Bare piece limits) bytes text = (words : List ℕ) × IsBare bytes words
+    × IsBareMessageText piece words limits text
+
+-- Why nothing is: the bytes are no whole words; they pack no words, or more; they have no canonical bytes in the form;
+-- or they are no bare message, or one that has no piece.
+abbrev pub MakesNothing : Whole → List ℕ → ToolFault → Type 0
+MakesNothing wholes.Packed bytes fault = (length bytes % 8 ≢ 0) × (fault ≡ faults.NotWhole (length bytes))
+MakesNothing (wholes.Unpacked most) bytes fault =
+    (e : UnpackFault) × (fault ≡ faults.Refused (refusals.Packed e)) × (e ≢ unpack_faults.Memory)
+    × packs.IsUnpackRefused bytes most e
+MakesNothing (wholes.Canonical form limits) bytes fault =
+    (r : Refusal) × (fault ≡ faults.Refused r) × (r ≢ refusals.Memory) × IsRefused form bytes limits r
+MakesNothing (wholes.Bare piece limits) bytes fault =
+    ((e : BareFault) × (fault ≡ faults.Refused (refusals.Bare e)) × ReadsBare bytes (Err e))
+    ⊎ ((words : List ℕ) × IsBare bytes words × IsNoMessageText piece (words ∷ []) limits fault)
+
+-- a call gave what is made of the bytes, or reported why nothing is, unless memory ran out
+abbrev pub Gives : {A : Type 0} → Whole → List ℕ → Result (Vec ℕ A) ToolFault → Type 0
+Gives whole bytes (Ok text) = Makes whole bytes text.items
+Gives whole bytes (Err fault) = (fault ≡ faults.Memory) ⊎ MakesNothing whole bytes fault

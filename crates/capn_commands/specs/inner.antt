@@ -1,0 +1,5 @@
+-- What no public clause cites.
+pub mod MessageTexts
+pub mod Pending
+pub mod PriceRoom
+pub mod ReadInput

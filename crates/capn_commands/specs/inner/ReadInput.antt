@@ -1,0 +1,36 @@
+-- What a run has read and written.
+use Rattle.std.specs.Prelude.{◌≡◌, ◌⊎◌, ℕ, ◌+◌, ◌<◌, ◌≤◌, List, length, Bool, true, false, Option}
+use Rattle.std.specs.Prelude.{Result, Ok, Err}
+use Rattle.std.specs.Io.KnownBytes.{Consumes, IsAtEnd}
+use Rattle.capn_serve.specs.WholeInput.{HasGiven, HasGivenAll}
+use Rattle.capn_commands.specs.Limits.{most_input}
+use Rattle.capn_commands.specs.Text.{taken_of, has_more}
+use Rattle.capn_commands.specs.declared.fault.ToolFault.{ToolFault}
+use Rattle.capn_commands.specs.declared.fault.ToolFault.TheVariants as faults
+
+-- the bytes that a reader gave, in number as P says
+abbrev pub HasRead : Option (List ℕ) → Option (List ℕ) → (ℕ → Type 0) → Type 0
+HasRead old new P = (bytes : List ℕ) × Consumes old new bytes × P (length bytes)
+
+-- a reader gave these bytes, all that it had or one more than 2^32; what a run takes of them, and whether there are
+-- more
+pub record Kept (old new : Option (List ℕ)) (kept : List ℕ) (is_longer : Bool) (bytes : List ℕ) : Type 0 where
+  pub read : Consumes old new bytes
+  pub bounded : length bytes ≤ most_input + 1
+  pub are : taken_of bytes ≡ kept
+  pub more : has_more bytes ≡ is_longer
+  pub ended : is_longer ≡ false → IsAtEnd new
+
+-- an input was not taken: memory was refused; or the reader failed; or there are more bytes than a run takes
+abbrev pub IsUntaken : Option (List ℕ) → Option (List ℕ) → Bool → ToolFault → Type 0
+IsUntaken old new failed fault = (bytes : List ℕ)
+    × ((HasGiven old new failed bytes × ((fault ≡ faults.Memory)
+    ⊎ ((fault ≡ faults.InputTooLong) × (most_input < length bytes))))
+    ⊎ (Consumes old new bytes × (length bytes ≤ most_input + 1) × (failed ≡ true) × (fault ≡ faults.Io)))
+
+-- an input was read to its end and this is what is answered of its bytes, or it was not taken
+abbrev pub TakesAll : {T : Type 0} → (List ℕ → Result T ToolFault → Type 0) → Option (List ℕ) → Option (List ℕ) → Bool
+    → Result T ToolFault → Type 0
+TakesAll P old new failed (Ok x) = (bytes : List ℕ) × HasGivenAll old new failed bytes × P bytes (Ok x)
+TakesAll P old new failed (Err fault) = IsUntaken old new failed fault
+    ⊎ ((bytes : List ℕ) × HasGivenAll old new failed bytes × P bytes (Err fault))

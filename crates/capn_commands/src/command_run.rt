@@ -1,0 +1,138 @@
+//! The run of a command over all of its input.
+
+ghost use Rattle.std.specs.Prelude.{◌≡◌, ◌↔◌, ◌⊎◌, ℕ, Bool, List, Option, Result, true, false, IfSome, IsErrOf};
+ghost use Rattle.capn_words.specs.Watched.{inner_of, has_failed};
+ghost use Rattle.capn_commands.specs.Plan as spec;
+ghost use Rattle.capn_commands.specs.CommandRun.{KeepsUp, Runs};
+ghost use Rattle.capn_commands.specs.Text.{EndsAs, EndsBy, IsText, Begins};
+ghost use Rattle.capn_commands.specs.WholeInput.{Gives};
+ghost use Rattle.capn_commands.specs.inner.ReadInput.{TakesAll};
+ghost use Rattle.capn_commands.specs.declared.fault.ToolFault.{ToolFault};
+ghost use Rattle.capn_commands.specs.declared.plan.Plan.TheVariants as plans;
+ghost use Rattle.capn_commands.specs.declared.plan.Whole.{Whole};
+ghost use Rattle.capn_commands.specs.declared.plan.Whole.TheVariants as wholes;
+
+use crate::bare_message::run_one;
+use crate::command::Command;
+use crate::fault::ToolFault;
+use crate::message_stream::{run_each, run_each_packed};
+use crate::pending::read_words;
+use crate::plan::{MessageText, Plan, Whole, plan_of};
+use crate::whole_input::{make_canonical, make_text, make_verdict};
+use capn_walk::Limits;
+use capn_words::Watched;
+use std::alloc::Allocator;
+use std::io::{Read, Write};
+
+/// Writes what was made of an input, if anything was.
+fn write_made<W: Write, A: Allocator>(
+    made: Result<Vec<u8, A>, ToolFault>,
+    writer: &mut Watched<W>,
+) -> Result<(), ToolFault>
+    requires { has_failed writer.old ≡ false }
+    ensures { (whole : Whole) (a b : Option (List ℕ)) (unread : Bool) → TakesAll (Gives whole) a b unread made
+        → Runs (plans.Whole whole) a b (W.contents (inner_of writer.old)) (W.contents (inner_of writer.new)) unread
+        (has_failed writer.new) result }
+{
+    match made {
+        Ok(text) => {
+            writer.write_all(&text)?;
+            Ok(())
+        }
+        Err(fault) => Err(fault),
+    }
+}
+
+/// Writes a piece of the one bare message that an input is.
+fn run_bare_piece<R: Read, W: Write, A: Allocator + Copy>(
+    alloc: A,
+    piece: MessageText,
+    limits: Limits,
+    reader: &mut Watched<R>,
+    writer: &mut Watched<W>,
+) -> Result<(), ToolFault>
+    requires reader_fine { has_failed reader.old ≡ false }
+    requires writer_fine { has_failed writer.old ≡ false }
+    ensures { Runs (plans.Whole (wholes.Bare piece limits)) (R.remaining (inner_of reader.old))
+        (R.remaining (inner_of reader.new))
+        (W.contents (inner_of writer.old)) (W.contents (inner_of writer.new)) (has_failed reader.new)
+        (has_failed writer.new) result }
+{
+    match piece {
+        MessageText::Price => write_made(make_verdict(alloc, reader, limits), writer),
+        MessageText::Text => run_one(alloc, piece, limits, reader, writer),
+        MessageText::Digest => run_one(alloc, piece, limits, reader, writer),
+    }
+}
+
+/// Carries a plan out.
+fn perform<R: Read, W: Write, A: Allocator + Copy>(
+    alloc: A,
+    plan: Plan,
+    reader: &mut Watched<R>,
+    writer: &mut Watched<W>,
+) -> Result<(), ToolFault>
+    requires reader_fine { has_failed reader.old ≡ false }
+    requires writer_fine { has_failed writer.old ≡ false }
+    ensures { Runs plan (R.remaining (inner_of reader.old)) (R.remaining (inner_of reader.new))
+        (W.contents (inner_of writer.old)) (W.contents (inner_of writer.new)) (has_failed reader.new)
+        (has_failed writer.new) result }
+{
+    match plan {
+        Plan::Whole(whole) => match whole {
+            Whole::Packed => write_made(make_text(alloc, reader), writer),
+            Whole::Unpacked(most) => write_made(read_words(alloc, reader, most), writer),
+            Whole::Canonical(form, limits) => {
+                write_made(make_canonical(alloc, reader, form, limits), writer)
+            }
+            Whole::Bare(piece, limits) => run_bare_piece(alloc, piece, limits, reader, writer),
+        },
+        Plan::Each(piece, limits) => run_each(alloc, piece, limits, reader, writer),
+        Plan::Packed(piece, limits) => run_each_packed(alloc, piece, limits, reader, writer),
+    }
+}
+
+/// Carries a command out: reads from the reader to its end, then writes the text of the input to the writer.
+///
+/// `pack`, `unpack`, `canonical` and the form bare take the input whole, and write nothing where it is refused. `show`,
+/// `check` and `hash` of a stream, packed or not, take it message by message: before the reader is asked again, the
+/// text of all messages that are whole by then has been written, mostly by one call. Where a message is refused, the
+/// text of those before it has been written.
+///
+/// Refusals: `Memory` where a growth was refused; `Io` exactly where the reader or the writer has failed;
+/// `InputTooLong` for a byte past 2^32; else the command's own. After `Memory` and `Io` a beginning of the text was
+/// written, or nothing. At most 2^32 + 1 bytes are read, at most 65,536 by one call. Over a stream the memory does not
+/// grow with the input: 128 KiB, the texts of what one call read, at most 1 MiB for unpacked words, and what the
+/// longest message takes.
+///
+/// Of an input that is taken whole, `canonical` holds the first 8 * (message words + 2,049) bytes and one more, or as
+/// many words of a packed one, and `unpack` its answer; what follows is read and dropped. The form bare holds at most
+/// 2^28 + 1 words, and `pack` all of its input.
+pub fn run<R: Read, W: Write, A: Allocator + Copy>(
+    alloc: A,
+    command: Command,
+    reader: &mut Watched<R>,
+    writer: &mut Watched<W>,
+) -> Result<(), ToolFault>
+    requires reader_fine { has_failed reader.old ≡ false }
+    requires writer_fine { has_failed writer.old ≡ false }
+    // It has written the text of all that the reader had to give, and ends as that says.
+    ensures exact { IfSome (R.remaining (inner_of reader.old))
+        (EndsAs command (W.contents (inner_of writer.old)) (W.contents (inner_of writer.new)) result) }
+    // There is one text and one ending for an input: these come, and nothing else.
+    ensures only { IfSome (R.remaining (inner_of reader.old)) (λ input.
+        (text : List ℕ) (due : Result (Unit {0}) ToolFault) → IsText command input text due →
+        EndsBy text due (W.contents (inner_of writer.old)) (W.contents (inner_of writer.new)) result) }
+    // It answers Io exactly where one of the two has failed.
+    ensures io { IsErrOf result ToolFault.Io ↔ ((has_failed reader.new ≡ true) ⊎ (has_failed writer.new ≡ true)) }
+    // Whatever it answers, a beginning of the text of what it read was written, or nothing.
+    ensures begun { Begins command (R.remaining (inner_of reader.old)) (R.remaining (inner_of reader.new))
+        (W.contents (inner_of writer.old)) (W.contents (inner_of writer.new)) }
+    // If the reader failed, all of the output for what it gave was written, if it is taken message by message; if it is
+    // taken whole, nothing was.
+    ensures heard { has_failed reader.new ≡ true
+        → KeepsUp command (R.remaining (inner_of reader.old)) (R.remaining (inner_of reader.new))
+        (W.contents (inner_of writer.old)) (W.contents (inner_of writer.new)) }
+{
+    perform(alloc, plan_of(command), reader, writer)
+}

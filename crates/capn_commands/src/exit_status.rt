@@ -1,0 +1,93 @@
+//! The end of a run: exit status and error line.
+
+ghost use Rattle.std.specs.Prelude.{◌≡◌, IfOk, string_bytes, false};
+ghost use Rattle.capn_words.specs.Watched.{inner_of, has_failed};
+ghost use Rattle.capn_commands.specs.ExitStatus.{status_of};
+ghost use Rattle.capn_commands.specs.FaultText as spec;
+ghost use Rattle.capn_commands.specs.FaultText.{ReportsEnding};
+
+use crate::fault::ToolFault;
+use capn_endings::{Ending, Line};
+use capn_serve::say_refusal;
+use capn_value::Memory;
+use capn_words::Watched;
+use std::alloc::Allocator;
+use std::fmt;
+use std::io::Write;
+
+impl Ending for ToolFault {
+    ghost use Rattle.capn_commands.specs.ExitStatus.{exit_of};
+    ghost use Rattle.capn_commands.specs.FaultText.{fault_text};
+
+    ghost text = { fault_text };
+
+    ghost exit = { exit_of };
+
+    fn say<E: Write>(&self, line: &mut Line, errors: &mut Watched<E>) {
+        match self {
+            ToolFault::Memory => line.put(b"out of memory", errors),
+            ToolFault::Io => line.put(b"input or output failed", errors),
+            ToolFault::InputTooLong => line.put(b"input too long", errors),
+            ToolFault::NotWhole(length) => line.put_between(b"NotWhole(", *length, b")", errors),
+            ToolFault::Refused(refusal) => say_refusal(refusal, line, errors),
+        }
+    }
+
+    fn exit_status(&self) -> u8 {
+        match self {
+            ToolFault::NotWhole(_) | ToolFault::Refused(_) => 1,
+            ToolFault::Memory | ToolFault::Io | ToolFault::InputTooLong => 3,
+        }
+    }
+}
+
+/// The exit status of a run: 0 where it is done, 1 where the input is refused, 3 where memory, the reader or the
+/// writer failed or the input is too long.
+pub fn status(outcome: &Result<(), ToolFault>) -> u8
+    ensures { result ≡ status_of outcome.now }
+{
+    capn_endings::status(outcome)
+}
+
+/// A fault of which the text is shown. A `ToolFault` itself shows the name of its variant.
+#[derive(Drop)]
+struct Text(ToolFault);
+
+impl fmt::Display for Text {
+    ghost use Rattle.std.specs.Prelude.{Some};
+
+    ghost output = { λ text. Some (spec.fault_text text.0) };
+
+    fn fmt<W: fmt::Write>(&self, f: &mut fmt::Formatter<W>) -> fmt::Result {
+        match &self.0 {
+            ToolFault::Memory => write!(f, "out of memory"),
+            ToolFault::Io => write!(f, "input or output failed"),
+            ToolFault::InputTooLong => write!(f, "input too long"),
+            ToolFault::NotWhole(length) => write!(f, "NotWhole({length})"),
+            ToolFault::Refused(refusal) => write!(f, "{refusal}"),
+        }
+    }
+}
+
+/// The text of a fault, as the program prints it after `capn: `. `Memory` if there is none for the text.
+pub fn fault_text<A: Allocator>(alloc: A, fault: &ToolFault) -> Result<String<A>, Memory>
+    ensures { IfOk result (λ text. string_bytes text ≡ spec.fault_text fault.now) }
+{
+    let text = Text(*fault);
+    Ok(format!(in alloc; "{text}")?)
+}
+
+/// Writes the line that says why a run ended, if it is not done, and answers its exit status. The line is written
+/// whole, or a beginning of it where the errors fail; the allocator is asked for nothing.
+pub fn end<E: Write, A: Allocator + Copy>(
+    _alloc: A,
+    outcome: &Result<(), ToolFault>,
+    errors: &mut Watched<E>,
+) -> u8
+    requires { has_failed errors.old ≡ false }
+    ensures status { result ≡ status_of outcome.now }
+    ensures says { ReportsEnding outcome.now (E.contents (inner_of errors.old)) (E.contents (inner_of errors.new))
+        (has_failed errors.new) }
+{
+    capn_endings::end(outcome, errors)
+}

@@ -1,0 +1,36 @@
+//! Runs of the six commands over messages and bytes.
+//! Each run goes from all of the input to all of the output.
+//!
+//! [`run`] carries a [`Command`] out: it writes exactly the text for its input, and its outcome says how it ended;
+//! [`status`] and [`fault_text`] are the exit status and the text for the user, and [`end`] writes that. `show`,
+//! `check` and `hash` take one bare message, or the messages of a stream, packed or not, as they come in; `canonical`
+//! takes one message in any of the three forms.
+//!
+//! ```text
+//! let command = Command::Canonical(Form::Bare, Limits::usual());
+//! let outcome = run(alloc, command, &mut Watched::new(input), &mut Watched::new(output));
+//! ```
+#![tactic(auto)]
+
+mod bare_message;
+mod command;
+mod command_run;
+mod exit_status;
+mod fault;
+mod message_stream;
+mod message_text;
+mod message_texts;
+mod pending;
+mod plan;
+mod price_line;
+mod whole_input;
+
+pub use command::Command;
+pub use command_run::run;
+pub use exit_status::{end, fault_text, status};
+pub use fault::ToolFault;
+
+// What the signatures above name.
+pub use capn_canon::{Form, Limits, Refusal, Tariff};
+pub use capn_value::Memory;
+pub use capn_words::Watched;

@@ -1,0 +1,121 @@
+//! The lines of one message: price, verdict or digest.
+
+ghost use Rattle.std.specs.Prelude.{◌≡◌, ◌≤◌, ◌∷◌, ◌++◌, [], length};
+ghost use Rattle.sha2.specs.Sha256.{sha256};
+ghost use Rattle.hex.specs.Hex.{encode_lower};
+ghost use Rattle.capn_commands.specs.MessageText.{PutsMessageText, PutsBareMessageText, PutsLine, price_line, priced};
+ghost use Rattle.capn_commands.specs.declared.plan.MessageText.TheVariants as kinds;
+
+use crate::fault::ToolFault;
+use crate::price_line::{PriceLine, short_line};
+use capn_canon::{canonical_of, own_canonical, survey_bare};
+use capn_walk::{Limits, survey};
+use capn_words::{Bare, Space};
+use sha2::{Digest, Sha256};
+use std::alloc::Allocator;
+
+/// Appends the line of a price and a number of visits, which ends in these bytes, or nothing where memory is refused.
+#[inline(always)]
+fn put_priced<A: Allocator>(
+    text: &mut Vec<u8, A>,
+    paid: u32,
+    visits: u32,
+    end: &[u8],
+) -> Result<(), ToolFault>
+    requires { length end.now ≤ 16 }
+    ensures { PutsLine (priced paid visits end.now) text.old.items text.new.items result }
+{
+    match PriceLine::append(text, paid, visits, end) {
+        Ok(()) => Ok(()),
+        Err(_) => Err(ToolFault::Memory),
+    }
+}
+
+/// Appends the line of a price and a number of visits, or nothing where memory is refused.
+#[inline(always)]
+fn put_price_line<A: Allocator>(
+    text: &mut Vec<u8, A>,
+    paid: u32,
+    visits: u32,
+) -> Result<(), ToolFault>
+    ensures { PutsLine (price_line paid visits) text.old.items text.new.items result }
+{
+    if paid < 10 && visits < 10 {
+        let line = short_line(paid, visits);
+        return match text.extend_from_slice(&line) {
+            Ok(()) => Ok(()),
+            Err(_) => Err(ToolFault::Memory),
+        };
+    }
+    put_priced(text, paid, visits, b"\n")
+}
+
+/// Appends the line of what the walk of a message paid, in words, and how many visits it made. After a fault the text
+/// is as it was.
+#[inline(always)]
+pub fn put_price<S: Space, A: Allocator + Copy>(
+    alloc: A,
+    space: &S,
+    limits: Limits,
+    text: &mut Vec<u8, A>,
+) -> Result<(), ToolFault>
+    ensures { PutsMessageText kinds.Price (S.message space.now) limits text.old.items text.new.items result }
+{
+    let surveyed = survey(alloc, space, limits)?;
+    put_price_line(text, surveyed.paid, surveyed.visits)
+}
+
+/// Appends the line of a bare message's price and number of visits, which says whether its bytes are canonical. It
+/// takes memory only for the line. After a fault the text is as it was.
+pub fn put_verdict<A: Allocator + Copy>(
+    alloc: A,
+    space: &Bare<'_>,
+    limits: Limits,
+    text: &mut Vec<u8, A>,
+) -> Result<(), ToolFault>
+    ensures { PutsBareMessageText kinds.Price space.now limits text.old.items text.new.items result }
+{
+    let checked = survey_bare(alloc, space, limits)?;
+    if checked.is_canonical {
+        return put_priced(text, checked.paid, checked.visits, b" canonical\n");
+    }
+    put_priced(text, checked.paid, checked.visits, b" not-canonical\n")
+}
+
+/// The 64 hexadecimal digits of the SHA-256 of some bytes, and the end of a line.
+fn digest_line(bytes: &[u8]) -> [u8; 65]
+    ensures { result ≡ encode_lower (sha256 bytes.now) ++ 10 ∷ [] }
+{
+    let digest = Sha256::digest(bytes);
+    let mut line = [10; 65];
+    let _ = hex::encode_to_slice(digest.as_slice(), &mut line[..64]);
+    line
+}
+
+/// Appends the line of the digest of some bytes, or nothing where memory is refused.
+fn put_digest_line<A: Allocator>(bytes: &[u8], text: &mut Vec<u8, A>) -> Result<(), ToolFault>
+    ensures { PutsLine (encode_lower (sha256 bytes.now) ++ 10 ∷ []) text.old.items text.new.items result }
+{
+    let line = digest_line(bytes);
+    match text.extend_from_slice(&line) {
+        Ok(()) => Ok(()),
+        Err(_) => Err(ToolFault::Memory),
+    }
+}
+
+/// Appends the line of the digest of a message's canonical bytes. Those of a message that is canonical are hashed where
+/// they lie: one pass finds them, and no copy is made of them. After a fault the text is as it was.
+pub fn put_digest<S: Space, A: Allocator + Copy>(
+    alloc: A,
+    space: &S,
+    limits: Limits,
+    text: &mut Vec<u8, A>,
+) -> Result<(), ToolFault>
+    ensures { PutsMessageText kinds.Digest (S.message space.now) limits text.old.items text.new.items result }
+{
+    if let Some(own) = own_canonical(space, limits) {
+        return put_digest_line(own.bytes, text);
+    }
+    let canonical = canonical_of(alloc, space, limits)?;
+    put_digest_line(&canonical.bytes, text)
+}

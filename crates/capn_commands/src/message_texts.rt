@@ -1,0 +1,170 @@
+//! The service of `show`, `check` and `hash`, message by message.
+
+ghost use Rattle.std.specs.Prelude.{◌≡◌, ◌≢◌, ◌⊎◌, List, ℕ, false};
+ghost use Rattle.capn_words.specs.Watched.{inner_of, has_failed};
+ghost use Rattle.capn_show.specs.Outgoing.{outgoing};
+ghost use Rattle.capn_serve.specs.Outgoing as sent;
+ghost use Rattle.capn_serve.specs.Service.{DoesService, PutsMessage};
+ghost use Rattle.capn_serve.specs.declared.position.Position.{Position};
+ghost use Rattle.capn_serve.specs.declared.fault.ServeFault.TheVariants as serve_faults;
+ghost use Rattle.capn_canon.specs.declared.refusal.Refusal.TheVariants as refusals;
+ghost use Rattle.capn_target.specs.declared.target.Fault.TheVariants as walk_faults;
+ghost use Rattle.capn_commands.specs.MessageText.{PutsMessageText};
+ghost use Rattle.capn_commands.specs.inner.MessageTexts as spec;
+ghost use Rattle.capn_commands.specs.declared.message_texts.MessageTexts.{MessageTexts};
+
+use crate::fault::ToolFault;
+use crate::message_text::{put_digest, put_price};
+use crate::plan::MessageText;
+use capn_canon::Refusal;
+use capn_serve::{Position, Run, ServeFault, Service, flush_long};
+use capn_show::{ShowFault, show_message};
+use capn_walk::{Fault, Limits, Stopped};
+use capn_words::{Space, Watched};
+use std::alloc::Allocator;
+use std::io::Write;
+
+/// What is written of each message, within limits. Nothing is kept of the messages before.
+#[derive(Clone, Copy)]
+pub struct MessageTexts {
+    /// What is written of a message.
+    pub piece: MessageText,
+    /// The limits of a message.
+    pub limits: Limits,
+}
+
+/// The run over an input, before its first message.
+pub(crate) fn first_run(piece: MessageText, limits: Limits) -> Run<MessageTexts>
+    ensures { result ≡ spec.first_run piece limits }
+{
+    Run::new(MessageTexts { piece, limits })
+}
+
+/// How a message ends whose survey has stopped.
+fn stop_of(stopped: Stopped) -> ServeFault
+    ensures { ((stopped.fault ≡ walk_faults.Memory) × (result ≡ serve_faults.Memory))
+        ⊎ ((stopped.fault ≢ walk_faults.Memory) × (result ≡ serve_faults.Refused (refusals.Walk stopped))) }
+{
+    match stopped.fault {
+        Fault::Memory => ServeFault::Memory,
+        _ => ServeFault::Refused(Refusal::Walk(stopped)),
+    }
+}
+
+/// Adds a line to the text, or nothing if memory is refused, and writes what is long.
+fn add_line<W: Write, A: Allocator>(
+    line: &[u8],
+    text: &mut Vec<u8, A>,
+    writer: &mut Watched<W>,
+) -> Result<(), ServeFault>
+    requires fine { has_failed writer.old ≡ false }
+    ensures { spec.AddsLine line.now (outgoing W.contents writer.old text.old.items)
+        (outgoing W.contents writer.new text.new.items) result }
+{
+    match text.extend_from_slice(line) {
+        Ok(()) => flush_long(text, writer),
+        Err(_) => Err(ServeFault::Memory),
+    }
+}
+
+/// Adds the text of a message's value, and the line `end`. Long texts are written while they are made.
+fn add_shown<S: Space, W: Write, A: Allocator + Copy>(
+    alloc: A,
+    message: &S,
+    limits: Limits,
+    text: &mut Vec<u8, A>,
+    writer: &mut Watched<W>,
+) -> Result<(), ServeFault>
+    requires fine { has_failed writer.old ≡ false }
+    ensures { spec.AddsShown (S.message message.now) limits (outgoing W.contents writer.old text.old.items)
+        (outgoing W.contents writer.new text.new.items) result }
+{
+    match show_message(alloc, text, writer, message, limits) {
+        Ok(()) => add_line(b"end\n", text, writer),
+        Err(ShowFault::Stopped(stopped)) => Err(stop_of(stopped)),
+        Err(ShowFault::Io) => Err(ServeFault::Io),
+        Err(ShowFault::Memory) => Err(ServeFault::Memory),
+    }
+}
+
+/// How a message ends whose piece was not put for this reason.
+fn served_fault(fault: ToolFault) -> ServeFault
+    ensures { result ≡ spec.served_fault fault }
+{
+    match fault {
+        ToolFault::Refused(refusal) => ServeFault::Refused(refusal),
+        ToolFault::Memory | ToolFault::Io | ToolFault::InputTooLong | ToolFault::NotWhole(_) => {
+            ServeFault::Memory
+        }
+    }
+}
+
+/// How a message ends whose piece was put, or has none.
+#[inline(always)]
+fn served(put: Result<(), ToolFault>) -> Result<(), ServeFault>
+    ensures { (s : MessageTexts) (at : Position) (frame : List ℕ) (message : List (List ℕ)) (old new : List ℕ)
+        → PutsMessageText s.piece message s.limits old new put
+        → PutsMessage spec.serves spec.refuses s at frame message old new result s }
+{
+    match put {
+        Ok(()) => Ok(()),
+        Err(fault) => Err(served_fault(fault)),
+    }
+}
+
+/// Ends a message whose piece was put, or has none, and writes what is long.
+#[inline(always)]
+fn end_piece<W: Write, A: Allocator>(
+    put: Result<(), ToolFault>,
+    text: &mut Vec<u8, A>,
+    writer: &mut Watched<W>,
+) -> Result<(), ServeFault>
+    requires fine { has_failed writer.old ≡ false }
+    ensures { (s : MessageTexts) (at : Position) (frame : List ℕ) (message : List (List ℕ)) (before : List ℕ)
+        → PutsMessageText s.piece message s.limits before text.old.items put
+        → DoesService spec.serves spec.refuses s at frame message
+        (sent.outgoing (W.contents (inner_of writer.old)) before)
+        (sent.outgoing (W.contents (inner_of writer.new)) text.new.items) (has_failed writer.new) result s }
+{
+    served(put)?;
+    flush_long(text, writer)
+}
+
+impl Service for MessageTexts {
+    ghost use Rattle.capn_serve.specs.Fold.{never};
+    ghost use Rattle.capn_commands.specs.inner.MessageTexts as spec;
+
+    ghost serves = { spec.serves };
+
+    ghost refuses = { spec.refuses };
+
+    ghost done = { never };
+
+    #[inline(always)]
+    fn is_done(&self, _at: Position) -> bool {
+        false
+    }
+
+    #[inline(always)]
+    fn serve<S: Space, W: Write, A: Allocator + Copy>(
+        &mut self,
+        alloc: A,
+        _at: Position,
+        _frame: &[u8],
+        message: &S,
+        text: &mut Vec<u8, A>,
+        writer: &mut Watched<W>,
+    ) -> Result<(), ServeFault> {
+        match self.piece {
+            MessageText::Text => add_shown(alloc, message, self.limits, text, writer),
+            MessageText::Price => {
+                let put = put_price(alloc, message, self.limits, text);
+                end_piece(put, text, writer)
+            }
+            MessageText::Digest => {
+                let put = put_digest(alloc, message, self.limits, text);
+                end_piece(put, text, writer)
+            }
+        }
+    }
+}

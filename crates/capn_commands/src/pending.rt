@@ -1,0 +1,144 @@
+//! A packed input, unpacked on arrival.
+
+ghost use Rattle.std.specs.Prelude.{◌≡◌, ℕ, ◌+◌, ◌-◌, ◌<◌, ◌≤◌, ◌^◌, ◌++◌, List, length, take, drop, false, OnOk};
+ghost use Rattle.capn_words.specs.Watched.{inner_of, has_failed};
+ghost use Rattle.capn_pack.specs.WholeGroups.{most_group};
+ghost use Rattle.capn_commands.specs.inner.Pending.{IsPending};
+ghost use Rattle.capn_commands.specs.inner.ReadInput.{TakesAll};
+ghost use Rattle.capn_commands.specs.WholeInput.{Gives};
+ghost use Rattle.capn_commands.specs.declared.plan.Whole.TheVariants as wholes;
+
+use crate::fault::ToolFault;
+use capn_canon::Refusal;
+use capn_pack::{Next, UnpackFault, unpack_some};
+use capn_serve::{CHUNK, MOST_INPUT};
+use capn_words::Watched;
+use std::alloc::{AllocError, Allocator};
+use std::io::Read;
+
+/// Room for the beginning of a group and for a piece.
+const ROOM: usize = 2050 + CHUNK as usize;
+
+/// What of a packed input is not unpacked yet.
+#[derive(Drop)]
+pub(crate) struct Pending {
+    /// Of these, the first `len` are held: the beginning of a group.
+    pub text: [u8; ROOM],
+    pub len: usize,
+    /// Where in the input that group begins.
+    pub at: u64,
+    /// How many words are left of the maximum.
+    pub left: u32,
+    /// Whether that group has more words. Then nothing is held any more.
+    pub is_long: bool,
+}
+
+/// Copies the piece after the bytes that are held.
+fn fill(text: &mut [u8], len: usize, piece: &[u8])
+    requires { len + length piece.now ≤ length text.old }
+    ensures { take (len + length piece.now) text.new ≡ take len text.old ++ piece.now }
+{
+    let end = len + piece.len();
+    text[len..end].copy_from_slice(piece);
+}
+
+/// Moves the bytes from an offset to another to the front.
+fn keep(text: &mut [u8], from: usize, to: usize)
+    requires order { from ≤ to }
+    requires within { to ≤ length text.old }
+    ensures { take (to - from) text.new ≡ drop from (take to text.old) }
+{
+    text.copy_within(from..to, 0);
+}
+
+/// Takes the next piece, and appends the words of the groups that are whole by now and within the maximum.
+fn take_chunk<A: Allocator>(
+    pending: &mut Pending,
+    piece: &[u8],
+    words: &mut Vec<u8, A>,
+) -> Result<(), AllocError>
+    requires short { length piece.now ≤ 65536 }
+    requires held { pending.old.len < most_group }
+    requires near { pending.old.at ≤ 2 ^ 32 }
+    ensures held { pending.new.len < most_group }
+    ensures pending { OnOk result ((most : ℕ) (seen : List ℕ)
+        → IsPending most seen words.old.items (take pending.old.len pending.old.text) pending.old.at
+        pending.old.left pending.old.is_long
+        → IsPending most (seen ++ piece.now) words.new.items (take pending.new.len pending.new.text) pending.new.at
+        pending.new.left pending.new.is_long) }
+{
+    if pending.is_long {
+        return Ok(());
+    }
+    let all = pending.len + piece.len();
+    fill(&mut pending.text, pending.len, piece);
+    let progress = unpack_some(&pending.text[..all], pending.left, words)?;
+    pending.at += progress.bytes as u64;
+    pending.left -= progress.words;
+    match progress.next {
+        Next::End => pending.len = 0,
+        Next::Cut => {
+            keep(&mut pending.text, progress.bytes, all);
+            pending.len = all - progress.bytes;
+        }
+        Next::TooLong => {
+            pending.len = 0;
+            pending.is_long = true;
+        }
+    }
+    Ok(())
+}
+
+/// What a packed input is answered that ends here: its words, or why it has none.
+fn end_pending<A: Allocator>(pending: &Pending, words: Vec<u8, A>) -> Result<Vec<u8, A>, ToolFault>
+    ensures { (most : ℕ) (seen : List ℕ)
+        → IsPending most seen words.items (take pending.now.len pending.now.text) pending.now.at
+        pending.now.left pending.now.is_long
+        → Gives (wholes.Unpacked most) seen result }
+{
+    let at = pending.at;
+    if pending.is_long {
+        return Err(ToolFault::Refused(Refusal::Packed(UnpackFault::TooLong { at })));
+    }
+    if pending.len > 0 {
+        return Err(ToolFault::Refused(Refusal::Packed(UnpackFault::Cut { at })));
+    }
+    Ok(words)
+}
+
+/// Reads a packed input to its end, and answers the words that it packs, at most `most`.
+///
+/// Nothing is held but those words and the beginning of a group. After a group that has more words, what follows is
+/// dropped as it comes.
+pub fn read_words<R: Read, A: Allocator>(
+    alloc: A,
+    reader: &mut Watched<R>,
+    most: u32,
+) -> Result<Vec<u8, A>, ToolFault>
+    requires { has_failed reader.old ≡ false }
+    ensures { TakesAll (Gives (wholes.Unpacked most)) (R.remaining (inner_of reader.old))
+        (R.remaining (inner_of reader.new)) (has_failed reader.new) result }
+{
+    let mut words = Vec::new(alloc);
+    let mut pending = Pending {
+        text: [0; ROOM],
+        len: 0,
+        at: 0,
+        left: most,
+        is_long: false,
+    };
+    let mut piece = [0; CHUNK as usize];
+    let mut taken = 0;
+    'pieces: while taken <= MOST_INPUT {
+        let room = (MOST_INPUT + 1 - taken).min(CHUNK as usize);
+        match reader.read(&mut piece[..room]) {
+            Err(_) => return Err(ToolFault::Io),
+            Ok(0) => return end_pending(&pending, words),
+            Ok(count) => {
+                take_chunk(&mut pending, &piece[..count], &mut words)?;
+                taken += count;
+            }
+        }
+    }
+    Err(ToolFault::InputTooLong)
+}

@@ -1,0 +1,68 @@
+//! The plan of each command for its input.
+
+ghost use Rattle.std.specs.Prelude.{◌≡◌};
+ghost use Rattle.capn_commands.specs.Plan as spec;
+
+use crate::command::Command;
+use capn_canon::Form;
+use capn_walk::Limits;
+
+/// What is written of a message.
+#[derive(Clone, Copy)]
+pub enum MessageText {
+    /// Its text, and a line `end`.
+    Text,
+    /// The line of what its walk paid and how many visits it made.
+    Price,
+    /// The line of the digest of its canonical bytes.
+    Digest,
+}
+
+/// What is made of an input that is taken whole.
+#[derive(Clone, Copy)]
+pub enum Whole {
+    /// The packed text of its words.
+    Packed,
+    /// The words that it packs, at most this many.
+    Unpacked(u32),
+    /// The canonical bytes of the one message that it is.
+    Canonical(Form, Limits),
+    /// A piece of the one bare message that it is.
+    Bare(MessageText, Limits),
+}
+
+/// How an input is taken.
+#[derive(Clone, Copy)]
+pub enum Plan {
+    /// As a whole.
+    Whole(Whole),
+    /// Message by message, from a stream.
+    Each(MessageText, Limits),
+    /// Message by message, from a packed stream.
+    Packed(MessageText, Limits),
+}
+
+/// How a piece is written of each message of an input in a form.
+fn pieces(piece: MessageText, form: Form, limits: Limits) -> Plan
+    ensures { result ≡ spec.pieces_of piece form limits }
+{
+    match form {
+        Form::Bare => Plan::Whole(Whole::Bare(piece, limits)),
+        Form::Stream => Plan::Each(piece, limits),
+        Form::Packed => Plan::Packed(piece, limits),
+    }
+}
+
+/// What a command does with its input.
+pub fn plan_of(command: Command) -> Plan
+    ensures { result ≡ spec.plan_of command }
+{
+    match command {
+        Command::Show(form, limits) => pieces(MessageText::Text, form, limits),
+        Command::Check(form, limits) => pieces(MessageText::Price, form, limits),
+        Command::Hash(form, limits) => pieces(MessageText::Digest, form, limits),
+        Command::Pack => Plan::Whole(Whole::Packed),
+        Command::Unpack(most) => Plan::Whole(Whole::Unpacked(most)),
+        Command::Canonical(form, limits) => Plan::Whole(Whole::Canonical(form, limits)),
+    }
+}

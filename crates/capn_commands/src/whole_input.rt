@@ -1,0 +1,148 @@
+//! Outputs made of an input taken whole.
+
+ghost use Rattle.std.specs.Prelude.{◌≡◌, false};
+ghost use Rattle.capn_words.specs.Watched.{inner_of, has_failed};
+ghost use Rattle.capn_commands.specs.inner.ReadInput.{TakesAll};
+ghost use Rattle.capn_commands.specs.WholeInput.{Gives};
+ghost use Rattle.capn_canon.specs.declared.form.Form.TheVariants as forms;
+ghost use Rattle.capn_commands.specs.declared.plan.MessageText.TheVariants as kinds;
+ghost use Rattle.capn_commands.specs.declared.plan.Whole.TheVariants as wholes;
+
+use crate::fault::ToolFault;
+use crate::message_text::put_verdict;
+use crate::pending::read_words;
+use capn_canon::{Form, Refusal, canonicalise};
+use capn_pack::{PackFault, pack};
+use capn_serve::{MOST_INPUT, Position, read_all, read_bare};
+use capn_stream::MOST_TABLE_WORDS;
+use capn_walk::Limits;
+use capn_words::{Bare, Watched};
+use std::alloc::Allocator;
+use std::io::Read;
+
+/// Where the one message of a bare input begins.
+const START: Position = Position {
+    index: 0,
+    offset: 0,
+};
+
+/// The packed text of words.
+fn packed<A: Allocator + Copy>(alloc: A, bytes: &[u8]) -> Result<Vec<u8, A>, ToolFault>
+    ensures { Gives wholes.Packed bytes.now result }
+{
+    match pack(alloc, bytes) {
+        Ok(text) => Ok(text),
+        Err(PackFault::Memory) => Err(ToolFault::Memory),
+        Err(PackFault::NotWhole(length)) => Err(ToolFault::NotWhole(length)),
+    }
+}
+
+/// The line of one bare message's price, which says whether its bytes are canonical.
+fn verdict<A: Allocator + Copy>(
+    alloc: A,
+    bytes: &[u8],
+    limits: Limits,
+) -> Result<Vec<u8, A>, ToolFault>
+    ensures { Gives (wholes.Bare kinds.Price limits) bytes.now result }
+{
+    match Bare::new(bytes) {
+        Ok(space) => {
+            let mut text = Vec::new(alloc);
+            put_verdict(alloc, &space, limits, &mut text)?;
+            Ok(text)
+        }
+        Err(fault) => Err(ToolFault::Refused(Refusal::Bare(fault))),
+    }
+}
+
+/// The canonical bytes of the one message that an input is the frame of. Of the input no more is held than the longest
+/// frame within the limits, and one byte.
+fn make_framed<R: Read, A: Allocator + Copy>(
+    alloc: A,
+    reader: &mut Watched<R>,
+    limits: Limits,
+) -> Result<Vec<u8, A>, ToolFault>
+    requires { has_failed reader.old ≡ false }
+    ensures { TakesAll (Gives (wholes.Canonical forms.Stream limits)) (R.remaining (inner_of reader.old))
+        (R.remaining (inner_of reader.new)) (has_failed reader.new) result }
+{
+    let words = limits.message_words() as usize + MOST_TABLE_WORDS as usize;
+    let input = read_all(alloc, reader, 8 * words + 1)?;
+    let canonical = canonicalise(alloc, Form::Stream, &input.bytes, limits)?;
+    Ok(canonical.bytes)
+}
+
+/// The canonical bytes of the one message that an input packs the frame of. It is unpacked while it is read.
+fn make_packed<R: Read, A: Allocator + Copy>(
+    alloc: A,
+    reader: &mut Watched<R>,
+    limits: Limits,
+) -> Result<Vec<u8, A>, ToolFault>
+    requires { has_failed reader.old ≡ false }
+    ensures { TakesAll (Gives (wholes.Canonical forms.Packed limits)) (R.remaining (inner_of reader.old))
+        (R.remaining (inner_of reader.new)) (has_failed reader.new) result }
+{
+    let words = read_words(alloc, reader, limits.message_words() + MOST_TABLE_WORDS)?;
+    let canonical = canonicalise(alloc, Form::Stream, &words, limits)?;
+    Ok(canonical.bytes)
+}
+
+/// The packed text of an input's words, which are held whole.
+pub fn make_text<R: Read, A: Allocator + Copy>(
+    alloc: A,
+    reader: &mut Watched<R>,
+) -> Result<Vec<u8, A>, ToolFault>
+    requires { has_failed reader.old ≡ false }
+    ensures { TakesAll (Gives wholes.Packed) (R.remaining (inner_of reader.old)) (R.remaining (inner_of reader.new))
+        (has_failed reader.new) result }
+{
+    let input = read_all(alloc, reader, MOST_INPUT)?;
+    packed(alloc, &input.bytes)
+}
+
+/// The canonical bytes of the one bare message that an input is.
+fn make_trimmed<R: Read, A: Allocator + Copy>(
+    alloc: A,
+    reader: &mut Watched<R>,
+    limits: Limits,
+) -> Result<Vec<u8, A>, ToolFault>
+    requires { has_failed reader.old ≡ false }
+    ensures { TakesAll (Gives (wholes.Canonical forms.Bare limits)) (R.remaining (inner_of reader.old))
+        (R.remaining (inner_of reader.new)) (has_failed reader.new) result }
+{
+    let bytes = read_bare(alloc, START, reader)?;
+    let canonical = canonicalise(alloc, Form::Bare, &bytes, limits)?;
+    Ok(canonical.bytes)
+}
+
+/// The line of the price of the one bare message that an input is.
+pub fn make_verdict<R: Read, A: Allocator + Copy>(
+    alloc: A,
+    reader: &mut Watched<R>,
+    limits: Limits,
+) -> Result<Vec<u8, A>, ToolFault>
+    requires { has_failed reader.old ≡ false }
+    ensures { TakesAll (Gives (wholes.Bare kinds.Price limits)) (R.remaining (inner_of reader.old))
+        (R.remaining (inner_of reader.new)) (has_failed reader.new) result }
+{
+    let bytes = read_bare(alloc, START, reader)?;
+    verdict(alloc, &bytes, limits)
+}
+
+/// The canonical bytes of the one message that an input is in a form.
+pub fn make_canonical<R: Read, A: Allocator + Copy>(
+    alloc: A,
+    reader: &mut Watched<R>,
+    form: Form,
+    limits: Limits,
+) -> Result<Vec<u8, A>, ToolFault>
+    requires { has_failed reader.old ≡ false }
+    ensures { TakesAll (Gives (wholes.Canonical form limits)) (R.remaining (inner_of reader.old))
+        (R.remaining (inner_of reader.new)) (has_failed reader.new) result }
+{
+    match form {
+        Form::Stream => make_framed(alloc, reader, limits),
+        Form::Packed => make_packed(alloc, reader, limits),
+        Form::Bare => make_trimmed(alloc, reader, limits),
+    }
+}

@@ -1,6 +1,0 @@
-pub mod OneOrder
-pub mod NamedOrders
-pub mod Shown
-pub mod Sources
-pub mod Ways
-pub mod RangeLists

@@ -1,9 +1,0 @@
-use Rattle.capn_tool.specs.CommandLine.{message_line}
-use Rattle.capn_tool.proofs.shared.CommandLines.{answers_option}
-use Rattle.capn_program.specs.CommandLine.{keep_going_rule}
-use Rattle.capn_program.proofs.subcommands.archive_command.Goals as goal
-
-pub returns : goal.returns
-returns c =
-    answers_option c.in_ok-command.command c.flag.result (message_line c.args.name.now) keep_going_rule c.arg.result
-    c.in_ok-command.ensures c.flag.ensures.rule c.flag.ensures.local c.arg.ensures

@@ -1,0 +1,22 @@
+-- What a run did that picks the messages of a list. (Own.)
+use Rattle.std.specs.Prelude.{◌≡◌, ◌⊎◌, List, ℕ, Bool, false, Option, Some, Result, Err}
+use Rattle.capn_serve.specs.PickRun.{PicksRanges}
+use Rattle.capn_serve.specs.declared.fault.RunFault.{RunFault}
+use Rattle.capn_serve.specs.declared.fault.RunFault.TheVariants as faults
+use Rattle.capn_serve.specs.declared.pick.Range.{Range}
+use Rattle.capn_tool.specs.RangeList.{ranges_in}
+use Rattle.capn_tool.specs.declared.order.Only.{Only}
+
+-- memory was refused for the ranges of the list, and nothing was read or written
+abbrev pub NeedsMemory : Option (List ℕ) → Option (List ℕ) → Option (List ℕ) → Option (List ℕ) → Bool → Bool
+    → Result (Unit {0}) RunFault → Type 0
+NeedsMemory a b c d reader_failed writer_failed r = (r ≡ Err faults.Memory)
+    × (b ≡ a) × (d ≡ c) × (reader_failed ≡ false) × (writer_failed ≡ false)
+
+-- What a run did, over a reader (from a to b) and a writer (from c to d). The text of its order is a list, of which the
+-- ranges were picked.
+abbrev pub OnlyPicked : Only → Option (List ℕ) → Option (List ℕ) → Option (List ℕ) → Option (List ℕ) → Bool → Bool
+    → Result (Unit {0}) RunFault → Type 0
+OnlyPicked only a b c d reader_failed writer_failed r = (ranges : List Range) → ranges_in only.list.now ≡ Some ranges
+    → NeedsMemory a b c d reader_failed writer_failed r
+    ⊎ PicksRanges only.limits.message_words ranges only.form a b c d reader_failed writer_failed r

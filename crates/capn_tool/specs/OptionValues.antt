@@ -1,0 +1,74 @@
+-- What options say by their values, given or usual. (Own.)
+use Rattle.std.specs.Prelude.{ℕ, ◌≡◌, ◌+◌, ◌≤◌, List, Bool, true, false, Option, Some, codes, find, option_and_then}
+use Rattle.std.specs.Str.{bytes_eq}
+use Rattle.std.specs.Str.Parse.{IsNumeral, digits_value, without_leading_plus}
+use Rattle.clap.specs.Words.{Row, Text, first_of, one_of}
+use Rattle.clap.specs.declared.parser.matches.ValueSource.{ValueSource}
+use Rattle.clap.specs.declared.parser.matches.ValueSource.TheVariants as sources
+use Rattle.capn_value.specs.declared.tariff.Tariff.{Tariff}
+use Rattle.capn_value.specs.declared.tariff.Tariff.TheVariants as tariffs
+use Rattle.capn_walk.specs.Limits.{Bounds, AreLimits}
+use Rattle.capn_words.specs.Message.{most_message_words}
+use Rattle.capn_stream.specs.Frames.{most_table_words}
+use Rattle.capn_canon.specs.declared.form.Form.{Form}
+use Rattle.capn_canon.specs.declared.form.Form.TheVariants as forms
+
+-- the name of each form
+abbrev pub form_name : Form → Text
+form_name forms.Stream = codes "stream"
+form_name forms.Packed = codes "packed"
+form_name forms.Bare = codes "bare"
+
+-- the value of --form, given or usual, is the form's name
+abbrev pub FormIs : List Row → Form → Type 0
+FormIs rows form = first_of (codes "form") rows ≡ Some (form_name form)
+
+-- the name of each tariff
+abbrev pub tariff_name : Tariff → Text
+tariff_name tariffs.Strict = codes "strict"
+tariff_name tariffs.Plain = codes "plain"
+
+-- the value of --tariff, given or usual, is the tariff's name
+abbrev pub TariffIs : List Row → Tariff → Type 0
+TariffIs rows tariff = first_of (codes "tariff") rows ≡ Some (tariff_name tariff)
+
+-- the value of the option, given or usual, is n in decimal digits
+abbrev pub NumberIs : List Row → Text → ℕ → Type 0
+NumberIs rows option n = (text : Text) × (one_of option rows ≡ Some text)
+    × IsNumeral 10 (without_leading_plus text) × (n ≡ digits_value 10 (without_leading_plus text))
+
+-- the values of the three number options are the numbers of the limits, each in its range, and that of --tariff names
+-- their tariff
+abbrev pub LimitsAre : List Row → Bounds → Type 0
+LimitsAre rows limits =
+    NumberIs rows (codes "message-words") limits.message_words
+    × NumberIs rows (codes "budget") limits.budget
+    × NumberIs rows (codes "depth") limits.depth
+    × TariffIs rows limits.tariff
+    × AreLimits limits.message_words limits.budget limits.depth
+
+-- the words of a message, by their option and in its range, and those of the longest table
+abbrev pub UnpackedIs : List Row → ℕ → Type 0
+UnpackedIs rows most = (n : ℕ) × NumberIs rows (codes "message-words") n × (n ≤ most_message_words)
+    × (most ≡ n + most_table_words)
+
+-- the option has this number, which is from the least to the most
+abbrev pub NumberIn : List Row → Text → ℕ → ℕ → ℕ → Type 0
+NumberIn rows option least most n = NumberIs rows option n × (least ≤ n) × (n ≤ most)
+
+-- the value of a flag that is given, and of one that isn't
+abbrev pub flag_text : Bool → Text
+flag_text true = codes "true"
+flag_text false = codes "false"
+
+-- the flag of this name is given, or isn't
+abbrev pub FlagIs : List Row → Text → Bool → Type 0
+FlagIs rows option given = one_of option rows ≡ Some (flag_text given)
+
+-- where the value of the option comes from
+abbrev pub source_of : List Row → Text → Option ValueSource
+source_of rows option = option_and_then (λ row. row.source) (find (λ row. bytes_eq row.id option) rows)
+
+-- the option is not given, and has its usual value
+abbrev pub IsUsual : List Row → Text → Type 0
+IsUsual rows option = source_of rows option ≡ Some sources.DefaultValue

@@ -1,0 +1,79 @@
+-- Words that order nothing, and how the program ends then. (Own.)
+use Rattle.std.specs.Prelude.{ℕ, ◌≡◌, ◌≢◌, ◌⊎◌, List, true, false, Result, Ok, Err}
+use Rattle.std.specs.Io.KnownBytes.{Appends}
+use Rattle.clap.specs.Words.{Text, subcommand_of, takes}
+use Rattle.clap.specs.declared.error.ErrorKind.{ErrorKind}
+use Rattle.clap.specs.declared.error.ErrorKind.TheVariants as kinds
+use Rattle.capn_words.specs.Watched.{HasBegun}
+use Rattle.capn_endings.specs.Line.{WritesLine}
+use Rattle.capn_commands.specs.ExitStatus.{status_of}
+use Rattle.capn_commands.specs.FaultText.{ReportsEnding, fault_line}
+use Rattle.capn_commands.specs.declared.fault.ToolFault.{ToolFault}
+use Rattle.capn_commands.specs.declared.fault.ToolFault.TheVariants as faults
+use Rattle.capn_tool.specs.CommandLine.{program_line}
+use Rattle.capn_tool.specs.Course.{Course, IsUntouched}
+use Rattle.capn_tool.specs.Meaning.{MeansOrder}
+use Rattle.capn_tool.specs.Usage.{IsHelp, IsReason, version_line}
+use Rattle.capn_tool.specs.declared.order.Order.{Order}
+
+-- Help was shown on the output, and ended so: a text of help was written, and the output has not failed; or a beginning
+-- of one, and it has failed; or nothing was, since memory was refused.
+abbrev pub ShowsHelp : Course → Result (Unit {0}) ToolFault → Type 0
+ShowsHelp output (Ok u) =
+    (text : List ℕ) × IsHelp text × Appends output.before output.after text × (output.failed ≡ false)
+ShowsHelp output (Err faults.Memory) = IsUntouched output
+ShowsHelp output (Err faults.Io) =
+    (text : List ℕ) × IsHelp text × HasBegun output.before output.after text × (output.failed ≡ true)
+ShowsHelp output (Err faults.InputTooLong) = ⊥
+ShowsHelp output (Err (faults.NotWhole n)) = ⊥
+ShowsHelp output (Err (faults.Refused refusal)) = ⊥
+
+-- help was asked for: it was shown, and how that ended was reported and is the status
+pub record EndsHelp (output errors : Course) (status : ℕ) : Type 0 where
+  pub outcome : Result (Unit {0}) ToolFault
+  pub shown : ShowsHelp output outcome
+  pub told : ReportsEnding outcome errors.before errors.after errors.failed
+  pub is : status ≡ status_of outcome
+
+-- The version was shown on the output, and that ended so: its line was written, and the output has not failed; or a
+-- beginning of it, and it has failed.
+abbrev pub ShowsVersion : Course → Result (Unit {0}) ToolFault → Type 0
+ShowsVersion output (Ok u) = Appends output.before output.after version_line × (output.failed ≡ false)
+ShowsVersion output (Err faults.Memory) = ⊥
+ShowsVersion output (Err faults.Io) = HasBegun output.before output.after version_line × (output.failed ≡ true)
+ShowsVersion output (Err faults.InputTooLong) = ⊥
+ShowsVersion output (Err (faults.NotWhole n)) = ⊥
+ShowsVersion output (Err (faults.Refused refusal)) = ⊥
+
+-- the version was asked for: it was shown, and how that ended was reported and is the status
+pub record EndsVersion (output errors : Course) (status : ℕ) : Type 0 where
+  pub outcome : Result (Unit {0}) ToolFault
+  pub shown : ShowsVersion output outcome
+  pub told : ReportsEnding outcome errors.before errors.after errors.failed
+  pub is : status ≡ status_of outcome
+
+-- a text was written to the errors, or the line of Memory if there was no memory for the text; or a beginning of that,
+-- if the errors have failed
+abbrev pub WritesText : Course → Type 0
+WritesText errors = ((text : List ℕ) × WritesLine text errors.before errors.after errors.failed)
+    ⊎ WritesLine (fault_line faults.Memory) errors.before errors.after errors.failed
+
+-- The words order nothing, for a reason of this kind: memory was refused, help or the version is asked for, or they are
+-- a mistake.
+pub record EndsUnordered (kind : ErrorKind) (output errors : Course) (status : ℕ) : Type 0 where
+  pub memory : kind ≡ kinds.OutOfMemory
+      → IsUntouched output × ReportsEnding (Err faults.Memory) errors.before errors.after errors.failed × (status ≡ 3)
+  pub help : kind ≡ kinds.DisplayHelp → EndsHelp output errors status
+  pub version : kind ≡ kinds.DisplayVersion → EndsVersion output errors status
+  pub mistake : kind ≢ kinds.OutOfMemory → kind ≢ kinds.DisplayHelp → kind ≢ kinds.DisplayVersion
+      → IsUntouched output × WritesText errors × (status ≡ 2)
+
+-- The words order nothing, for a reason of this kind: where they are taken and mean an order, that memory was refused.
+-- Nothing was read.
+pub record Unordered (words : List Text) (input output errors : Course) (status : ℕ) : Type 0 where
+  pub kind : ErrorKind
+  pub why : IsReason words kind
+  pub only : takes program_line words ≡ true → (order : Order)
+      → MeansOrder (subcommand_of program_line words) order → kind ≡ kinds.OutOfMemory
+  pub unread : IsUntouched input
+  pub ended : EndsUnordered kind output errors status

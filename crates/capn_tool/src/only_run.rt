@@ -1,0 +1,34 @@
+//! A run of `pick --only`.
+
+ghost use Rattle.std.specs.Prelude.{◌≡◌, false};
+ghost use Rattle.capn_words.specs.Watched.{inner_of, has_failed};
+ghost use Rattle.capn_tool.specs.OnlyRun.{OnlyPicked};
+
+use crate::order::Only;
+use crate::range_list::ranges_in;
+use capn_archive::RunFault;
+use capn_serve::run_only;
+use capn_words::Watched;
+use std::alloc::Allocator;
+use std::io::{Read, Write};
+
+/// Writes the frames of the messages that are in a list, as they stand, as [`run_only`] does with its ranges.
+///
+/// Beside what that takes it holds the ranges, of 16 bytes each. If memory for these is refused nothing is read.
+pub fn pick_only<R: Read, W: Write, A: Allocator + Copy>(
+    alloc: A,
+    only: &Only,
+    reader: &mut Watched<R>,
+    writer: &mut Watched<W>,
+) -> Result<(), RunFault>
+    requires reader_fine { has_failed reader.old ≡ false }
+    requires writer_fine { has_failed writer.old ≡ false }
+    ensures { OnlyPicked only.now (R.remaining (inner_of reader.old)) (R.remaining (inner_of reader.new))
+        (W.contents (inner_of writer.old)) (W.contents (inner_of writer.new)) (has_failed reader.new)
+        (has_failed writer.new) result }
+{
+    match ranges_in(alloc, only.list) {
+        Ok(ranges) => run_only(alloc, only.form, only.limits, &ranges, reader, writer),
+        Err(_) => Err(RunFault::Memory),
+    }
+}

@@ -1,0 +1,292 @@
+//! The commands and their options, a row for each.
+
+use crate::help::Page;
+use crate::{archives_help, bytes_help, messages_help};
+use capn_value::{MOST_COST, MOST_HEIGHT};
+use capn_words::MOST_MESSAGE_WORDS;
+
+/// What an option takes.
+#[derive(Clone, Copy)]
+pub enum Taken {
+    /// No value: it is given or not.
+    Flag,
+    /// A value of this name. Where it is not given it has none.
+    Asked(&'static str),
+    /// A value of this name, and this usual one. The parser takes any text, and [`crate::input_options`] reads it: a
+    /// list of names has no place in the statement of the command line.
+    Usual(&'static str, &'static str),
+    /// A number from the least to the most, after its usual value.
+    Number(&'static str, i64, i64),
+    /// The number of a message, and its usual value.
+    Place(&'static str),
+}
+
+/// An option of some commands.
+#[derive(Clone, Copy)]
+pub struct OptionRow {
+    /// The name that stands after `--`.
+    pub name: &'static str,
+    /// What it takes.
+    pub taken: Taken,
+    /// What help says of it.
+    pub help: &'static str,
+    /// The commands that take it.
+    pub commands: &'static [&'static str],
+}
+
+/// What `--form` takes.
+const FORM: Taken = Taken::Usual("FORM", "stream");
+
+/// What `--message-words` takes.
+const WORDS: Taken = Taken::Number("8388608", 1, MOST_MESSAGE_WORDS as i64);
+
+/// The commands over messages that take limits.
+const LIMITED: &[&str] = &[
+    "show",
+    "check",
+    "explain",
+    "list",
+    "limits",
+    "canonical",
+    "hash",
+    "uniq",
+];
+
+/// The commands, in the order in which help lists them.
+pub const COMMANDS: [&str; 12] = [
+    "show",
+    "check",
+    "explain",
+    "list",
+    "limits",
+    "canonical",
+    "hash",
+    "uniq",
+    "pick",
+    "pack",
+    "unpack",
+    "make",
+];
+
+/// The page of help of a command.
+pub(crate) fn page_of(name: &str) -> Page {
+    match name {
+        "show" => messages_help::SHOW,
+        "check" => messages_help::CHECK,
+        "explain" => messages_help::EXPLAIN,
+        "list" => archives_help::LIST,
+        "limits" => archives_help::LIMITS,
+        "canonical" => archives_help::CANONICAL,
+        "uniq" => archives_help::UNIQ,
+        "pick" => archives_help::PICK,
+        "pack" => bytes_help::PACK,
+        "unpack" => bytes_help::UNPACK,
+        "make" => bytes_help::MAKE,
+        _ => messages_help::HASH,
+    }
+}
+
+/// The options. Help lists those of a command in this order.
+pub const OPTIONS: [OptionRow; 27] = [
+    OptionRow {
+        name: "form",
+        taken: FORM,
+        help: "How the input holds its messages: `stream`, each
+after its segment table; `packed`, the same, packed;
+or `bare`, one message with no table, like canonical
+bytes",
+        commands: &["show", "check", "explain", "list", "limits", "hash", "uniq"],
+    },
+    OptionRow {
+        name: "form",
+        taken: FORM,
+        help: "How the input holds its message, or its messages:
+`stream`, each after its segment table; `packed`, the
+same, packed; or `bare`, one message with no table,
+like canonical bytes",
+        commands: &["canonical"],
+    },
+    OptionRow {
+        name: "form",
+        taken: FORM,
+        help: "How the input holds its messages: `stream`, each
+after its segment table; or `packed`, the same,
+packed",
+        commands: &["pick"],
+    },
+    OptionRow {
+        name: "form",
+        taken: FORM,
+        help: "How messages are written: `stream`, each after its
+segment table; `packed`, the same, packed; or `bare`,
+one message with no table, like canonical
+bytes",
+        commands: &["make"],
+    },
+    OptionRow {
+        name: "message-words",
+        taken: WORDS,
+        help: "The most words of a message, from 1 to 268435456;
+this doesn't bound a bare input, whose most is
+268435457 words",
+        commands: LIMITED,
+    },
+    OptionRow {
+        name: "message-words",
+        taken: WORDS,
+        help: "The most words of a message, from 1 to
+268435456",
+        commands: &["pick"],
+    },
+    OptionRow {
+        name: "message-words",
+        taken: WORDS,
+        help: "The most words of a message, from 1 to 268435456; the
+input may hold 2049 more, those of the longest
+segment table",
+        commands: &["unpack"],
+    },
+    OptionRow {
+        name: "budget",
+        taken: Taken::Number("8388608", 0, MOST_COST as i64),
+        help: "The most words that reading one message may cost,
+from 0 to 268435456",
+        commands: LIMITED,
+    },
+    OptionRow {
+        name: "depth",
+        taken: Taken::Number("64", 1, MOST_HEIGHT as i64),
+        help: "The most objects one below the other, from 1 to 256;
+the root object has depth 1",
+        commands: LIMITED,
+    },
+    OptionRow {
+        name: "tariff",
+        taken: Taken::Usual("TARIFF", "strict"),
+        help: "What reading a struct or list costs beside its words:
+`strict` adds 1 for each; `plain` adds nothing, like
+capnp's traversal limit",
+        commands: LIMITED,
+    },
+    OptionRow {
+        name: "at",
+        taken: Taken::Asked("P"),
+        help: "The way from the root to what is written: numbers
+parted by dots, as `0.3.1`",
+        commands: &["show"],
+    },
+    OptionRow {
+        name: "text",
+        taken: Taken::Flag,
+        help: "Write a list of bytes that is a text between quotes",
+        commands: &["show"],
+    },
+    OptionRow {
+        name: "json",
+        taken: Taken::Flag,
+        help: "Write each message as a line of JSON",
+        commands: &["show"],
+    },
+    OptionRow {
+        name: "offsets",
+        taken: Taken::Flag,
+        help: "Begin each line with the byte of what it is about,
+and a tab",
+        commands: &["show"],
+    },
+    OptionRow {
+        name: "ways",
+        taken: Taken::Flag,
+        help: "Begin each line with the way to what it is about, and
+a tab; with `--offsets` the byte comes first",
+        commands: &["show"],
+    },
+    OptionRow {
+        name: "number",
+        taken: Taken::Asked("K"),
+        help: "The number of the message to explain, from 1; usually
+the first one that is refused",
+        commands: &["explain"],
+    },
+    OptionRow {
+        name: "framed",
+        taken: Taken::Flag,
+        help: "Take every message of the input, and write a frame of
+one segment for each",
+        commands: &["canonical"],
+    },
+    OptionRow {
+        name: "keep-going",
+        taken: Taken::Flag,
+        help: "Pass over a message that is refused, and go on with
+the next one",
+        commands: &["list", "limits", "uniq"],
+    },
+    OptionRow {
+        name: "keep-going",
+        taken: Taken::Flag,
+        help: "With `--framed`: pass over a message that is refused,
+and go on with the next one",
+        commands: &["canonical"],
+    },
+    OptionRow {
+        name: "digest",
+        taken: Taken::Flag,
+        help: "End each line with `sha256` and what `hash` writes of
+the message, or `-` if it has a capability",
+        commands: &["list"],
+    },
+    OptionRow {
+        name: "count",
+        taken: Taken::Flag,
+        help: "Write no message, but at the end a line `U of N`: how
+many would be written, and of how many",
+        commands: &["uniq"],
+    },
+    OptionRow {
+        name: "from",
+        taken: Taken::Place("1"),
+        help: "The number of the first message, from 1",
+        commands: &["pick"],
+    },
+    OptionRow {
+        name: "to",
+        taken: Taken::Place("18446744073709551615"),
+        help: "The number of the last message; none is written if it
+is below `--from`",
+        commands: &["pick"],
+    },
+    OptionRow {
+        name: "only",
+        taken: Taken::Asked("LIST"),
+        help: "The numbers of the messages, and ranges of them, in
+ascending order, as `3,7,9-12`; it goes without
+`--from` and `--to`",
+        commands: &["pick"],
+    },
+    OptionRow {
+        name: "text",
+        taken: Taken::Flag,
+        help: "Take a list of bytes on one line, too, as `show
+--text` writes it: `bytes 3 \"ab\\0\"`, or without its
+count",
+        commands: &["make"],
+    },
+    OptionRow {
+        name: "streaming",
+        taken: Taken::Flag,
+        help: "Write while the input comes in, which may have up to
+2^64 - 1 bytes, in at most 2 MiB of memory; what was
+written before a refusal stays written",
+        commands: &["pack"],
+    },
+    OptionRow {
+        name: "streaming",
+        taken: Taken::Flag,
+        help: "Write while the input comes in, which may have up to
+2^64 - 1 bytes and any number of words, in at most
+2 MiB of memory; what was written before a refusal
+stays written. It goes without `--message-words`",
+        commands: &["unpack"],
+    },
+];

@@ -1,0 +1,98 @@
+//! The end of a command line that orders nothing.
+
+ghost use Rattle.std.specs.Prelude.{◌≡◌, false, IfOk, IfErr, string_bytes};
+ghost use Rattle.clap.specs.Words.{kind_of};
+ghost use Rattle.capn_words.specs.Watched.{inner_of, has_failed};
+ghost use Rattle.capn_endings.specs.Line.{WritesLine};
+ghost use Rattle.capn_commands.specs.FaultText.{fault_line};
+ghost use Rattle.capn_commands.specs.declared.fault.ToolFault.TheVariants as faults;
+ghost use Rattle.capn_tool.specs.Course.{course};
+ghost use Rattle.capn_tool.specs.Unordered.{EndsUnordered, ShowsHelp, ShowsVersion, WritesText};
+ghost use Rattle.capn_tool.specs.Usage.{WishesHelp, error_of};
+
+use crate::help::VERSION_LINE;
+use crate::output::{flush_after, write_all};
+use crate::usage::Usage;
+use capn_commands::{ToolFault, end};
+use capn_words::Watched;
+use std::alloc::{AllocError, Global};
+use std::io::Write;
+
+/// The exit status of a mistake on the command line.
+const MISTAKE: u8 = 2;
+
+/// Writes the text of help to the output, and flushes that.
+fn show_help<W: Write>(
+    alloc: Global,
+    usage: &Usage,
+    writer: &mut Watched<W>,
+) -> Result<(), ToolFault>
+    requires help { WishesHelp usage.now }
+    requires fine { has_failed writer.old ≡ false }
+    ensures { ShowsHelp
+        (course (W.contents (inner_of writer.old)) (W.contents (inner_of writer.new)) (has_failed writer.new)) result }
+{
+    let text = usage.text(alloc)?;
+    write_all(writer, text.as_bytes())?;
+    flush_after(Ok(()), ToolFault::Io, writer)
+}
+
+/// Writes the line of the version to the output, and flushes that.
+fn show_version<W: Write>(writer: &mut Watched<W>) -> Result<(), ToolFault>
+    requires { has_failed writer.old ≡ false }
+    ensures { ShowsVersion
+        (course (W.contents (inner_of writer.old)) (W.contents (inner_of writer.new)) (has_failed writer.new)) result }
+{
+    write_all(writer, VERSION_LINE)?;
+    flush_after(Ok(()), ToolFault::Io, writer)
+}
+
+/// Writes what is said of a mistake, or the line of `Memory` if there was no memory for that.
+fn tell_said<E: Write>(said: Result<String, AllocError>, errors: &mut Watched<E>)
+    requires { has_failed errors.old ≡ false }
+    ensures text { IfOk said (λ text. WritesLine (string_bytes text)
+        (E.contents (inner_of errors.old)) (E.contents (inner_of errors.new)) (has_failed errors.new)) }
+    ensures memory { IfErr said (λ _. WritesLine (fault_line faults.Memory)
+        (E.contents (inner_of errors.old)) (E.contents (inner_of errors.new)) (has_failed errors.new)) }
+{
+    let _told = match said {
+        Ok(text) => errors.write_all(text.as_bytes()),
+        Err(_) => errors.write_all(b"capn: out of memory\n"),
+    };
+}
+
+/// Writes what is said of a mistake, or the line of `Memory` if there is no memory for that.
+fn tell_mistake<E: Write>(alloc: Global, usage: &Usage, errors: &mut Watched<E>)
+    requires { has_failed errors.old ≡ false }
+    ensures { WritesText
+        (course (E.contents (inner_of errors.old)) (E.contents (inner_of errors.new)) (has_failed errors.new)) }
+{
+    tell_said(usage.text(alloc), errors);
+}
+
+/// Ends where the words of the command line order nothing, and answers the exit status. Help and the version are
+/// written to the writer, and what is said of a mistake, or the line of refused memory, to `errors`.
+pub(crate) fn end_unordered<W: Write, E: Write>(
+    alloc: Global,
+    usage: &Usage,
+    writer: &mut Watched<W>,
+    errors: &mut Watched<E>,
+) -> u8
+    requires writer_fine { has_failed writer.old ≡ false }
+    requires errors_fine { has_failed errors.old ≡ false }
+    ensures { EndsUnordered (kind_of (error_of usage.now))
+        (course (W.contents (inner_of writer.old)) (W.contents (inner_of writer.new)) (has_failed writer.new))
+        (course (E.contents (inner_of errors.old)) (E.contents (inner_of errors.new)) (has_failed errors.new)) result }
+{
+    if usage.is_memory() {
+        return end(alloc, &Err(ToolFault::Memory), errors);
+    }
+    if usage.is_help() {
+        return end(alloc, &show_help(alloc, usage, writer), errors);
+    }
+    if usage.is_version() {
+        return end(alloc, &show_version(writer), errors);
+    }
+    tell_mistake(alloc, usage, errors);
+    MISTAKE
+}
