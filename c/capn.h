@@ -225,8 +225,8 @@ capn_status capn_canonical(uint32_t form, const uint8_t *bytes, size_t size, con
  * first two every field of the report is 0. It takes no memory. */
 capn_status capn_is_canonical(const uint8_t *bytes, size_t size, const capn_limits *limits, capn_report *report);
 
-/* The SHA-256 of the canonical bytes of one message. It takes memory for these bytes, for the table of more than 64
- * segments, and for what is unpacked. */
+/* The SHA-256 of the canonical bytes of one message. It takes memory for these bytes, for the table of a stream of more
+ * than 64 segments, and for what is unpacked and its table. */
 capn_status capn_hash(uint32_t form, const uint8_t *bytes, size_t size, const capn_limits *limits, uint8_t digest[32],
                       capn_report *report);
 
@@ -317,8 +317,9 @@ capn_status capn_refusal_way(uint32_t form, const uint8_t *bytes, size_t size, c
  * `kind` says which. Where there is a way, of CAPN_DEPARTS_CAPABILITY and CAPN_DEPARTS_WORD, it is in `way` or had no
  * room there, as capn_refusal_way has it, and `length` is 4 * `numbers`. The report has `length`, `paid` and `visits`.
  * It accepts and refuses what capn_check does. Unless it answers CAPN_OK, `departed` and `way` are as they were.
- * It takes memory for the table of more than 64 segments, for what is unpacked, and, of a message of one segment that
- * is not canonical, for its canonical bytes and for the way. It walks a message several times. */
+ * It takes memory for the table of a stream of more than 64 segments, for what is unpacked and its table, and, of a
+ * message of one segment that is not canonical, for its canonical bytes and for the way. It walks a message several
+ * times. */
 capn_status capn_departure(uint32_t form, const uint8_t *bytes, size_t size, const capn_limits *limits,
                            capn_departed *departed, uint32_t *way, size_t most_numbers, capn_report *report);
 
