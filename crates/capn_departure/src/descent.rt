@@ -1,4 +1,4 @@
-//! The descent to the slot whose a word is.
+//! The descent to the owner of a word.
 
 ghost use Rattle.std.specs.Prelude.{◌≡◌, ℕ, [], ◌∷◌, ◌++◌, IfOk, IfSome};
 ghost use Rattle.capn_words.specs.Message.{IsPlace};

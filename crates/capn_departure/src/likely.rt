@@ -1,4 +1,4 @@
-//! The slot of an object that is likely to lead to a word.
+//! The likely slot of an object on the way down.
 
 ghost use Rattle.std.specs.Prelude.{◌≡◌, ◌+◌, ◌*◌, ◌<◌, ◌≤◌, IfSome, length};
 ghost use Rattle.capn_words.specs.Message.{IsPlace};

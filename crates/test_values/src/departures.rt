@@ -2,9 +2,9 @@
 
 use crate::words::bytes_of;
 use capn_canon::Refusal;
-use capn_departure::{Departure, Whose, departure, lines_of_accepted};
+use capn_departure::{Departure, Whose, departure};
 use capn_stream::first;
-use capn_walk::{Fault, Limits, survey};
+use capn_walk::{Fault, Limits};
 use capn_words::Bare;
 use std::alloc::Global;
 use std::test::Fail;
@@ -197,45 +197,34 @@ fn no_root(rt: HostRuntime) -> Result<(), Fail> {
     Ok(())
 }
 
-/// Whether the lines of a message that is read bare are these, where a table of so many words stands before its words.
-fn reads(alloc: Global, words: &[u64], table: u32, lines: &str) -> Result<bool, Fail> {
-    let bytes = bytes_of(alloc, words)?;
-    let Ok(bare) = Bare::new(bytes.as_slice()) else {
-        return Err(Fail::new("no words"));
-    };
-    let Ok(_) = survey(alloc, &bare, Limits::usual()) else {
-        return Err(Fail::new("refused"));
-    };
-    let Ok(found) = lines_of_accepted(alloc, &bare, Limits::usual(), 16, table) else {
-        return Err(Fail::new("out of memory"));
-    };
-    let text = format!(in alloc; "{found}")?;
-    Ok(text.as_str() == lines)
-}
-
-/// The lines of each kind: a zero word at the end of the root, which makes its canonical bytes shorter; a tag with
-/// sizes and no rows; a byte behind three; a word behind the value; a capability; and a message that is canonical.
+/// A pointer below a slot between an empty list and an empty struct, and a list of bytes below the second of two rows,
+/// the first of which has a null slot.
 #[test]
-fn lines_of_each_kind(rt: HostRuntime) -> Result<(), Fail> {
-    let alloc = rt.alloc();
-    let pointer =
-        "canonical: no: at byte 24: 0000000002000000 (struct of 2 words and 0 slots, offset 0), \
-        canonical 0000000001000000 (struct of 1 words and 0 slots, offset 0), the pointer at root\n\
-        lengths: 24 bytes, canonical 16\n";
-    assert!(rt; reads(alloc, &[0x2_0000_0000, 5, 0], 1, pointer)?);
-    let tag = [0x1_0000_0000_0000, 0x7_0000_0001, 0x1_0000_0000];
-    let line =
-        "canonical: no: at byte 32: 0000000001000000, canonical 0000000000000000, the tag of 0\n";
-    assert!(rt; reads(alloc, &tag, 0, line)?);
-    let bytes = [0x1_0000_0000_0000, 0x1a_0000_0001, 0x403_0201];
-    let line =
-        "canonical: no: at byte 32: 0102030400000000, canonical 0102030000000000, the last word of 0\n";
-    assert!(rt; reads(alloc, &bytes, 0, line)?);
-    let after = "canonical: no: at byte 32: 0700000000000000, canonical nothing, after the value\n\
-        lengths: 24 bytes, canonical 16\n";
-    assert!(rt; reads(alloc, &[0x1_0000_0000, 5, 7], 0, after)?);
-    let line = "canonical: no: capability 7 at 0\n";
-    assert!(rt; reads(alloc, &[0x1_0000_0000_0000, 0x7_0000_0003], 0, line)?);
-    assert!(rt; reads(alloc, &[0x1_0000_0000, 5], 1, "canonical: yes\n")?);
+fn words_below_later_slots(rt: HostRuntime) -> Result<(), Fail> {
+    let between = [
+        0x3_0000_0000_0000,
+        0x2_0000_0009,
+        0x1_0000_0000_0004,
+        0xffff_fffc,
+        0x2_0000_0000,
+        7,
+        0,
+    ];
+    let rows = [
+        0x1_0000_0000_0000,
+        0x27_0000_0001,
+        0x1_0001_0000_0008,
+        1,
+        0,
+        2,
+        0x1_0000_0000_0000,
+        0x1a_0000_0001,
+        0x403_0201,
+    ];
+    let both = (0x2_0000_0000, 0x1_0000_0000);
+    let last = (0x403_0201, 0x3_0201);
+    let are = leaves(rt.alloc(), &between, 4, both, Owner::Pointer, &[1, 0])?
+        && leaves(rt.alloc(), &rows, 8, last, Owner::LastWord, &[0, 1, 0, 0])?;
+    assert!(rt; are);
     Ok(())
 }

@@ -1,9 +1,9 @@
 //! The whole texts of messages that walks refuse.
 
 use crate::words::bytes_of;
-use capn_explain::explain_refusal;
+use capn_explain::{explain_refusal, explain_stop};
 use capn_stream::first;
-use capn_walk::Limits;
+use capn_walk::{Limits, survey};
 use capn_words::{Bare, MOST_MESSAGE_WORDS};
 use std::alloc::Global;
 use std::test::Fail;
@@ -220,6 +220,28 @@ fn bare_segments(rt: HostRuntime) -> Result<(), Fail> {
     for (words, want) in BARE {
         assert!(rt; is_told(rt.alloc(), words, (0, 0, 0), Limits::usual(), want)?);
     }
+    Ok(())
+}
+
+/// Whether a stop of a walk is explained so, where the message is the fifth of a stream, behind a table of one word.
+fn is_stop_told(alloc: Global, words: &[u64], want: &str) -> Result<bool, Fail> {
+    let bytes = bytes_of(alloc, words)?;
+    let Ok(bare) = Bare::new(bytes.as_slice()) else {
+        return Ok(false);
+    };
+    let usual = Limits::usual();
+    let Err(stopped) = survey(alloc, &bare, usual) else {
+        return Ok(false);
+    };
+    match explain_stop(alloc, &bare, 4, 1_000, 1, usual, stopped) {
+        Ok(told) => Ok(told.stopped == stopped && told.text.as_slice() == want.as_bytes()),
+        Err(_) => Ok(false),
+    }
+}
+
+#[test]
+fn a_stop_of_a_stream(rt: HostRuntime) -> Result<(), Fail> {
+    assert!(rt; is_stop_told(rt.alloc(), &ROWS, ROWS_TOLD)?);
     Ok(())
 }
 

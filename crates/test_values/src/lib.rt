@@ -4,6 +4,8 @@
 #![tactic(auto)]
 
 #[cfg(test)]
+mod departure_lines;
+#[cfg(test)]
 mod departures;
 #[cfg(test)]
 mod depths;

@@ -1,8 +1,8 @@
 //! Ways to slots of messages, visited or refused.
 
 use crate::words::bytes_of;
-use capn_walk::{Fault, Limits};
-use capn_way::{way_of_refusal, way_of_visit};
+use capn_walk::{Fault, Limits, survey};
+use capn_way::{way_of_refusal, way_of_stop, way_of_visit};
 use capn_words::{Bare, Place};
 use std::alloc::Global;
 use std::test::Fail;
@@ -87,6 +87,30 @@ fn no_refusal(rt: HostRuntime) -> Result<(), Fail> {
     };
     let told = way_of_refusal(rt.alloc(), &bare, Limits::usual());
     assert!(rt; matches!(told, Ok(None)));
+    Ok(())
+}
+
+/// Whether this is the way to the slot at which the walk of a message stops.
+fn leads_to_stop(alloc: Global, words: &[u64], way: &[u32]) -> Result<bool, Fail> {
+    let bytes = bytes_of(alloc, words)?;
+    let Ok(bare) = Bare::new(bytes.as_slice()) else {
+        return Ok(false);
+    };
+    let Err(stopped) = survey(alloc, &bare, Limits::usual()) else {
+        return Ok(false);
+    };
+    match way_of_stop(alloc, &bare, Limits::usual(), stopped) {
+        Ok(found) => Ok(found.as_slice() == way),
+        Err(_) => Ok(false),
+    }
+}
+
+/// A slot of a row, and a message without a root.
+#[test]
+fn the_way_to_a_stop(rt: HostRuntime) -> Result<(), Fail> {
+    let alloc = rt.alloc();
+    let leads = leads_to_stop(alloc, &ROWS, &[1, 1, 0])? && leads_to_stop(alloc, &[], &[])?;
+    assert!(rt; leads);
     Ok(())
 }
 

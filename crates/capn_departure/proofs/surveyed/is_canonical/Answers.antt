@@ -1,6 +1,6 @@
 use Rattle.std.proofs.Common.{false, refl}
 use Rattle.capn_departure.proofs.Departing.{not-so}
-use Rattle.capn_departure.proofs.InCanonicalForm.{is-found, not-found, several}
+use Rattle.capn_departure.proofs.InCanonicalForm.{is-found, not-found}
 use Rattle.capn_departure.proofs.surveyed.is_canonical.Goals as goal
 
 pub returns-in-Some : goal.returns-in-Some

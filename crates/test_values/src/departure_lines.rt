@@ -1,0 +1,120 @@
+//! Lines about canonical form, and measures of surveyed messages.
+
+use crate::words::bytes_of;
+use capn_canon::{MeasuredBare, SurveyedBare, measure};
+use capn_departure::{lines_of_accepted, lines_of_measured, measure_surveyed};
+use capn_walk::{Limits, survey, survey_depth};
+use capn_words::Bare;
+use std::alloc::Global;
+use std::test::Fail;
+
+/// Whether the lines of a message that is read bare are these, where a table of `table` words stands before its words.
+fn reads(alloc: Global, words: &[u64], table: u32, lines: &str) -> Result<bool, Fail> {
+    let bytes = bytes_of(alloc, words)?;
+    let Ok(bare) = Bare::new(bytes.as_slice()) else {
+        return Err(Fail::new("no words"));
+    };
+    let Ok(_) = survey(alloc, &bare, Limits::usual()) else {
+        return Err(Fail::new("refused"));
+    };
+    let Ok(found) = lines_of_accepted(alloc, &bare, Limits::usual(), 16, table) else {
+        return Err(Fail::new("out of memory"));
+    };
+    let text = format!(in alloc; "{found}")?;
+    Ok(text.as_str() == lines)
+}
+
+/// The lines of each kind: a zero word at the end of the root, which makes its canonical bytes shorter; a tag with
+/// sizes and no rows; a byte behind three; a word behind the value; a capability; and a message that is canonical.
+#[test]
+fn lines_of_each_kind(rt: HostRuntime) -> Result<(), Fail> {
+    let alloc = rt.alloc();
+    let pointer =
+        "canonical: no: at byte 24: 0000000002000000 (struct of 2 words and 0 slots, offset 0), \
+        canonical 0000000001000000 (struct of 1 words and 0 slots, offset 0), the pointer at root\n\
+        lengths: 24 bytes, canonical 16\n";
+    assert!(rt; reads(alloc, &[0x2_0000_0000, 5, 0], 1, pointer)?);
+    let tag = [0x1_0000_0000_0000, 0x7_0000_0001, 0x1_0000_0000];
+    let line =
+        "canonical: no: at byte 32: 0000000001000000, canonical 0000000000000000, the tag of 0\n";
+    assert!(rt; reads(alloc, &tag, 0, line)?);
+    let bytes = [0x1_0000_0000_0000, 0x1a_0000_0001, 0x403_0201];
+    let line =
+        "canonical: no: at byte 32: 0102030400000000, canonical 0102030000000000, the last word of 0\n";
+    assert!(rt; reads(alloc, &bytes, 0, line)?);
+    let after = "canonical: no: at byte 32: 0700000000000000, canonical nothing, after the value\n\
+        lengths: 24 bytes, canonical 16\n";
+    assert!(rt; reads(alloc, &[0x1_0000_0000, 5, 7], 0, after)?);
+    let line = "canonical: no: capability 7 at 0\n";
+    assert!(rt; reads(alloc, &[0x1_0000_0000_0000, 0x7_0000_0003], 0, line)?);
+    assert!(rt; reads(alloc, &[0x1_0000_0000, 5], 1, "canonical: yes\n")?);
+    Ok(())
+}
+
+/// Whether the lines of a bare message that is measured are these, where a table of `table` words stands before it.
+fn measured_reads(alloc: Global, words: &[u64], table: u32, lines: &str) -> Result<bool, Fail> {
+    let bytes = bytes_of(alloc, words)?;
+    let Ok(bare) = Bare::new(bytes.as_slice()) else {
+        return Ok(false);
+    };
+    let usual = Limits::usual();
+    let Ok(measured) = measure(alloc, &bare, usual) else {
+        return Ok(false);
+    };
+    let Ok(found) = lines_of_measured(alloc, &bare, usual, measured, 16, table) else {
+        return Ok(false);
+    };
+    let text = format!(in alloc; "{found}")?;
+    Ok(text.as_str() == lines)
+}
+
+/// A word behind the value, behind a table of one word.
+#[test]
+fn lines_of_a_measured_message(rt: HostRuntime) -> Result<(), Fail> {
+    let lines = "canonical: no: at byte 40: 0700000000000000, canonical nothing, after the value\n\
+        lengths: 24 bytes, canonical 16\n";
+    assert!(rt; measured_reads(rt.alloc(), &[0x1_0000_0000, 5, 7], 1, lines)?);
+    Ok(())
+}
+
+/// Whether this is the measure of a bare message that is surveyed: its price, its visits, the first capability of its
+/// value, whether it is canonical, and its depth.
+fn is_measured(
+    alloc: Global,
+    words: &[u64],
+    costs: (u32, u32),
+    capability: Option<u32>,
+    is_canonical: bool,
+    depth: u32,
+) -> Result<bool, Fail> {
+    let bytes = bytes_of(alloc, words)?;
+    let Ok(bare) = Bare::new(bytes.as_slice()) else {
+        return Ok(false);
+    };
+    let Ok(surveyed) = survey_depth(alloc, &bare, Limits::usual()) else {
+        return Ok(false);
+    };
+    let (paid, visits) = costs;
+    let want = MeasuredBare {
+        survey: SurveyedBare {
+            paid,
+            visits,
+            capability,
+            is_canonical,
+        },
+        depth,
+    };
+    Ok(measure_surveyed(&bare, Limits::usual(), surveyed) == want)
+}
+
+/// A struct of one word, the same before another word, and a capability.
+#[test]
+fn measures_of_surveyed_messages(rt: HostRuntime) -> Result<(), Fail> {
+    let alloc = rt.alloc();
+    let cap = [0x1_0000_0000_0000, 0x2_0000_0003];
+    let are = is_measured(alloc, &[0x1_0000_0000, 5], (2, 1), None, true, 1)?
+        && is_measured(alloc, &[0x1_0000_0000, 5, 7], (2, 1), None, false, 1)?
+        && is_measured(alloc, &cap, (2, 2), Some(2), false, 1)?;
+    assert!(rt; are);
+    Ok(())
+}
