@@ -6,7 +6,6 @@ pub mod Figured
 pub mod Framed
 pub mod Least
 pub mod Listed
-pub mod Named
 pub mod OfMessage
 pub mod OneBare
 pub mod OutOfMemory

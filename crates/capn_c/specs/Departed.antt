@@ -10,10 +10,10 @@ use Rattle.capn_departure.specs.declared.answer.Departure.TheVariants.{Canonical
 use Rattle.capn_departure.specs.declared.whose.Whose.{Whose}
 use Rattle.capn_departure.specs.declared.whose.Whose.TheVariants.{Pointer, Tag, LastWord}
 use Rattle.capn_answers.specs.Departures.{IsDepartureIn, owner_way, way_of}
-use Rattle.capn_c.specs.StatusCodes.{answered}
+use Rattle.capn_reports.specs.StatusCodes.{answered}
 use Rattle.capn_c.specs.WayNumbers.{ArePlaced}
 use Rattle.capn_c.specs.declared.departed.CapnDeparted.{CapnDeparted}
-use Rattle.capn_c.specs.declared.report.CapnReport.{CapnReport}
+use Rattle.capn_reports.specs.declared.report.CapnReport.{CapnReport}
 
 module _ {A : Type 0} where
   -- the number of what an owner's word is

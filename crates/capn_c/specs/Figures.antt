@@ -1,5 +1,5 @@
 -- What is reported of a message that is read. (Own.)
-use Rattle.std.specs.Prelude.{◌≡◌, ◌⊎◌, ◌↔◌, ◌≤◌, ℕ, zero, suc, List, length, Option, Some, None}
+use Rattle.std.specs.Prelude.{◌≡◌, ◌↔◌, ◌≤◌, ℕ, zero, suc, List, length, Option, Some, None}
 use Rattle.capn_words.specs.Message.{bytes, segment_at, total}
 use Rattle.capn_value.specs.Tree.{Tree}
 use Rattle.capn_value.specs.FirstCap.{first_cap}
@@ -10,10 +10,6 @@ use Rattle.capn_canon.specs.Layout.{canon}
 use Rattle.capn_canon.specs.Reads.{Reads}
 use Rattle.capn_canon.specs.declared.form.Form.{Form}
 use Rattle.capn_c.specs.declared.figures.CapnFigures.{CapnFigures}
-
--- a number names a form whose bytes are those of the message itself
-abbrev pub IsFlat : ℕ → Type 0
-IsFlat n = (n ≡ 0) ⊎ (n ≡ 2)
 
 -- the message has one segment, whose bytes are the canonical bytes of its value
 pub record IsCanonicalMessage (message : List (List ℕ)) (limits : Bounds) : Type 0 where

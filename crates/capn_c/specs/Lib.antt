@@ -1,5 +1,3 @@
-pub mod Calls
-pub mod StatusCodes
 pub mod Entries
 pub mod Figures
 pub mod FrameReport

@@ -1,5 +1,5 @@
 -- The text of a message in a style, as it is ordered and answered. (Own.)
-use Rattle.std.specs.Prelude.{◌≡◌, ◌⊎◌, ℕ, zero, suc, ◌≤◌, List, [], ◌∷◌, ◌++◌, codes, refl}
+use Rattle.std.specs.Prelude.{◌≡◌, ◌⊎◌, ℕ, List, [], ◌∷◌, ◌++◌, codes, refl}
 use Rattle.std.specs.Str.{chars, is_utf8}
 use Rattle.capn_value.specs.NumberWidth.{byte}
 use Rattle.capn_value.specs.Text.{line}
@@ -9,27 +9,10 @@ use Rattle.capn_walk.specs.Limits.{Bounds}
 use Rattle.capn_show.specs.Styled.{styled}
 use Rattle.capn_show.specs.declared.style.Style.{Style}
 use Rattle.capn_show.specs.declared.style.Style.TheVariants as styles
+use Rattle.capn_reports.specs.Styles.{end_of, style_named}
 use Rattle.capn_canon.specs.Denotes.{Denotes}
 use Rattle.capn_canon.specs.MemoryNeed.{MayNeedMemory}
 use Rattle.capn_canon.specs.declared.form.Form.{Form}
-
--- the style that a number names
-abbrev pub style_named : ℕ → Style
-style_named zero = styles.Lines
-style_named (suc zero) = styles.Quoted
-style_named (suc (suc zero)) = styles.Json
-style_named (suc (suc (suc n))) = styles.JsonText
-
--- a number names a style
-abbrev pub IsStyle : ℕ → Type 0
-IsStyle n = n ≤ 3
-
--- what ends the text of a message: the line `end`, but nothing in JSON, where the text is one line
-abbrev pub end_of : Style → List ℕ
-end_of styles.Lines = codes "end" ++ 10 ∷ []
-end_of styles.Quoted = codes "end" ++ 10 ∷ []
-end_of styles.Json = []
-end_of styles.JsonText = []
 
 -- the text of a message with this value: that of all of it, and what ends it
 abbrev pub message_text : Style → Tree → List ℕ

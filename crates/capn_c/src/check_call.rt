@@ -9,15 +9,15 @@ ghost use Rattle.capn_canon.specs.Refusal.{IsUnacceptedIn};
 ghost use Rattle.capn_canon.specs.SurveyedBytes.{Surveys};
 ghost use Rattle.capn_canon.specs.MemoryNeed.{MayNeedMemory};
 ghost use Rattle.capn_canon.specs.declared.refusal.Refusal.{Refusal as Refusals};
-ghost use Rattle.capn_c.specs.Calls.{IsForm, form_named, GiveLimits, IsTariff, bounds_of};
+ghost use Rattle.capn_reports.specs.Calls.{IsForm, form_named, GiveLimits, IsTariff, bounds_of};
 ghost use Rattle.capn_c.specs.MemoryAsked.{MayAsk};
-ghost use Rattle.capn_c.specs.StatusCodes.{Reports, answered, at_number, is_status};
+ghost use Rattle.capn_reports.specs.StatusCodes.{Reports, answered, at_number, is_status};
 
-use crate::limits::{CapnLimits, form_of, limits_of};
-use crate::report::{CapnReport, answer_of, report_at};
-use crate::status_codes::{BAD_FORM, DONE, refuse};
 use crate::survey_bytes::survey_bytes;
 use capn_canon::Form;
+use capn_reports::{
+    BAD_FORM, CapnLimits, CapnReport, DONE, answer_of, form_of, limits_of, refuse, report_at,
+};
 use capn_walk::Limits;
 use std::alloc::Global;
 

@@ -11,17 +11,17 @@ ghost use Rattle.capn_canon.specs.declared.form.Form.{Form as Forms};
 ghost use Rattle.capn_canon.specs.declared.refusal.Refusal.{Refusal as Refusals};
 ghost use Rattle.capn_answers.specs.Departures as departures;
 ghost use Rattle.capn_answers.specs.Departures.{IsDepartureIn, MayNeedDeparture};
-ghost use Rattle.capn_c.specs.Calls.{IsForm, form_named, GiveLimits, IsTariff, bounds_of};
+ghost use Rattle.capn_reports.specs.Calls.{IsForm, form_named, GiveLimits, IsTariff, bounds_of};
 ghost use Rattle.capn_c.specs.Departed.{TellsDeparture};
-ghost use Rattle.capn_c.specs.StatusCodes.{Reports, at_number, is_status};
+ghost use Rattle.capn_reports.specs.StatusCodes.{Reports, at_number, is_status};
 
 use crate::departed::{CapnDeparted, departed_of, way_of};
-use crate::limits::{CapnLimits, form_of, limits_of};
-use crate::report::{CapnReport, answer_of, report_at};
-use crate::status_codes::{BAD_FORM, DONE, refuse};
 use crate::way_numbers::place_way;
 use capn_answers::{Departure, departure_and_survey_in};
 use capn_canon::Form;
+use capn_reports::{
+    BAD_FORM, CapnLimits, CapnReport, DONE, answer_of, form_of, limits_of, refuse, report_at,
+};
 use capn_walk::{Limits, Surveyed};
 use std::alloc::Global;
 

@@ -2,13 +2,12 @@
 
 ghost use Rattle.std.specs.Prelude.{IsTrue, ◌≡◌, ◌≢◌, ◌≤◌, ◌*◌, length};
 ghost use Rattle.capn_pack.specs.UnpackRefusal.{StartsWithin};
-ghost use Rattle.capn_c.specs.Calls.{IsWritten};
-ghost use Rattle.capn_c.specs.StatusCodes.{at_number, is_status};
+ghost use Rattle.capn_reports.specs.Calls.{IsWritten};
+ghost use Rattle.capn_reports.specs.StatusCodes.{at_number, is_status};
 ghost use Rattle.capn_c.specs.UnpackedPieces.{UnpacksInto, next_code, progressed, words_in};
 
-use crate::report::{CapnReport, report_at};
-use crate::status_codes::{DONE, MEMORY, PACKED_CUT, PACKED_TOO_LONG};
 use capn_pack::{Next, Progress, unpack_some};
+use capn_reports::{CapnReport, DONE, MEMORY, PACKED_CUT, PACKED_TOO_LONG, report_at};
 use std::alloc::Global;
 
 /// The status of what comes next.

@@ -3,9 +3,8 @@
 ghost use Rattle.std.specs.Prelude.{◌≡◌, ◌≤◌, ◌*◌, length};
 ghost use Rattle.capn_c.specs.WayNumbers.{ArePlaced, TellsWay};
 
-use crate::report::{CapnReport, report_at};
-use crate::status_codes::refuse;
 use capn_canon::Refusal;
+use capn_reports::{CapnReport, refuse, report_at};
 use capn_walk::Stopped;
 
 /// Writes the numbers of a way at the start of a room, if it has room for all of them.

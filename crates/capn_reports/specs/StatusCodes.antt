@@ -10,7 +10,7 @@ use Rattle.capn_target.specs.declared.target.Fault.{Fault}
 use Rattle.capn_target.specs.declared.target.Fault.TheVariants as walk
 use Rattle.capn_canon.specs.declared.refusal.Refusal.{Refusal}
 use Rattle.capn_canon.specs.declared.refusal.Refusal.TheVariants as refusals
-use Rattle.capn_c.specs.declared.report.CapnReport.{CapnReport}
+use Rattle.capn_reports.specs.declared.report.CapnReport.{CapnReport}
 
 -- a report of one number
 abbrev pub at_number : ℕ → CapnReport

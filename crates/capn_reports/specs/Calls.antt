@@ -5,8 +5,8 @@ use Rattle.capn_value.specs.declared.tariff.Tariff.TheVariants as tariffs
 use Rattle.capn_walk.specs.Limits.{Bounds, AreLimits}
 use Rattle.capn_canon.specs.declared.form.Form.{Form}
 use Rattle.capn_canon.specs.declared.form.Form.TheVariants as forms
-use Rattle.capn_c.specs.declared.limits.CapnLimits.{CapnLimits}
-use Rattle.capn_c.specs.declared.report.CapnReport.{CapnReport}
+use Rattle.capn_reports.specs.declared.limits.CapnLimits.{CapnLimits}
+use Rattle.capn_reports.specs.declared.report.CapnReport.{CapnReport}
 
 -- the form that a number names
 abbrev pub form_named : ℕ → Form
@@ -17,6 +17,10 @@ form_named (suc (suc n)) = forms.Bare
 -- a number names a form
 abbrev pub IsForm : ℕ → Type 0
 IsForm n = n ≤ 2
+
+-- a number names a form whose bytes are those of the message itself
+abbrev pub IsFlat : ℕ → Type 0
+IsFlat n = (n ≡ 0) ⊎ (n ≡ 2)
 
 -- the tariff that a number names
 abbrev pub tariff_named : ℕ → Tariff

@@ -9,8 +9,8 @@ use Rattle.capn_target.specs.declared.target.Fault.{Fault}
 use Rattle.capn_target.specs.declared.target.Fault.TheVariants as walk
 use Rattle.capn_canon.specs.declared.refusal.Refusal.{Refusal}
 use Rattle.capn_canon.specs.declared.refusal.Refusal.TheVariants as refusals
-use Rattle.capn_c.specs.declared.report.CapnReport.{CapnReport}
-use Rattle.capn_c.specs.StatusCodes.{at_number, packed_code, packed_number, walk_code, code, report_of}
+use Rattle.capn_reports.specs.declared.report.CapnReport.{CapnReport}
+use Rattle.capn_reports.specs.StatusCodes.{at_number, packed_code, packed_number, walk_code, code, report_of}
 
 -- the fault of a walk with a status
 fault_of : ℕ → Fault

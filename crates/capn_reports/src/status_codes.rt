@@ -1,9 +1,9 @@
 //! The status of each refusal.
 
 ghost use Rattle.std.specs.Prelude.{◌≡◌};
-ghost use Rattle.capn_c.specs.StatusCodes.{bare_code, bare_number, packed_code, packed_number, frame_code};
-ghost use Rattle.capn_c.specs.StatusCodes.{frame_number};
-ghost use Rattle.capn_c.specs.StatusCodes.{walk_code, code, report_of, Reports, ReportsPacked};
+ghost use Rattle.capn_reports.specs.StatusCodes.{bare_code, bare_number, packed_code, packed_number, frame_code};
+ghost use Rattle.capn_reports.specs.StatusCodes.{frame_number};
+ghost use Rattle.capn_reports.specs.StatusCodes.{walk_code, code, report_of, Reports, ReportsPacked};
 
 use crate::report::{CapnReport, report_at};
 use capn_canon::Refusal;

@@ -1,7 +1,7 @@
 //! Answers into a caller's buffer.
 
 ghost use Rattle.std.specs.Prelude.{◌≡◌, length};
-ghost use Rattle.capn_c.specs.Calls.{Delivers};
+ghost use Rattle.capn_reports.specs.Calls.{Delivers};
 
 use crate::status_codes::{DONE, NO_ROOM};
 

@@ -1,8 +1,8 @@
 //! Styles of text, as C passes them.
 
 ghost use Rattle.std.specs.Prelude.{◌≡◌, ◌↔◌, IsSome, IfSome};
-ghost use Rattle.capn_c.specs.Shown as shown;
-ghost use Rattle.capn_c.specs.Shown.{IsStyle, style_named};
+ghost use Rattle.capn_reports.specs.Styles as shown;
+ghost use Rattle.capn_reports.specs.Styles.{IsStyle, style_named};
 
 use capn_show::Style;
 

@@ -1,8 +1,8 @@
 //! Limits and forms, as C passes them.
 
 ghost use Rattle.std.specs.Prelude.{◌≡◌, ◌↔◌, ◌⊎◌, IsSome, IfSome, IfOk, IfErr};
-ghost use Rattle.capn_c.specs.Calls.{IsForm, form_named, IsTariff, tariff_named, GiveLimits, bounds_of};
-ghost use Rattle.capn_c.specs.Figures.{IsFlat};
+ghost use Rattle.capn_reports.specs.Calls.{IsForm, form_named, IsTariff, tariff_named, GiveLimits, bounds_of};
+ghost use Rattle.capn_reports.specs.Calls.{IsFlat};
 
 use crate::status_codes::{BAD_LIMITS, BAD_TARIFF};
 use capn_canon::Form;

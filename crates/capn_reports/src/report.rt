@@ -1,7 +1,7 @@
 //! The report of a call, beside its status.
 
 ghost use Rattle.std.specs.Prelude.{◌≡◌};
-ghost use Rattle.capn_c.specs.StatusCodes.{at_number, answered};
+ghost use Rattle.capn_reports.specs.StatusCodes.{at_number, answered};
 
 /// What a call reports beside its status. Each call sets every field; one that its status does not speak of is 0.
 #[derive(Clone, Copy)]

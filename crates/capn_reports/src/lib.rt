@@ -1,0 +1,37 @@
+//! Orders and reports of the calls for C.
+//!
+//! - [`form_of`], [`flat_form_of`], [`limits_of`] and [`style_of`] are what a caller orders by numbers, or which of
+//!   them is out of its range.
+//! - [`CapnReport`] is what a call reports beside its status. [`refuse`] and [`refuse_packed`] are the status and the
+//!   report of a refusal; no other refusal has both, unless memory was refused.
+//! - [`deliver`] writes an answer into the caller's buffer, if that has room.
+//!
+//! ```text
+//! match limits_of(limits) {
+//!     Ok(limits) => answer(limits, report),
+//!     Err(status) => status,
+//! }
+//! ```
+#![tactic(auto)]
+
+mod limits;
+mod output;
+mod report;
+mod status_codes;
+mod styles;
+
+pub use limits::{CapnLimits, flat_form_of, form_of, limits_of};
+pub use output::deliver;
+pub use report::{CapnReport, answer_of, report_at};
+pub use status_codes::{
+    BAD_FORM, BAD_LIMITS, BAD_STYLE, BAD_TARIFF, DONE, MEMORY, NO_ROOM, NOT_CANONICAL, NOT_WHOLE,
+    PACKED_CUT, PACKED_TOO_LONG, code_of_frame, number_of_frame, refuse, refuse_packed,
+};
+pub use styles::{end_of, style_of};
+
+// What the signatures above name.
+pub use capn_canon::{Form, Refusal};
+pub use capn_pack::UnpackFault;
+pub use capn_show::Style;
+pub use capn_stream::FrameFault;
+pub use capn_walk::Limits;
