@@ -38,12 +38,11 @@ try:
 	@echo "out:"; cd $(PROGRAM) && rt try -- $$(cat args) < stdin | od -An -v -tx1 -w8
 	@echo "nothing was proved: this is not the proved program, which make run builds, in half an hour or more at first"
 
-# The program, proved and built: crates/capn/out/capn. What it needs is proved and nothing else, crate after crate,
-# each by as many processors as memory allows. By kit 13b all takes some 70 processor minutes (in part estimated: the
-# crates capn_pack, stream, value and target were not counted by themselves), of which the longest
-# chain has some 35 (capn_words, value, target, walk, layout, canon, serve, archive, tool, capn): crates side by
-# side, with a processor each, would take no less. More processors within a crate shorten it, but take more minutes of
-# theirs in all; a shorter chain would shorten it, too.
+# The program, proved and built: crates/capn/out/capn. What it needs is proved and nothing else, crate after crate, each
+# by as many processors as memory allows. By kit 13f all took some 80 processor minutes, counted beside other work, of
+# which the longest chain has some 40 (capn_words, value, target, walk, layout, canon, serve, archive, tool, capn):
+# crates side by side, with a processor each, would take no less. More processors within a crate shorten it, but take
+# more minutes of theirs in all; a shorter chain would shorten it, too.
 program:
 	@echo "proving and building capn: half an hour or more at first, less where an earlier check has left its work"
 	@cd $(PROGRAM) && rt run -- $$(cat args) < stdin > /dev/null
