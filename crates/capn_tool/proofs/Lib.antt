@@ -7,6 +7,7 @@ pub mod OneOrder
 pub mod NamedOrders
 pub mod WorkedLines
 pub mod Carried
+pub mod EndedOrders
 pub mod Shown
 pub mod UnorderedEnds
 pub mod Sources

@@ -1,4 +1,4 @@
-use Rattle.capn_tool.proofs.flushed_runs.flow_through.Goals as goal
+use Rattle.capn_tool.proofs.chosen_runs.flow_through.Goals as goal
 
 pub returns-in-Pack : goal.returns-in-Pack
 returns-in-Pack g c = rw c.in-Pack.is c.pack_stream.ensures

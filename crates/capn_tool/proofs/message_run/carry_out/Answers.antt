@@ -1,5 +1,5 @@
 use Rattle.capn_tool.proofs.Carried.{carried}
-use Rattle.capn_tool.proofs.flushed_runs.carry_out.Goals as goal
+use Rattle.capn_tool.proofs.message_run.carry_out.Goals as goal
 
 pub returns : goal.returns
 returns g c =

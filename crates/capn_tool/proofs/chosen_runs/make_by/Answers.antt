@@ -1,4 +1,4 @@
-use Rattle.capn_tool.proofs.flushed_runs.make_by.Goals as goal
+use Rattle.capn_tool.proofs.chosen_runs.make_by.Goals as goal
 
 pub returns-then-order : goal.returns-then-order
 returns-then-order g c = rw c.if-order.true c.make_texts.ensures
