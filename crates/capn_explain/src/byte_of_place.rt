@@ -1,4 +1,4 @@
-//! The byte at which a word of a message lies.
+//! The byte of a word of a message.
 
 ghost use Rattle.std.specs.Prelude.{◌<◌, ◌≤◌, ◌≡◌, ◌^◌, length};
 ghost use Rattle.capn_words.specs.Message.{IsPlace};

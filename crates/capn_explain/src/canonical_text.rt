@@ -1,4 +1,4 @@
-//! The text that says whether a message is canonical.
+//! The text about the canonical form of a message.
 
 use crate::pointer_text::PointerText;
 use crate::way_text::WayText;

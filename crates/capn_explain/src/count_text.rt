@@ -1,4 +1,4 @@
-//! The line that stands where no message is explained.
+//! The line in place of an explanation.
 
 use std::fmt;
 

@@ -1,4 +1,4 @@
-//! The examination of the slot at which the walk of a message was refused.
+//! The examination of a refused slot.
 
 ghost use Rattle.std.specs.Prelude.{◌≡◌, ◌<◌, ◌≤◌, ◌^◌, pos, ◌+ℤ◌, IfSome};
 ghost use Rattle.capn_words.specs.Message.{IsPlace};

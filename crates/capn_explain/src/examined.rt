@@ -1,4 +1,4 @@
-//! What there is to say of a slot.
+//! The facts told of a slot.
 
 use crate::slot_text::SlotText;
 

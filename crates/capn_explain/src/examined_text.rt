@@ -1,4 +1,4 @@
-//! The texts of what there is to say of a slot.
+//! The texts of the facts told of a slot.
 
 use crate::examined::{Examined, Limit, Pad, RowWords, Stretch};
 use crate::holder_text::HolderText;

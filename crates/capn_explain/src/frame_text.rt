@@ -1,4 +1,4 @@
-//! The lines of a frame, a packing or a length that is refused.
+//! The lines of a refused frame, packing or length.
 
 ghost use Rattle.std.specs.Prelude.{◌≡◌, [], ◌∷◌};
 ghost use Rattle.hex.specs.Hex.{encode_lower};

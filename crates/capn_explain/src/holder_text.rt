@@ -1,4 +1,4 @@
-//! The text of the object that holds a slot.
+//! The text of a slot's holder.
 
 ghost use Rattle.std.specs.Prelude.{◌≡◌};
 ghost use Rattle.capn_words.specs.Message.{IsPlace};

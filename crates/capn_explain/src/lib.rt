@@ -1,4 +1,4 @@
-//! The texts in which a message is explained.
+//! The texts of the explanation of a message.
 //!
 //! - [`PointerText`] displays what a word says as a pointer, and [`TagText`] what it says as the tag of a list of
 //!   structs.

@@ -1,4 +1,4 @@
-//! The lines of a message that is explained.
+//! The lines of an explained message.
 
 use crate::canonical_text::CanonicalText;
 use crate::examined_text::SlotLines;

@@ -1,4 +1,4 @@
-//! The text of a word that is read as a pointer.
+//! The text of a word as a pointer.
 
 ghost use Rattle.std.specs.Prelude.{◌≡◌};
 ghost use Rattle.capn_words.specs.Pointers.{pointer_of};

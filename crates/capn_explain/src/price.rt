@@ -1,4 +1,4 @@
-//! What a visit of a slot asks for.
+//! The price of a visit of a slot.
 
 ghost use Rattle.std.specs.Prelude.{◌≡◌, ◌<◌, ◌^◌};
 ghost use Rattle.capn_words.specs.Message.{IsPlace};

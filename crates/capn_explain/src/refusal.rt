@@ -1,4 +1,4 @@
-//! The explanation of a message that its walk refuses.
+//! The explanation of a refused message.
 
 ghost use Rattle.std.specs.Prelude.{◌≡◌, ℕ, ◌<◌, length, IfOk, IfSome, IfNone};
 ghost use Rattle.capn_words.specs.Message.{segment_at};

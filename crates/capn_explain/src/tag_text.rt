@@ -1,4 +1,4 @@
-//! The text of a word that is read as the tag of a list of structs.
+//! The text of a word as the tag of a list.
 
 use crate::pointer_text::PointerText;
 use std::fmt;

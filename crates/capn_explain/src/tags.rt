@@ -1,4 +1,4 @@
-//! The tag of a list of structs to which a slot leads, and its rows.
+//! The tag and the rows of a slot's list.
 
 ghost use Rattle.std.specs.Prelude.{◌≡◌, ◌<◌, ◌≤◌, ◌^◌, IfSome};
 ghost use Rattle.capn_words.specs.Message.{IsPlace};

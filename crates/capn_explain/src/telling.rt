@@ -1,4 +1,4 @@
-//! What tells of the content to which a slot leads.
+//! The place and the form of told content.
 
 ghost use Rattle.std.specs.Prelude.{◌≡◌, ◌<◌, ◌≤◌, ◌+◌, ◌^◌, IsTrue, Some, None, IfSome, if◌then◌else◌};
 ghost use Rattle.capn_target.specs.Target.{pointer_in};
