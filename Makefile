@@ -39,10 +39,10 @@ try:
 	@echo "nothing was proved: this is not the proved program, which make run builds, in half an hour or more at first"
 
 # The program, proved and built: crates/capn/out/capn. What it needs is proved and nothing else, crate after crate, each
-# by as many processors as memory allows. By kit 13f all took some 80 processor minutes, counted beside other work, of
-# which the longest chain has some 40 (capn_words, value, target, walk, layout, canon, serve, archive, tool, capn):
-# crates side by side, with a processor each, would take no less. More processors within a crate shorten it, but take
-# more minutes of theirs in all; a shorter chain would shorten it, too.
+# by as many processors as memory allows. By kit 13f its proofs took some 80 processor minutes in the gate, counted
+# beside other work and not by this line, of which the longest chain has some 40 (capn_words, value, target, walk,
+# layout, canon, serve, archive, tool, capn): crates side by side, with a processor each, would take no less. More
+# processors within a crate shorten it, but take more minutes of theirs in all; a shorter chain would shorten it, too.
 program:
 	@echo "proving and building capn: half an hour or more at first, less where an earlier check has left its work"
 	@cd $(PROGRAM) && rt run -- $$(cat args) < stdin > /dev/null
