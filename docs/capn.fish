@@ -88,6 +88,6 @@ complete -c capn -n '__fish_seen_subcommand_from unpack' -l message-words -x -d 
 complete -c capn -n '__fish_seen_subcommand_from unpack' -l streaming -d 'Write while the input comes in, which may have up to 2^64 - 1 bytes and any number of words, in at most 2 MiB of memory'
 complete -c capn -n '__fish_seen_subcommand_from unpack' -l help -d 'Print help'
 complete -c capn -n '__fish_seen_subcommand_from make' -l form -x -a 'stream packed bare' -d 'How messages are written'
-complete -c capn -n '__fish_seen_subcommand_from make' -l text -d 'Take a list of bytes on one line, too, as `show'
+complete -c capn -n '__fish_seen_subcommand_from make' -l text -d 'Take a list of bytes on one line, too, as `show --text` writes it'
 complete -c capn -n '__fish_seen_subcommand_from make' -l help -d 'Print help'
 complete -c capn -n '__fish_seen_subcommand_from help; and not __fish_seen_subcommand_from show check explain list limits canonical hash uniq pick pack unpack make' -a 'show check explain list limits canonical hash uniq pick pack unpack make'

@@ -124,7 +124,7 @@ _capn() {
         make)
             _arguments \
                 '--form=[How messages are written]:form:(stream packed bare)' \
-                '--text[Take a list of bytes on one line, too, as `show]' \
+                '--text[Take a list of bytes on one line, too, as `show --text` writes it]' \
                 '--help[Print help]' ;;
         help)
             _describe command commands ;;
