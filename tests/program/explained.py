@@ -286,5 +286,9 @@ def explain(data, form="stream", message_words=8388608, budget=8388608, depth=64
     return written([f"{len(found)} messages{'' if wanted else ', none refused'}\n"]), "", 0
 
 
+def run_explain(data, number=None, **options):
+    return explain(data, wanted=number, **options)
+
+
 def written(lines):
     return "".join(lines).encode()

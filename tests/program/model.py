@@ -1,7 +1,8 @@
 """A second reading of docs/FORMAT.md and docs/PROFILE.md, in Python, to compare the program with.
 
 It shares nothing with the program: values are tuples, a walk is recursion, canonical bytes are one list. It is
-slow, and it is not proved. `archives`, beside it, compares the two.
+slow, and it is not proved. `run_COMMAND` is what a command does, with its options as parameters: `answered` calls it
+for the words of a line, and `archives` and `statuses` compare that with the program.
 """
 
 import hashlib
@@ -11,7 +12,7 @@ import sys
 
 sys.setrecursionlimit(10_000)
 
-MOST_SEGMENTS = 4096
+MOST_SEGMENTS, LONGEST_TABLE = 4096, 2049
 WIDTH_BITS = [0, 1, 8, 16, 32, 64]
 
 
@@ -51,8 +52,9 @@ def first_frame(data, at, most):
     return segments, end
 
 
-def unpacked(data):
-    """The words that a packed text holds in its whole groups, and the offset of a group that is cut, or None."""
+def unpacked(data, most=None):
+    """The words that a packed text holds in its whole groups, and the offset of a group that is cut, or None. A group
+    that passes a maximum of words is refused."""
     out, at = bytearray(), 0
     while at < len(data):
         tag, begun = data[at], at
@@ -65,19 +67,20 @@ def unpacked(data):
             if tag >> bit & 1:
                 word[bit] = data[at]
                 at += 1
-        more = b""
+        count = 0
         if tag in (0, 255):
             if at == len(data):
                 return bytes(out), begun
             count = data[at]
             at += 1
-            if tag == 255:
-                if at + 8 * count > len(data):
-                    return bytes(out), begun
-                more = data[at:at + 8 * count]
-                at += 8 * count
-            else:
-                more = bytes(8 * count)
+        if most is not None and len(out) // 8 + 1 + count > most:
+            raise Refused(f"packed: TooLong at {begun}")
+        more = bytes(8 * count)
+        if tag == 255:
+            if at + 8 * count > len(data):
+                return bytes(out), begun
+            more = data[at:at + 8 * count]
+            at += 8 * count
         out += word + more
     return bytes(out), None
 
@@ -479,24 +482,58 @@ def styled(value, style):
     return ("none\n" if value is None else shown(value, 0, style == "text")) + "end\n"
 
 
-def show(data, form="stream", message_words=8388608, budget=8388608, depth=64, tariff="strict", style="plain", way=(),
-         offsets=False, ways=False):
-    """What `show` writes in a style, at a way or of all, the line on standard error, and its exit status. With offsets
-    or ways the style is "plain" or "text"."""
+# Commands that answer each message of a stream.
+
+
+def each(data, text_of, form="stream", message_words=8388608, budget=8388608, depth=64, tariff="strict"):
+    """The texts of messages, by their walk, their segments, their offset and their frame, up to the first one that is
+    refused; the line on standard error, and the exit status."""
     found, fault = messages(data, form, message_words)
     out = []
-    for at, frame, segments in found:
+    for offset, frame, segments in found:
         try:
-            walk = Walk(segments, budget, depth, tariff)
+            out.append(text_of(Walk(segments, budget, depth, tariff), segments, offset, frame))
         except Refused as refused:
             return "".join(out).encode(), f"capn: {refused}\n", 1
-        if not offsets and not ways:
-            out.append(styled(stands(walk.value, way), style))
-            continue
-        begin = at + len(frame) - sum(map(len, segments))
-        out.append(Marked(segments, begin, offsets, ways, style == "text").part(way))
-        out.append((f"{at + len(frame)}\t" if offsets else "") + ("\t" if ways else "") + "end\n")
     return "".join(out).encode(), f"capn: {fault[0]}\n" if fault else "", 1 if fault else 0
+
+
+def run_show(data, at=None, text=False, json=False, offsets=False, ways=False, **options):
+    way = () if at is None else tuple(map(int, at.split(".")))
+    style = {(False, False): "plain", (True, False): "text", (False, True): "json", (True, True): "both"}[text, json]
+
+    def text_of(walk, segments, offset, frame):
+        if not offsets and not ways:
+            return styled(stands(walk.value, way), style)
+        end = offset + len(frame)
+        lines = Marked(segments, end - sum(map(len, segments)), offsets, ways, text).part(way)
+        return lines + (f"{end}\t" if offsets else "") + ("\t" if ways else "") + "end\n"
+
+    return each(data, text_of, **options)
+
+
+def run_check(data, form="stream", **options):
+    def text_of(walk, segments, _offset, _frame):
+        own = "" if form != "bare" else " canonical" if is_own(walk, segments) else " not-canonical"
+        return f"ok paid {walk.paid} visits {walk.visits}{own}\n"
+
+    return each(data, text_of, form, **options)
+
+
+def run_hash(data, **options):
+    return each(data, lambda walk, *_: f"{digest(without_capability(walk).value)}\n", **options)
+
+
+def without_capability(walk):
+    """A walk, of a message that is refused where it has a capability."""
+    if walk.capability is not None:
+        raise Refused(f"capability {walk.capability}")
+    return walk
+
+
+def is_own(walk, segments):
+    """Whether a message that is accepted is one segment, its canonical bytes."""
+    return walk.capability is None and len(segments) == 1 and canonical(walk.value) == segments[0]
 
 
 # Commands over archives.
@@ -543,10 +580,10 @@ def digest(value):
 def listed(head, walk, segments, with_digest):
     """The line of `list` for a message that is accepted, after what it begins with."""
     is_free = walk.capability is None
-    own = is_free and len(segments) == 1 and canonical(walk.value) == segments[0]
     end = f" sha256 {digest(walk.value) if is_free else '-'}" if with_digest else ""
+    own = "yes" if is_own(walk, segments) else "no"
     return (f"{head} paid {walk.paid} visits {walk.visits} depth {walk.height}"
-            f" capability {'no' if is_free else walk.capability} canonical {'yes' if own else 'no'}{end}\n").encode()
+            f" capability {'no' if is_free else walk.capability} canonical {own}{end}\n").encode()
 
 
 def needed(greatest, found, tariff):
@@ -573,8 +610,8 @@ def run(task, data, form="stream", message_words=8388608, budget=8388608, depth=
         head = f"{index} at {offset} bytes {len(frame)} segments {len(segments)} words {words}"
         try:
             walk = Walk(segments, budget, depth, tariff)
-            if task in ("canonical", "uniq") and walk.capability is not None:
-                raise Refused(f"capability {walk.capability}")
+            if task in ("canonical", "uniq"):
+                without_capability(walk)
         except Refused as refused:
             if not keep_going:
                 fault = (str(refused), index, offset)
@@ -607,6 +644,22 @@ def run(task, data, form="stream", message_words=8388608, budget=8388608, depth=
     return b"".join(out), line, 1 if passed else 0
 
 
+def run_list(data, digest=False, **options):
+    return run("list", data, with_digest=digest, **options)
+
+
+def run_limits(data, **options):
+    return run("limits", data, **options)
+
+
+def run_uniq(data, **options):
+    return run("uniq", data, **options)
+
+
+def run_canonical(data, framed=False, keep_going=False, **options):
+    return run("canonical", data, keep_going=keep_going, **options) if framed else canonical_of_one(data, **options)
+
+
 def pick(data, form="stream", message_words=8388608, first=1, last=2**64 - 1):
     """What `pick` writes, from one number of a message to another, the line on standard error, and its exit status."""
     if last < first:
@@ -625,6 +678,60 @@ def pick_only(data, ranges, form="stream", message_words=8388608):
     if fault is None or len(found) >= ranges[-1][1]:
         return out, "", 0
     return out, line_of(fault), 1
+
+
+def run_pick(data, to=2**64 - 1, only=None, **options):
+    first = options.pop("from", 1)
+    if only is None:
+        return pick(data, first=first, last=to, **options)
+    ranges = [one.partition("-") for one in only.split(",")]
+    return pick_only(data, [(int(low), int(high or low)) for low, _, high in ranges], **options)
+
+
+# What takes its input whole.
+
+
+def only_message(data, form, message_words):
+    """The segments of the one message that an input is."""
+    if form == "bare":
+        if len(data) % 8:
+            raise Refused(f"bare: NotWhole({len(data)})")
+        return [data]
+    if form == "packed":
+        data, cut_at = unpacked(data, message_words + LONGEST_TABLE)
+        if cut_at is not None:
+            raise Refused(f"packed: Cut at {cut_at}")
+    frame = first_frame(data, 0, message_words)
+    if frame is None:
+        raise Refused("frame: Empty")
+    segments, end = frame
+    if end < len(data):
+        raise Refused(f"trailing bytes at {end}")
+    return segments
+
+
+def canonical_of_one(data, form="stream", message_words=8388608, budget=8388608, depth=64, tariff="strict"):
+    """What `canonical` writes of one message, the line on standard error, and its exit status."""
+    try:
+        walk = Walk(only_message(data, form, message_words), budget, depth, tariff)
+        return canonical(without_capability(walk).value), "", 0
+    except Refused as refused:
+        return b"", f"capn: {refused}\n", 1
+
+
+def run_pack(data, streaming=False):
+    text, line, status = pack_streaming(data)
+    return (b"" if status and not streaming else text), line, status
+
+
+def run_unpack(data, message_words=8388608, streaming=False):
+    if streaming:
+        return unpack_streaming(data)
+    try:
+        words, cut_at = unpacked(data, message_words + LONGEST_TABLE)
+    except Refused as refused:
+        return b"", f"capn: {refused}\n", 1
+    return (words, "", 0) if cut_at is None else (b"", f"capn: packed: Cut at {cut_at}\n", 1)
 
 
 # Packing and unpacking in pieces.

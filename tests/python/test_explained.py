@@ -15,7 +15,7 @@ from test_show import NAMES
 from test_stored import stored
 from tried import given, settings, some
 
-explained = archives.explained
+explained = archives.answered.explained
 settings.register_profile("here", deadline=None, max_examples=100, derandomize=True)
 settings.load_profile("here")
 CALLS = [capn.check, capn.canonical, capn.digest, capn.survey, capn.read, capn.departure]

@@ -1,0 +1,75 @@
+#!/usr/bin/env python3
+"""What the program has to answer to a line of words, by `model` and `explained`: a command is the function
+`run_COMMAND` of one of them, with the command's options as parameters. Which options there are, and which of them take
+a number, is by help.
+
+    tests/program/answered.py COMMAND [OPTION..] < INPUT
+
+writes that to standard output and standard error, and ends with its status. Of `make` there is no model: `texts`
+compares it with `show`.
+"""
+
+import re
+import sys
+
+import explained
+import help_texts
+import model
+
+HELP = help_texts.helps()
+# What help says in place of a value that is a number.
+NUMBERS = ("N", "K")
+
+
+def items_of(command):
+    """The options of a command, but `--help`."""
+    return [item for item in help_texts.items_of(HELP[command]) if item[0] != "--help"]
+
+
+def call_of(command):
+    """The function of a command."""
+    name = f"run_{command}"
+    return getattr(model, name) if hasattr(model, name) else getattr(explained, name)
+
+
+def answer(line, data):
+    """What is written of an input, the line on standard error, and the exit status."""
+    command, *rest = line
+    takes, options = {option: value for option, _, value, _ in items_of(command)}, {}
+    while rest:
+        option, *rest = rest
+        value = True
+        if takes[option]:
+            value, *rest = rest
+        options[option[2:].replace("-", "_")] = int(value) if takes[option] in NUMBERS else value
+    return call_of(command)(data, **options)
+
+
+def needed(said):
+    """The options without which one of which this is said does not go."""
+    return re.findall(r"^With `(--[\w-]+)`:", said)
+
+
+def values_of(takes, said):
+    """Values of an option: its words, two small numbers, or the example of help; of one that takes none, no word."""
+    if not takes:
+        return [[]]
+    words = ["1", "2"] if takes in NUMBERS else help_texts.words_of(said) or re.findall(r", as `([^`]+)`", said)
+    assert words, f"help has no example of a value of which it says: {said}"
+    return [[word] for word in words]
+
+
+def lines():
+    """The line of each command without options, and with each one of its options."""
+    for command in HELP:
+        if command not in ("", "make"):
+            yield [command]
+            for option, _, takes, said in items_of(command):
+                yield from ([command, *needed(said), option, *value] for value in values_of(takes, said))
+
+
+if __name__ == "__main__":
+    wrote, told, ended = answer(sys.argv[1:], sys.stdin.buffer.read())
+    sys.stdout.buffer.write(wrote)
+    sys.stderr.write(told)
+    sys.exit(ended)
