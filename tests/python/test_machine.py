@@ -1,8 +1,10 @@
 """Other threads run during a call; memory that runs out is a MemoryError."""
+import re
 import subprocess
 import sys
 import threading
 import unittest
+from pathlib import Path
 
 import capn
 from messages import stream
@@ -39,6 +41,10 @@ except MemoryError as error:
 resource.setrlimit(resource.RLIMIT_AS, (resource.RLIM_INFINITY, resource.RLIM_INFINITY))
 print(refusal.way, refusal.byte)
 """
+
+# What docs/DIAGNOSTICS.md has for it.
+PAGE = Path(__file__).resolve().parents[2] / "docs" / "DIAGNOSTICS.md"
+TEXT = re.search(r"^\| `([^`]+)` \| memory was refused ", PAGE.read_text(encoding="utf-8"), re.M)[1]
 
 
 def child(*code):
@@ -113,7 +119,7 @@ class Threads(unittest.TestCase):
 class Memory(unittest.TestCase):
     def test_the_library_finds_none(self):
         wrote = child(START, LITTLE, "capn.check(PACKED, 'packed')")
-        self.assertEqual(wrote, "MemoryError: capn: out of memory")
+        self.assertEqual(wrote, f"MemoryError: capn: {TEXT}")
 
     def test_there_is_none_for_the_answer(self):
         for call in "capn.unpack(PACKED)", "capn.canonical(PACKED, 'packed')":
@@ -124,7 +130,7 @@ class Memory(unittest.TestCase):
 
     def test_there_is_none_for_a_way(self):
         # It is looked for again when there is memory.
-        self.assertEqual(child(START, REFUSED, LITTLE, WAY), "MemoryError: capn: out of memory\n() 8\n")
+        self.assertEqual(child(START, REFUSED, LITTLE, WAY), f"MemoryError: capn: {TEXT}\n() 8\n")
 
     def test_there_is_enough(self):
         self.assertEqual(child(START, "print(len(capn.unpack(PACKED)))"), f"{1 << 25}\n")
