@@ -21,9 +21,9 @@ HELP = help_texts.helps()
 NUMBERS = ("N", "K")
 
 
-def items_of(command):
+def options_of(command):
     """The options of a command, but `--help`."""
-    return [item for item in help_texts.items_of(HELP[command]) if item[0] != "--help"]
+    return [option for option in help_texts.options_of(HELP[command]) if option.name != "--help"]
 
 
 def call_of(command):
@@ -35,27 +35,22 @@ def call_of(command):
 def answer(line, data):
     """What is written of an input, the line on standard error, and the exit status."""
     command, *rest = line
-    takes, options = {option: value for option, _, value, _ in items_of(command)}, {}
+    takes, options = {option.name: option.takes for option in options_of(command)}, {}
     while rest:
-        option, *rest = rest
+        name, *rest = rest
         value = True
-        if takes[option]:
+        if takes[name]:
             value, *rest = rest
-        options[option[2:].replace("-", "_")] = int(value) if takes[option] in NUMBERS else value
+        options[name[2:].replace("-", "_")] = int(value) if takes[name] in NUMBERS else value
     return call_of(command)(data, **options)
 
 
-def needed(said):
-    """The options without which one of which this is said does not go."""
-    return re.findall(r"^With `(--[\w-]+)`:", said)
-
-
-def values_of(takes, said):
+def values_of(option):
     """Values of an option: its words, two small numbers, or the example of help; of one that takes none, no word."""
-    if not takes:
+    if not option.takes:
         return [[]]
-    words = ["1", "2"] if takes in NUMBERS else help_texts.words_of(said) or re.findall(r", as `([^`]+)`", said)
-    assert words, f"help has no example of a value of which it says: {said}"
+    words = ["1", "2"] if option.takes in NUMBERS else option.words or re.findall(r", as `([^`]+)`", option.said)
+    assert words, f"help has no example of a value of {option.name}"
     return [[word] for word in words]
 
 
@@ -64,8 +59,8 @@ def lines():
     for command in HELP:
         if command not in ("", "make"):
             yield [command]
-            for option, _, takes, said in items_of(command):
-                yield from ([command, *needed(said), option, *value] for value in values_of(takes, said))
+            for option in options_of(command):
+                yield from ([command, *option.needs, option.name, *value] for value in values_of(option))
 
 
 if __name__ == "__main__":

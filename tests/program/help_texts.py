@@ -6,6 +6,7 @@ completions and tables, is made from it.
 
 import os
 import re
+import typing
 
 HERE = os.path.dirname(os.path.abspath(__file__))
 
@@ -24,24 +25,40 @@ def part_of(text, title):
     return found[1] if found else ""
 
 
-def items_of(text):
-    """The options that a text of help lists: each with its short form, what it takes, and all that is said of it."""
-    for item in re.split(r"\n(?=(?: {6}|  -\w, )--)", part_of(text, "Options")):
-        found = re.match(r" +(?:(-\w), )?(--[\w-]+)(?: <(\w+)>)? +(.*)", item, re.S)
-        if found:
-            yield found[2], found[1], found[3], " ".join(found[4].split())
+class Option(typing.NamedTuple):
+    """An option that a text of help lists: its name, its short form, what stands for its value, and what is said."""
+
+    name: str
+    short: str
+    takes: str
+    said: str
+
+    @property
+    def what(self):
+        """What it is, in short."""
+        return re.split(r"[;:.] | \[default", self.said)[0]
+
+    @property
+    def words(self):
+        """The words of which it takes one."""
+        return re.findall(r"`([a-z]+)`(?=[ ,;.])", self.said) if self.takes else []
+
+    @property
+    def needs(self):
+        """The options without which it doesn't go."""
+        return re.findall(r"^With `(--[\w-]+)`:", self.said)
+
+    @property
+    def excludes(self):
+        """The options with which it doesn't go."""
+        return re.findall(r"`(--[\w-]+)`", self.said.partition("goes without")[2])
 
 
 def options_of(text):
-    """The options that a text of help lists, each with what it is, and the words that it takes, or None for none."""
-    for option, _, value, said in items_of(text):
-        what = re.split(r"[;:.] | \[default", said)[0]
-        yield option, what, words_of(said) if value else None
-
-
-def words_of(said):
-    """The words that an option takes, by what is said of it."""
-    return re.findall(r"`([a-z]+)`(?=[ ,;.])", said)
+    """The options that a text of help lists."""
+    items = re.split(r"\n(?=(?: {6}|  -\w, )--)", part_of(text, "Options"))
+    found = [re.match(r" +(?:(-\w), )?(--[\w-]+)(?: <(\w+)>)? +(.*)", item, re.S) for item in items]
+    return [Option(it[2], it[1] or "", it[3] or "", " ".join(it[4].split())) for it in found if it]
 
 
 def commands_of(text):
