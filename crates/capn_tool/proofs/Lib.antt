@@ -1,14 +1,5 @@
-pub mod CommandLines
-pub mod Entered
-pub mod ReadValues
 pub mod Written
-pub mod OneMeaning
-pub mod OneOrder
-pub mod NamedOrders
-pub mod WorkedLines
 pub mod Carried
+pub mod EndedOrders
 pub mod Shown
 pub mod UnorderedEnds
-pub mod Sources
-pub mod Ways
-pub mod RangeLists

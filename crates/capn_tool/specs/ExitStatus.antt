@@ -1,7 +1,5 @@
 -- How the program ends. After a run it ends with 0 where that is done, and else with the status of its fault. (Own.)
 use Rattle.std.specs.Prelude.{ℕ, Result}
-use Rattle.clap.specs.declared.error.ErrorKind.{ErrorKind}
-use Rattle.clap.specs.declared.error.ErrorKind.TheVariants as kinds
 use Rattle.capn_endings.specs.Ending.{status_of_ending}
 use Rattle.capn_serve.specs.FaultText as served
 use Rattle.capn_serve.specs.declared.fault.RunFault.{RunFault}
@@ -27,10 +25,3 @@ make_status = status_of_ending made.status_of
 -- and after one that lets bytes flow
 abbrev pub flow_status : Result (Unit {0}) FlowFault → ℕ
 flow_status = status_of_ending flowing.status_of
-
--- for words that order nothing: 3 if memory ran out, 0 for a request for help, 2 for any other; the program ends with 0
--- after it has shown the version
-abbrev pub usage_status_of : ErrorKind → ℕ
-usage_status_of kinds.OutOfMemory = 3
-usage_status_of kinds.DisplayHelp = 0
-usage_status_of _ = 2

@@ -1,41 +1,23 @@
 -- A run and the flush of its output. (Own.)
 use Rattle.std.specs.Prelude.{ℕ, ◌≡◌, ◌↔◌, ◌⊎◌, List, Bool, true, false, Option, IfSome, IsErrOf, Result, Ok, Err}
 use Rattle.std.specs.Io.KnownBytes.{Keeps}
+use Rattle.capn_endings.specs.Ending.{WritesEnding, status_of_ending}
 use Rattle.capn_commands.specs.CommandRun.{KeepsUp}
 use Rattle.capn_commands.specs.Text.{Begins, EndsAs, EndsBy, IsText}
 use Rattle.capn_commands.specs.declared.command.Command.{Command}
 use Rattle.capn_commands.specs.declared.fault.ToolFault.{ToolFault}
 use Rattle.capn_commands.specs.declared.fault.ToolFault.TheVariants as faults
-use Rattle.capn_archive.specs.ArchiveRun.{Archived}
-use Rattle.capn_archive.specs.UniqRun.{Deduplicated}
-use Rattle.capn_archive.specs.declared.task.ArchiveOrder.{ArchiveOrder}
-use Rattle.capn_archive.specs.declared.uniq_order.UniqOrder.{UniqOrder}
-use Rattle.capn_archive.specs.declared.fault.ArchiveFault.{ArchiveFault}
-use Rattle.capn_archive.specs.declared.fault.ArchiveFault.TheVariants as archive_faults
-use Rattle.capn_serve.specs.PickRun.{Picks}
-use Rattle.capn_serve.specs.declared.pick.Pick.{Pick}
-use Rattle.capn_serve.specs.declared.fault.RunFault.{RunFault}
-use Rattle.capn_serve.specs.declared.fault.RunFault.TheVariants as run_faults
-use Rattle.capn_report.specs.ExplainRun.{Explained}
-use Rattle.capn_report.specs.declared.explain.Explain.{Explain}
 use Rattle.capn_flow.specs.Flow.{Runs}
 use Rattle.capn_flow.specs.PackRun.{packing}
 use Rattle.capn_flow.specs.UnpackRun.{unpacking}
 use Rattle.capn_flow.specs.declared.fault.FlowFault.{FlowFault}
-use Rattle.capn_flow.specs.declared.fault.FlowFault.TheVariants as flow_faults
 use Rattle.capn_canon.specs.declared.form.Form.{Form}
 use Rattle.capn_make.specs.MadeTexts.{MadeTexts}
 use Rattle.capn_make.specs.MakeRun.{Made}
 use Rattle.capn_make.specs.declared.fault.MakeFault.{MakeFault}
-use Rattle.capn_make.specs.declared.fault.MakeFault.TheVariants as make_faults
 use Rattle.capn_tool.specs.Course.{Course}
-use Rattle.capn_tool.specs.OnlyRun.{OnlyPicked}
-use Rattle.capn_tool.specs.PartRun.{PartsShown}
-use Rattle.capn_tool.specs.declared.order.Flow.{Flow}
-use Rattle.capn_tool.specs.declared.order.Flow.TheVariants as flows
-use Rattle.capn_tool.specs.declared.order.Make.{Make}
-use Rattle.capn_tool.specs.declared.order.Only.{Only}
-use Rattle.capn_tool.specs.declared.order.Show.{Show}
+use Rattle.capn_orders.specs.declared.order.Flow.{Flow}
+use Rattle.capn_orders.specs.declared.order.Flow.TheVariants as flows
 
 -- After a flush a run that was done ends as it did, or with the fault of an output that failed, if the flush failed.
 -- Any other run ends as it did.
@@ -80,44 +62,22 @@ pub record RunsFlushed {F : Type 0} (io : F) (Runs : RunOver F) (input output : 
   pub kept : Keeps written output.after
   pub flushed : EndsFlushed io run failed output.failed outcome
 
--- a run showed parts of messages
-abbrev pub ShowsParts : Show → Course → Course → Result (Unit {0}) ToolFault → Type 0
-ShowsParts show = RunsFlushed faults.Io (PartsShown show)
-
--- a run explained a message
-abbrev pub ExplainsMessage : Explain → Course → Course → Result (Unit {0}) RunFault → Type 0
-ExplainsMessage explain = RunsFlushed run_faults.Io (Explained explain)
-
--- a run went over an archive
-abbrev pub RunsOver : ArchiveOrder → Course → Course → Result (Unit {0}) ArchiveFault → Type 0
-RunsOver archive = RunsFlushed archive_faults.Io (Archived archive)
-
--- a run left out duplicates, or counted
-abbrev pub LeavesDoublesOut : UniqOrder → Course → Course → Result (Unit {0}) ArchiveFault → Type 0
-LeavesDoublesOut uniq = RunsFlushed archive_faults.Io (Deduplicated uniq)
+-- A run ended so, and by then the output had failed or not. The output was flushed, which writes nothing; the line of
+-- the fault was written to the errors; and this is the status.
+pub record EndsRun {F : Type 0} (text : F → List ℕ) (exit : F → ℕ) (io : F) (run : Result (Unit {0}) F) (failed : Bool)
+    (flush errors : Course) (status : ℕ) : Type 0 where
+  pub outcome : Result (Unit {0}) F
+  pub kept : Keeps flush.before flush.after
+  pub flushed : EndsFlushed io run failed flush.failed outcome
+  pub told : WritesEnding text outcome errors.before errors.after errors.failed
+  pub is : status ≡ status_of_ending exit outcome
 
 -- messages were made from texts, where lists of bytes may stand between quotes, or may not
 abbrev pub MadeBy : Bool → Form → RunOver MakeFault
 MadeBy true form = MadeTexts form
 MadeBy false form = Made form
 
--- a run made what texts say
-abbrev pub MakesTexts : Make → Course → Course → Result (Unit {0}) MakeFault → Type 0
-MakesTexts make = RunsFlushed make_faults.Io (MadeBy make.quoted make.form)
-
--- a run picked messages
-abbrev pub PicksMessages : Pick → Course → Course → Result (Unit {0}) RunFault → Type 0
-PicksMessages pick = RunsFlushed run_faults.Io (Picks pick.limits.message_words pick pick.form)
-
--- a run picked the messages of a list
-abbrev pub PicksOnly : Only → Course → Course → Result (Unit {0}) RunFault → Type 0
-PicksOnly only = RunsFlushed run_faults.Io (OnlyPicked only)
-
 -- bytes flowed this way
 abbrev pub Flowed : Flow → RunOver FlowFault
 Flowed flows.Pack = Runs packing
 Flowed flows.Unpack = Runs unpacking
-
--- a run let bytes flow
-abbrev pub LetsFlow : Flow → Course → Course → Result (Unit {0}) FlowFault → Type 0
-LetsFlow flow = RunsFlushed flow_faults.Io (Flowed flow)

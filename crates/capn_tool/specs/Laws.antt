@@ -7,7 +7,7 @@ use Rattle.capn_serve.specs.declared.fault.RunFault.{RunFault}
 use Rattle.capn_parts.specs.ShowRun.{part_fold}
 use Rattle.capn_parts.specs.declared.part_texts.PartTexts.{PartTexts}
 use Rattle.capn_tool.specs.PartRun.{Follows}
-use Rattle.capn_tool.specs.declared.order.Show.{Show}
+use Rattle.capn_orders.specs.declared.order.Show.{Show}
 
 -- by an order and a way one text of an input is shown, and a run over it ends in one way
 abbrev pub OneShown : Type 0

@@ -1,10 +1,3 @@
-pub mod CommandLine
-pub mod Way
-pub mod RangeList
-pub mod MessageNumber
-pub mod OptionValues
-pub mod Meaning
-pub mod Usage
 pub mod ExitStatus
 pub mod FaultText
 pub mod PartRun
@@ -14,4 +7,3 @@ pub mod Course
 pub mod Flushed
 pub mod Unordered
 pub mod Program
-pub mod inner

@@ -6,8 +6,8 @@ use Rattle.capn_parts.specs.declared.part_texts.PartTexts.{PartTexts}
 use Rattle.capn_commands.specs.CommandRun.{unplaced}
 use Rattle.capn_commands.specs.declared.fault.ToolFault.{ToolFault}
 use Rattle.capn_commands.specs.declared.fault.ToolFault.TheVariants as faults
-use Rattle.capn_tool.specs.Way.{numbers_of}
-use Rattle.capn_tool.specs.declared.order.Show.{Show}
+use Rattle.capn_orders.specs.Way.{numbers_of}
+use Rattle.capn_orders.specs.declared.order.Show.{Show}
 
 -- how a run over messages ends, without the position of the message that is refused
 abbrev pub unplaced_end : Result (Unit {0}) RunFault → Result (Unit {0}) ToolFault

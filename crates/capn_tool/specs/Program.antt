@@ -3,16 +3,26 @@ use Rattle.std.specs.Prelude.{ℕ, ◌≡◌, ◌⊎◌, List, Bool, Option, Res
 use Rattle.clap.specs.Words.{Text, subcommand_of}
 use Rattle.capn_commands.specs.ExitStatus.{status_of}
 use Rattle.capn_commands.specs.FaultText.{ReportsEnding}
-use Rattle.capn_tool.specs.CommandLine.{program_line}
+use Rattle.capn_commands.specs.declared.fault.ToolFault.TheVariants as faults
+use Rattle.capn_archive.specs.ArchiveRun.{Archived}
+use Rattle.capn_archive.specs.UniqRun.{Deduplicated}
+use Rattle.capn_archive.specs.declared.fault.ArchiveFault.TheVariants as archive_faults
+use Rattle.capn_serve.specs.PickRun.{Picks}
+use Rattle.capn_serve.specs.declared.fault.RunFault.TheVariants as run_faults
+use Rattle.capn_report.specs.ExplainRun.{Explained}
+use Rattle.capn_flow.specs.declared.fault.FlowFault.TheVariants as flow_faults
+use Rattle.capn_make.specs.declared.fault.MakeFault.TheVariants as make_faults
+use Rattle.capn_orders.specs.CommandLine.{program_line}
 use Rattle.capn_tool.specs.Course.{Course}
 use Rattle.capn_tool.specs.ExitStatus.{archive_status, flow_status, make_status, pick_status}
 use Rattle.capn_tool.specs.FaultText.{WritesArchiveEnding, WritesFlowEnding, WritesMakeEnding, WritesPickEnding}
-use Rattle.capn_tool.specs.Flushed.{CarriesOut, ExplainsMessage, LeavesDoublesOut, LetsFlow, MakesTexts, PicksMessages}
-use Rattle.capn_tool.specs.Flushed.{PicksOnly, RunsOver, ShowsParts}
-use Rattle.capn_tool.specs.Meaning.{MeansOrder}
+use Rattle.capn_tool.specs.Flushed.{CarriesOut, Flowed, MadeBy, RunOver, RunsFlushed}
+use Rattle.capn_orders.specs.Meaning.{MeansOrder}
+use Rattle.capn_tool.specs.OnlyRun.{OnlyPicked}
+use Rattle.capn_tool.specs.PartRun.{PartsShown}
 use Rattle.capn_tool.specs.Unordered.{Unordered}
-use Rattle.capn_tool.specs.declared.order.Order.{Order}
-use Rattle.capn_tool.specs.declared.order.Order.TheVariants as orders
+use Rattle.capn_orders.specs.declared.order.Order.{Order}
+use Rattle.capn_orders.specs.declared.order.Order.TheVariants as orders
 
 -- The words order this. It was carried out, from the input to the output. The status, and what was written to the
 -- errors, are those of how it ended.
@@ -28,41 +38,52 @@ pub record EndsOrder {O F : Type 0} (name : O → Order)
   pub told : WritesEnd outcome errors.before errors.after errors.failed
   pub is : status ≡ status_of_end outcome
 
+-- the same of an order whose run meets a statement, with the fault of an output that failed
+abbrev pub EndsRunOrder : {O F : Type 0} → (O → Order) → F → (O → RunOver F)
+    → (Result (Unit {0}) F → Option (List ℕ) → Option (List ℕ) → Bool → Type 0) → (Result (Unit {0}) F → ℕ)
+    → List Text → Course → Course → Course → ℕ → Type 0
+EndsRunOrder name io Runs = EndsOrder name (λ order. RunsFlushed io (Runs order))
+
 -- the words order a command over messages or bytes
 abbrev pub EndsMessage : List Text → Course → Course → Course → ℕ → Type 0
 EndsMessage = EndsOrder (λ command. orders.Message command) CarriesOut ReportsEnding status_of
 
 -- the words order that parts of messages are shown
 abbrev pub EndsShow : List Text → Course → Course → Course → ℕ → Type 0
-EndsShow = EndsOrder (λ show. orders.Show show) ShowsParts ReportsEnding status_of
+EndsShow = EndsRunOrder (λ show. orders.Show show) faults.Io PartsShown ReportsEnding status_of
 
 -- the words order that a message is explained
 abbrev pub EndsExplain : List Text → Course → Course → Course → ℕ → Type 0
-EndsExplain = EndsOrder (λ explain. orders.Explain explain) ExplainsMessage WritesPickEnding pick_status
+EndsExplain = EndsRunOrder (λ explain. orders.Explain explain) run_faults.Io Explained WritesPickEnding pick_status
 
 -- the words order a run over an archive
 abbrev pub EndsArchive : List Text → Course → Course → Course → ℕ → Type 0
-EndsArchive = EndsOrder (λ archive. orders.Archive archive) RunsOver WritesArchiveEnding archive_status
+EndsArchive =
+    EndsRunOrder (λ archive. orders.Archive archive) archive_faults.Io Archived WritesArchiveEnding archive_status
 
 -- the words order that duplicates are left out
 abbrev pub EndsUniq : List Text → Course → Course → Course → ℕ → Type 0
-EndsUniq = EndsOrder (λ uniq. orders.Uniq uniq) LeavesDoublesOut WritesArchiveEnding archive_status
+EndsUniq = EndsRunOrder (λ uniq. orders.Uniq uniq) archive_faults.Io Deduplicated WritesArchiveEnding archive_status
 
 -- the words order that messages are picked
 abbrev pub EndsPick : List Text → Course → Course → Course → ℕ → Type 0
-EndsPick = EndsOrder (λ pick. orders.Pick pick) PicksMessages WritesPickEnding pick_status
+EndsPick =
+    EndsRunOrder (λ pick. orders.Pick pick) run_faults.Io (λ pick. Picks pick.limits.message_words pick pick.form)
+    WritesPickEnding pick_status
 
 -- the words order that the messages of a list are picked
 abbrev pub EndsOnly : List Text → Course → Course → Course → ℕ → Type 0
-EndsOnly = EndsOrder (λ only. orders.Only only) PicksOnly WritesPickEnding pick_status
+EndsOnly = EndsRunOrder (λ only. orders.Only only) run_faults.Io OnlyPicked WritesPickEnding pick_status
 
 -- the words order that bytes flow
 abbrev pub EndsFlow : List Text → Course → Course → Course → ℕ → Type 0
-EndsFlow = EndsOrder (λ flow. orders.Flow flow) LetsFlow WritesFlowEnding flow_status
+EndsFlow = EndsRunOrder (λ flow. orders.Flow flow) flow_faults.Io Flowed WritesFlowEnding flow_status
 
 -- the words order that messages are made from texts
 abbrev pub EndsMake : List Text → Course → Course → Course → ℕ → Type 0
-EndsMake = EndsOrder (λ make. orders.Make make) MakesTexts WritesMakeEnding make_status
+EndsMake =
+    EndsRunOrder (λ make. orders.Make make) make_faults.Io (λ make. MadeBy make.quoted make.form) WritesMakeEnding
+    make_status
 
 -- what the program did that was started with these words, by its status
 abbrev pub Ends : List Text → Course → Course → Course → ℕ → Type 0

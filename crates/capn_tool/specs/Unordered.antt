@@ -10,11 +10,11 @@ use Rattle.capn_commands.specs.ExitStatus.{status_of}
 use Rattle.capn_commands.specs.FaultText.{ReportsEnding, fault_line}
 use Rattle.capn_commands.specs.declared.fault.ToolFault.{ToolFault}
 use Rattle.capn_commands.specs.declared.fault.ToolFault.TheVariants as faults
-use Rattle.capn_tool.specs.CommandLine.{program_line}
+use Rattle.capn_orders.specs.CommandLine.{program_line}
 use Rattle.capn_tool.specs.Course.{Course, IsUntouched}
-use Rattle.capn_tool.specs.Meaning.{MeansOrder}
-use Rattle.capn_tool.specs.Usage.{IsHelp, IsReason, version_line}
-use Rattle.capn_tool.specs.declared.order.Order.{Order}
+use Rattle.capn_orders.specs.Meaning.{MeansOrder}
+use Rattle.capn_orders.specs.Usage.{IsHelp, IsReason, version_line}
+use Rattle.capn_orders.specs.declared.order.Order.{Order}
 
 -- Help was shown on the output, and ended so: a text of help was written, and the output has not failed; or a beginning
 -- of one, and it has failed; or nothing was, since memory was refused.

@@ -2,12 +2,12 @@
 //! Each run goes from all of the input to all of the output.
 //!
 //! [`program`] is all of it, from the words of the command line to the exit status, over any reader and writers.
-//! [`order_of`] reads the words. They order a command of [`capn_commands`]; that messages, or parts of them, are shown
-//! in a style, by [`show_parts`]; that a message is explained, by [`capn_report`]; a run over an archive, which is a
-//! stream of messages of any length, by [`capn_archive`] or [`capn_serve`]; that bytes are packed or unpacked while
-//! they come in, by [`capn_flow`]; or that messages are made from texts, by [`capn_make`]. [`end`], [`end_archive`],
-//! [`end_pick`], [`end_flow`] and [`end_make`] report how such a run ended. [`command_of`] reads the words where they
-//! order a command of [`capn_commands`], and [`run`] carries it out.
+//! [`order_of`], of [`capn_orders`], reads the words. They order a command of [`capn_commands`]; that messages, or
+//! parts of them, are shown in a style, by [`show_parts`]; that a message is explained, by [`capn_report`]; a run over
+//! an archive, which is a stream of messages of any length, by [`capn_archive`] or [`capn_serve`]; that bytes are
+//! packed or unpacked while they come in, by [`capn_flow`]; or that messages are made from texts, by [`capn_make`].
+//! [`end`], [`end_archive`], [`end_pick`], [`end_flow`] and [`end_make`] report how such a run ended. [`command_of`]
+//! reads the words where they order a command of [`capn_commands`], and [`run`] carries it out.
 //!
 //! ```text
 //! let order = order_of(alloc, &["capn", "list", "--keep-going"])?;
@@ -15,45 +15,27 @@
 #![tactic(auto)]
 
 mod archive_faults;
-mod archives_help;
-mod bytes_help;
-mod command_line;
-mod command_order;
+mod chosen_runs;
 mod endings;
-mod explain_options;
-mod flushed_runs;
-mod help;
-mod input_options;
 pub mod laws;
-mod message_number;
-mod messages_help;
-mod mistakes;
+mod message_run;
 mod only_run;
-mod option_mistakes;
-mod option_values;
-mod options;
-mod order;
 mod output;
 mod part_run;
 mod program_run;
-mod range_list;
-mod rows;
-mod show_options;
-mod subcommands;
+mod run_end;
 mod unordered;
-mod usage;
-mod way;
 
 pub use archive_faults::archive_text;
-pub use command_line::order_of;
-pub use command_order::command_of;
 pub use endings::{end_archive, end_flow, end_make, end_pick, status_of_archive};
 pub use only_run::pick_only;
-pub use order::{Flow, Make, Only, Order, Show};
 pub use part_run::show_parts;
 pub use program_run::program;
-pub use subcommands::program_command;
-pub use usage::Usage;
+
+// The command line: the words, and the order that they give.
+pub use capn_orders::{
+    Flow, Make, Only, Order, Show, Usage, command_of, order_of, program_command,
+};
 
 // The commands over messages and bytes, their run and how it ends.
 pub use capn_commands::{Command, ToolFault, end, fault_text, run, status};

@@ -4,9 +4,8 @@ ghost use Rattle.std.specs.Prelude.{◌≡◌, false};
 ghost use Rattle.capn_words.specs.Watched.{inner_of, has_failed};
 ghost use Rattle.capn_tool.specs.PartRun.{PartsShown};
 
-use crate::order::Show;
-use crate::way::numbers_of;
 use capn_commands::ToolFault;
+use capn_orders::{Show, numbers_of};
 use capn_parts::{PartTexts, run_show};
 use capn_words::Watched;
 use std::alloc::Allocator;

@@ -5,15 +5,19 @@ ghost use Rattle.capn_words.specs.Watched.{inner_of, has_failed};
 ghost use Rattle.capn_tool.specs.Course.{course};
 ghost use Rattle.capn_tool.specs.Program.{Ends};
 
-use crate::command_line::order_of;
-use crate::endings::{end_archive, end_flow, end_make, end_pick};
-use crate::flushed_runs::{
-    carry_out, explain_and_flush, go_over, leave_doubles_out, let_flow, make_and_flush,
-    pick_and_flush, pick_messages, show_and_flush,
-};
-use crate::order::Order;
+use crate::chosen_runs::{flow_through, make_by};
+use crate::message_run::carry_out;
+use crate::only_run::pick_only;
+use crate::part_run::show_parts;
+use crate::run_end::finish;
 use crate::unordered::end_unordered;
-use capn_commands::end;
+use capn_archive::{ArchiveFault, RunFault, run_archive, run_uniq};
+use capn_commands::{ToolFault, end};
+use capn_flow::FlowFault;
+use capn_make::MakeFault;
+use capn_orders::{Order, order_of};
+use capn_report::run_explain;
+use capn_serve::run_pick;
 use capn_words::Watched;
 use std::alloc::Global;
 use std::convert::AsStr;
@@ -33,6 +37,7 @@ use std::io::{Read, Write};
 /// messages were skipped. A command line that orders nothing ends with 2, and `errors` says what is wrong with it, or
 /// `capn: out of memory` if there is no memory for that. Help and the version are written to the writer and end with 0,
 /// or with 3 if that fails.
+#[tactic(auto, using(crate::proofs::EndedOrders::ended))]
 pub fn program<'a, S: AsStr, R: Read, W: Write, E: Write>(
     alloc: Global,
     words: &'a [S],
@@ -55,38 +60,38 @@ pub fn program<'a, S: AsStr, R: Read, W: Write, E: Write>(
                 &carry_out(alloc, command, reader, writer),
                 errors,
             ),
-            Order::Show(show) => end(alloc, &show_and_flush(alloc, &show, reader, writer), errors),
-            Order::Explain(explain) => end_pick(
-                alloc,
-                &explain_and_flush(alloc, explain, reader, writer),
-                errors,
-            ),
-            Order::Archive(archive) => end_archive(
-                alloc,
-                &go_over(alloc, archive, reader, writer),
-                errors,
-            ),
-            Order::Uniq(uniq) => end_archive(
-                alloc,
-                &leave_doubles_out(alloc, uniq, reader, writer),
-                errors,
-            ),
-            Order::Pick(pick) => end_pick(
-                alloc,
-                &pick_messages(alloc, pick, reader, writer),
-                errors,
-            ),
-            Order::Only(only) => end_pick(
-                alloc,
-                &pick_and_flush(alloc, &only, reader, writer),
-                errors,
-            ),
-            Order::Flow(flow) => end_flow(alloc, &let_flow(alloc, flow, reader, writer), errors),
-            Order::Make(order) => end_make(
-                alloc,
-                &make_and_flush(alloc, order, reader, writer),
-                errors,
-            ),
+            Order::Show(show) => {
+                let shown = show_parts(alloc, &show, reader, writer);
+                finish(shown, ToolFault::Io, writer, errors)
+            }
+            Order::Explain(explain) => {
+                let explained = run_explain(alloc, explain, reader, writer);
+                finish(explained, RunFault::Io, writer, errors)
+            }
+            Order::Archive(archive) => {
+                let archived = run_archive(alloc, archive, reader, writer);
+                finish(archived, ArchiveFault::Io, writer, errors)
+            }
+            Order::Uniq(uniq) => {
+                let sifted = run_uniq(alloc, uniq, reader, writer);
+                finish(sifted, ArchiveFault::Io, writer, errors)
+            }
+            Order::Pick(pick) => {
+                let picked = run_pick(alloc, pick, reader, writer);
+                finish(picked, RunFault::Io, writer, errors)
+            }
+            Order::Only(only) => {
+                let picked = pick_only(alloc, &only, reader, writer);
+                finish(picked, RunFault::Io, writer, errors)
+            }
+            Order::Flow(flow) => {
+                let flowed = flow_through(alloc, flow, reader, writer);
+                finish(flowed, FlowFault::Io, writer, errors)
+            }
+            Order::Make(order) => {
+                let made = make_by(alloc, order, reader, writer);
+                finish(made, MakeFault::Io, writer, errors)
+            }
         },
         Err(usage) => end_unordered(alloc, &usage, writer, errors),
     }

@@ -8,12 +8,11 @@ ghost use Rattle.capn_commands.specs.FaultText.{fault_line};
 ghost use Rattle.capn_commands.specs.declared.fault.ToolFault.TheVariants as faults;
 ghost use Rattle.capn_tool.specs.Course.{course};
 ghost use Rattle.capn_tool.specs.Unordered.{EndsUnordered, ShowsHelp, ShowsVersion, WritesText};
-ghost use Rattle.capn_tool.specs.Usage.{WishesHelp, error_of};
+ghost use Rattle.capn_orders.specs.Usage.{WishesHelp, error_of};
 
-use crate::help::VERSION_LINE;
 use crate::output::{flush_after, write_all};
-use crate::usage::Usage;
 use capn_commands::{ToolFault, end};
+use capn_orders::{Usage, VERSION_LINE};
 use capn_words::Watched;
 use std::alloc::{AllocError, Global};
 use std::io::Write;

@@ -14,6 +14,8 @@ mod fault_lines;
 #[cfg(test)]
 mod long_ways;
 #[cfg(test)]
+mod option_texts;
+#[cfg(test)]
 mod orders;
 #[cfg(test)]
 mod picks;

@@ -283,37 +283,6 @@ fn a_message_is_explained_by_its_number(rt: HostRuntime) {
 }
 
 #[test]
-fn what_a_command_does_not_take_is_refused(rt: HostRuntime) {
-    for words in [
-        &["capn", "canonical", "--keep-going"][..],
-        &["capn", "list", "--framed"][..],
-        &["capn", "list", "--count"][..],
-        &["capn", "limits", "--digest"][..],
-        &["capn", "uniq", "--digest"][..],
-        &["capn", "limits", "--framed"][..],
-        &["capn", "show", "--keep-going"][..],
-        &["capn", "check", "--framed"][..],
-        &["capn", "hash", "--keep-going"][..],
-        &["capn", "pack", "--keep-going"][..],
-        &["capn", "unpack", "--framed"][..],
-        &["capn", "list", "--keep-going", "--keep-going"][..],
-        &["capn", "list", "--keep-going=true"][..],
-        &["capn", "canonical", "--framed=false"][..],
-        &["capn", "list", "--form", "flat"][..],
-        &["capn", "limits", "--tariff", "cheap"][..],
-        &["capn", "canonical", "--framed", "--form", "flat"][..],
-        &["capn", "list", "--depth", "0"][..],
-        &["capn", "limits", "--budget", "268435457"][..],
-        &["capn", "list", "message"][..],
-        &["capn", "--keep-going", "list"][..],
-        &["capn", "list", "--version"][..],
-        &["capn"][..],
-    ] {
-        expect_usage(&rt, rt.alloc(), words, 2);
-    }
-}
-
-#[test]
 fn flags_that_go_together_are_named(rt: HostRuntime) {
     let words = ["capn", "canonical", "--keep-going"];
     let text = match order_of(rt.alloc(), &words) {
@@ -325,32 +294,6 @@ fn flags_that_go_together_are_named(rt: HostRuntime) {
         text.as_str()
             .starts_with("error: --keep-going needs --framed\n")
     );
-}
-
-#[test]
-fn help_names_each_command(rt: HostRuntime) {
-    let text = match order_of(rt.alloc(), &["capn", "--help"]) {
-        Ok(_) => None,
-        Err(usage) => usage.text(rt.alloc()).ok(),
-    };
-    let text = text.expect(&rt, "help");
-    for name in [
-        "show",
-        "check",
-        "explain",
-        "list",
-        "limits",
-        "canonical",
-        "hash",
-        "uniq",
-        "pick",
-        "pack",
-        "unpack",
-        "make",
-    ] {
-        let line = format!(in rt.alloc(); "\n  {name} ").expect(&rt, "memory");
-        assert!(rt; text.as_str().contains(line.as_str()), "{name}");
-    }
 }
 
 #[test]

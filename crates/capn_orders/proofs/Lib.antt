@@ -1,0 +1,10 @@
+pub mod CommandLines
+pub mod Entered
+pub mod ReadValues
+pub mod OneMeaning
+pub mod OneOrder
+pub mod NamedOrders
+pub mod WorkedLines
+pub mod Sources
+pub mod Ways
+pub mod RangeLists

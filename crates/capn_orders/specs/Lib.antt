@@ -1,0 +1,9 @@
+pub mod CommandLine
+pub mod Way
+pub mod RangeList
+pub mod MessageNumber
+pub mod OptionValues
+pub mod Meaning
+pub mod Usage
+pub mod ExitStatus
+pub mod inner

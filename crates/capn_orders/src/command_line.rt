@@ -1,0 +1,253 @@
+//! The order given by the words of the command line.
+
+ghost use Rattle.std.specs.Prelude.{◌≡◌, [], true, codes, map};
+ghost use Rattle.std.specs.Prelude.{IfErr, IfOk, IfSome, IsSome, Some};
+ghost use Rattle.clap.specs.Words.{Text, fault_of, found_of, kind_of, rows_of, subcommand_of, takes};
+ghost use Rattle.capn_orders.specs.Usage.{error_of, IsReason, Orders};
+ghost use Rattle.capn_archive.specs.declared.task.ArchiveOrder.{ArchiveOrder};
+ghost use Rattle.capn_archive.specs.declared.uniq_order.UniqOrder.{UniqOrder};
+ghost use Rattle.capn_serve.specs.declared.pick.Pick.{Pick};
+ghost use Rattle.capn_orders.specs.CommandLine.{program_line};
+ghost use Rattle.capn_orders.specs.Meaning.{AreOptions, ListIs, MakeIs, MeansOrder, OnlyIs, PickIs, UniqIs};
+ghost use Rattle.capn_orders.specs.declared.order.Make.{Make};
+ghost use Rattle.capn_orders.specs.declared.order.Only.{Only};
+ghost use Rattle.capn_orders.specs.declared.order.Order.{Order};
+
+use crate::explain_options::explain_of;
+use crate::input_options::{form_of, limits_of, unpacked_words_of};
+use crate::mistakes::meaningless;
+use crate::option_values::{flag_of, is_usual, limits_with, number_in, stream_form_of, text_in};
+use crate::order::{Flow, Make, Only, Order};
+use crate::range_list::is_range_list;
+use crate::show_options::show_of;
+use crate::subcommands::program_command;
+use crate::usage::Usage;
+use capn_archive::{ArchiveOrder, Task, UniqOrder};
+use capn_commands::Command;
+use capn_serve::Pick;
+use capn_words::MOST_MESSAGE_WORDS;
+use clap::ArgMatches;
+use std::alloc::Global;
+use std::convert::AsStr;
+
+/// The run over an archive that is for this task and has these options, if they mean one.
+fn archive_of(task: Task, matches: &ArgMatches) -> Option<ArchiveOrder>
+    ensures task { IfSome result (λ archive. archive.task ≡ task) }
+    ensures options { IfSome result (AreOptions (rows_of (found_of matches.now))) }
+    ensures served { (archive : ArchiveOrder) → AreOptions (rows_of (found_of matches.now)) archive → IsSome result }
+{
+    let form = form_of(matches)?;
+    let limits = limits_of(matches)?;
+    let keep_going = flag_of(matches, "keep-going")?;
+    Some(ArchiveOrder {
+        task,
+        form,
+        limits,
+        keep_going,
+    })
+}
+
+/// What `list` orders with these options, if they mean something: with `--digest` the lines have digests.
+fn list_of<'a>(matches: &ArgMatches<'a>) -> Option<Order<'a>>
+    ensures means { IfSome result (MeansOrder (Some (codes "list", rows_of (found_of matches.now)))) }
+    ensures served { (order : Order) → MeansOrder (Some (codes "list", rows_of (found_of matches.now))) order
+        → IsSome result }
+{
+    let task = if flag_of(matches, "digest")? {
+        Task::Digests
+    } else {
+        Task::List
+    };
+    Some(Order::Archive(archive_of(task, matches)?))
+}
+
+/// The run of `uniq` that has these options, if they mean one.
+fn uniq_of(matches: &ArgMatches) -> Option<UniqOrder>
+    ensures are { IfSome result (UniqIs (rows_of (found_of matches.now))) }
+    ensures served { (uniq : UniqOrder) → UniqIs (rows_of (found_of matches.now)) uniq → IsSome result }
+{
+    Some(UniqOrder {
+        form: form_of(matches)?,
+        limits: limits_of(matches)?,
+        keep_going: flag_of(matches, "keep-going")?,
+        count: flag_of(matches, "count")?,
+    })
+}
+
+/// The run of `make` that has these options, if they mean one.
+fn make_of(matches: &ArgMatches) -> Option<Make>
+    ensures are { IfSome result (MakeIs (rows_of (found_of matches.now))) }
+    ensures served { (make : Make) → MakeIs (rows_of (found_of matches.now)) make → IsSome result }
+{
+    Some(Make {
+        form: form_of(matches)?,
+        quoted: flag_of(matches, "text")?,
+    })
+}
+
+/// The run of `pick` that has these options, without `--only`, if they mean one.
+fn pick_of(matches: &ArgMatches) -> Option<Pick>
+    ensures are { IfSome result (PickIs (rows_of (found_of matches.now))) }
+    ensures served { (pick : Pick) → PickIs (rows_of (found_of matches.now)) pick → IsSome result }
+{
+    let form = stream_form_of(matches)?;
+    let words = number_in(matches, "message-words", 1, MOST_MESSAGE_WORDS as u64)?;
+    let from = number_in(matches, "from", 1, u64::MAX)?;
+    let to = number_in(matches, "to", 1, u64::MAX)?;
+    match text_in(matches, "only") {
+        Some(_) => None,
+        None => Some(Pick {
+            form,
+            limits: limits_with(words as u32),
+            from,
+            to,
+        }),
+    }
+}
+
+/// The list of `--only`, if it is one, and neither `--from` nor `--to` is given.
+fn list_of_only<'a>(matches: &ArgMatches<'a>) -> Option<&'a str>
+    ensures are { IfSome result (λ list. ListIs (rows_of (found_of matches.now)) list.now) }
+    ensures served { (list : Text) → ListIs (rows_of (found_of matches.now)) list → IsSome result }
+{
+    let list = text_in(matches, "only")?;
+    if is_range_list(list) && is_usual(matches, "from") && is_usual(matches, "to") {
+        return Some(list);
+    }
+    None
+}
+
+/// The run of `pick` that has these options, with `--only`, if they mean one.
+fn only_of<'a>(matches: &ArgMatches<'a>) -> Option<Only<'a>>
+    ensures are { IfSome result (OnlyIs (rows_of (found_of matches.now))) }
+    ensures served { (only : Only) → OnlyIs (rows_of (found_of matches.now)) only → IsSome result }
+{
+    let form = stream_form_of(matches)?;
+    let words = number_in(matches, "message-words", 1, MOST_MESSAGE_WORDS as u64)?;
+    let list = list_of_only(matches)?;
+    Some(Only {
+        form,
+        limits: limits_with(words as u32),
+        list,
+    })
+}
+
+/// What `pick` orders with these options, if they mean something: with `--only` the messages of a list, and else those
+/// from one number to another.
+fn pick_order<'a>(matches: &ArgMatches<'a>) -> Option<Order<'a>>
+    ensures means { IfSome result (MeansOrder (Some (codes "pick", rows_of (found_of matches.now)))) }
+    ensures served { (order : Order) → MeansOrder (Some (codes "pick", rows_of (found_of matches.now))) order
+        → IsSome result }
+{
+    match only_of(matches) {
+        Some(only) => Some(Order::Only(only)),
+        None => Some(Order::Pick(pick_of(matches)?)),
+    }
+}
+
+/// What `canonical` orders with these options, if they mean something: with `--framed` a run over an archive, and
+/// without it and `--keep-going` the command over one message.
+fn canonical_of<'a>(matches: &ArgMatches<'a>) -> Option<Order<'a>>
+    ensures means { IfSome result (MeansOrder (Some (codes "canonical", rows_of (found_of matches.now)))) }
+    ensures served { (order : Order) → MeansOrder (Some (codes "canonical", rows_of (found_of matches.now))) order
+        → IsSome result }
+{
+    if flag_of(matches, "framed")? {
+        return Some(Order::Archive(archive_of(Task::Canonical, matches)?));
+    }
+    if flag_of(matches, "keep-going")? {
+        return None;
+    }
+    let form = form_of(matches)?;
+    let limits = limits_of(matches)?;
+    Some(Order::Message(Command::Canonical(form, limits)))
+}
+
+/// What `pack` orders with these options, if they mean something: with `--streaming` it packs while bytes come in.
+fn pack_of<'a>(matches: &ArgMatches<'a>) -> Option<Order<'a>>
+    ensures means { IfSome result (MeansOrder (Some (codes "pack", rows_of (found_of matches.now)))) }
+    ensures served { (order : Order) → MeansOrder (Some (codes "pack", rows_of (found_of matches.now))) order
+        → IsSome result }
+{
+    if flag_of(matches, "streaming")? {
+        return Some(Order::Flow(Flow::Pack));
+    }
+    Some(Order::Message(Command::Pack))
+}
+
+/// What `unpack` orders with these options, if they mean something: with `--streaming`, and without `--message-words`,
+/// it unpacks while bytes come in.
+fn unpack_of<'a>(matches: &ArgMatches<'a>) -> Option<Order<'a>>
+    ensures means { IfSome result (MeansOrder (Some (codes "unpack", rows_of (found_of matches.now)))) }
+    ensures served { (order : Order) → MeansOrder (Some (codes "unpack", rows_of (found_of matches.now))) order
+        → IsSome result }
+{
+    if !flag_of(matches, "streaming")? {
+        return Some(Order::Message(Command::Unpack(unpacked_words_of(matches)?)));
+    }
+    if is_usual(matches, "message-words") {
+        return Some(Order::Flow(Flow::Unpack));
+    }
+    None
+}
+
+/// What the subcommand of this name orders with these options, if they mean something.
+fn named_order<'a>(name: &str, matches: &ArgMatches<'a>) -> Option<Order<'a>>
+    ensures means { IfSome result (MeansOrder (Some (name.now, rows_of (found_of matches.now)))) }
+    ensures served { (order : Order) → MeansOrder (Some (name.now, rows_of (found_of matches.now))) order
+        → IsSome result }
+{
+    match name {
+        "show" => show_of(matches),
+        "check" => {
+            let form = form_of(matches)?;
+            let limits = limits_of(matches)?;
+            Some(Order::Message(Command::Check(form, limits)))
+        }
+        "explain" => Some(Order::Explain(explain_of(matches)?)),
+        "list" => list_of(matches),
+        "limits" => Some(Order::Archive(archive_of(Task::Limits, matches)?)),
+        "canonical" => canonical_of(matches),
+        "uniq" => Some(Order::Uniq(uniq_of(matches)?)),
+        "pick" => pick_order(matches),
+        "pack" => pack_of(matches),
+        "unpack" => unpack_of(matches),
+        "make" => Some(Order::Make(make_of(matches)?)),
+        "hash" => {
+            let form = form_of(matches)?;
+            let limits = limits_of(matches)?;
+            Some(Order::Message(Command::Hash(form, limits)))
+        }
+        _ => None,
+    }
+}
+
+/// What the words order, the first of them being the program's name: the subcommand's work, with the form, the limits,
+/// the tariff and the flags that its options have, given or usual. A request for help or for the version, a word, an
+/// option or a value that is not known, a number out of its range, a form or a tariff that the command does not take,
+/// a value of `--at` that is no way, one of `--number` that is no number of a message, one of `--only` that is no list,
+/// `--json` with `--offsets` or `--ways`, `--only` with `--from` or `--to`, `--keep-going` of `canonical` without
+/// `--framed`, `--message-words` of `unpack` with `--streaming`, and refused memory are answered as `Usage`, with the
+/// text for the user.
+pub fn order_of<'a, S: AsStr>(alloc: Global, words: &'a [S]) -> Result<Order<'a>, Usage>
+    // An order that is given is what the words mean.
+    ensures means { IfOk result (MeansOrder (subcommand_of program_line (map S.text words.now))) }
+    // Where the words are taken and mean an order, that order is given, unless memory is refused.
+    ensures only { takes program_line (map S.text words.now) ≡ true → (order : Order)
+        → MeansOrder (subcommand_of program_line (map S.text words.now)) order → Orders order result }
+    // Where one is given no step of the parser fails.
+    ensures passes { IfOk result (λ _. fault_of program_line (map S.text words.now) ≡ []) }
+    // Where none is given, the kind of the answer is a reason why the words order nothing.
+    ensures reason { IfErr result (λ usage. IsReason (map S.text words.now) (kind_of (error_of usage))) }
+{
+    let tool = program_command(alloc)?;
+    let matches = tool.try_get_matches_from(words)?;
+    let named = match matches.subcommand() {
+        Some((name, found)) => named_order(name, found),
+        None => None,
+    };
+    match named {
+        Some(order) => Ok(order),
+        None => Err(meaningless(alloc, &matches)),
+    }
+}

@@ -1,0 +1,35 @@
+-- An order that was carried out, from its run and the end of that.
+use Rattle.std.proofs.Common.{ℕ, List, Bool, Option, Result}
+use Rattle.clap.specs.Words.{Text, subcommand_of}
+use Rattle.capn_endings.specs.Ending.{WritesEnding, status_of_ending}
+use Rattle.capn_orders.specs.CommandLine.{program_line}
+use Rattle.capn_tool.specs.Course.{Course, course}
+use Rattle.capn_tool.specs.Flushed.{EndsRun, RunOver}
+use Rattle.capn_orders.specs.Meaning.{MeansOrder}
+use Rattle.capn_tool.specs.Program.{EndsRunOrder}
+use Rattle.capn_orders.specs.declared.order.Order.{Order}
+
+pub ended : {O F : Type 0} (name : O → Order) (io : F) (Runs : O → RunOver F) (text : F → List ℕ) (exit : F → ℕ)
+    {words : List Text} {order : O} {a b c m d : Option (List ℕ)} {unread failed is_failed : Bool}
+    {run : Result (Unit {0}) F} {errors : Course} {status : ℕ}
+    → MeansOrder (subcommand_of program_line words) (name order)
+    → Runs order a b c m unread failed run
+    → EndsRun text exit io run failed (course m d is_failed) errors status
+    → EndsRunOrder name io Runs (WritesEnding text) (status_of_ending exit) words (course a b unread)
+    (course c d is_failed) errors status
+ended name io Runs text exit {words} {order} {a} {b} {c} {m} {d} {unread} {failed} {is_failed} {run} means ran end =
+    record {
+      order = order;
+      outcome = end.outcome;
+      means = means;
+      run = record {
+        run = run;
+        written = m;
+        failed = failed;
+        ran = ran;
+        kept = end.kept;
+        flushed = end.flushed;
+      };
+      told = end.told;
+      is = end.is;
+    }
