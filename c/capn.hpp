@@ -57,7 +57,12 @@ struct limits : capn_limits {
     limits() noexcept : capn_limits CAPN_USUAL_LIMITS {}
     limits(std::uint32_t most_words, std::uint32_t most_paid, std::uint32_t most_depth,
            capn::tariff counting = capn::tariff::strict) noexcept
-        : capn_limits{most_words, most_paid, most_depth, static_cast<std::uint32_t>(counting)} {}
+        : limits() {
+        message_words = most_words;
+        budget = most_paid;
+        depth = most_depth;
+        tariff = static_cast<std::uint32_t>(counting);
+    }
 };
 
 namespace detail {

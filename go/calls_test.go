@@ -81,7 +81,7 @@ func TestLongAnswer(t *testing.T) {
 		t.Fatal(len(got), err)
 	}
 	dst := make([]byte, 5, 50)
-	if got, err = AppendCanonical(dst, segment, Bare, &Limits{9, 3000, 9, Strict}); !errors.Is(err, ErrOverBudget) {
+	if got, err = AppendCanonical(dst, segment, Bare, limitsWith(9, 3000, 9, Strict)); !errors.Is(err, ErrOverBudget) {
 		t.Fatal(err)
 	}
 	if &got[0] != &dst[0] || len(got) != 5 {
@@ -126,13 +126,13 @@ func TestShow(t *testing.T) {
 	if _, err := Show(small, Stream, nil, Style(4)); err != ErrStyle {
 		t.Error(err)
 	}
-	if text, err := Show(small, Stream, &Limits{9, 2, 9, Strict}, Lines); !errors.Is(err, ErrOverBudget) || text != "" {
+	if text, err := Show(small, Stream, limitsWith(9, 2, 9, Strict), Lines); !errors.Is(err, ErrOverBudget) || text != "" {
 		t.Error(text, err)
 	}
 }
 
 func TestRefusals(t *testing.T) {
-	outside, little := []byte("\x00\x00\x00\x00\x01\x00\x00\x00"), &Limits{9, 2, 9, Strict}
+	outside, little := []byte("\x00\x00\x00\x00\x01\x00\x00\x00"), limitsWith(9, 2, 9, Strict)
 	capability := []byte("\x00\x00\x00\x00\x00\x00\x01\x00" + "\x03\x00\x00\x00\x07\x00\x00\x00")
 	for _, one := range []struct {
 		err  error
@@ -150,7 +150,7 @@ func TestRefusals(t *testing.T) {
 		{second(Survey([]byte{0x10, 1}, Packed, nil)), ErrFrameCut, "frame: Cut", true},
 		{second(Canonical(capability, Bare, nil)), ErrCapability, "capability 7", false},
 		{second(Digest(outside, Bare, nil)), ErrRange, "Range at 0:0, paid 0, visits 1", false},
-		{second(Check(small, Stream, &Limits{9, 9, 256, Tariff(1)})), 0, "", false},
+		{second(Check(small, Stream, limitsWith(9, 9, 256, Tariff(1)))), 0, "", false},
 		{second(Check(small, Stream, little)), ErrOverBudget, "OverBudget at 0:0, paid 0, visits 1", false},
 		{second(NewIndex(small, Stream, little)), ErrOverBudget, "OverBudget at 0:0, paid 0, visits 1", false},
 	} {
@@ -172,12 +172,15 @@ func TestRefusals(t *testing.T) {
 		}
 	}
 	deep := bytesOf([][]uint64{{1 << 48, 1 << 48, 1 << 48, 0}})[0]
-	if _, err := Check(deep, Bare, &Limits{9, 9, 2, Strict}); !errors.Is(err, ErrTooDeep) {
+	if _, err := Check(deep, Bare, limitsWith(9, 9, 2, Strict)); !errors.Is(err, ErrTooDeep) {
 		t.Error(err)
 	}
-	for _, limits := range []Limits{{}, {0, 1, 1, 0}, {1, 1, 0, 0}, {1, 1, 257, 0}, {1 << 29, 1, 1, 0}, {1, 1, 1, 2}} {
-		if _, err := Check(small, Stream, &limits); err != ErrLimits {
-			t.Error(limits, err)
+	for _, limits := range []*Limits{
+		{}, limitsWith(0, 1, 1, 0), limitsWith(1, 1, 0, 0), limitsWith(1, 1, 257, 0), limitsWith(1<<29, 1, 1, 0),
+		limitsWith(1, 1, 1, 2),
+	} {
+		if _, err := Check(small, Stream, limits); err != ErrLimits {
+			t.Error(*limits, err)
 		}
 	}
 	if _, err := Check(small, Form(3), nil); err != ErrForm {
@@ -186,6 +189,13 @@ func TestRefusals(t *testing.T) {
 }
 
 func second[T any](_ T, err error) error { return err }
+
+// limitsWith are limits of these numbers, and for the rest the usual ones.
+func limitsWith(messageWords, budget, depth uint32, tariff Tariff) *Limits {
+	limits := UsualLimits()
+	limits.MessageWords, limits.Budget, limits.Depth, limits.Tariff = messageWords, budget, depth, tariff
+	return &limits
+}
 
 // Each status from 16 on that the header has is a kind with its name, and no other is.
 func TestHeader(t *testing.T) {

@@ -133,7 +133,7 @@ func TestRefusedStream(t *testing.T) {
 			t.Fatal(err)
 		}
 	}
-	if _, err := NewReader(bytes.NewReader(small), &Limits{2, 9, 9, Strict}).Next(); !errors.Is(err, ErrTooManyWords) {
+	if _, err := NewReader(bytes.NewReader(small), limitsWith(2, 9, 9, Strict)).Next(); !errors.Is(err, ErrTooManyWords) {
 		t.Fatal(err)
 	}
 	if _, err := NewReader(bytes.NewReader(small), &Limits{}).Next(); err != ErrLimits {

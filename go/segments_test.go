@@ -88,7 +88,7 @@ func TestRefusedSegments(t *testing.T) {
 		t.Error(err)
 	}
 	long := [][]byte{make([]byte, 8), make([]byte, 16)}
-	if _, err := DigestSegments(long, &Limits{2, 8, 8, Strict}); !errors.Is(err, ErrTooManyWords) {
+	if _, err := DigestSegments(long, limitsWith(2, 8, 8, Strict)); !errors.Is(err, ErrTooManyWords) {
 		t.Error(err)
 	}
 }

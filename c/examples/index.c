@@ -21,7 +21,9 @@ static void show(const capn_entry *all, size_t i, int level, const uint8_t *byte
 int main(int count, char **words) {
     /* A copy, which nobody changes while it is read. Messages are whole words, so a file that fills it is refused. */
     static uint8_t bytes[(1 << 20) + 1];
-    const capn_limits limits = {1 << 17, 1 << 18, 64, CAPN_STRICT};
+    capn_limits limits = CAPN_USUAL_LIMITS;
+    limits.message_words = 1 << 17;
+    limits.budget = 1 << 18;
     if (count != 2) return 2;
     FILE *file = fopen(words[1], "rb");
     if (!file) return 3;

@@ -15,7 +15,10 @@ int main(int count, char **words) {
     if (more) return 1;
 
     /* Limits of the protocol's own: a message from a stranger costs no more than this. */
-    const capn_limits limits = {sizeof bytes / 8, 1 << 18, 32, CAPN_STRICT};
+    capn_limits limits = CAPN_USUAL_LIMITS;
+    limits.message_words = sizeof bytes / 8;
+    limits.budget = 1 << 18;
+    limits.depth = 32;
     uint8_t digest[32];
     capn_report report;
     capn_status status = capn_hash(CAPN_STREAM, bytes, size, &limits, digest, &report);

@@ -2,12 +2,12 @@
  * program it takes the bytes that end each line of standard input, in hexadecimal, and copies of them with some bytes
  * changed, by a fixed seed. A fuzzer calls LLVMFuzzerTestOneInput:
  * clang -DFUZZER -fsanitize=fuzzer,address -I c tests/c/fuzz.c build/libcapn.a */
-#include "capn.h"
+#include "usual.h"
 #include <stdio.h>
 #include <stdlib.h>
 #include <string.h>
 
-static const capn_limits limits = {1u << 16, 1u << 16, 64, CAPN_STRICT};
+static capn_limits limits;
 
 static void need(int holds, const char *what, const uint8_t *bytes, size_t size) {
     if (holds) return;
@@ -165,6 +165,7 @@ static void packing(const uint8_t *bytes, size_t size) {
 int LLVMFuzzerTestOneInput(const uint8_t *data, size_t size) {
     uint8_t *bytes = malloc(size ? size : 1); /* exactly as long, so that a sanitizer sees any byte beside them */
     if (size) memcpy(bytes, data, size);
+    limits = limits_of(1u << 16, 1u << 16, 64, CAPN_STRICT);
     for (uint32_t form = 0; form < 3; form++) message(form, bytes, size);
     packing(bytes, size);
     free(bytes);

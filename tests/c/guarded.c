@@ -182,8 +182,8 @@ static void choose(capn_limits *l) {
     if (choice == 4) l->depth = 1 + any(256);
     if (choice & 1) l->tariff = any(2);
     if (choice == 6) {
-        uint32_t *const all[4] = {&l->message_words, &l->budget, &l->depth, &l->tariff};
-        *all[any(4)] = any(2) ? (uint32_t)draw() : any(4);
+        uint32_t *const all = (uint32_t *)l; /* each limit is such a number */
+        all[any(sizeof *l / sizeof *all)] = any(2) ? (uint32_t)draw() : any(4);
     }
 }
 

@@ -87,7 +87,7 @@ int main(void) {
         }
     }
     capn_report r;
-    const capn_limits none = {0, 1, 1, CAPN_STRICT}, third = {1, 1, 1, 2};
+    const capn_limits none = limits_of(0, 1, 1, CAPN_STRICT), third = limits_of(1, 1, 1, 2);
     capn_entry one = {1, 2, 3, 4, 5, 6}, was = one;
     want("packed", capn_index(CAPN_PACKED, (uint8_t *)words, 8, &usual, &one, 1, &r), CAPN_BAD_FORM);
     want("form 3", capn_index(3, (uint8_t *)words, 8, &usual, &one, 1, &r), CAPN_BAD_FORM);

@@ -1,7 +1,7 @@
 /* Each allocation of each call refused in turn: CAPN_MEMORY, the buffer untouched, no number in the report, and nothing
  * left. Then the calls that need none: refused every one, they answer as with ample memory. */
-#include "capn.h"
 #include "refusing.h"
+#include "usual.h"
 #include <stdio.h>
 #include <string.h>
 
@@ -141,7 +141,7 @@ static void wants(const char *name, call *make, const input *in, long growths, u
 }
 
 static void in_turn(void) {
-    const capn_limits limits = {1u << 20, 1u << 20, 256, CAPN_STRICT};
+    const capn_limits limits = limits_of(1u << 20, 1u << 20, 256, CAPN_STRICT);
     const input bare = {CAPN_BARE, deep, chain(deep, DEPTH), limits};
     const input stream = {CAPN_STREAM, framed, frame(framed, 2, deep, bare.size), limits};
     const input more = {CAPN_STREAM, many, frame(many, 65, deep, bare.size), limits};
@@ -175,7 +175,7 @@ static void in_turn(void) {
 /* At any depth bare words and a stream of at most 64 segments need no memory, whether they are as deep or deeper; a
  * stream of 65 needs it once, for where they end. */
 static void at_depth(uint32_t most, size_t depth, uint32_t wanted) {
-    const capn_limits limits = {1u << 20, 1u << 20, most, CAPN_STRICT};
+    const capn_limits limits = limits_of(1u << 20, 1u << 20, most, CAPN_STRICT);
     const uint32_t room = wanted == CAPN_OK ? CAPN_NO_ROOM : wanted;
     const input bare = {CAPN_BARE, deep, chain(deep, depth), limits};
     input stream = {CAPN_STREAM, framed, frame(framed, 1, deep, bare.size), limits};
@@ -215,11 +215,10 @@ static void at_depth(uint32_t most, size_t depth, uint32_t wanted) {
 /* What is refused as it is read needs no memory: nothing to pack or unpack, no whole words, a first group that is cut
  * or too long, a table that is cut or announces too much, and no table of a whole frame. */
 static void unread(void) {
-    const capn_limits limits = CAPN_USUAL_LIMITS;
     const uint8_t cut[9] = {255}, head[8] = {1, 0, 0, 0, 1}, count[8] = {255, 255}, whole[16] = {1};
-    const input nothing = {CAPN_STREAM, NULL, 0, limits}, odd = {CAPN_BARE, cut, 9, limits};
-    const input group = {CAPN_PACKED, cut, 9, limits}, table = {CAPN_STREAM, head, 8, limits};
-    const input segments = {CAPN_STREAM, count, 8, limits}, trailing = {CAPN_STREAM, whole, 16, limits};
+    const input nothing = {CAPN_STREAM, NULL, 0, usual}, odd = {CAPN_BARE, cut, 9, usual};
+    const input group = {CAPN_PACKED, cut, 9, usual}, table = {CAPN_STREAM, head, 8, usual};
+    const input segments = {CAPN_STREAM, count, 8, usual}, trailing = {CAPN_STREAM, whole, 16, usual};
     wants("pack of nothing", packed, &nothing, 0, CAPN_OK);
     wants("unpack of nothing", unpacked, &nothing, 0, CAPN_OK);
     wants("check of nothing", checked, &nothing, 0, CAPN_FRAME_EMPTY);

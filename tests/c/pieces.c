@@ -68,8 +68,9 @@ static void beginnings(void) {
 
 /* What is refused, and when. */
 static void refused(void) {
-    const capn_limits one = {1, 1, 1, 0}, bad[] = {{0, 1, 1, 0}, {1, 1, 0, 0}, {1, 1, 257, 0}, {1, 1u << 29, 1, 0}};
-    const capn_limits third = {1, 1, 1, 2};
+    const capn_limits one = limits_of(1, 1, 1, 0), third = limits_of(1, 1, 1, 2);
+    const capn_limits bad[] = {limits_of(0, 1, 1, 0), limits_of(1, 1, 0, 0), limits_of(1, 1, 257, 0),
+                               limits_of(1, 1u << 29, 1, 0)};
     const uint8_t many[4] = {0, 16}, two[8] = {0, 0, 0, 0, 2}, last[8] = {0, 0, 0, 0, 1};
     capn_report r;
     for (size_t size = 0; size < 4; size++)

@@ -88,7 +88,8 @@ static void held(const uint8_t *frame, size_t size, const capn_limits *limits) {
         held_messages++;
         several += count > 1;
         compare(segments, count, frame, size, limits);
-        const capn_limits few = {limits->message_words > 1 ? 1 : 2, limits->budget, limits->depth, limits->tariff};
+        capn_limits few = *limits;
+        few.message_words = limits->message_words > 1 ? 1 : 2;
         compare(segments, count, frame, size, &few);
     }
     for (size_t i = 0; i < made; i++) free(blocks[i]);
@@ -133,7 +134,7 @@ static void borders(void) {
         want(cases[i].what, capn_canonical_segments(all, cases[i].count, &limits, NULL, 0, &report),
              wanted == CAPN_OK ? CAPN_NO_ROOM : wanted);
     }
-    const capn_limits none = {0, 1, 1, CAPN_STRICT}, other = {1, 1, 1, 2};
+    const capn_limits none = limits_of(0, 1, 1, CAPN_STRICT), other = limits_of(1, 1, 1, 2);
     want("no limits", capn_check_segments(segments, 1, &none, &report), CAPN_BAD_LIMITS);
     want("no limits", capn_survey_segments(segments, 1, &none, &figures, &report), CAPN_BAD_LIMITS);
     want("no limits", capn_hash_segments(segments, 1, &none, out, &report), CAPN_BAD_LIMITS);

@@ -1,6 +1,6 @@
 /* How much stack each call takes at most: painted stacks of threads, over chains of objects as deep as a limit, in
  * one segment, in two and in more than are read without memory. */
-#include "capn.h"
+#include "usual.h"
 #include <pthread.h>
 #include <stdio.h>
 #include <stdlib.h>
@@ -28,7 +28,7 @@ static void put(size_t at, uint32_t low, uint32_t high) {
 /* The way to an object that is one level too deep, or to the end of what is paid. */
 static capn_status led(uint32_t form, const uint8_t *bytes, size_t count) {
     const uint32_t most = depth > 1 ? depth - 1 : 1;
-    capn_limits limits = {1u << 28, depth > 1 ? 1u << 28 : 0, most, CAPN_PLAIN};
+    const capn_limits limits = limits_of(1u << 28, depth > 1 ? 1u << 28 : 0, most, CAPN_PLAIN);
     capn_report report;
     uint32_t *way = (uint32_t *)(void *)out;
     const capn_status status = capn_refusal_way(form, bytes, count, &limits, way, ROOM / 4, &report);
@@ -36,7 +36,7 @@ static capn_status led(uint32_t form, const uint8_t *bytes, size_t count) {
 }
 
 static void *run(void *status) {
-    capn_limits limits = {1u << 28, 1u << 28, depth, CAPN_STRICT};
+    const capn_limits limits = limits_of(1u << 28, 1u << 28, depth, CAPN_STRICT);
     capn_figures figures;
     capn_departed departed;
     capn_report report;

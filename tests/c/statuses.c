@@ -1,7 +1,7 @@
 /* Each status of capn.h, provoked, and that the calls agree on it. Writes the numbers of the statuses that came, in
  * order, for a comparison with the header. */
-#include "capn.h"
 #include "refusing.h"
+#include "usual.h"
 #include <stdio.h>
 #include <string.h>
 #include <sys/mman.h>
@@ -20,8 +20,6 @@ static void is(const char *what, capn_status status, capn_status wanted) {
     if (status < 256) came[status] = 1;
     want(what, status, wanted);
 }
-
-static const capn_limits usual = CAPN_USUAL_LIMITS;
 
 /* What canonical, with room and without, hash, check, survey, show and the calls with ways answer of bytes, and index,
  * which doesn't take packed ones: all but canonical and hash say OK of a value with a capability. */
@@ -73,7 +71,7 @@ static void walks(const char *what, const uint64_t *words, size_t count, const c
 
 /* The faults of a walk, and a capability. */
 static void walked(void) {
-    const capn_limits shallow = {3, 100, 1, CAPN_STRICT}, poor = {3, 1, 64, CAPN_STRICT};
+    const capn_limits shallow = limits_of(3, 100, 1, CAPN_STRICT), poor = limits_of(3, 1, 64, CAPN_STRICT);
     const uint64_t null = 0, capability = 3, reserved = 7, far = 2 | 9ull << 32, beyond = 2 | 9 << 3;
     const uint64_t range = 1ull << 32;
     const uint64_t pad[] = {2 | 1 << 3, 0};
@@ -104,7 +102,7 @@ static void read_as(const char *what, uint32_t form, const void *bytes, size_t s
 static void reading(void) {
     const uint8_t message[24] = {0, 0, 0, 0, 1, 0, 0, 0, 0}, many[8] = {0, 16}, packed[3] = {0xff, 1, 2};
     const uint8_t zeros[2] = {0, 255};
-    const capn_limits one = {1, 1, 1, CAPN_STRICT};
+    const capn_limits one = limits_of(1, 1, 1, CAPN_STRICT);
     capn_report report;
     uint8_t out[16];
     read_as("7 bytes", CAPN_BARE, message, 7, &usual, CAPN_NOT_WHOLE, 7);
@@ -133,7 +131,7 @@ static void reading(void) {
 /* A packed text of more words than one message and the longest table may have; more bare words than there may be, of
  * which none is read. */
 static void too_long(void) {
-    const capn_limits one = {1, 1, 1, CAPN_STRICT};
+    const capn_limits one = limits_of(1, 1, 1, CAPN_STRICT);
     uint8_t zeros[18];
     for (int i = 0; i < 18; i++) zeros[i] = i % 2 ? 255 : 0; /* 9 * 256 words */
     read_as("2,304 packed words", CAPN_PACKED, zeros, 18, &one, CAPN_PACKED_TOO_LONG, 16);
@@ -150,7 +148,7 @@ static void too_long(void) {
 /* What is wrong with a call, the buffer that has no room, and bytes that are not canonical. */
 static void called(void) {
     const uint8_t message[24] = {0, 0, 0, 0, 2, 0, 0, 0, 0, 0, 0, 0, 1, 0, 0, 0, 0};
-    const capn_limits none = {0, 1, 1, CAPN_STRICT}, third = {1, 1, 1, 2};
+    const capn_limits none = limits_of(0, 1, 1, CAPN_STRICT), third = limits_of(1, 1, 1, 2);
     capn_report report;
     uint8_t out[16];
     each_call("form 3", 3, message, 24, &usual, CAPN_BAD_FORM);

@@ -36,7 +36,7 @@ static void figures(const char *what, const uint64_t *words, uint32_t count, cap
         want("as is_canonical says", capn_is_canonical(in + table, size - table, &usual, &checked) == CAPN_OK,
              wanted.canonical);
         for (uint32_t depth = 1; depth <= 6; depth++) {
-            const capn_limits lower = {8388608, 8388608, depth, CAPN_STRICT};
+            const capn_limits lower = limits_of(8388608, 8388608, depth, CAPN_STRICT);
             capn_status status = capn_survey(form, in, size, &lower, &f, &r);
             want("under a lower depth", status, depth < wanted.depth ? CAPN_TOO_DEEP : CAPN_OK);
             want("as check says", capn_check(form, in, size, &lower, &checked), status);
@@ -89,7 +89,8 @@ int main(void) {
     figures("two structs", two, 3, (capn_figures){.depth = 2, .canonical = 1});
     figures("three structs", three, 5, (capn_figures){.depth = 3});
     figures("capabilities", holds, 3, (capn_figures){.depth = 1, .has_capability = 1, .capability = 8});
-    const capn_limits none = {0, 1, 1, CAPN_STRICT}, third = {1, 1, 1, 2}, poor = {8, 1, 64, CAPN_STRICT};
+    const capn_limits none = limits_of(0, 1, 1, CAPN_STRICT), third = limits_of(1, 1, 1, 2);
+    const capn_limits poor = limits_of(8, 1, 64, CAPN_STRICT);
     refused("a cut group", CAPN_PACKED, "\x10\2\0\0\xff\1", 6, &usual, CAPN_PACKED_CUT);
     refused("a packed frame that is cut", CAPN_PACKED, "\x10\2\x10\1", 4, &usual, CAPN_FRAME_CUT);
     refused("no packed bytes", CAPN_PACKED, NULL, 0, &usual, CAPN_FRAME_EMPTY);

@@ -1,6 +1,6 @@
 /* Calls at the same time: threads that start together make every call on the same input, into buffers of their own, and
  * each answer is that of one thread alone. */
-#include "capn.h"
+#include "usual.h"
 #include <pthread.h>
 #include <stdio.h>
 #include <string.h>
@@ -10,7 +10,7 @@
 #define ROUNDS 100
 #endif
 enum { DEPTH = 200, WORDS = 2 * DEPTH, ROOM = 16 * WORDS, CALLS = 15 };
-static const capn_limits limits = {1u << 20, 1u << 20, 256, CAPN_STRICT};
+static capn_limits limits;
 /* Structs of two pointers, each in the one before: as a stream of two segments, and packed. */
 static uint8_t stream[16 + 8 * WORDS], packed[10 * (WORDS + 2)];
 static size_t packed_size;
@@ -64,6 +64,7 @@ static void *run(void *number) {
 int main(void) {
     pthread_t threads[THREADS];
     int numbers[THREADS], failed = 0;
+    limits = limits_of(1u << 20, 1u << 20, 256, CAPN_STRICT);
     stream[0] = 1;
     stream[4] = WORDS & 255;
     stream[5] = WORDS >> 8;

@@ -99,14 +99,9 @@ fn message_answer(
 ) -> Result<String, Refused> {
     let last = words.len() - 1;
     let number = |word: &str| word.parse().expect("a number");
-    let [message_words, budget, depth] =
+    let mut limits = Limits { tariff, ..USUAL };
+    [limits.message_words, limits.budget, limits.depth] =
         [words[last - 3], words[last - 2], words[last - 1]].map(number);
-    let limits = Limits {
-        message_words,
-        budget,
-        depth,
-        tariff,
-    };
     if call == "is_canonical" {
         return Ok(capn::is_canonical(data, &limits)?.to_string());
     }

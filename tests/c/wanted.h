@@ -1,8 +1,8 @@
-/* What the programs of this folder share: what is expected, the usual limits, pages between two that can't be touched.
- * TEST is the name of the program. */
+/* What the programs of this folder share: what is expected, limits, pages between two that can't be touched. TEST is
+ * the name of the program. */
 #ifndef CAPN_TESTS_WANTED_H
 #define CAPN_TESTS_WANTED_H
-#include "capn.h"
+#include "usual.h"
 #include <stdio.h>
 #include <stdlib.h>
 #include <string.h>
@@ -16,17 +16,15 @@ static void want(const char *what, uint64_t got, uint64_t wanted) {
     printf("%s: %s: %llu, wanted %llu\n", TEST, what, (unsigned long long)got, (unsigned long long)wanted);
 }
 
-static const capn_limits usual = CAPN_USUAL_LIMITS;
-
 enum { PAGE = 4096, PAGES = 24, ALL_PAGES = PAGE * PAGES };
 
 /* ALL_PAGES bytes between two pages that can't be touched. */
-static uint8_t *between_pages(void) {
+static inline uint8_t *between_pages(void) {
     uint8_t *all = mmap(NULL, ALL_PAGES + 2 * PAGE, PROT_NONE, MAP_PRIVATE | MAP_ANONYMOUS, -1, 0);
     if (all == MAP_FAILED || mprotect(all + PAGE, ALL_PAGES, PROT_READ | PROT_WRITE)) exit(2);
     return all + PAGE;
 }
 
 /* The last `size` bytes of such pages. */
-static uint8_t *at_end(uint8_t *pages, size_t size) { return pages + ALL_PAGES - size; }
+static inline uint8_t *at_end(uint8_t *pages, size_t size) { return pages + ALL_PAGES - size; }
 #endif

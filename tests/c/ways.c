@@ -241,9 +241,10 @@ static int is_call(const char *from, struct input *in) {
 
 int main(int count, char **words) {
     static char line[LINE];
-    static const capn_limits none = {0, 1, 1, CAPN_STRICT}, third = {1, 1, 1, 2}, poor = {1 << 20, 2, 64, CAPN_PLAIN};
-    static const capn_limits flat = {1 << 20, 1 << 20, 2, CAPN_STRICT};
-    static const capn_limits *const all[] = {&usual, &poor, &flat, &none, &third};
+    const capn_limits none = limits_of(0, 1, 1, CAPN_STRICT), third = limits_of(1, 1, 1, 2);
+    const capn_limits poor = limits_of(1 << 20, 2, 64, CAPN_PLAIN);
+    const capn_limits flat = limits_of(1 << 20, 1 << 20, 2, CAPN_STRICT);
+    const capn_limits *const all[] = {&usual, &poor, &flat, &none, &third};
     pages = between_pages();
     const int is_answers = count == 2 && !strcmp(words[1], "answers");
     while (fgets(line, sizeof line, stdin)) {

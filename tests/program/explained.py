@@ -45,7 +45,7 @@ class Explanation(model.Walk):
         # in.
         self.within = self.shape = None
         try:
-            super().__init__(segments, *limits)
+            super().__init__(segments, **limits)
         except model.Refused as refused:
             self.refused = str(refused)
 
@@ -125,7 +125,7 @@ class Explanation(model.Walk):
             code = word >> 32 & 7
             size = count + 1 if code == 7 else count if code == 6 else -(-count * model.WIDTH_BITS[code] // 64)
         price = self.base + size + pads + (count if word & 1 and word >> 32 & 7 == 0 else 0)
-        out, budget, depth = [], self.limits[0], self.limits[1]
+        out = []
         if is_rows and fault != "Range":
             tag = self.word(segment, begin)
             rows, row = (tag & 0xFFFFFFFF) >> 2, (tag >> 32 & 0xFFFF) + (tag >> 48)
@@ -136,9 +136,9 @@ class Explanation(model.Walk):
         if fault == "TagOverrun":
             out.append(f"rows: {rows} of {row} words each: {rows * row} of the list's {count}\n")
         if fault == "TooDeep":
-            out.append(f"limit: --depth {depth}\n")
+            out.append(f"limit: --depth {self.most_depth}\n")
         if fault == "OverBudget":
-            out.append(f"limit: asks for {price} of {budget - self.paid} left, --budget {budget}\n")
+            out.append(f"limit: asks for {price} of {self.budget - self.paid} left, --budget {self.budget}\n")
         return out
 
 
@@ -158,8 +158,7 @@ class Owner(Explanation):
 
     def __init__(self, segment, word, walk):
         self.sought, self.owner = word, None
-        budget, depth, tariff = walk.limits
-        super().__init__([segment], (1 << 64, depth, tariff), 0, 0)
+        super().__init__([segment], {**walk.limits, "budget": 1 << 64}, 0, 0)
 
     def is_found(self, what):
         self.owner = self.owner or f"{what} {dotted(self.way)}"
@@ -265,14 +264,15 @@ def fault_lines(fault, message_words, rest, group):
     return out
 
 
-def explain(data, form="stream", message_words=8388608, budget=8388608, depth=64, tariff="strict", wanted=None):
-    """What `explain` writes, with the number that it has or None, the line on standard error, and its exit status."""
+def explain(data, form="stream", message_words=8388608, wanted=None, **limits):
+    """What `explain` writes, with the number that it has or None, the line on standard error, and its exit status. The
+    limits are those of the walk."""
     found, fault = model.messages(data, form, message_words)
     for index, (offset, frame, segments) in enumerate(found, 1):
         if wanted not in (None, index):
             continue
         table = 0 if form == "bare" else len(segments) // 2 + 1
-        walk = Explanation(segments, (budget, depth, tariff), offset, table)
+        walk = Explanation(segments, limits, offset, table)
         head = [f"message: {index} at {offset}\n", segments_line(segments)]
         if walk.refused:
             head.append(f"refused: {walk.refused}\n")

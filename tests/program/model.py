@@ -107,10 +107,14 @@ def packed(data):
 # Walks.
 
 
+# The limits that are numbers: how often a run by chance has one, from which least to which greatest.
+LOW_LIMITS = {"budget": (0.3, 0, 30), "depth": (0.2, 1, 5), "message_words": (0.2, 1, 12)}
+
+
 class Walk:
     """One walk of a message: its value, what it paid, its visits and its height."""
 
-    def __init__(self, segments, budget, depth, tariff):
+    def __init__(self, segments, budget=8388608, depth=64, tariff="strict"):
         self.segments, self.budget, self.most_depth = segments, budget, depth
         self.base = 1 if tariff == "strict" else 0
         self.paid = self.visits = self.height = 0
@@ -485,14 +489,14 @@ def styled(value, style):
 # Commands that answer each message of a stream.
 
 
-def each(data, text_of, form="stream", message_words=8388608, budget=8388608, depth=64, tariff="strict"):
+def each(data, text_of, form="stream", message_words=8388608, **limits):
     """The texts of messages, by their walk, their segments, their offset and their frame, up to the first one that is
-    refused; the line on standard error, and the exit status."""
+    refused; the line on standard error, and the exit status. The limits are those of the walk."""
     found, fault = messages(data, form, message_words)
     out = []
     for offset, frame, segments in found:
         try:
-            out.append(text_of(Walk(segments, budget, depth, tariff), segments, offset, frame))
+            out.append(text_of(Walk(segments, **limits), segments, offset, frame))
         except Refused as refused:
             return "".join(out).encode(), f"capn: {refused}\n", 1
     return "".join(out).encode(), f"capn: {fault[0]}\n" if fault else "", 1 if fault else 0
@@ -598,10 +602,9 @@ def needed(greatest, found, tariff):
     return "".join(f"{line}\n" for line in lines).encode()
 
 
-def run(task, data, form="stream", message_words=8388608, budget=8388608, depth=64, tariff="strict", keep_going=False,
-        with_digest=False, count=False):
+def run(task, data, form="stream", message_words=8388608, keep_going=False, with_digest=False, count=False, **limits):
     """What a command over an archive writes, what is on standard error, and its exit status. The task is list, limits,
-    canonical or uniq; `with_digest` is for list, and `count` for uniq."""
+    canonical or uniq; `with_digest` is for list, and `count` for uniq. The limits are those of the walk."""
     found, fault = messages(data, form, message_words)
     out, passed, greatest = [], [], {"message-words": (0, 0), "budget": (0, 0), "depth": (0, 0)}
     kept = set()
@@ -609,7 +612,7 @@ def run(task, data, form="stream", message_words=8388608, budget=8388608, depth=
         words = sum(map(len, segments)) // 8
         head = f"{index} at {offset} bytes {len(frame)} segments {len(segments)} words {words}"
         try:
-            walk = Walk(segments, budget, depth, tariff)
+            walk = Walk(segments, **limits)
             if task in ("canonical", "uniq"):
                 without_capability(walk)
         except Refused as refused:
@@ -638,7 +641,7 @@ def run(task, data, form="stream", message_words=8388608, budget=8388608, depth=
     if fault is not None:
         return b"".join(out), line + line_of(fault), 1
     if task == "limits":
-        out.append(needed(greatest, len(found), tariff))
+        out.append(needed(greatest, len(found), limits.get("tariff")))
     if count:
         out.append(f"{len(kept)} of {len(found) - len(passed)}\n".encode())
     return b"".join(out), line, 1 if passed else 0
@@ -710,10 +713,11 @@ def only_message(data, form, message_words):
     return segments
 
 
-def canonical_of_one(data, form="stream", message_words=8388608, budget=8388608, depth=64, tariff="strict"):
-    """What `canonical` writes of one message, the line on standard error, and its exit status."""
+def canonical_of_one(data, form="stream", message_words=8388608, **limits):
+    """What `canonical` writes of one message, the line on standard error, and its exit status. The limits are those of
+    the walk."""
     try:
-        walk = Walk(only_message(data, form, message_words), budget, depth, tariff)
+        walk = Walk(only_message(data, form, message_words), **limits)
         return canonical(without_capability(walk).value), "", 0
     except Refused as refused:
         return b"", f"capn: {refused}\n", 1

@@ -11,7 +11,7 @@ import capn
 from messages import hostile, stream
 from test_program import PROGRAM
 from test_reading import archives, generated
-from test_show import NAMES
+from test_show import limit_of
 from test_stored import stored
 from tried import given, settings, some
 
@@ -186,11 +186,12 @@ class AsExplained(unittest.TestCase):
             if words[0] != "archive" or words[2] != "explain":
                 continue
             form, bounds, options, data = "stream", {}, words[3:-1], bytes.fromhex(words[-1].replace("-", ""))
-            for name, value in zip(options[::2], options[1::2], strict=True):
-                if name == "--form":
+            for option, value in zip(options[::2], options[1::2], strict=True):
+                if option == "--form":
                     form = value
-                elif name != "--number":
-                    bounds[NAMES[name]] = value if name == "--tariff" else int(value)
+                elif option != "--number":
+                    name, bound = limit_of(option, value)
+                    bounds[name] = bound
             told = said(bytes.fromhex(answer.split(", ")[1].replace("-", "")))
             # What is said of a frame, of packing and of a length, and of how many messages there are, is the
             # program's alone.

@@ -10,7 +10,11 @@ from test_reading import archives, model
 from test_stored import digits, stored
 
 RUN = re.compile(r"(?:run|archive) [0-9]+ show (.*)")
-NAMES = {"--budget": "budget", "--depth": "depth", "--message-words": "message_words", "--tariff": "tariff"}
+
+
+def limit_of(option, value):
+    """The name and the value of the limit that an option of the program sets."""
+    return option[2:].replace("-", "_"), value if option == "--tariff" else int(value)
 
 
 def ran(words, data):
@@ -25,8 +29,8 @@ def ran(words, data):
         elif word == "--at":
             options["at"] = list(map(int, words.pop(0).split(".")))
         else:
-            value = words.pop(0)
-            bounds[NAMES[word]] = value if word == "--tariff" else int(value)
+            name, value = limit_of(word, words.pop(0))
+            bounds[name] = value
     limits, out = capn.Limits(**bounds), ""
     try:
         if form == "bare":
