@@ -63,7 +63,7 @@ test:
 	.ci/borders
 	.ci/toolchain
 	.ci/version
-	.ci/status-list
+	.ci/lists
 	.ci/readings
 	.ci/counts
 	.ci/places

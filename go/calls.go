@@ -88,7 +88,14 @@ func start(bytes []byte) *C.uint8_t {
 }
 
 func laidOut(l Limits) C.capn_limits {
-	return C.capn_limits{C.uint32_t(l.MessageWords), C.uint32_t(l.Budget), C.uint32_t(l.Depth), C.uint32_t(l.Tariff)}
+	return C.capn_limits{
+		// c/limits.txt: laid out in go
+		message_words: C.uint32_t(l.MessageWords),
+		budget:        C.uint32_t(l.Budget),
+		depth:         C.uint32_t(l.Depth),
+		tariff:        C.uint32_t(l.Tariff),
+		// c/limits.txt ends
+	}
 }
 
 func reported(r C.capn_report) report {

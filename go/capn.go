@@ -39,16 +39,23 @@ const (
 
 // Limits are how much a call takes on. The root object has depth 1; walks pay words.
 type Limits struct {
+	// c/limits.txt: fields in go
+
 	MessageWords uint32 // of one framed message: 1 to 2^28
 	Budget       uint32 // words that a walk pays: 0 to 2^28
 	Depth        uint32 // of objects: 1 to 256
 	Tariff       Tariff
+	// c/limits.txt ends
 }
+
+// c/limits.txt: usual in go
 
 // UsualLimits are 64 MiB of message and of budget, a depth of 64, and the strict tariff.
 func UsualLimits() Limits {
 	return Limits{MessageWords: 8388608, Budget: 8388608, Depth: 64}
 }
+
+// c/limits.txt ends
 
 // Checked is what reading an accepted message costs.
 type Checked struct {

@@ -21,7 +21,9 @@ DECLARED = """
     enum { CAPN_STRICT, CAPN_PLAIN, ... };
     enum { CAPN_STYLE_LINES, CAPN_STYLE_TEXT, CAPN_STYLE_JSON, CAPN_STYLE_JSON_TEXT, ... };
 
+    // c/limits.txt: cffi
     typedef struct { uint32_t message_words, budget, depth, tariff; } capn_limits;
+    // c/limits.txt ends
     typedef struct {
         uint64_t length, at;
         uint32_t paid, visits, segment, word;

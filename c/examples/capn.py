@@ -14,7 +14,12 @@ OK, NO_ROOM, BAD_FORM, BAD_LIMITS, BAD_TARIFF, NOT_CANONICAL, MEMORY, TRAILING =
 
 
 class Limits(ctypes.Structure):
+    # c/limits.txt: ctypes
     _fields_ = [(name, ctypes.c_uint32) for name in ("message_words", "budget", "depth", "tariff")]
+
+    def __init__(self, message_words=8388608, budget=8388608, depth=64, tariff=STRICT):
+        super().__init__(message_words, budget, depth, tariff)
+    # c/limits.txt ends
 
 
 class Report(ctypes.Structure):
@@ -30,7 +35,7 @@ class Refused(ValueError):
         self.status, self.report = status, report
 
 
-USUAL = Limits(8388608, 8388608, 64, STRICT)
+USUAL = Limits()
 _u32, _in, _out = ctypes.c_uint32, [ctypes.c_char_p, ctypes.c_size_t], [ctypes.c_void_p, ctypes.c_size_t]
 _limits, _report = ctypes.POINTER(Limits), ctypes.POINTER(Report)
 for _name, _takes in {

@@ -23,17 +23,25 @@ pub enum Tariff {
 #[repr(C)]
 #[derive(Clone, Copy)]
 pub struct Limits {
+    // c/limits.txt: fields in rust
+    /// The most words of a message that is not bare: 1 to 2^28.
     pub message_words: u32,
+    /// The most words that a walk pays: 0 to 2^28.
     pub budget: u32,
+    /// The most levels of objects: 1 to 256.
     pub depth: u32,
+    /// How a walk counts what it pays.
     pub tariff: Tariff,
+    // c/limits.txt ends
 }
 
 pub const USUAL: Limits = Limits {
+    // c/limits.txt: usual numbers in rust
     message_words: 8_388_608,
     budget: 8_388_608,
     depth: 64,
     tariff: Tariff::Strict,
+    // c/limits.txt ends
 };
 
 #[repr(C)]

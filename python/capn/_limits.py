@@ -8,12 +8,18 @@ from typing import Any, Literal
 from ._capn import ffi, lib
 
 _TARIFFS = {"strict": lib.CAPN_STRICT, "plain": lib.CAPN_PLAIN}
-_MOST_WORDS = 1 << 28
-_RANGES = {"message_words": (1, _MOST_WORDS), "budget": (0, _MOST_WORDS), "depth": (1, 256)}
+_RANGES = {
+    # c/limits.txt: ranges in python
+    "message_words": (1, 1 << 28),
+    "budget": (0, 1 << 28),
+    "depth": (1, 256),
+    # c/limits.txt ends
+}
 
 
 @dataclass(frozen=True)
 class Limits:
+    # c/limits.txt: fields in python
     """How much a call takes on: the words of one framed message (1 to 2^28), the words that reading it may pay (0 to
     2^28), the depth of its objects (1 to 256, the root has 1), and the tariff of what is paid, "strict" or "plain"."""
 
@@ -21,6 +27,7 @@ class Limits:
     budget: int = 8388608
     depth: int = 64
     tariff: Literal["strict", "plain"] = "strict"
+    # c/limits.txt ends
 
     def __post_init__(self) -> None:
         for name, (least, most) in _RANGES.items():
@@ -35,7 +42,7 @@ class Limits:
             raise TypeError(f"tariff is a string, not {type(self.tariff).__name__}")
         if self.tariff not in _TARIFFS:
             raise ValueError(f"tariff is 'strict' or 'plain', not {self.tariff!r}")
-        numbers = (self.message_words, self.budget, self.depth, _TARIFFS[self.tariff])
+        numbers = {name: getattr(self, name) for name in _RANGES} | {"tariff": _TARIFFS[self.tariff]}
         object.__setattr__(self, "_laid_out", ffi.new("const capn_limits *", numbers))
 
     def __reduce__(self) -> tuple[Any, ...]:

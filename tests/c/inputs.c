@@ -1,18 +1,7 @@
 /* Each call with ample memory; and bad input: nothing, numbers out of range, buffers of each size, announced lengths,
  * hostile messages. */
-#include "capn.h"
-#include <stdio.h>
-#include <stdlib.h>
-#include <string.h>
-#include <sys/mman.h>
-
-static int failed;
-
-static void want(const char *what, uint64_t got, uint64_t wanted) {
-    if (got == wanted) return;
-    failed++;
-    printf("inputs: %s: %llu, wanted %llu\n", what, (unsigned long long)got, (unsigned long long)wanted);
-}
+#define TEST "inputs"
+#include "wanted.h"
 
 /* Every field is 0, whatever stood there. */
 static void blank(const char *what, const capn_report *r) {
@@ -20,14 +9,13 @@ static void blank(const char *what, const capn_report *r) {
 }
 
 static const uint8_t message[32] = {0, 0, 0, 0, 3, 0, 0, 0, 0, 0, 0, 0, 2, 0, 0, 0, 5};
-static const capn_limits usual = CAPN_USUAL_LIMITS;
 
 /* Each call, with ample memory and room: its status, its report, and each byte that it writes. */
 static void answered(void) {
     const uint8_t canonical[16] = {0, 0, 0, 0, 1, 0, 0, 0, 5}, packed[8] = {0x10, 3, 0x10, 2, 1, 5};
     /* The first bytes of the SHA-256 of the canonical bytes. */
     const uint8_t sum[4] = {0x6a, 0x3e, 0xfd, 0x90};
-    const capn_limits plain = {8388608, 8388608, 64, CAPN_PLAIN};
+    const capn_limits plain = limits_of(8388608, 8388608, 64, CAPN_PLAIN);
     capn_report r;
     uint8_t out[32], digest[32];
     memset(out, 0xAA, 32);
@@ -134,15 +122,43 @@ static void nothing(void) {
     blank("its report", &r);
 }
 
+/* Where a limit lies, and its range: of each that is a number. */
+static const struct {
+    size_t at;
+    uint32_t least, most;
+} numbers[] = {
+    /* c/limits.txt: ranges in c */
+    {offsetof(capn_limits, message_words), 1, 1u << 28},
+    {offsetof(capn_limits, budget), 0, 1u << 28},
+    {offsetof(capn_limits, depth), 1, 256},
+    /* c/limits.txt ends */
+};
+enum { NUMBERS = sizeof numbers / sizeof *numbers };
+
+/* The same limits, but one is this number. */
+static capn_limits with(capn_limits limits, size_t at, uint32_t number) {
+    memcpy((uint8_t *)&limits + at, &number, sizeof number);
+    return limits;
+}
+
 static void ranges(void) {
-    const capn_limits bad[] = {
-        {0, 1, 1, 0}, {(1u << 28) + 1, 1, 1, 0}, {1, (1u << 28) + 1, 1, 0}, {1, 1, 0, 0}, {1, 1, 257, 9}};
-    const capn_limits good[] = {{1, 0, 1, 1}, {1u << 28, 1u << 28, 256, 0}};
+    const capn_limits low = limits_of(1, 1, 1, CAPN_STRICT);
+    capn_limits bad[2 * NUMBERS + 1], least = limits_of(1, 1, 1, CAPN_PLAIN), greatest = usual;
+    size_t count = 0;
+    for (size_t i = 0; i < NUMBERS; i++) {
+        if (numbers[i].least) bad[count++] = with(low, numbers[i].at, numbers[i].least - 1);
+        bad[count++] = with(low, numbers[i].at, numbers[i].most + 1);
+        least = with(least, numbers[i].at, numbers[i].least);
+        greatest = with(greatest, numbers[i].at, numbers[i].most);
+    }
+    /* A bad tariff beside a bad limit. */
+    bad[count] = bad[count - 1];
+    bad[count++].tariff = 9;
     const uint32_t forms[] = {0, 1, 2, 3, 4, UINT32_MAX}, tariffs[] = {2, 3, UINT32_MAX};
     capn_report r;
     uint8_t out[64], digest[32];
     for (size_t f = 0; f < 6; f++)
-        for (size_t l = 0; l < 5; l++) {
+        for (size_t l = 0; l < count; l++) {
             uint32_t status = forms[f] > 2 ? CAPN_BAD_FORM : CAPN_BAD_LIMITS;
             memset(&r, 0x55, sizeof r);
             want("canonical, bad limits", capn_canonical(forms[f], message, 32, &bad[l], out, 64, &r), status);
@@ -150,7 +166,7 @@ static void ranges(void) {
             want("hash, bad limits", capn_hash(forms[f], message, 32, &bad[l], digest, &r), status);
             want("check, bad limits", capn_check(forms[f], message, 32, &bad[l], &r), status);
         }
-    for (size_t l = 0; l < 5; l++)
+    for (size_t l = 0; l < count; l++)
         want("is_canonical, bad limits", capn_is_canonical(message, 32, &bad[l], &r), CAPN_BAD_LIMITS);
     for (size_t t = 0; t < 3; t++) {
         capn_limits limits = usual;
@@ -163,8 +179,8 @@ static void ranges(void) {
         want("is_canonical, bad tariff", capn_is_canonical(message, 32, &limits, &r), CAPN_BAD_TARIFF);
         want("form before tariff", capn_check(3, message, 32, &limits, &r), CAPN_BAD_FORM);
     }
-    want("least limits", capn_check(0, message, 32, &good[0], &r), CAPN_TOO_MANY_WORDS);
-    want("greatest limits", capn_check(0, message, 32, &good[1], &r), CAPN_OK);
+    want("least limits", capn_check(0, message, 32, &least, &r), CAPN_TOO_MANY_WORDS);
+    want("greatest limits", capn_check(0, message, 32, &greatest, &r), CAPN_OK);
 }
 
 static void rooms(void) {
@@ -186,7 +202,7 @@ static void announced(void) {
     const uint8_t words[8] = {0, 0, 0, 0, 0, 0, 0, 0x10}, more[8] = {0, 0, 0, 0, 1, 0, 0, 0x10};
     const uint8_t all[8] = {255, 255, 255, 255};
     const uint8_t most[8] = {0xff, 0x0f, 0, 0}, above[8] = {0, 0x10, 0, 0};
-    const capn_limits greatest = {1u << 28, 1u << 28, 256, CAPN_PLAIN};
+    const capn_limits greatest = limits_of(1u << 28, 1u << 28, 256, CAPN_PLAIN);
     capn_report r;
     want("2^28 words", capn_check(CAPN_STREAM, words, 8, &greatest, &r), CAPN_FRAME_CUT);
     want("2^28 words, usual limits", capn_check(CAPN_STREAM, words, 8, &usual, &r), CAPN_TOO_MANY_WORDS);
@@ -230,7 +246,7 @@ static void hostile(void) {
     want("itself", capn_hash(CAPN_BARE, self, 8, &usual, digest, &r), CAPN_TOO_DEEP);
     want("visits", r.visits, 65);
     want("twice itself", capn_hash(CAPN_BARE, twice, 24, &usual, digest, &r), CAPN_TOO_DEEP);
-    capn_limits low = {1, 1000, 256, CAPN_STRICT};
+    capn_limits low = limits_of(1, 1000, 256, CAPN_STRICT);
     want("itself, low budget", capn_check(CAPN_BARE, self, 8, &low, &r), CAPN_TOO_DEEP);
     low.budget = 100;
     want("itself, lower budget", capn_canonical(CAPN_BARE, self, 8, &low, NULL, 0, &r), CAPN_OVER_BUDGET);

@@ -34,14 +34,20 @@ class Arguments(unittest.TestCase):
                     call(MESSAGE, limits=limits)
 
     def test_a_limit_out_of_its_range(self):
-        ranges = {"message_words": (1, 1 << 28), "budget": (0, 1 << 28), "depth": (1, 256)}
+        ranges = {
+            # c/limits.txt: ranges in python
+            "message_words": (1, 1 << 28),
+            "budget": (0, 1 << 28),
+            "depth": (1, 256),
+            # c/limits.txt ends
+        }
         for name, (least, most) in ranges.items():
             for number in least, most:
                 self.assertEqual(getattr(capn.Limits(**{name: number}), name), number)
             for number in least - 1, most + 1, 1 << 32, -(1 << 70):
                 with self.subTest(name=name, number=number), self.assertRaises(ValueError):
                     capn.Limits(**{name: number})
-            for number in 1.0, "1", None:
+            for number in 1.0, "1", None, True:
                 with self.subTest(name=name, number=number), self.assertRaises(TypeError):
                     capn.Limits(**{name: number})
         self.assertRaises(ValueError, capn.Limits, tariff="free")

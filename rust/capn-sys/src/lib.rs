@@ -15,10 +15,12 @@ pub type capn_status = u32;
 #[repr(C)]
 #[derive(Clone, Copy, Debug, PartialEq, Eq)]
 pub struct capn_limits {
+    // c/limits.txt: fields of c in rust
     pub message_words: u32,
     pub budget: u32,
     pub depth: u32,
     pub tariff: u32,
+    // c/limits.txt ends
 }
 
 /// What a call says beside its status.

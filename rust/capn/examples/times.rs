@@ -12,10 +12,12 @@ mod direct {
 
     fn limits() -> capn_limits {
         capn_limits {
+            // c/limits.txt: usual numbers of c in rust
             message_words: 8_388_608,
             budget: 8_388_608,
             depth: 64,
             tariff: 0,
+            // c/limits.txt ends
         }
     }
 

@@ -44,6 +44,7 @@ pub enum Tariff {
 /// ```
 #[derive(Clone, Copy, Debug, PartialEq, Eq, Hash)]
 pub struct Limits {
+    // c/limits.txt: fields in rust
     /// The most words of a message that is not bare: 1 to 2^28.
     pub message_words: u32,
     /// The most words that a walk pays: 0 to 2^28.
@@ -52,9 +53,11 @@ pub struct Limits {
     pub depth: u32,
     /// How a walk counts what it pays.
     pub tariff: Tariff,
+    // c/limits.txt ends
 }
 
 impl Limits {
+    // c/limits.txt: usual in rust
     /// The usual limits: 64 MiB of message and of budget, a depth of 64, the strict tariff.
     pub const fn usual() -> Self {
         Limits {
@@ -64,6 +67,7 @@ impl Limits {
             tariff: Tariff::Strict,
         }
     }
+    // c/limits.txt ends
 
     /// The room that canonical bytes begin with: they are mostly no longer than the message, and never than the budget
     /// allows.
@@ -74,10 +78,12 @@ impl Limits {
     #[inline]
     pub(crate) fn raw(&self) -> capn_sys::capn_limits {
         capn_sys::capn_limits {
+            // c/limits.txt: laid out in rust
             message_words: self.message_words,
             budget: self.budget,
             depth: self.depth,
             tariff: self.tariff as u32,
+            // c/limits.txt ends
         }
     }
 }
