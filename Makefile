@@ -39,10 +39,7 @@ try:
 	@echo "nothing was proved: this is not the proved program, which make run builds, in half an hour or more at first"
 
 # The program, proved and built: crates/capn/out/capn. What it needs is proved and nothing else, crate after crate, each
-# by as many processors as memory allows. By kit 13f its proofs took some 80 processor minutes in the gate, counted
-# beside other work and not by this line, of which the longest chain has some 40 (capn_words, value, target, walk,
-# layout, canon, serve, archive, tool, capn): crates side by side, with a processor each, would take no less. More
-# processors within a crate shorten it, but take more minutes of theirs in all; a shorter chain would shorten it, too.
+# by as many processors as memory allows, which takes more minutes of theirs in all than `make beside` does.
 program:
 	@echo "proving and building capn: half an hour or more at first, less where an earlier check has left its work"
 	@cd $(PROGRAM) && rt run -- $$(cat args) < stdin > /dev/null
@@ -110,7 +107,10 @@ library:
 	cd crates/capn_c && rt lib > /dev/null
 	$(MAKE) linked
 
-# What `make program library` leaves, proved several crates at a time where processors and memory allow.
+# What `make program library` leaves, proved several crates at a time where processors and memory allow. By kit 13f it
+# took 41 minutes by the clock from nothing, on a machine with four cores that did nothing else, and 82 of processors.
+# The longest chain is capn_words, value, target, walk, layout, canon, serve, archive, orders, tool and capn, each after
+# the other: a shorter one would shorten it, and so would more than one processor for capn_walk, which is proved alone.
 beside:
 	release/beside
 
