@@ -1,6 +1,7 @@
 -- The text of a fault that ends a run over an archive, and its exit status. (Own.)
 use Rattle.std.specs.Prelude.{ℕ, ◌≡◌, List, ◌++◌, codes, refl}
 use Rattle.std.specs.Fmt.{decimal, digits}
+use Rattle.capn_endings.specs.Ending.{out_of_memory}
 use Rattle.capn_stream.specs.declared.fault.FrameFault.TheVariants as frame_faults
 use Rattle.capn_canon.specs.Display.{refusal_text}
 use Rattle.capn_canon.specs.declared.refusal.Refusal.{Refusal}
@@ -23,7 +24,7 @@ text_of_skipped skipped =
 
 -- why a run over an archive did not end as done
 abbrev pub archive_text : ArchiveFault → List ℕ
-archive_text faults.Memory = codes "out of memory"
+archive_text faults.Memory = out_of_memory
 archive_text faults.Io = codes "input or output failed"
 archive_text faults.InputTooLong = codes "input too long"
 archive_text (faults.Refused at refusal) = text_of_refused at refusal

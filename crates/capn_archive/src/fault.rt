@@ -71,7 +71,7 @@ impl Ending for ArchiveFault {
 
     fn say<E: Write>(&self, line: &mut Line, errors: &mut Watched<E>) {
         match self {
-            ArchiveFault::Memory => line.put(b"out of memory", errors),
+            ArchiveFault::Memory => line.put_memory(errors),
             ArchiveFault::Io => line.put(b"input or output failed", errors),
             ArchiveFault::InputTooLong => line.put(b"input too long", errors),
             ArchiveFault::Refused(at, refusal) => say_refused(at, refusal, line, errors),

@@ -1,14 +1,14 @@
 -- The texts that say why a run stopped. (Own.)
 use Rattle.std.specs.Prelude.{ℕ, List, ◌++◌, codes, Bool, Option, Result}
 use Rattle.std.specs.Fmt.{decimal}
-use Rattle.capn_endings.specs.Ending.{WritesEnding, fault_text_line}
+use Rattle.capn_endings.specs.Ending.{WritesEnding, fault_text_line, out_of_memory}
 use Rattle.capn_canon.specs.Display.{refusal_text}
 use Rattle.capn_commands.specs.declared.fault.ToolFault.{ToolFault}
 use Rattle.capn_commands.specs.declared.fault.ToolFault.TheVariants as faults
 
 -- why a run stopped
 abbrev pub fault_text : ToolFault → List ℕ
-fault_text faults.Memory = codes "out of memory"
+fault_text faults.Memory = out_of_memory
 fault_text faults.Io = codes "input or output failed"
 fault_text faults.InputTooLong = codes "input too long"
 fault_text (faults.NotWhole n) = codes "NotWhole(" ++ decimal n ++ codes ")"

@@ -25,7 +25,7 @@ impl Ending for ToolFault {
 
     fn say<E: Write>(&self, line: &mut Line, errors: &mut Watched<E>) {
         match self {
-            ToolFault::Memory => line.put(b"out of memory", errors),
+            ToolFault::Memory => line.put_memory(errors),
             ToolFault::Io => line.put(b"input or output failed", errors),
             ToolFault::InputTooLong => line.put(b"input too long", errors),
             ToolFault::NotWhole(length) => line.put_between(b"NotWhole(", *length, b")", errors),
@@ -60,7 +60,7 @@ impl fmt::Display for Text {
 
     fn fmt<W: fmt::Write>(&self, f: &mut fmt::Formatter<W>) -> fmt::Result {
         match &self.0 {
-            ToolFault::Memory => write!(f, "out of memory"),
+            ToolFault::Memory => write!(f, "{Memory}"),
             ToolFault::Io => write!(f, "input or output failed"),
             ToolFault::InputTooLong => write!(f, "input too long"),
             ToolFault::NotWhole(length) => write!(f, "NotWhole({length})"),

@@ -2,11 +2,15 @@
 use Rattle.std.specs.Prelude.{ℕ, ◌≡◌, List, [], ◌∷◌, ◌++◌, codes, Bool, false, Option, Result, Ok, Err, refl}
 use Rattle.capn_endings.specs.Line.{WritesLine}
 
+-- what is said where memory was refused
+abbrev pub out_of_memory : List ℕ
+out_of_memory = codes "out of memory"
+
 -- the line of a text
 abbrev pub fault_text_line : List ℕ → List ℕ
 fault_text_line text = codes "capn: " ++ text ++ 10 ∷ []
 
-memory : fault_text_line (codes "out of memory") ≡ codes "capn: out of memory\n"
+memory : fault_text_line out_of_memory ≡ codes "capn: out of memory\n"
 memory = refl
 
 -- the line of this text was written, or a beginning of it where the writer has failed

@@ -4,6 +4,7 @@ ghost use Rattle.std.specs.Prelude.{◌≡◌, ◌+◌, ◌≤◌, [], ◌++◌,
 ghost use Rattle.std.specs.Fmt.{decimal};
 ghost use Rattle.capn_words.specs.Watched.{inner_of, has_failed};
 ghost use Rattle.capn_endings.specs.Line.{Goes, Says, way};
+ghost use Rattle.capn_endings.specs.Ending.{out_of_memory};
 
 use capn_words::Watched;
 use std::io::Write;
@@ -81,6 +82,14 @@ impl Line {
             self.send(errors);
             write_part(part, errors);
         }
+    }
+
+    /// Says that memory was refused.
+    pub fn put_memory<E: Write>(&mut self, errors: &mut Watched<E>)
+        ensures { Says out_of_memory (way self.old (E.contents (inner_of errors.old)) (has_failed errors.old))
+            (way self.new (E.contents (inner_of errors.new)) (has_failed errors.new)) }
+    {
+        self.put(b"out of memory", errors);
     }
 
     /// Says a number of the line, in decimal digits.

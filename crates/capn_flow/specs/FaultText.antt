@@ -1,12 +1,13 @@
 -- The text of a fault, as it is displayed, and the status with which a program ends. (Own.)
 use Rattle.std.specs.Prelude.{ℕ, List, ◌++◌, codes}
 use Rattle.std.specs.Fmt.{decimal}
+use Rattle.capn_endings.specs.Ending.{out_of_memory}
 use Rattle.capn_flow.specs.declared.fault.FlowFault.{FlowFault}
 use Rattle.capn_flow.specs.declared.fault.FlowFault.TheVariants as faults
 
 -- why a stream isn't packed or unpacked to its end
 abbrev pub fault_text : FlowFault → List ℕ
-fault_text faults.Memory = codes "out of memory"
+fault_text faults.Memory = out_of_memory
 fault_text faults.Io = codes "input or output failed"
 fault_text faults.InputTooLong = codes "input too long"
 fault_text (faults.Cut at) = codes "packed: Cut at " ++ decimal at

@@ -4,7 +4,7 @@ ghost use Rattle.std.specs.Prelude.{◌≡◌};
 ghost use Rattle.capn_flow.specs.FaultText.{status_of};
 
 use capn_endings::{Ending, Line};
-use capn_words::Watched;
+use capn_words::{Memory, Watched};
 use std::alloc::AllocError;
 use std::error::Error;
 use std::fmt;
@@ -26,9 +26,9 @@ pub enum FlowFault {
 }
 
 impl From<AllocError> for FlowFault {
-    ghost use Rattle.capn_flow.specs.declared.fault.FlowFault.TheVariants.{Memory};
+    ghost use Rattle.capn_flow.specs.declared.fault.FlowFault.TheVariants as faults;
 
-    ghost from_gives = { λ _ e. e ≡ Memory };
+    ghost from_gives = { λ _ e. e ≡ faults.Memory };
 
     fn from(_error: AllocError) -> Self {
         FlowFault::Memory
@@ -43,7 +43,7 @@ impl fmt::Display for FlowFault {
 
     fn fmt<W: fmt::Write>(&self, f: &mut fmt::Formatter<W>) -> fmt::Result {
         match self {
-            FlowFault::Memory => write!(f, "out of memory"),
+            FlowFault::Memory => write!(f, "{Memory}"),
             FlowFault::Io => write!(f, "input or output failed"),
             FlowFault::InputTooLong => write!(f, "input too long"),
             FlowFault::Cut(at) => write!(f, "packed: Cut at {at}"),
@@ -75,7 +75,7 @@ impl Ending for FlowFault {
 
     fn say<E: Write>(&self, line: &mut Line, errors: &mut Watched<E>) {
         match self {
-            FlowFault::Memory => line.put(b"out of memory", errors),
+            FlowFault::Memory => line.put_memory(errors),
             FlowFault::Io => line.put(b"input or output failed", errors),
             FlowFault::InputTooLong => line.put(b"input too long", errors),
             FlowFault::Cut(at) => line.put_named(b"packed: Cut at ", *at, errors),

@@ -2,12 +2,13 @@
 use Rattle.std.specs.Prelude.{ℕ, List, ◌++◌, codes}
 use Rattle.std.specs.Fmt.{decimal}
 use Rattle.capn_value.specs.Display.{misfit_name}
+use Rattle.capn_endings.specs.Ending.{out_of_memory}
 use Rattle.capn_make.specs.declared.fault.MakeFault.{MakeFault}
 use Rattle.capn_make.specs.declared.fault.MakeFault.TheVariants as faults
 
 -- why a run ended
 abbrev pub fault_text : MakeFault → List ℕ
-fault_text faults.Memory = codes "out of memory"
+fault_text faults.Memory = out_of_memory
 fault_text faults.Io = codes "input or output failed"
 fault_text faults.InputTooLong = codes "input too long"
 fault_text (faults.NotText n) = codes "line " ++ (decimal n ++ codes ": not the text of a value")

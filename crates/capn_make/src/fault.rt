@@ -7,7 +7,7 @@ ghost use Rattle.capn_make.specs.declared.fault.MakeFault.TheVariants as faults;
 
 use capn_endings::{Ending, Line};
 use capn_value::Misfit;
-use capn_words::Watched;
+use capn_words::{Memory, Watched};
 use std::alloc::AllocError;
 use std::error::Error;
 use std::fmt;
@@ -60,7 +60,7 @@ impl fmt::Display for MakeFault {
 
     fn fmt<W: fmt::Write>(&self, f: &mut fmt::Formatter<W>) -> fmt::Result {
         match self {
-            MakeFault::Memory => write!(f, "out of memory"),
+            MakeFault::Memory => write!(f, "{Memory}"),
             MakeFault::Io => write!(f, "input or output failed"),
             MakeFault::InputTooLong => write!(f, "input too long"),
             MakeFault::NotText(line) => write!(f, "line {line}: not the text of a value"),
@@ -95,7 +95,7 @@ impl Ending for MakeFault {
 
     fn say<E: Write>(&self, line: &mut Line, errors: &mut Watched<E>) {
         match self {
-            MakeFault::Memory => line.put(b"out of memory", errors),
+            MakeFault::Memory => line.put_memory(errors),
             MakeFault::Io => line.put(b"input or output failed", errors),
             MakeFault::InputTooLong => line.put(b"input too long", errors),
             MakeFault::NotText(at) => {

@@ -1,6 +1,7 @@
 -- The text of a fault that ends a run, and its exit status. (Own.)
 use Rattle.std.specs.Prelude.{ℕ, ◌+◌, ◌≡◌, List, ◌++◌, codes, refl}
 use Rattle.std.specs.Fmt.{decimal, digits}
+use Rattle.capn_endings.specs.Ending.{out_of_memory}
 use Rattle.capn_canon.specs.Display.{refusal_text}
 use Rattle.capn_canon.specs.declared.refusal.Refusal.TheVariants as refusals
 use Rattle.capn_serve.specs.declared.position.Position.{Position}
@@ -13,7 +14,7 @@ place_text at = decimal (at.index + 1) ++ (codes " at " ++ decimal at.offset)
 
 -- why a run did not serve all of its input
 abbrev pub fault_text : RunFault → List ℕ
-fault_text faults.Memory = codes "out of memory"
+fault_text faults.Memory = out_of_memory
 fault_text faults.Io = codes "input or output failed"
 fault_text faults.InputTooLong = codes "input too long"
 fault_text (faults.Refused at refusal) = codes "message " ++ (place_text at ++ (codes ": " ++ refusal_text refusal))

@@ -40,7 +40,7 @@ impl Ending for RunFault {
 
     fn say<E: Write>(&self, line: &mut Line, errors: &mut Watched<E>) {
         match self {
-            RunFault::Memory => line.put(b"out of memory", errors),
+            RunFault::Memory => line.put_memory(errors),
             RunFault::Io => line.put(b"input or output failed", errors),
             RunFault::InputTooLong => line.put(b"input too long", errors),
             RunFault::Refused(at, refusal) => {

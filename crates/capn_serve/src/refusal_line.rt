@@ -50,7 +50,10 @@ fn say_unpack<E: Write>(fault: &UnpackFault, line: &mut Line, errors: &mut Watch
         (way line.new (E.contents (inner_of errors.new)) (has_failed errors.new)) }
 {
     match fault {
-        UnpackFault::Memory => line.put(b"packed: out of memory", errors),
+        UnpackFault::Memory => {
+            line.put(b"packed: ", errors);
+            line.put_memory(errors);
+        }
         UnpackFault::Cut { at } => line.put_named(b"packed: Cut at ", *at, errors),
         UnpackFault::TooLong { at } => line.put_named(b"packed: TooLong at ", *at, errors),
         UnpackFault::Failed => line.put(b"packed: Failed", errors),
@@ -64,7 +67,10 @@ fn say_frame<E: Write>(fault: &FrameFault, line: &mut Line, errors: &mut Watched
         (way line.new (E.contents (inner_of errors.new)) (has_failed errors.new)) }
 {
     match fault {
-        FrameFault::Memory => line.put(b"frame: out of memory", errors),
+        FrameFault::Memory => {
+            line.put(b"frame: ", errors);
+            line.put_memory(errors);
+        }
         FrameFault::Empty => line.put(b"frame: Empty", errors),
         FrameFault::TooManySegments(count) => {
             line.put_between(b"frame: TooManySegments(", *count, b")", errors)
@@ -123,6 +129,6 @@ pub fn say_refusal<E: Write>(refusal: &Refusal, line: &mut Line, errors: &mut Wa
         Refusal::Trailing(at) => line.put_named(b"trailing bytes at ", *at, errors),
         Refusal::Walk(stopped) => say_stopped(stopped, line, errors),
         Refusal::Capability(index) => line.put_named(b"capability ", *index as u64, errors),
-        Refusal::Memory => line.put(b"out of memory", errors),
+        Refusal::Memory => line.put_memory(errors),
     }
 }

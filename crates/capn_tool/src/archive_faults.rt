@@ -55,7 +55,7 @@ impl fmt::Display for Text {
 
     fn fmt<W: fmt::Write>(&self, f: &mut fmt::Formatter<W>) -> fmt::Result {
         match &self.0 {
-            ArchiveFault::Memory => write!(f, "out of memory"),
+            ArchiveFault::Memory => write!(f, "{Memory}"),
             ArchiveFault::Io => write!(f, "input or output failed"),
             ArchiveFault::InputTooLong => write!(f, "input too long"),
             ArchiveFault::Refused(at, refusal) => write!(f, "message {}: {refusal}", Place(*at)),

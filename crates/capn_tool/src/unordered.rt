@@ -47,17 +47,22 @@ fn show_version<W: Write>(writer: &mut Watched<W>) -> Result<(), ToolFault>
 }
 
 /// Writes what is said of a mistake, or the line of `Memory` if there was no memory for that.
-fn tell_said<E: Write>(said: Result<String, AllocError>, errors: &mut Watched<E>)
+fn tell_said<E: Write>(alloc: Global, said: Result<String, AllocError>, errors: &mut Watched<E>)
     requires { has_failed errors.old ≡ false }
     ensures text { IfOk said (λ text. WritesLine (string_bytes text)
         (E.contents (inner_of errors.old)) (E.contents (inner_of errors.new)) (has_failed errors.new)) }
     ensures memory { IfErr said (λ _. WritesLine (fault_line faults.Memory)
         (E.contents (inner_of errors.old)) (E.contents (inner_of errors.new)) (has_failed errors.new)) }
 {
-    let _told = match said {
-        Ok(text) => errors.write_all(text.as_bytes()),
-        Err(_) => errors.write_all(b"capn: out of memory\n"),
-    };
+    match said {
+        Ok(text) => {
+            let _told = errors.write_all(text.as_bytes());
+        }
+        Err(_) => {
+            // The exit status stays that of a mistake.
+            let _status = end(alloc, &Err(ToolFault::Memory), errors);
+        }
+    }
 }
 
 /// Writes what is said of a mistake, or the line of `Memory` if there is no memory for that.
@@ -66,7 +71,7 @@ fn tell_mistake<E: Write>(alloc: Global, usage: &Usage, errors: &mut Watched<E>)
     ensures { WritesText
         (course (E.contents (inner_of errors.old)) (E.contents (inner_of errors.new)) (has_failed errors.new)) }
 {
-    tell_said(usage.text(alloc), errors);
+    tell_said(alloc, usage.text(alloc), errors);
 }
 
 /// Ends where the words of the command line order nothing, and answers the exit status. Help and the version are

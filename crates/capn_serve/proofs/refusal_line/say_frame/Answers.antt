@@ -1,7 +1,8 @@
+use Rattle.capn_endings.proofs.shared.Said.{both}
 use Rattle.capn_serve.proofs.refusal_line.say_frame.Goals as goal
 
 pub returns-in-Memory : goal.returns-in-Memory
-returns-in-Memory g c = rw c.in-Memory.is c.put.ensures
+returns-in-Memory g c = rw c.in-Memory.is (both _ _ _ _ _ c.put.ensures c.put_memory.ensures)
 
 pub returns-in-Empty : goal.returns-in-Empty
 returns-in-Empty g c = rw c.in-Empty.is c.put-in-Empty.ensures

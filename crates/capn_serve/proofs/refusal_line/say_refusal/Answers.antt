@@ -19,4 +19,4 @@ pub returns-in-Capability : goal.returns-in-Capability
 returns-in-Capability g c = rw c.in-Capability.is c.put_named-in-Capability.ensures
 
 pub returns-in-Memory : goal.returns-in-Memory
-returns-in-Memory g c = rw c.in-Memory.is c.put.ensures
+returns-in-Memory g c = rw c.in-Memory.is c.put_memory.ensures

@@ -14,6 +14,4 @@ returns-in-Ok-clause-text g c =
     c.as_bytes.ensures.value whole)
 
 pub returns-in-Err-clause-memory : goal.returns-in-Err-clause-memory
-returns-in-Err-clause-memory g c =
-    let wrote = c.write_all-told-in-Err.ensures in
-    rw c.in-Err.is (told _ _ _ _ _ c.write_all-told-in-Err.result c.requires wrote.ok wrote.begun wrote.failed)
+returns-in-Err-clause-memory g c = rw c.in-Err.is c.end-status.ensures.says

@@ -3,10 +3,10 @@ use Rattle.capn_endings.proofs.shared.Said.{both}
 use Rattle.capn_make.proofs.fault.MakeFaultEnding.say.Goals as goal
 
 pub returns-in-Memory : goal.returns-in-Memory
-returns-in-Memory g c = rw c.in-Memory.is c.put.ensures
+returns-in-Memory g c = rw c.in-Memory.is c.put_memory.ensures
 
 pub returns-in-Io : goal.returns-in-Io
-returns-in-Io g c = rw c.in-Io.is c.put-in-Io.ensures
+returns-in-Io g c = rw c.in-Io.is c.put.ensures
 
 pub returns-in-InputTooLong : goal.returns-in-InputTooLong
 returns-in-InputTooLong g c = rw c.in-InputTooLong.is c.put-in-InputTooLong.ensures
