@@ -1,3 +1,4 @@
+pub mod MemoryAsked
 pub mod Ways
 pub mod Walked
 pub mod Departures

@@ -7,7 +7,7 @@ ghost use Rattle.capn_canon.specs.Denotes.{Denotes};
 ghost use Rattle.capn_canon.specs.Refusal.{IsPaidWithin, IsUnacceptedIn};
 ghost use Rattle.capn_canon.specs.SurveyedBytes.{Surveys};
 ghost use Rattle.capn_canon.specs.declared.refusal.Refusal.TheVariants as refusals;
-ghost use Rattle.capn_answers.specs.Departures.{IsDepartureIn, MayNeedDeparture, way_of};
+ghost use Rattle.capn_answers.specs.Departures.{IsDepartureIn, MayAskForDeparture, MayNeedDeparture, way_of};
 ghost use Rattle.capn_answers.specs.inner.Answered.{IsDepartureSurveyed, IsDepartureTold};
 
 use crate::input::run_few;
@@ -121,6 +121,8 @@ pub fn departure_and_survey_in<A: Allocator + Copy>(
     // Memory is needed only for where two segments or more end, for what a text packs, and for a message of one segment
     // that is not canonical.
     ensures memory { IsErrOf result refusals.Memory → MayNeedDeparture form bytes.now limits }
+    // Of those, it is asked for only by a frame of more than 64 segments, by a packed text, and by such a message.
+    ensures asked { IsErrOf result refusals.Memory → MayAskForDeparture form bytes.now limits }
     // No walk pays beyond its budget.
     ensures bounded { MatchResult result (λ d. IsBounded limits.budget d.survey.paid d.survey.visits)
         (λ e. IsPaidWithin limits.budget e) }

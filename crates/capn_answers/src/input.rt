@@ -1,7 +1,10 @@
 //! Messages read from bytes in any form, with less memory.
 
+ghost use Rattle.std.specs.Prelude.{IsErrOf};
 ghost use Rattle.capn_canon.specs.Answered.{IsAnswered};
 ghost use Rattle.capn_canon.specs.declared.form.Form.TheVariants as forms;
+ghost use Rattle.capn_canon.specs.declared.refusal.Refusal.TheVariants as refusals;
+ghost use Rattle.capn_answers.specs.MemoryAsked.{MayAskForAnswer};
 
 use crate::few_frame::read_frame;
 use capn_canon::{Form, MessageTask, Refusal, run_task};
@@ -15,7 +18,9 @@ fn of_frame<T: MessageTask<A>, A: Allocator + Copy>(
     bytes: &[u8],
     limits: Limits,
 ) -> Result<T::Answer, Refusal>
-    ensures { IsAnswered forms.Stream bytes.now limits (T.answers task.now) result }
+    ensures answered { IsAnswered forms.Stream bytes.now limits (T.answers task.now) result }
+    ensures asked { IsErrOf result refusals.Memory
+        → MayAskForAnswer forms.Stream bytes.now limits (T.answers task.now) }
 {
     let Some(read) = read_frame(bytes, limits) else {
         return run_task(alloc, task, Form::Stream, bytes, limits);
@@ -36,7 +41,9 @@ pub fn run_few<T: MessageTask<A>, A: Allocator + Copy>(
     limits: Limits,
 ) -> Result<T::Answer, Refusal>
     // The task's answer of the message that the bytes are, or why they are none.
-    ensures { IsAnswered form bytes.now limits (T.answers task.now) result }
+    ensures answered { IsAnswered form bytes.now limits (T.answers task.now) result }
+    // Memory is asked for only by a frame of more than 64 segments, by a packed text, and by the task.
+    ensures asked { IsErrOf result refusals.Memory → MayAskForAnswer form bytes.now limits (T.answers task.now) }
 {
     match form {
         Form::Stream => of_frame(alloc, task, bytes, limits),

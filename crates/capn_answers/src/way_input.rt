@@ -5,7 +5,8 @@ ghost use Rattle.capn_value.specs.Tree.{Tree as Value};
 ghost use Rattle.capn_canon.specs.Denotes.{Denotes};
 ghost use Rattle.capn_canon.specs.declared.refusal.Refusal.TheVariants as refusals;
 ghost use Rattle.capn_answers.specs.Ways.{IsAcceptedIn, IsStoppedIn, IsUnread, MayNeedWay};
-ghost use Rattle.capn_answers.specs.Walked.{AnswersAccepted, IsWalkedIn, IsWalkedWithin, MayNeedItsWay, walked_way};
+ghost use Rattle.capn_answers.specs.Walked.{AnswersAccepted, IsWalkedIn, IsWalkedWithin, MayAskForItsWay};
+ghost use Rattle.capn_answers.specs.Walked.{MayNeedItsWay, walked_way};
 ghost use Rattle.capn_answers.specs.inner.Answered.{IsWalkTold, IsWayTold};
 
 use crate::input::run_few;
@@ -104,6 +105,8 @@ pub fn walk_in<A: Allocator + Copy>(
     // Memory is needed only for where two segments or more end, for what a text packs, and for the way of a message
     // that is refused by its walk.
     ensures memory { IsErrOf result refusals.Memory → MayNeedItsWay form bytes.now limits }
+    // Of those, it is asked for only by a frame of more than 64 segments, by a packed text, and for that way.
+    ensures asked { IsErrOf result refusals.Memory → MayAskForItsWay form bytes.now limits }
     // No walk pays beyond its budget.
     ensures bounded { IfOk result (λ w. IsWalkedWithin limits.budget w) }
 {

@@ -18,7 +18,7 @@ use Rattle.capn_canon.specs.declared.refusal.Refusal.{Refusal}
 use Rattle.capn_canon.specs.declared.refusal.Refusal.TheVariants as refusals
 use Rattle.capn_canon.specs.Refusal.{IsRefused, IsUnaccepted, IsUnacceptedIn}
 use Rattle.capn_canon.specs.MemoryNeed.{MayNeedMemory}
-use Rattle.capn_c.specs.MemoryAsked.{MayAsk}
+use Rattle.capn_answers.specs.MemoryAsked.{MayAsk}
 use Rattle.capn_c.specs.Held.{IsMisheld, IsRefusedHeld, IsUnacceptedHeld}
 use Rattle.capn_reports.specs.StatusCodes.{bare_code, packed_code, frame_code, walk_code, code}
 

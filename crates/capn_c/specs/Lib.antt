@@ -6,7 +6,6 @@ pub mod Offsets
 pub mod UnpackedPieces
 pub mod Held
 pub mod AsFramed
-pub mod MemoryAsked
 pub mod Shown
 pub mod WayNumbers
 pub mod Departed

@@ -11,8 +11,8 @@ ghost use Rattle.capn_canon.specs.Canonicity.{IsCanonicalForm};
 ghost use Rattle.capn_canon.specs.Refusal.{IsRefused};
 ghost use Rattle.capn_canon.specs.MemoryNeed.{MayNeedMemory, MayNeedBytesIn};
 ghost use Rattle.capn_canon.specs.declared.refusal.Refusal.{Refusal as Refusals};
+ghost use Rattle.capn_answers.specs.MemoryAsked.{MayAsk};
 ghost use Rattle.capn_reports.specs.Calls.{IsForm, form_named, GiveLimits, IsTariff, bounds_of, Serves};
-ghost use Rattle.capn_c.specs.MemoryAsked.{MayAsk};
 ghost use Rattle.capn_reports.specs.StatusCodes.{Reports, answered, at_number, is_status};
 
 use crate::canonical_fill::fill;

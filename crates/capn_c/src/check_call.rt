@@ -9,8 +9,8 @@ ghost use Rattle.capn_canon.specs.Refusal.{IsUnacceptedIn};
 ghost use Rattle.capn_canon.specs.SurveyedBytes.{Surveys};
 ghost use Rattle.capn_canon.specs.MemoryNeed.{MayNeedMemory};
 ghost use Rattle.capn_canon.specs.declared.refusal.Refusal.{Refusal as Refusals};
+ghost use Rattle.capn_answers.specs.MemoryAsked.{MayAsk};
 ghost use Rattle.capn_reports.specs.Calls.{IsForm, form_named, GiveLimits, IsTariff, bounds_of};
-ghost use Rattle.capn_c.specs.MemoryAsked.{MayAsk};
 ghost use Rattle.capn_reports.specs.StatusCodes.{Reports, answered, at_number, is_status};
 
 use crate::survey_bytes::survey_bytes;

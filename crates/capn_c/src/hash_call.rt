@@ -10,6 +10,7 @@ ghost use Rattle.capn_canon.specs.Denotes.{Answers, Denotes};
 ghost use Rattle.capn_canon.specs.Refusal.{IsRefused};
 ghost use Rattle.capn_canon.specs.MemoryNeed.{MayNeedBytesIn};
 ghost use Rattle.capn_canon.specs.declared.refusal.Refusal.{Refusal as Refusals};
+ghost use Rattle.capn_answers.specs.MemoryAsked.{MayAskOrMake};
 ghost use Rattle.capn_reports.specs.Calls.{IsForm, form_named, GiveLimits, IsTariff, bounds_of};
 ghost use Rattle.capn_reports.specs.StatusCodes.{Reports, answered, at_number, is_status};
 
@@ -39,6 +40,7 @@ fn hash(
     ensures listed { IsTrue (is_status result) }
     ensures refused { 8 ≤ result → (e : Refusals) × Reports result report.new e × IsRefused form bytes.now limits e }
     ensures memory { result ≡ 8 → MayNeedBytesIn form bytes.now limits }
+    ensures asked { result ≡ 8 → MayAskOrMake form bytes.now limits }
     ensures bounded { IsBounded limits.budget report.new.paid report.new.visits }
     ensures kept { result ≢ 0 → digest.new ≡ digest.old }
 {
@@ -55,8 +57,8 @@ fn hash(
 
 /// The SHA-256 of the canonical bytes of a message.
 ///
-/// 0: the digest is written. 2, 3 and 4: the form, a limit or the tariff is out of its range. 8: memory was refused.
-/// Others: the refusal.
+/// 0: the digest is written. 2, 3 and 4: the form, a limit or the tariff is out of its range. 8: memory was refused:
+/// where `capn_check` takes it, or for the canonical bytes of a message that is not canonical. Others: the refusal.
 #[unsafe(no_mangle)]
 pub extern "C" fn capn_hash(
     alloc: Global,
@@ -87,6 +89,9 @@ pub extern "C" fn capn_hash(
         × IsRefused (form_named form) bytes.now (bounds_of limits.now) e }
     // Memory is needed only for where two segments or more end, for what a text packs, and for canonical bytes.
     ensures memory { result ≡ 8 → MayNeedBytesIn (form_named form) bytes.now (bounds_of limits.now) }
+    // Of those, it is asked for only by a frame of more than 64 segments, by a packed text, and for the canonical bytes
+    // of a message that is not canonical.
+    ensures asked { result ≡ 8 → MayAskOrMake (form_named form) bytes.now (bounds_of limits.now) }
     // No walk reports more paid than its budget.
     ensures bounded { IsBounded limits.now.budget report.new.paid report.new.visits }
     // Where nothing is answered, the buffer is as it was.

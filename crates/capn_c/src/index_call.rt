@@ -9,11 +9,11 @@ ghost use Rattle.capn_canon.specs.Refusal.{IsUnacceptedIn};
 ghost use Rattle.capn_canon.specs.SurveyedBytes.{Surveys};
 ghost use Rattle.capn_canon.specs.MemoryNeed.{MayNeedMemory};
 ghost use Rattle.capn_canon.specs.declared.refusal.Refusal.{Refusal as Refusals};
+ghost use Rattle.capn_answers.specs.MemoryAsked.{MayAsk};
 ghost use Rattle.capn_reports.specs.Calls.{form_named, GiveLimits, IsTariff, bounds_of};
 ghost use Rattle.capn_reports.specs.StatusCodes.{Reports, answered, at_number, is_status};
 ghost use Rattle.capn_c.specs.Entries.{HasEntries, IndexedIn};
 ghost use Rattle.capn_reports.specs.Calls.{IsFlat};
-ghost use Rattle.capn_c.specs.MemoryAsked.{MayAsk};
 
 use crate::entries::CapnEntry;
 use crate::message_index::{index_bare, index_frame};

@@ -1,11 +1,15 @@
 //! Digests of messages in each form.
 
-ghost use Rattle.std.specs.Prelude.{◌≡◌, ◌≤◌, ℕ, List, IfSome, IfOk, IfErr, IsErrOf, MatchResult};
+ghost use Rattle.std.specs.Prelude.{◌≡◌, ◌≤◌, ℕ, List, None, IfSome, IfOk, IfErr, IsErrOf, MatchResult};
 ghost use Rattle.sha2.specs.Sha256.{sha256};
+ghost use Rattle.capn_value.specs.Tree.{Tree as Value};
+ghost use Rattle.capn_walk.specs.Accepted.{IsValueOf};
 ghost use Rattle.capn_canon.specs.Denotes.{Answers, AnswersMessage};
+ghost use Rattle.capn_canon.specs.Measure.{IsCanonicalOf};
 ghost use Rattle.capn_canon.specs.MemoryNeed.{MayNeedBytesIn};
 ghost use Rattle.capn_canon.specs.Refusal.{IsPaidWithin, IsRefused};
 ghost use Rattle.capn_canon.specs.declared.refusal.Refusal.TheVariants as refusals;
+ghost use Rattle.capn_answers.specs.MemoryAsked.{MayAskOrMake};
 ghost use Rattle.capn_c.specs.inner.Told.{IsDigestTold};
 
 use capn_answers::run_few;
@@ -26,8 +30,10 @@ pub struct Digested {
 
 /// The digest of a message that is canonical, which is hashed where it lies; `None` of any other.
 fn digest_in_place<S: Space>(space: &S, limits: Limits) -> Option<Digested>
-    ensures { IfSome result (λ d. (text : List ℕ) × AnswersMessage (S.message space.now) limits text d.paid
+    ensures found { IfSome result (λ d. (text : List ℕ) × AnswersMessage (S.message space.now) limits text d.paid
         × (d.digest ≡ sha256 text)) }
+    ensures other { result ≡ None → (v : Value) → IsValueOf (S.message space.now) limits v
+        → IsCanonicalOf (S.message space.now) v → ⊥ }
 {
     let own = own_canonical(space, limits)?;
     let digest = Sha256::digest(own.bytes);
@@ -37,7 +43,7 @@ fn digest_in_place<S: Space>(space: &S, limits: Limits) -> Option<Digested>
     })
 }
 
-/// The digest of the canonical bytes of a message.
+/// The digest of the canonical bytes of a message, which are made if it is not canonical.
 #[derive(Clone, Copy)]
 struct Hash;
 
@@ -66,7 +72,8 @@ impl MessageTask<Global> for Hash {
 
 /// The digest of the canonical bytes of the message that bytes are in a form, or why it has none.
 ///
-/// The bytes are read once, and no copy is made of a message that is canonical.
+/// The bytes are read once. Memory is asked for only by a packed text, by a frame of more than 64 segments, and by a
+/// message that is not canonical, of which a copy is made.
 pub fn digest_in(
     alloc: Global,
     form: Form,
@@ -77,6 +84,7 @@ pub fn digest_in(
         × (d.digest ≡ sha256 text)) }
     ensures refused { IfErr result (λ e. IsRefused form bytes.now limits e) }
     ensures memory { IsErrOf result refusals.Memory → MayNeedBytesIn form bytes.now limits }
+    ensures asked { IsErrOf result refusals.Memory → MayAskOrMake form bytes.now limits }
     ensures bounded { MatchResult result (λ d. d.paid ≤ limits.budget) (λ e. IsPaidWithin limits.budget e) }
 {
     run_few(alloc, &Hash, form, bytes, limits)

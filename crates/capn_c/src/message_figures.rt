@@ -6,8 +6,8 @@ ghost use Rattle.capn_canon.specs.Refusal.{IsUnacceptedIn, IsPaidWithin};
 ghost use Rattle.capn_canon.specs.MemoryNeed.{MayNeedMemory};
 ghost use Rattle.capn_canon.specs.declared.form.Form.TheVariants as forms;
 ghost use Rattle.capn_canon.specs.declared.refusal.Refusal.TheVariants as refusals;
+ghost use Rattle.capn_answers.specs.MemoryAsked.{MayAsk};
 ghost use Rattle.capn_c.specs.Figures.{FiguresIn};
-ghost use Rattle.capn_c.specs.MemoryAsked.{MayAsk};
 
 use crate::figures::{CapnFigures, figures_of};
 use capn_answers::read_frame;

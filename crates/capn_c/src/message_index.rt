@@ -14,8 +14,8 @@ ghost use Rattle.capn_canon.specs.Refusal.{IsPaidWithin, IsUnaccepted, IsUnaccep
 ghost use Rattle.capn_canon.specs.SurveyedBytes.{Surveys};
 ghost use Rattle.capn_canon.specs.declared.form.Form.TheVariants as forms;
 ghost use Rattle.capn_canon.specs.declared.refusal.Refusal.{Refusal as Refusals};
+ghost use Rattle.capn_answers.specs.MemoryAsked.{MayAsk};
 ghost use Rattle.capn_c.specs.Entries.{IndexedIn, c_index, starts_from};
-ghost use Rattle.capn_c.specs.MemoryAsked.{MayAsk};
 ghost use Rattle.capn_reports.specs.StatusCodes.{Reports, answered, is_status};
 
 use crate::entries::{CapnEntry, Offsets, put_starts};

@@ -12,7 +12,7 @@ ghost use Rattle.capn_canon.specs.SurveyedBytes.{Surveys};
 ghost use Rattle.capn_canon.specs.MemoryNeed.{MayNeedMemory};
 ghost use Rattle.capn_canon.specs.declared.form.Form.TheVariants as forms;
 ghost use Rattle.capn_canon.specs.declared.refusal.Refusal.TheVariants as refusals;
-ghost use Rattle.capn_c.specs.MemoryAsked.{MayAsk};
+ghost use Rattle.capn_answers.specs.MemoryAsked.{MayAsk};
 
 use crate::held_message::survey_short;
 use capn_answers::read_frame;

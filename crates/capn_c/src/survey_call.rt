@@ -7,10 +7,10 @@ ghost use Rattle.capn_canon.specs.Denotes.{Denotes};
 ghost use Rattle.capn_canon.specs.Refusal.{IsUnacceptedIn};
 ghost use Rattle.capn_canon.specs.MemoryNeed.{MayNeedMemory};
 ghost use Rattle.capn_canon.specs.declared.refusal.Refusal.{Refusal as Refusals};
+ghost use Rattle.capn_answers.specs.MemoryAsked.{MayAsk};
 ghost use Rattle.capn_reports.specs.Calls.{IsForm, form_named, GiveLimits, IsTariff, bounds_of};
 ghost use Rattle.capn_reports.specs.StatusCodes.{Reports, answered, at_number, is_status};
 ghost use Rattle.capn_c.specs.Figures.{FiguresIn};
-ghost use Rattle.capn_c.specs.MemoryAsked.{MayAsk};
 
 use crate::figures::CapnFigures;
 use crate::message_figures::figures_in;

@@ -7,6 +7,7 @@ use Rattle.capn_walk.specs.Limits.{Bounds}
 use Rattle.capn_walk.specs.Surveyed.{IsSurvey}
 use Rattle.capn_show.specs.declared.style.Style.{Style}
 use Rattle.capn_canon.specs.Denotes.{AnswersMessage}
+use Rattle.capn_canon.specs.Measure.{IsCanonicalOf}
 use Rattle.capn_canon.specs.MemoryNeed.{MayNeedBytes}
 use Rattle.capn_canon.specs.Refusal.{IsPaidWithin, IsRefusedMessage, IsUnaccepted}
 use Rattle.capn_canon.specs.declared.refusal.Refusal.{Refusal}
@@ -25,9 +26,11 @@ pub record IsTextTold (message : List (List ℕ)) (limits : Bounds) (style : Sty
   pub bounded : MatchResult r (λ x. IsBounded limits.budget x.survey.paid x.survey.visits)
       (λ e. IsPaidWithin limits.budget e)
 
--- the digest of a message's canonical bytes, and what its walk pays, or why it has none
+-- the digest of a message's canonical bytes, and what its walk pays, or why it has none; memory ran out only for those
+-- of a message that isn't canonical
 pub record IsDigestTold (message : List (List ℕ)) (limits : Bounds) (r : Result Digested Refusal) : Type 0 where
   pub found : IfOk r (λ d. (text : List ℕ) × AnswersMessage message limits text d.paid × (d.digest ≡ sha256 text))
   pub refused : IfErr r (λ e. IsRefusedMessage message limits e)
   pub memory : IsErrOf r refusals.Memory → MayNeedBytes message limits
+  pub made : IsErrOf r refusals.Memory → (v : Tree) → IsValueOf message limits v → IsCanonicalOf message v → ⊥
   pub bounded : MatchResult r (λ d. d.paid ≤ limits.budget) (λ e. IsPaidWithin limits.budget e)

@@ -1,32 +1,36 @@
 -- What is told of a message's departure and survey is so of the bytes.
-use Rattle.capn_answers.proofs.SurveyedDepartures.{both_bounded, both_few, both_found, both_only, both_refused}
-use Rattle.capn_answers.proofs.SurveyedDepartures.{both_surveyed, both_wanted}
+use Rattle.capn_answers.proofs.SurveyedDepartures.{both_asked, both_bounded, both_few, both_found, both_only}
+use Rattle.capn_answers.proofs.SurveyedDepartures.{both_refused, both_surveyed, both_wanted}
 use Rattle.capn_answers.proofs.departure_input.departure_and_survey_in.Goals as goal
 
 pub returns-clause-found : goal.returns-clause-found
 returns-clause-found g c =
-    both_found c.args.form c.args.bytes.now c.args.limits c.run_few.result c.run_few.ensures
+    both_found c.args.form c.args.bytes.now c.args.limits c.run_few.result c.run_few.ensures.answered
 
 pub returns-clause-surveyed : goal.returns-clause-surveyed
 returns-clause-surveyed g c =
-    both_surveyed c.args.form c.args.bytes.now c.args.limits c.run_few.result c.run_few.ensures
+    both_surveyed c.args.form c.args.bytes.now c.args.limits c.run_few.result c.run_few.ensures.answered
 
 pub returns-clause-only : goal.returns-clause-only
 returns-clause-only g c v d =
-    both_only c.args.form c.args.bytes.now c.args.limits c.run_few.result c.run_few.ensures v d
+    both_only c.args.form c.args.bytes.now c.args.limits c.run_few.result c.run_few.ensures.answered v d
 
 pub returns-clause-short : goal.returns-clause-short
 returns-clause-short g c =
-    both_few c.args.form c.args.bytes.now c.args.limits c.run_few.result c.run_few.ensures
+    both_few c.args.form c.args.bytes.now c.args.limits c.run_few.result c.run_few.ensures.answered
 
 pub returns-clause-refused : goal.returns-clause-refused
 returns-clause-refused g c =
-    both_refused c.args.form c.args.bytes.now c.args.limits c.run_few.result c.run_few.ensures
+    both_refused c.args.form c.args.bytes.now c.args.limits c.run_few.result c.run_few.ensures.answered
 
 pub returns-clause-memory : goal.returns-clause-memory
 returns-clause-memory g c w =
-    both_wanted c.args.form c.args.bytes.now c.args.limits c.run_few.result c.run_few.ensures w
+    both_wanted c.args.form c.args.bytes.now c.args.limits c.run_few.result c.run_few.ensures.answered w
+
+pub returns-clause-asked : goal.returns-clause-asked
+returns-clause-asked g c w =
+    both_asked c.args.form c.args.bytes.now c.args.limits (c.run_few.ensures.asked w)
 
 pub returns-clause-bounded : goal.returns-clause-bounded
 returns-clause-bounded g c =
-    both_bounded c.args.form c.args.bytes.now c.args.limits c.run_few.result c.run_few.ensures
+    both_bounded c.args.form c.args.bytes.now c.args.limits c.run_few.result c.run_few.ensures.answered
