@@ -64,7 +64,7 @@ test:
 	.ci/readings
 	.ci/counts
 	.ci/places
-	tests/program/completion
+	release/completions
 	tests/pages/touched
 	release/symbols
 	release/manual

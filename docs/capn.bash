@@ -1,4 +1,4 @@
-# Completion of bash for capn, made from its help by tests/program/completion.
+# Completion of bash for capn, made from its help by release/completions.
 _capn() {
     local at=$COMP_CWORD word=${COMP_WORDS[COMP_CWORD]} command=${COMP_WORDS[1]} words=
     # after a sign of redirection: a file, by -o default

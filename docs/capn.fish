@@ -1,4 +1,4 @@
-# Completion of fish for capn, made from its help by tests/program/completion.
+# Completion of fish for capn, made from its help by release/completions.
 complete -c capn -f
 complete -c capn -n __fish_use_subcommand -a show -d 'Writes the value of each message as text, and then the line `end`'
 complete -c capn -n __fish_use_subcommand -a check -d 'Writes `ok paid P visits V` for each message: what reading it costs'

@@ -1,5 +1,5 @@
 #compdef capn
-# Completion of zsh for capn, made from its help by tests/program/completion.
+# Completion of zsh for capn, made from its help by release/completions.
 _capn() {
     local -a commands
     commands=(
