@@ -4,3 +4,4 @@ pub mod places
 pub mod check
 pub mod theorem
 pub mod calls
+pub mod page

@@ -8,4 +8,6 @@ pub mod TheTheorem
 pub mod WorkedCanon
 pub mod WorkedObjects
 pub mod WorkedPacked
+pub mod WorkedPage
+pub mod Told
 pub mod IntoDecided

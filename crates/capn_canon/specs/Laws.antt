@@ -1,20 +1,27 @@
 -- The laws of canonical bytes.
-use Rattle.std.specs.Prelude.{◌≡◌, ◌↔◌, ℕ, ◌*◌, ◌+◌, ◌≤◌, List, None, length, Result, IfOk, IfErr, OnErr}
-use Rattle.capn_words.specs.Message.{bytes}
+use Rattle.std.specs.Prelude.{◌≡◌, ◌↔◌, ℕ, ◌*◌, ◌+◌, ◌≤◌, List, [], ◌∷◌, None, length, Result, IfOk, IfErr, OnErr}
+use Rattle.std.specs.Prelude.{Bool, IsTrue}
+use Rattle.capn_words.specs.Message.{bytes, IsBare, IsMessage}
 use Rattle.capn_pack.specs.Words.{bytes as packed_bytes}
 use Rattle.capn_value.specs.Tree.{Tree}
 use Rattle.capn_value.specs.FirstCap.{first_cap}
 use Rattle.capn_value.specs.InRange.{InRange}
 use Rattle.capn_value.specs.Fits.{Fits}
 use Rattle.capn_value.specs.Same.{Same}
+use Rattle.capn_value.specs.Getters.{Step, get}
 use Rattle.capn_value.specs.Cost.{base, cost, height}
-use Rattle.capn_walk.specs.Accepted.{paid}
+use Rattle.capn_walk.specs.Accepted.{paid, root}
+use Rattle.capn_walk.specs.ValueAt.{IsAt}
 use Rattle.capn_walk.specs.Limits.{Bounds, AreLimits}
 use Rattle.capn_canon.specs.declared.form.Form.{Form}
+use Rattle.capn_canon.specs.declared.form.Form.TheVariants as forms
 use Rattle.capn_canon.specs.declared.refusal.Refusal.{Refusal}
 use Rattle.capn_canon.specs.declared.refusal.Refusal.TheVariants as refusals
 use Rattle.capn_layout.specs.Layout.{canon}
 use Rattle.capn_canon.specs.Denotes.{Denotes, Answers}
+use Rattle.capn_canon.specs.PageForm.{IsPageForm}
+use Rattle.capn_canon.specs.BareVerdict.{SaysCanonical, IsBareSurvey}
+use Rattle.capn_canon.specs.declared.surveyed_bare.SurveyedBare.{SurveyedBare}
 use Rattle.capn_canon.specs.Refusal.{IsRefused}
 use Rattle.capn_canon.specs.declared.canonical.Canonical.{Canonical}
 use Rattle.capn_canon.specs.Canonicity.{IsCanonicalForm}
@@ -70,6 +77,51 @@ RefusedForOneReason = (form : Form) (bs : List ℕ) (limits : Bounds) (r s : Ref
 abbrev pub WordsHaveTheSameBytes : Type 0
 WordsHaveTheSameBytes = (ws : List ℕ) → bytes ws ≡ packed_bytes ws
 
+-- ---- the rules of the encoding page
+
+-- words that denote a value which fits have no capability and are its canonical bytes if and only if they follow the
+-- rules of the page
+abbrev pub CanonicalExactlyByPage : Type 0
+CanonicalExactlyByPage = (bs ws : List ℕ) (v : Tree) → IsBare bs ws → IsAt (ws ∷ []) root v → Fits v
+    → ((first_cap v ≡ None) × (canon v ≡ bs)) ↔ IsPageForm ws
+
+-- words that follow them denote a value, which has no capability
+abbrev pub PageFormsDenote : Type 0
+PageFormsDenote = (ws : List ℕ) → IsPageForm ws → (v : Tree) × IsAt (ws ∷ []) root v × (first_cap v ≡ None)
+
+-- the bytes are words that follow the rules of the page and denote a value which fits and is the same as this one
+pub record IsPageFormOf (bs : List ℕ) (v : Tree) : Type 0 where
+  pub words : List ℕ
+  pub bare : IsBare bs words
+  pub form : IsPageForm words
+  pub denoted : Tree
+  pub is : IsAt (words ∷ []) root denoted
+  pub fits : Fits denoted
+  pub same : Same denoted v
+
+-- the rules of the page leave each value without capabilities one form, and it is its canonical bytes
+abbrev pub CanonIsThePageForm : Type 0
+CanonIsThePageForm = (v : Tree) (bs : List ℕ) → Fits v → InRange v → first_cap v ≡ None
+    → (bs ≡ canon v) ↔ IsPageFormOf bs v
+
+-- each answer follows the rules of the page, and denotes what was denoted
+abbrev pub AnswersFollowThePage : Type 0
+AnswersFollowThePage = (form : Form) (bs : List ℕ) (limits : Bounds) (out : List ℕ) (price : ℕ)
+    → AreLimits limits.message_words limits.budget limits.depth → Answers form bs limits out price
+    → (v : Tree) × Denotes form bs limits v × IsPageFormOf out v
+
+-- the check of canonical bytes says yes if and only if they are words that follow the rules of the page
+abbrev pub CheckIsOfThePage : Type 0
+CheckIsOfThePage = (bs : List ℕ) (limits : Bounds) (told : Bool)
+    → AreLimits limits.message_words limits.budget limits.depth → SaysCanonical bs limits told
+    → IsTrue told ↔ ((ws : List ℕ) × IsBare bs ws × IsPageForm ws)
+
+-- and so does the survey of one segment
+abbrev pub SurveyIsOfThePage : Type 0
+SurveyIsOfThePage = (words : List ℕ) (limits : Bounds) (c : SurveyedBare) → IsMessage (words ∷ [])
+    → AreLimits limits.message_words limits.budget limits.depth → IsBareSurvey words limits c
+    → IsTrue c.is_canonical ↔ IsPageForm words
+
 -- ---- the theorem, of all that is answered and refused as the clauses of `canonicalise` say
 
 -- an answer is found under limits, or a refusal means what it says
@@ -98,6 +150,40 @@ AnswersAreOwnForms A = (form : Form) (bs : List ℕ) (limits : Bounds) (r : Resu
 abbrev pub WalksAreWithinBudgets : Type 0 → Type 0
 WalksAreWithinBudgets A = (form : Form) (bs : List ℕ) (limits : Bounds) (r : Result (Canonical A) Refusal)
     → IsFoundOrRefused form bs limits r → WithinBudget limits r
+
+-- ---- what readers are told
+
+-- two values that fit and are in range have equal canonical bytes if and only if the getters tell the same of both,
+-- along every path
+abbrev pub CanonIsWhatIsTold : Type 0
+CanonIsWhatIsTold = (v w : Tree) → Fits v → InRange v → Fits w → InRange w
+    → (canon v ≡ canon w) ↔ ((p : List Step) → get v p ≡ get w p)
+
+-- words that follow the rules of the page, and denote values that fit, have equal bytes if and only if the getters tell
+-- the same of both values, along every path
+abbrev pub PageFormsAreWhatIsTold : Type 0
+PageFormsAreWhatIsTold = (bs ds ws us : List ℕ) (v w : Tree) → IsBare bs ws → IsBare ds us → IsAt (ws ∷ []) root v
+    → IsAt (us ∷ []) root w → Fits v → Fits w → IsPageForm ws → IsPageForm us
+    → (bs ≡ ds) ↔ ((p : List Step) → get v p ≡ get w p)
+
+-- two answers, from any two forms, inputs and limits, are byte for byte equal if and only if the getters tell the same
+-- of the values denoted, along every path
+abbrev pub EqualToGetters : Form → List ℕ → Bounds → List ℕ → Type 0
+EqualToGetters form bs limits answer = (g : Form) (ds : List ℕ) (m : Bounds) (other : List ℕ) (price : ℕ) (v w : Tree)
+    → AreLimits m.message_words m.budget m.depth → Answers g ds m other price → Denotes form bs limits v
+    → Denotes g ds m w → (answer ≡ other) ↔ ((p : List Step) → get v p ≡ get w p)
+
+-- so are any two answers
+abbrev pub AnswersAreEqualToGetters : Type 0 → Type 0
+AnswersAreEqualToGetters A = (form : Form) (bs : List ℕ) (limits : Bounds) (r : Result (Canonical A) Refusal)
+    → IsFoundOrRefused form bs limits r → IfOk r (λ c. EqualToGetters form bs limits c.bytes.items)
+
+-- the bytes of each answer, read bare under the same limits, denote a value of which the getters tell what they tell of
+-- the one that was canonicalised
+abbrev pub AnswersTellTheSame : Type 0 → Type 0
+AnswersTellTheSame A = (form : Form) (bs : List ℕ) (limits : Bounds) (r : Result (Canonical A) Refusal)
+    → IsFoundOrRefused form bs limits r → IfOk r (λ c. (v : Tree) → Denotes form bs limits v
+    → (w : Tree) × Denotes forms.Bare c.bytes.items limits w × ((p : List Step) → get w p ≡ get v p))
 
 -- ---- the theorem of `canonical_into`, of all that is answered and refused as its clauses say
 

@@ -12,6 +12,7 @@ pub mod Display
 pub mod Measure
 pub mod MemoryNeed
 pub mod Theorem
+pub mod PageForm
 pub mod CanonicalLength
 pub mod MessageRefusal
 pub use Rattle.capn_layout.specs.Layout

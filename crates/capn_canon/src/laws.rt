@@ -4,6 +4,10 @@ ghost use Rattle.capn_canon.specs.Laws.{CanonIsForm, EqualExactlySame, DenotedHa
 ghost use Rattle.capn_canon.specs.Laws.{DenotedAreNotRefused, RefusedForOneReason};
 ghost use Rattle.capn_canon.specs.Laws.{EachIsAnswered, AnswersAreEqualExactly, AnswersAreOwnForms};
 ghost use Rattle.capn_canon.specs.Laws.{WalksAreWithinBudgets, IntoIsDecided, WordsHaveTheSameBytes};
+ghost use Rattle.capn_canon.specs.Laws.{CanonicalExactlyByPage, CanonIsThePageForm, AnswersFollowThePage};
+ghost use Rattle.capn_canon.specs.Laws.{PageFormsDenote, CheckIsOfThePage, SurveyIsOfThePage};
+ghost use Rattle.capn_canon.specs.Laws.{CanonIsWhatIsTold, PageFormsAreWhatIsTold, AnswersAreEqualToGetters};
+ghost use Rattle.capn_canon.specs.Laws.{AnswersTellTheSame};
 
 use std::alloc::Allocator;
 
@@ -41,4 +45,25 @@ pub fn denotation()
 /// A word has the same 8 bytes in a message that is read and in one that is packed.
 pub fn spelling()
     ensures { WordsHaveTheSameBytes }
+{}
+
+/// Words are the canonical bytes of the value that they denote if and only if they follow the rules of the encoding
+/// page. Words that follow these denote a value without capabilities, and each such value has one form that does. So
+/// each answer follows them, and the check says yes if and only if they are followed.
+pub fn page()
+    ensures exactly { CanonicalExactlyByPage }
+    ensures denoted { PageFormsDenote }
+    ensures only { CanonIsThePageForm }
+    ensures answers { AnswersFollowThePage }
+    ensures check { CheckIsOfThePage }
+    ensures survey { SurveyIsOfThePage }
+{}
+
+/// Two answers, and any two words that follow the rules of the encoding page, are equal if and only if the getters tell
+/// the same of the values denoted, along every path. Each answer reads as its message does.
+pub fn readers<A: Allocator>()
+    ensures canon { CanonIsWhatIsTold }
+    ensures page { PageFormsAreWhatIsTold }
+    ensures equal { AnswersAreEqualToGetters A }
+    ensures alike { AnswersTellTheSame A }
 {}

@@ -20,4 +20,5 @@ pub mod Pairwise
 pub mod Shown
 pub mod Sized
 mod WorkedTrees
+mod WorkedGetters
 mod Nulls

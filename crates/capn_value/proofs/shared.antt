@@ -7,4 +7,5 @@ pub mod Ranges
 pub mod SameTrimmed
 pub mod StaysFit
 pub mod Tariffs
+pub mod Told
 pub mod Trimmed

@@ -1,7 +1,8 @@
 -- What holds of the definitions, whatever the code does. (Own.)
-use Rattle.std.specs.Prelude.{◌≡◌, ◌≤◌, ◌↔◌, Some}
+use Rattle.std.specs.Prelude.{◌≡◌, ◌≤◌, ◌↔◌, List, Some}
 use Rattle.capn_value.specs.Tree.{Tree}
 use Rattle.capn_value.specs.Same.{Same}
+use Rattle.capn_value.specs.Getters.{Step, get}
 use Rattle.capn_value.specs.Trim.{trimmed}
 use Rattle.capn_value.specs.Fits.{Fits, IsFirst, IsFit, misfit}
 use Rattle.capn_value.specs.Cost.{base, cost, height}
@@ -29,3 +30,15 @@ FittingIsSixFacts = (t : Tree) → Fits t ↔ IsFit t
 -- the misfit of a value is the one that holds while none before it does
 abbrev pub MisfitIsFirst : Type 0
 MisfitIsFirst = (t : Tree) (k : Misfit) → (misfit t ≡ Some k) ↔ IsFirst k t
+
+-- values are the same if and only if the getters tell the same of both along every path
+abbrev pub SameExactlyToGetters : Type 0
+SameExactlyToGetters = (v w : Tree) → Same v w ↔ ((p : List Step) → get v p ≡ get w p)
+
+-- then whatever is computed from what they tell is the same of both
+abbrev pub SameToReaders : Type 0
+SameToReaders = (v w : Tree) → Same v w ↔ (get v ≡ get w)
+
+-- trimming changes nothing that they tell
+abbrev pub TrimmedIsToldAlike : Type 0
+TrimmedIsToldAlike = (v : Tree) (p : List Step) → get (trimmed v) p ≡ get v p

@@ -8,6 +8,7 @@ pub mod Code
 pub mod Cost
 pub mod Fits
 pub mod Same
+pub mod Getters
 pub mod Trim
 pub mod Laws
 pub mod Text

@@ -1,0 +1,8 @@
+-- The canonical form by the rules of the encoding page.
+pub mod Rules
+pub mod Ends
+pub mod PointerWords
+pub mod Stands
+pub mod LaidFollows
+pub mod Denoted
+pub mod ThePage

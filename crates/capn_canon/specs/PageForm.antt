@@ -1,0 +1,87 @@
+-- The canonical form by the rules of the encoding page, one by one. It names no layout: it says of the words of one
+-- segment what their pointers have to be, followed in preorder. (Page: canonicalization; what is own is marked.)
+use Rattle.std.specs.Prelude.{◌≡◌, ◌≢◌, ℕ, zero, ◌+◌, ◌-◌, ◌*◌, ◌/◌, ◌%◌, ◌^◌, ◌<◌, List, [], ◌∷◌, ◌++◌, length}
+use Rattle.std.specs.Prelude.{slice_index, Ok, ⊤}
+use Rattle.std.specs.List.{AllByRecursion}
+use Rattle.capn_words.specs.declared.space.Place.{Place}
+use Rattle.capn_target.specs.declared.target.Target.TheVariants as targets
+use Rattle.capn_target.specs.declared.target.Shape.{Shape}
+use Rattle.capn_target.specs.declared.target.Shape.TheVariants as shapes
+use Rattle.capn_target.specs.Target.{target}
+use Rattle.capn_target.specs.Shapes.{extent}
+use Rattle.capn_walk.specs.Accepted.{root}
+use Rattle.capn_walk.specs.Visits.{slots}
+use Rattle.capn_layout.specs.FirstBits.{element_bits}
+
+-- a pointer that is met: null, or at a word, to an object of a shape whose content starts at a word
+pub data Met : Type 0 where
+  null : Met
+  object : ℕ → ℕ → Shape → Met
+
+-- a struct of no words
+abbrev pub IsEmpty : Shape → Type 0
+IsEmpty (shapes.Node zero zero) = ⊤
+IsEmpty _ = ⊥
+
+-- the pointer to a struct of no words has offset -1: its content starts at the pointer (Page: canonicalization.)
+abbrev pub PointsAtItself : Met → Type 0
+PointsAtItself (object pointer start shape) = IsEmpty shape → start ≡ pointer
+PointsAtItself null = ⊤
+
+-- the words of a list of structs are those of its structs, and no more (Page: lists.)
+abbrev pub IsWhole : Met → Type 0
+IsWhole (object pointer start (shapes.Rows n a b span)) = span ≡ n * (a + b)
+IsWhole _ = ⊤
+
+module _ (words : List ℕ) where
+  -- these are the pointers that are met from some places on: each with those of its object, in order, before the
+  -- others, which is preorder; all in one segment, and so without far pointers (Page: canonicalization.); none is a
+  -- capability (Own.)
+  abbrev pub InPreorder : List Place → List Met → Type 0
+  InPreorder [] [] = ⊤
+  InPreorder (at ∷ others) (null ∷ rest) = (target (words ∷ []) at ≡ Ok targets.Nil) × InPreorder others rest
+  InPreorder (at ∷ others) (object pointer start shape ∷ rest) =
+      (pointer ≡ at.word) × (target (words ∷ []) at ≡ Ok (targets.Content 0 start shape 0))
+      × InPreorder (slots 0 start shape ++ others) rest
+  InPreorder _ _ = ⊥
+
+  -- the contents follow one another in this order, without a gap or an overlap, from a word to the end; one without
+  -- words has its place too, unless it is a struct (Page: canonicalization.)
+  abbrev pub WithoutGaps : ℕ → List Met → Type 0
+  WithoutGaps next [] = next ≡ length words
+  WithoutGaps next (null ∷ rest) = WithoutGaps next rest
+  WithoutGaps next (object pointer start shape ∷ rest) =
+      ((IsEmpty shape → ⊥) → start ≡ next) × WithoutGaps (next + extent shape) rest
+
+  -- of n words from a word on the last isn't zero, if there are any
+  abbrev pub EndsInSome : ℕ → ℕ → Type 0
+  EndsInSome from n = 0 < n → slice_index words (from + (n - 1)) ≢ 0
+
+  -- nor is it in one at least of `many` rows, the first of which starts there, each `step` words after the one before
+  abbrev pub OneEndsInSome : ℕ → ℕ → ℕ → ℕ → Type 0
+  OneEndsInSome many step from n = 0 < n → (i : ℕ) × (i < many) × (slice_index words (from + i * step + (n - 1)) ≢ 0)
+
+  -- no section of a struct, data words or pointers, ends in a zero word, and no section of the structs of a list ends
+  -- in one that is zero in each of them (Page: canonicalization.)
+  abbrev pub IsTruncated : Met → Type 0
+  IsTruncated (object pointer start (shapes.Node a b)) = EndsInSome start a × EndsInSome (start + a) b
+  IsTruncated (object pointer start (shapes.Rows n a b span)) =
+      OneEndsInSome n (a + b) (start + 1) a × OneEndsInSome n (a + b) (start + 1 + a) b
+  IsTruncated _ = ⊤
+
+  -- the bits after the last element of a list, in its last word, are zero (Own.)
+  abbrev pub IsPadded : Met → Type 0
+  IsPadded (object pointer start (shapes.Many width n)) =
+      let bits : ℕ = element_bits width * n in
+      0 < bits % 64 → slice_index words (start + bits / 64) < 2 ^ (bits % 64)
+  IsPadded _ = ⊤
+
+  -- the words follow all rules: their pointers, from that to the root at word 0 on, and the contents from word 1 on
+  pub record IsPageForm : Type 0 where
+    pub pointers : List Met
+    pub preorder : InPreorder (root ∷ []) pointers
+    pub no_gap : WithoutGaps 1 pointers
+    pub truncated : AllByRecursion IsTruncated pointers
+    pub empty_structs : AllByRecursion PointsAtItself pointers
+    pub padded : AllByRecursion IsPadded pointers
+    pub whole : AllByRecursion IsWhole pointers
