@@ -9,7 +9,7 @@ use Rattle.capn_value.specs.FirstCap.{first_cap}
 use Rattle.capn_walk.specs.Limits.{Bounds}
 use Rattle.capn_target.proofs.shared.Segments.{length_of_none, length_of_some}
 use Rattle.capn_walk.proofs.shared.Unique.{unique}
-use Rattle.capn_canon.proofs.shared.OneBare.{only-segment}
+use Rattle.capn_target.proofs.shared.OneBare.{only-segment}
 use Rattle.capn_canon.specs.Measure.{IsChecked}
 use Rattle.capn_canon.specs.Layout.{canon}
 use Rattle.capn_canon.specs.declared.surveyed_bare.SurveyedBare.{SurveyedBare}

@@ -12,16 +12,14 @@ ghost use Rattle.capn_canon.specs.Refusal.{IsRefusedMessage, IsPaidWithin};
 ghost use Rattle.capn_canon.specs.declared.refusal.Refusal.TheVariants as refusals;
 ghost use Rattle.capn_canon.specs.MemoryNeed.{MayNeedBytes};
 
-use crate::one_segment::alone;
 use crate::refusal::Refusal;
 use crate::value_survey::survey_value;
 use capn_layout::surveyed_layout_counted;
-use capn_target::counted::{CountedSpace, Reads, count_reads};
+use capn_target::counted::{Asked, CountedSpace, CountedTask, Reads};
 use capn_walk::Limits;
-use capn_words::{Bare, Space};
+use capn_words::Space;
 use std::alloc::{Allocator, Global};
-use std::marker::Brand;
-use std::sync::ledger::{Blank, Ledger};
+use std::sync::ledger::Ledger;
 
 /// Canonical bytes, and the words that the walk of the message paid.
 #[derive(Debug, Drop, PartialEq, Eq)]
@@ -40,8 +38,8 @@ fn canonical_of_inner<A: Allocator + Copy, S: Space, L: Ledger>(
     reads: &mut Reads<L>,
 ) -> Result<Canonical<A>, Refusal>
     ensures told { IsCanonicalised space.now limits result (λ c. c.bytes.items) (λ c. c.paid) }
-    ensures reads { IfOk result (λ c. reads.new ≤ reads.old + 56 * (c.paid + 1)) }
-    ensures work { reads.new ≤ reads.old + 56 * (limits.budget + 1) }
+    ensures reads { IfOk result (λ c. reads.new + 3 ≤ reads.old + 56 * (c.paid + 1)) }
+    ensures work { reads.new + 3 ≤ reads.old + 56 * (limits.budget + 1) }
 {
     space.bounds();
     let _budget = limits.budget();
@@ -54,35 +52,48 @@ fn canonical_of_inner<A: Allocator + Copy, S: Space, L: Ledger>(
     })
 }
 
-/// The same, with a new ledger.
-fn canonical_with_ledger<A: Allocator + Copy, S: Space, L: Ledger>(
+/// The same. If the message has one segment, it is read as its words alone, which is faster.
+fn canonical_by_segments<A: Allocator + Copy, S: Space, L: Ledger>(
     alloc: A,
-    space: &S,
+    space: &CountedSpace<'_, S, L>,
     limits: Limits,
-    blank: Blank,
+    reads: &mut Reads<L>,
 ) -> Result<Canonical<A>, Refusal>
-    requires name { blank.name ≡ L.name }
-    requires parts { blank.parts ≡ L.parts }
-    requires one { 0 < blank.parts }
-    ensures { IsCanonicalised (S.message space.now) limits result (λ c. c.bytes.items) (λ c. c.paid) }
+    ensures told { IsCanonicalised space.now limits result (λ c. c.bytes.items) (λ c. c.paid) }
+    ensures reads { IfOk result (λ c. reads.new ≤ reads.old + 56 * (c.paid + 1)) }
+    ensures work { reads.new ≤ reads.old + 56 * (limits.budget + 1) }
 {
-    let (space, mut reads) = count_reads::<S, L>(space, blank);
-    canonical_of_inner(alloc, &space, limits, &mut reads)
+    match space.only_segment(reads) {
+        Some(only) => canonical_of_inner(alloc, &only.space(), limits, reads),
+        None => canonical_of_inner(alloc, space, limits, reads),
+    }
 }
 
-/// The canonical bytes of a message. If it has one segment, it is read as its bytes alone, which is faster.
-pub(crate) fn canonical_by_segments<A: Allocator + Copy, S: Space>(
+/// The canonical bytes of a message within the limits.
+#[derive(Drop)]
+struct BytesTask<A: Allocator + Copy> {
     alloc: A,
-    space: &S,
     limits: Limits,
-) -> Result<Canonical<A>, Refusal>
-    ensures { IsCanonicalised (S.message space.now) limits result (λ c. c.bytes.items) (λ c. c.paid) }
-{
-    match alone(space) {
-        Some(bare) => {
-            canonical_with_ledger::<A, Bare<'_>, Brand>(alloc, &bare, limits, Blank::new(1))
-        }
-        None => canonical_with_ledger::<A, S, Brand>(alloc, space, limits, Blank::new(1)),
+}
+
+impl<A: Allocator + Copy> CountedTask for BytesTask<A> {
+    type Told = Result<Canonical<A>, Refusal>;
+
+    ghost use Rattle.std.specs.Prelude.{◌+◌, ◌*◌};
+    ghost use Rattle.capn_words.specs.Message.{IsMessage};
+    ghost use Rattle.capn_canon.specs.inner.Outcomes.{IsCanonicalised};
+
+    ghost tells = { λ t m r. IsMessage m × IsCanonicalised m t.limits r (λ c. c.bytes.items) (λ c. c.paid) };
+
+    ghost most = { λ t. 56 * (t.limits.budget + 1) };
+
+    fn run<S: Space, L: Ledger>(
+        self,
+        space: &CountedSpace<'_, S, L>,
+        reads: &mut Reads<L>,
+    ) -> Result<Canonical<A>, Refusal> {
+        space.bounds();
+        canonical_of_counted(self.alloc, space, self.limits, reads)
     }
 }
 
@@ -90,41 +101,43 @@ pub(crate) fn canonical_by_segments<A: Allocator + Copy, S: Space>(
 ///
 /// `Walk`: the message is not accepted. `Capability`: its value has capabilities; the index is that of the
 /// first in preorder. `Memory` comes only where a growth was refused; no other refusal comes.
-pub fn canonical_of<A: Allocator + Copy, S: Space>(
+pub fn canonical_of<A: Allocator + Copy, M: Asked>(
     alloc: A,
-    space: &S,
+    space: M,
     limits: Limits,
 ) -> Result<Canonical<A>, Refusal>
+    // All passes ask the message and turn at most 56 times for each word of the budget, and 56 times more: it is done
+    // on any message that allows this, and a reference to a `Space` allows all.
+    requires work { M.allows space (56 * (limits.budget + 1)) }
     // The answer: the canonical bytes of the one value that the message denotes, and what its walk pays.
-    ensures found { IfOk result (λ c. AnswersMessage (S.message space.now) limits c.bytes.items c.paid) }
+    ensures found { IfOk result (λ c. AnswersMessage (M.message space) limits c.bytes.items c.paid) }
     // A value without capabilities is answered, unless memory runs out.
-    ensures only { (v : Value) → IsValueOf (S.message space.now) limits v → first_cap v ≡ None
+    ensures only { (v : Value) → IsValueOf (M.message space) limits v → first_cap v ≡ None
         → MatchResult result (λ c. c.bytes.items ≡ canon v) (λ e. e ≡ refusals.Memory) }
     // What each refusal means.
-    ensures refused { IfErr result (λ e. IsRefusedMessage (S.message space.now) limits e) }
+    ensures refused { IfErr result (λ e. IsRefusedMessage (M.message space) limits e) }
     // Memory is needed only for canonical bytes.
-    ensures memory { IsErrOf result refusals.Memory → MayNeedBytes (S.message space.now) limits }
+    ensures memory { IsErrOf result refusals.Memory → MayNeedBytes (M.message space) limits }
     // No walk pays beyond its budget.
     ensures bounded { MatchResult result (λ c. c.paid ≤ limits.budget) (λ e. IsPaidWithin limits.budget e) }
     ensures short { IfOk result (λ c. length c.bytes.items ≤ 8 * (c.paid + 1)) }
     // Read bare under the same limits, the bytes denote the trimmed value, which is the same value,
-    ensures reads_back { IfOk result (λ c. (v : Value) → IsValueOf (S.message space.now) limits v
+    ensures reads_back { IfOk result (λ c. (v : Value) → IsValueOf (M.message space) limits v
         → ReadsBack c.bytes.items limits v) }
     // and pay exactly its cost;
-    ensures pays { IfOk result (λ c. (v : Value) → IsValueOf (S.message space.now) limits v
+    ensures pays { IfOk result (λ c. (v : Value) → IsValueOf (M.message space) limits v
         → PaysItsCost c.bytes.items limits v) }
     // its canonical bytes are these again;
-    ensures own { IfOk result (λ c. (v : Value) → IsValueOf (S.message space.now) limits v
+    ensures own { IfOk result (λ c. (v : Value) → IsValueOf (M.message space) limits v
         → IsItsOwnForm c.bytes.items v) }
     // and a second value has these canonical bytes if and only if it is the same value.
-    ensures exactly { IfOk result (λ c. (v : Value) → IsValueOf (S.message space.now) limits v
+    ensures exactly { IfOk result (λ c. (v : Value) → IsValueOf (M.message space) limits v
         → IsFormExactlyOf c.bytes.items v) }
 {
-    // The clauses need what they promise of a message and of limits.
-    let _segments = space.segments();
+    // The clauses need what they promise of limits.
     let _budget = limits.budget();
     let _depth = limits.depth();
-    canonical_by_segments(alloc, space, limits)
+    space.ask(BytesTask { alloc, limits })
 }
 
 /// What [`canonical_of`] answers, by calls that count what they read, as for
@@ -172,5 +185,5 @@ pub fn canonical_of_counted<A: Allocator + Copy, S: Space, L: Ledger>(
     space.bounds();
     let _budget = limits.budget();
     let _depth = limits.depth();
-    canonical_of_inner(alloc, space, limits, reads)
+    canonical_by_segments(alloc, space, limits, reads)
 }

@@ -12,7 +12,7 @@ ghost use Rattle.capn_canon.specs.Theorem.{Answered, EqualExactly, OwnForm, With
 ghost use Rattle.capn_canon.specs.MemoryNeed.{MayNeedBytesIn};
 ghost use Rattle.capn_canon.specs.declared.refusal.Refusal.TheVariants as refusals;
 
-use crate::canonical::{Canonical, canonical_by_segments};
+use crate::canonical::{Canonical, canonical_of};
 use crate::form::Form;
 use crate::input::{MessageTask, run_task};
 use crate::refusal::Refusal;
@@ -35,7 +35,7 @@ impl<A: Allocator + Copy> MessageTask<A> for CanonicalBytes {
         message: &S,
         limits: Limits,
     ) -> Result<Canonical<A>, Refusal> {
-        canonical_by_segments(alloc, message, limits)
+        canonical_of(alloc, message, limits)
     }
 }
 

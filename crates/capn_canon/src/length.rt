@@ -10,14 +10,12 @@ ghost use Rattle.capn_canon.specs.MessageRefusal.{HasNoBytes, IsMessagePaidWithi
 ghost use Rattle.capn_canon.specs.inner.Outcomes.{IsBeyond, IsLengthTold};
 
 use crate::message_refusal::MessageRefusal;
-use crate::one_segment::alone;
 use crate::value_survey::survey_value;
 use capn_layout::surveyed_length_counted;
-use capn_target::counted::{CountedSpace, Reads, count_reads};
+use capn_target::counted::{Asked, CountedSpace, CountedTask, Reads};
 use capn_walk::Limits;
-use capn_words::{Bare, Space};
-use std::marker::Brand;
-use std::sync::ledger::{Blank, Ledger};
+use capn_words::Space;
+use std::sync::ledger::Ledger;
 
 /// The length of the canonical bytes of a message, and what its walk pays and visits.
 #[derive(Clone, Copy, Debug, PartialEq, Eq)]
@@ -64,8 +62,8 @@ fn length_of<S: Space, L: Ledger>(
     reads: &mut Reads<L>,
 ) -> Result<CanonicalLength, MessageRefusal>
     ensures told { IsLengthTold space.now limits result }
-    ensures reads { IfOk result (λ c. reads.new ≤ reads.old + 34 * (c.paid + 1)) }
-    ensures work { reads.new ≤ reads.old + 34 * (limits.budget + 1) }
+    ensures reads { IfOk result (λ c. reads.new + 3 ≤ reads.old + 34 * (c.paid + 1)) }
+    ensures work { reads.new + 3 ≤ reads.old + 34 * (limits.budget + 1) }
 {
     space.bounds();
     let _budget = limits.budget();
@@ -79,31 +77,46 @@ fn length_of<S: Space, L: Ledger>(
     })
 }
 
-/// The same, with a new ledger.
-fn length_with_ledger<S: Space, L: Ledger>(
-    space: &S,
+/// The same. If the message has one segment, it is read as its words alone, which is faster.
+fn length_by_segments<S: Space, L: Ledger>(
+    space: &CountedSpace<'_, S, L>,
     limits: Limits,
-    blank: Blank,
+    reads: &mut Reads<L>,
 ) -> Result<CanonicalLength, MessageRefusal>
-    requires name { blank.name ≡ L.name }
-    requires parts { blank.parts ≡ L.parts }
-    requires one { 0 < blank.parts }
-    ensures { IsLengthTold (S.message space.now) limits result }
+    ensures told { IsLengthTold space.now limits result }
+    ensures reads { IfOk result (λ c. reads.new ≤ reads.old + 34 * (c.paid + 1)) }
+    ensures work { reads.new ≤ reads.old + 34 * (limits.budget + 1) }
 {
-    let (space, mut reads) = count_reads::<S, L>(space, blank);
-    length_of(&space, limits, &mut reads)
+    match space.only_segment(reads) {
+        Some(only) => length_of(&only.space(), limits, reads),
+        None => length_of(space, limits, reads),
+    }
 }
 
-/// The same. If the message has one segment, it is read as its bytes alone, which is faster.
-fn length_by_segments<S: Space>(
-    space: &S,
+/// The length of the canonical bytes of a message within the limits.
+#[derive(Drop)]
+struct LengthTask {
     limits: Limits,
-) -> Result<CanonicalLength, MessageRefusal>
-    ensures { IsLengthTold (S.message space.now) limits result }
-{
-    match alone(space) {
-        Some(bare) => length_with_ledger::<Bare<'_>, Brand>(&bare, limits, Blank::new(1)),
-        None => length_with_ledger::<S, Brand>(space, limits, Blank::new(1)),
+}
+
+impl CountedTask for LengthTask {
+    type Told = Result<CanonicalLength, MessageRefusal>;
+
+    ghost use Rattle.std.specs.Prelude.{◌+◌, ◌*◌};
+    ghost use Rattle.capn_words.specs.Message.{IsMessage};
+    ghost use Rattle.capn_canon.specs.inner.Outcomes.{IsLengthTold};
+
+    ghost tells = { λ t m r. IsMessage m × IsLengthTold m t.limits r };
+
+    ghost most = { λ t. 34 * (t.limits.budget + 1) };
+
+    fn run<S: Space, L: Ledger>(
+        self,
+        space: &CountedSpace<'_, S, L>,
+        reads: &mut Reads<L>,
+    ) -> Result<CanonicalLength, MessageRefusal> {
+        space.bounds();
+        canonical_length_counted(space, self.limits, reads)
     }
 }
 
@@ -111,26 +124,28 @@ fn length_by_segments<S: Space>(
 ///
 /// The message is walked, and refused by `Walk` if it is not accepted, by `Capability` if its value has capabilities.
 /// No other refusal comes. It reads the message twice and takes no memory but the stack, whatever the depth. (Own.)
-pub fn canonical_length<S: Space>(
-    space: &S,
+pub fn canonical_length<M: Asked>(
+    space: M,
     limits: Limits,
 ) -> Result<CanonicalLength, MessageRefusal>
+    // Its passes ask the message and turn at most 34 times for each word of the budget, and 34 times more: it is done
+    // on any message that allows this, and a reference to a `Space` allows all.
+    requires work { M.allows space (34 * (limits.budget + 1)) }
     // There is an answer if and only if the message denotes a value without capabilities within the limits:
-    ensures answered { IsOk result ↔ HasBytes (S.message space.now) limits }
+    ensures answered { IsOk result ↔ HasBytes (M.message space) limits }
     // the length of the canonical bytes of that value, and what the walk of the message pays and visits.
-    ensures found { IfOk result (λ c. (v : Value) × IsCanonicalLength (S.message space.now) limits v c) }
+    ensures found { IfOk result (λ c. (v : Value) × IsCanonicalLength (M.message space) limits v c) }
     // What each refusal means.
-    ensures refused { IfErr result (λ e. HasNoBytes (S.message space.now) limits e) }
+    ensures refused { IfErr result (λ e. HasNoBytes (M.message space) limits e) }
     // No walk pays beyond its budget.
     ensures bounded { MatchResult result (λ c. IsBounded limits.budget c.paid c.visits)
         (λ e. IsMessagePaidWithin limits.budget e) }
     ensures short { IfOk result (λ c. c.length ≤ 8 * (c.paid + 1)) }
 {
-    // The clauses need what they promise of a message and of limits.
-    let _segments = space.segments();
+    // The clauses need what they promise of limits.
     let _budget = limits.budget();
     let _depth = limits.depth();
-    length_by_segments(space, limits)
+    space.ask(LengthTask { limits })
 }
 
 /// What [`canonical_length`] answers, by calls that count what they read, as for
@@ -162,5 +177,5 @@ pub fn canonical_length_counted<S: Space, L: Ledger>(
     space.bounds();
     let _budget = limits.budget();
     let _depth = limits.depth();
-    length_of(space, limits, reads)
+    length_by_segments(space, limits, reads)
 }

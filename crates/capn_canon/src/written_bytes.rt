@@ -11,14 +11,12 @@ ghost use Rattle.capn_canon.specs.inner.Outcomes.{IsInto};
 
 use crate::length::{CanonicalLength, length_beyond};
 use crate::message_refusal::IntoRefusal;
-use crate::one_segment::alone;
 use crate::value_survey::survey_value;
 use capn_layout::surveyed_layout_into_counted;
-use capn_target::counted::{CountedSpace, Reads, count_reads};
+use capn_target::counted::{Asked, CountedSpace, CountedWriter, Reads};
 use capn_walk::Limits;
-use capn_words::{Bare, Space};
-use std::marker::Brand;
-use std::sync::ledger::{Blank, Ledger};
+use capn_words::Space;
+use std::sync::ledger::Ledger;
 
 /// Writes the canonical bytes of a message, read by calls that count.
 fn write_message<S: Space, L: Ledger>(
@@ -28,8 +26,8 @@ fn write_message<S: Space, L: Ledger>(
     reads: &mut Reads<L>,
 ) -> Result<CanonicalLength, IntoRefusal>
     ensures into { IsInto space.now limits out.old out.new result }
-    ensures reads { IfOk result (λ c. reads.new ≤ reads.old + 54 * (c.paid + 1)) }
-    ensures work { reads.new ≤ reads.old + 54 * (limits.budget + 1) }
+    ensures reads { IfOk result (λ c. reads.new + 3 ≤ reads.old + 54 * (c.paid + 1)) }
+    ensures work { reads.new + 3 ≤ reads.old + 54 * (limits.budget + 1) }
 {
     space.bounds();
     let _budget = limits.budget();
@@ -46,33 +44,48 @@ fn write_message<S: Space, L: Ledger>(
     })
 }
 
-/// The same, with a new ledger.
-fn write_with_ledger<S: Space, L: Ledger>(
-    space: &S,
+/// The same. If the message has one segment, it is read as its words alone, which is faster.
+fn write_by_segments<S: Space, L: Ledger>(
+    space: &CountedSpace<'_, S, L>,
     limits: Limits,
     out: &mut [u8],
-    blank: Blank,
+    reads: &mut Reads<L>,
 ) -> Result<CanonicalLength, IntoRefusal>
-    requires name { blank.name ≡ L.name }
-    requires parts { blank.parts ≡ L.parts }
-    requires one { 0 < blank.parts }
-    ensures { IsInto (S.message space.now) limits out.old out.new result }
+    ensures into { IsInto space.now limits out.old out.new result }
+    ensures reads { IfOk result (λ c. reads.new ≤ reads.old + 54 * (c.paid + 1)) }
+    ensures work { reads.new ≤ reads.old + 54 * (limits.budget + 1) }
 {
-    let (space, mut reads) = count_reads::<S, L>(space, blank);
-    write_message(&space, limits, out, &mut reads)
+    match space.only_segment(reads) {
+        Some(only) => write_message(&only.space(), limits, out, reads),
+        None => write_message(space, limits, out, reads),
+    }
 }
 
-/// The same. If the message has one segment, it is read as its bytes alone, which is faster.
-fn write_by_segments<S: Space>(
-    space: &S,
+/// The canonical bytes of a message within the limits, for a buffer.
+#[derive(Drop)]
+struct IntoTask {
     limits: Limits,
-    out: &mut [u8],
-) -> Result<CanonicalLength, IntoRefusal>
-    ensures { IsInto (S.message space.now) limits out.old out.new result }
-{
-    match alone(space) {
-        Some(bare) => write_with_ledger::<Bare<'_>, Brand>(&bare, limits, out, Blank::new(1)),
-        None => write_with_ledger::<S, Brand>(space, limits, out, Blank::new(1)),
+}
+
+impl CountedWriter for IntoTask {
+    type Told = Result<CanonicalLength, IntoRefusal>;
+
+    ghost use Rattle.std.specs.Prelude.{◌+◌, ◌*◌};
+    ghost use Rattle.capn_words.specs.Message.{IsMessage};
+    ghost use Rattle.capn_canon.specs.inner.Outcomes.{IsInto};
+
+    ghost tells = { λ t m old new r. IsMessage m × IsInto m t.limits old new r };
+
+    ghost most = { λ t. 54 * (t.limits.budget + 1) };
+
+    fn run<S: Space, L: Ledger>(
+        self,
+        space: &CountedSpace<'_, S, L>,
+        out: &mut [u8],
+        reads: &mut Reads<L>,
+    ) -> Result<CanonicalLength, IntoRefusal> {
+        space.bounds();
+        canonical_into_counted(space, self.limits, out, reads)
     }
 }
 
@@ -85,46 +98,48 @@ fn write_by_segments<S: Space>(
 ///
 /// It takes no memory but the stack, whatever the depth. `8 * (paid + 1)` bytes are always enough, and so are
 /// `8 * (budget + 1)`; the bytes are counted before they are written only if there are fewer. (Own.)
-pub fn canonical_into<S: Space>(
-    space: &S,
+pub fn canonical_into<M: Asked>(
+    space: M,
     limits: Limits,
     out: &mut [u8],
 ) -> Result<CanonicalLength, IntoRefusal>
+    // All passes ask the message and turn at most 54 times for each word of the budget, and 54 times more: it is done
+    // on any message that allows this, and a reference to a `Space` allows all.
+    requires work { M.allows space (54 * (limits.budget + 1)) }
     // The theorem. There is an answer if and only if the message denotes a value without capabilities within the
     // limits, and its canonical bytes have room;
-    ensures answered { AnsweredInto (S.message space.now) limits (length out.old) result }
+    ensures answered { AnsweredInto (M.message space) limits (length out.old) result }
     // they are written to the beginning, with what was there after them;
-    ensures written { IfOk result (λ c. WrittenInto (S.message space.now) limits out.old out.new c) }
+    ensures written { IfOk result (λ c. WrittenInto (M.message space) limits out.old out.new c) }
     // else the first refusal in order,
-    ensures refused { IfErr result (λ e. RefusedInto (S.message space.now) limits (length out.old) e) }
+    ensures refused { IfErr result (λ e. RefusedInto (M.message space) limits (length out.old) e) }
     // which leaves all as it was.
     ensures unchanged { OnErr result (out.new ≡ out.old) }
     // No walk pays beyond its budget.
     ensures bounded { MatchResult result (λ c. IsBounded limits.budget c.paid c.visits)
         (λ e. IsIntoPaidWithin limits.budget e) }
     // What is written, as the other calls answer it.
-    ensures found { IfOk result (λ c. AnswersMessage (S.message space.now) limits (take c.length out.new) c.paid) }
+    ensures found { IfOk result (λ c. AnswersMessage (M.message space) limits (take c.length out.new) c.paid) }
     ensures past { IfOk result (λ c. drop c.length out.new ≡ drop c.length out.old) }
     ensures inside { IfOk result (λ c. c.length ≤ length out.new) }
     ensures short { IfOk result (λ c. c.length ≤ 8 * (c.paid + 1)) }
     // Read bare under the same limits, the bytes denote the trimmed value, which is the same value,
-    ensures reads_back { IfOk result (λ c. (v : Value) → IsValueOf (S.message space.now) limits v
+    ensures reads_back { IfOk result (λ c. (v : Value) → IsValueOf (M.message space) limits v
         → ReadsBack (take c.length out.new) limits v) }
     // and pay exactly its cost;
-    ensures pays { IfOk result (λ c. (v : Value) → IsValueOf (S.message space.now) limits v
+    ensures pays { IfOk result (λ c. (v : Value) → IsValueOf (M.message space) limits v
         → PaysItsCost (take c.length out.new) limits v) }
     // its canonical bytes are these again;
-    ensures own { IfOk result (λ c. (v : Value) → IsValueOf (S.message space.now) limits v
+    ensures own { IfOk result (λ c. (v : Value) → IsValueOf (M.message space) limits v
         → IsItsOwnForm (take c.length out.new) v) }
     // and a second value has these canonical bytes if and only if it is the same value.
-    ensures exactly { IfOk result (λ c. (v : Value) → IsValueOf (S.message space.now) limits v
+    ensures exactly { IfOk result (λ c. (v : Value) → IsValueOf (M.message space) limits v
         → IsFormExactlyOf (take c.length out.new) v) }
 {
-    // The clauses need what they promise of a message and of limits.
-    let _segments = space.segments();
+    // The clauses need what they promise of limits.
     let _budget = limits.budget();
     let _depth = limits.depth();
-    write_by_segments(space, limits, out)
+    space.ask_into(IntoTask { limits }, out)
 }
 
 /// What [`canonical_into`] writes and answers, by calls that count what they read, as for
@@ -176,5 +191,5 @@ pub fn canonical_into_counted<S: Space, L: Ledger>(
     space.bounds();
     let _budget = limits.budget();
     let _depth = limits.depth();
-    write_message(space, limits, out, reads)
+    write_by_segments(space, limits, out, reads)
 }

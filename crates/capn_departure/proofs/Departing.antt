@@ -10,7 +10,7 @@ use Rattle.capn_walk.specs.Accepted.{IsValueOf, root}
 use Rattle.capn_walk.proofs.shared.Unique.{unique}
 use Rattle.capn_layout.specs.Layout.{canon}
 use Rattle.capn_canon.specs.Measure.{IsCanonicalOf}
-use Rattle.capn_canon.proofs.shared.OneBare.{only-segment}
+use Rattle.capn_target.proofs.shared.OneBare.{only-segment}
 use Rattle.capn_departure.specs.declared.answer.Departure.{Departure}
 use Rattle.capn_departure.specs.declared.finding.Finding.{Finding}
 use Rattle.capn_departure.specs.declared.answer.Departure.TheVariants.{Canonical, Segments, Capability}

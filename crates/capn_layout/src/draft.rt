@@ -10,6 +10,7 @@ ghost use Rattle.capn_layout.specs.Layout.{packed};
 ghost use Rattle.capn_layout.specs.inner.Draft.{Writes, Appends, Puts};
 
 use byteorder::{ByteOrder, LittleEndian};
+use capn_target::counted::PaidBytes;
 
 /// Writes bytes over those from a place on.
 #[inline(always)]
@@ -40,15 +41,26 @@ pub fn push(out: &mut [u8], len: usize, word: u64) -> usize
     len + 1
 }
 
-/// Appends whole words, given by their bytes.
+/// Writes bytes of a message over those from a place on.
 #[inline(always)]
-pub fn extend(out: &mut [u8], len: usize, xs: &[u8]) -> usize
-    requires whole { length xs.now % 8 ≡ 0 }
-    requires room { 8 * len + length xs.now ≤ length out.old }
-    ensures { Appends len result (words_in (length xs.now / 8) xs.now) out.old out.new }
+fn write_paid(out: &mut [u8], at: usize, xs: PaidBytes<'_>)
+    requires { at + length xs ≤ length out.old }
+    ensures { Writes at xs.entry out.old out.new }
 {
-    write(out, 8 * len, xs);
-    len + xs.len() / 8
+    let end = at + xs.len();
+    xs.copy_to(&mut out[at..end]);
+}
+
+/// Appends whole words of a message, given by their bytes.
+#[inline(always)]
+pub fn extend(out: &mut [u8], len: usize, xs: PaidBytes<'_>) -> usize
+    requires whole { length xs % 8 ≡ 0 }
+    requires room { 8 * len + length xs ≤ length out.old }
+    ensures { Appends len result (words_in (length xs.entry / 8) xs.entry) out.old out.new }
+{
+    let words = xs.len() / 8;
+    write_paid(out, 8 * len, xs);
+    len + words
 }
 
 /// Puts a word over the one at a place.

@@ -10,8 +10,10 @@
 //! All take any `Space`, and no memory. Module [`counted`] has them for a message each of whose reads is counted.
 #![tactic(auto)]
 
+mod asked;
 mod content;
 pub mod counted;
+mod paid_bytes;
 mod plain;
 mod reader;
 mod slot_target;

@@ -1,14 +1,17 @@
 //! A message with counted reads.
 //!
-//! Whoever is handed a [`CountedSpace`] in place of a `Space` can read the message by its calls alone, and each of them
-//! counts. So a clause on [`Reads`] bounds what a body reads, whatever it answers. That a read is counted
-//! is proved: the fields are private to this file, and no other ledger fits the type. That a loop counts its turns is
-//! the word of its author: a loop that leaves out [`Reads::tick`] is not refused, and its turns are not bounded.
+//! Whoever is handed a [`CountedSpace`] in place of a `Space` can read the message by its calls alone, and each of
+//! them counts. So a clause on [`Reads`] bounds what a body reads, whatever it answers. That a read is counted is
+//! proved: the fields are private to this file, no other ledger fits the type, and no call gives a slice or a `Space`:
+//! [`PaidBytes`] are had once, and an [`OnlySegment`] is read by calls that count in the same ledger. What was read is
+//! the body's own, and what it does with a copy isn't counted. That a loop counts its turns is the word of its author:
+//! a loop that leaves out [`Reads::tick`] is not refused, and its turns are not bounded.
 
-ghost use Rattle.std.specs.Prelude.{◌≡◌, ◌+◌, ◌/◌, ◌<◌, length};
+ghost use Rattle.std.specs.Prelude.{◌≡◌, ◌≢◌, ◌+◌, ◌/◌, ◌<◌, ◌≤◌, [], ◌∷◌, length, IfSome, IfNone};
 ghost use Rattle.capn_words.specs.Message.{IsMessage, IsPlace, IsRange, word_at, words_of, bytes_at};
 
-use capn_words::{Place, Space};
+use crate::paid_bytes::PaidBytes;
+use capn_words::{Bare, Place, Space};
 use std::marker::{Model, PhantomData};
 use std::sync::ledger::{Blank, Book, Ledger, Share};
 
@@ -129,15 +132,68 @@ impl<'s, S: Space, L: Ledger> CountedSpace<'s, S, L> {
         reads.tick();
         self.space.word(at)
     }
-    /// `len` bytes from the start of a word on, as [`Space::bytes`] says. It counts as one read for each word that they
-    /// take.
+
+    /// `len` bytes from the start of a word on, as [`Space::bytes`] says, each of which is had once. It counts as one
+    /// read for each word that they take.
     #[inline(always)]
-    pub fn bytes(&self, at: Place, len: usize, reads: &mut Reads<L>) -> &[u8]
+    pub fn bytes(&self, at: Place, len: usize, reads: &mut Reads<L>) -> PaidBytes<'s>
         requires { IsRange self.now at len }
-        ensures bytes { result.now ≡ bytes_at self.now at len }
+        ensures bytes { result ≡ bytes_at self.now at len }
         ensures reads { reads.new ≡ reads.old + (len + 7) / 8 }
     {
         reads.book.add(&mut reads.share, len.div_ceil(8) as u64);
-        self.space.bytes(at, len)
+        PaidBytes::of(self.space.bytes(at, len))
+    }
+
+    /// The only segment of a message as its words alone, which are faster to read; none if there are more. It counts as
+    /// at most three reads. What it gives is read by calls that count in the same ledger.
+    #[inline(always)]
+    pub fn only_segment(&self, reads: &mut Reads<L>) -> Option<OnlySegment<'s, L>>
+        ensures one { IfSome result (λ words. self.now ≡ words ∷ []) }
+        ensures other { IfNone result (length self.now ≢ 1) }
+        ensures reads { reads.new ≤ reads.old + 3 }
+    {
+        if self.segments(reads) != 1 {
+            return None;
+        }
+        let words = self.words(0, reads).unwrap_or(0);
+        reads.tick();
+        match Bare::new(self.space.bytes(Place::ROOT, 8 * words as usize)) {
+            Ok(words) => Some(OnlySegment {
+                words,
+                ledger: PhantomData,
+            }),
+            Err(_) => unreachable!(),
+        }
+    }
+}
+
+/// The words of the only segment of a message, to be read by calls that count, and in no other way. Contracts see it as
+/// the list of these words.
+#[derive(Drop)]
+pub struct OnlySegment<'s, L: Ledger> {
+    words: Bare<'s>,
+    ledger: PhantomData<L>,
+}
+
+impl<'s, L: Ledger> Model for OnlySegment<'s, L> {
+    ghost use Rattle.std.specs.Prelude.{ℕ, List};
+
+    ghost Value = { List ℕ };
+
+    ghost view = { λ o. o.words };
+}
+
+impl<'s, L: Ledger> OnlySegment<'s, L> {
+    /// The message of this segment, whose reads count in the same ledger.
+    #[inline(always)]
+    pub fn space(&self) -> CountedSpace<'_, Bare<'s>, L>
+        ensures { result ≡ self.now ∷ [] }
+    {
+        let _bounds = self.words.segments();
+        CountedSpace {
+            space: &self.words,
+            ledger: PhantomData,
+        }
     }
 }

@@ -12,7 +12,6 @@ ghost use Rattle.capn_target.specs.Shapes.{IsPlain, IsContent};
 ghost use Rattle.capn_target.specs.declared.target.Shape.TheVariants.{Many};
 ghost use Rattle.capn_words.specs.declared.pointer.Width.TheVariants.{W1, W8, W16, W32};
 
-use byteorder::{ByteOrder, LittleEndian};
 use capn_target::counted::{CountedSpace, Reads};
 use capn_value::{Items, Value};
 use capn_words::{Place, Space, Width};
@@ -63,10 +62,10 @@ pub fn words_at<S: Space, A: Allocator, L: Ledger>(
     ensures reads { reads.new ≡ reads.old + count }
 {
     let count = count as usize;
-    let bytes = space.bytes(at, 8 * count, reads);
+    let mut bytes = space.bytes(at, 8 * count, reads);
     let mut words = Vec::with_capacity(alloc, count)?;
     for i in 0..count {
-        words.push_reserved(LittleEndian::read_u64(&bytes[8 * i..]));
+        words.push_reserved(bytes.next_word());
     }
     Ok(Items::from_vec(words))
 }
@@ -86,10 +85,10 @@ fn quads_at<S: Space, A: Allocator, L: Ledger>(
     ensures reads { reads.new ≡ reads.old + content_words W32 count }
 {
     let count = count as usize;
-    let bytes = space.bytes(at, 4 * count, reads);
+    let mut bytes = space.bytes(at, 4 * count, reads);
     let mut quads = Vec::with_capacity(alloc, count)?;
     for i in 0..count {
-        quads.push_reserved(LittleEndian::read_u32(&bytes[4 * i..]));
+        quads.push_reserved(bytes.next_quad());
     }
     Ok(Items::from_vec(quads))
 }
@@ -109,10 +108,10 @@ fn pairs_at<S: Space, A: Allocator, L: Ledger>(
     ensures reads { reads.new ≡ reads.old + content_words W16 count }
 {
     let count = count as usize;
-    let bytes = space.bytes(at, 2 * count, reads);
+    let mut bytes = space.bytes(at, 2 * count, reads);
     let mut pairs = Vec::with_capacity(alloc, count)?;
     for i in 0..count {
-        pairs.push_reserved(LittleEndian::read_u16(&bytes[2 * i..]));
+        pairs.push_reserved(bytes.next_pair());
     }
     Ok(Items::from_vec(pairs))
 }
@@ -131,7 +130,7 @@ fn bytes_at<S: Space, A: Allocator, L: Ledger>(
         AreElements 8 8 (words_from space.now at.segment at.word) xs) }
     ensures reads { reads.new ≡ reads.old + content_words W8 count }
 {
-    Items::from_slice(alloc, space.bytes(at, count as usize, reads))
+    space.bytes(at, count as usize, reads).into_items(alloc)
 }
 
 /// `count` bits, the least significant of each byte first.
@@ -150,13 +149,13 @@ fn bits_at<S: Space, A: Allocator, L: Ledger>(
     ensures reads { reads.new ≡ reads.old + content_words W1 count }
 {
     let count = count as usize;
-    let bytes = space.bytes(at, count.div_ceil(8), reads);
+    let mut bytes = space.bytes(at, count.div_ceil(8), reads);
     let mut bits = Vec::with_capacity(alloc, count)?;
-    for byte in &bytes[..count / 8] {
-        push_bits(&mut bits, *byte, 8);
+    for i in 0..count / 8 {
+        push_bits(&mut bits, bytes.next_byte(), 8);
     }
     if count % 8 > 0 {
-        push_bits(&mut bits, bytes[count / 8], count % 8);
+        push_bits(&mut bits, bytes.next_byte(), count % 8);
     }
     Ok(Items::from_vec(bits))
 }

@@ -4,6 +4,8 @@
 #![tactic(auto)]
 
 #[cfg(test)]
+mod counted_calls;
+#[cfg(test)]
 mod departure_lines;
 #[cfg(test)]
 mod departures;

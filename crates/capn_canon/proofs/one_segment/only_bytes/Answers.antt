@@ -1,7 +1,7 @@
 use Rattle.std.proofs.Common.{ℕ, ◌*◌, ap, ◌∙◌, arith}
 use Rattle.capn_words.specs.Message.{bytes_at}
 use Rattle.capn_walk.specs.Accepted.{root}
-use Rattle.capn_canon.proofs.shared.OneBare.{first-words}
+use Rattle.capn_target.proofs.shared.OneBare.{first-words}
 use Rattle.capn_canon.proofs.calls.OnlySegment.{one_segment}
 use Rattle.capn_canon.proofs.one_segment.only_bytes.Goals as goal
 

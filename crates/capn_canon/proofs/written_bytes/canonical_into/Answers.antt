@@ -5,59 +5,59 @@ use Rattle.capn_canon.proofs.written_bytes.canonical_into.Goals as goal
 
 pub returns-clause-answered : goal.returns-clause-answered
 returns-clause-answered g c =
-    let told = c.write_by_segments.ensures in
-    into_answered (g.S.Space.message c.args.space.now) c.args.limits c.args.out.now c.write_by_segments.new.out
-    c.write_by_segments.result told.written told.refused
+    let told = c.ask_into.ensures.1 in
+    into_answered (g.M.Asked.message c.args.space) c.args.limits c.args.out.now c.ask_into.new.out
+    c.ask_into.result told.written told.refused
 
 pub returns-clause-found : goal.returns-clause-found
 returns-clause-found g c =
-    found_into (g.S.Space.message c.args.space.now) c.args.limits c.args.out.now c.write_by_segments.new.out
-    c.write_by_segments.result c.write_by_segments.ensures.written
+    found_into (g.M.Asked.message c.args.space) c.args.limits c.args.out.now c.ask_into.new.out
+    c.ask_into.result c.ask_into.ensures.1.written
 
 pub returns-clause-past : goal.returns-clause-past
 returns-clause-past g c =
-    past_into (g.S.Space.message c.args.space.now) c.args.limits c.args.out.now c.write_by_segments.new.out
-    c.write_by_segments.result c.write_by_segments.ensures.written
+    past_into (g.M.Asked.message c.args.space) c.args.limits c.args.out.now c.ask_into.new.out
+    c.ask_into.result c.ask_into.ensures.1.written
 
 pub returns-clause-inside : goal.returns-clause-inside
 returns-clause-inside g c =
-    inside_into (g.S.Space.message c.args.space.now) c.args.limits c.args.out.now c.write_by_segments.new.out
-    c.write_by_segments.result c.write_by_segments.ensures.written
+    inside_into (g.M.Asked.message c.args.space) c.args.limits c.args.out.now c.ask_into.new.out
+    c.ask_into.result c.ask_into.ensures.1.written
 
 pub returns-clause-short : goal.returns-clause-short
 returns-clause-short g c =
-    short_into (g.S.Space.message c.args.space.now) c.args.limits c.args.out.now c.write_by_segments.new.out
-    c.write_by_segments.result c.write_by_segments.ensures.written c.segments-segments.ensures.bounds (omega arith)
+    short_into (g.M.Asked.message c.args.space) c.args.limits c.args.out.now c.ask_into.new.out
+    c.ask_into.result c.ask_into.ensures.1.written c.ask_into.ensures.0 (omega arith)
     (omega arith)
 
 pub returns-clause-reads_back : goal.returns-clause-reads_back
 returns-clause-reads_back g c =
-    let m = g.S.Space.message c.args.space.now in
-    let told = c.write_by_segments.ensures in
-    answered_form c.write_by_segments.result (λ w. take w.length c.write_by_segments.new.out) (λ w. w.paid) m
-    c.args.limits _ (λ w v h. h.reads_back) c.segments-segments.ensures.bounds (omega arith) (omega arith)
-    (found_into m c.args.limits c.args.out.now c.write_by_segments.new.out c.write_by_segments.result told.written)
+    let m = g.M.Asked.message c.args.space in
+    let told = c.ask_into.ensures.1 in
+    answered_form c.ask_into.result (λ w. take w.length c.ask_into.new.out) (λ w. w.paid) m
+    c.args.limits _ (λ w v h. h.reads_back) c.ask_into.ensures.0 (omega arith) (omega arith)
+    (found_into m c.args.limits c.args.out.now c.ask_into.new.out c.ask_into.result told.written)
 
 pub returns-clause-pays : goal.returns-clause-pays
 returns-clause-pays g c =
-    let m = g.S.Space.message c.args.space.now in
-    let told = c.write_by_segments.ensures in
-    answered_form c.write_by_segments.result (λ w. take w.length c.write_by_segments.new.out) (λ w. w.paid) m
-    c.args.limits _ (λ w v h. h.pays) c.segments-segments.ensures.bounds (omega arith) (omega arith)
-    (found_into m c.args.limits c.args.out.now c.write_by_segments.new.out c.write_by_segments.result told.written)
+    let m = g.M.Asked.message c.args.space in
+    let told = c.ask_into.ensures.1 in
+    answered_form c.ask_into.result (λ w. take w.length c.ask_into.new.out) (λ w. w.paid) m
+    c.args.limits _ (λ w v h. h.pays) c.ask_into.ensures.0 (omega arith) (omega arith)
+    (found_into m c.args.limits c.args.out.now c.ask_into.new.out c.ask_into.result told.written)
 
 pub returns-clause-own : goal.returns-clause-own
 returns-clause-own g c =
-    let m = g.S.Space.message c.args.space.now in
-    let told = c.write_by_segments.ensures in
-    answered_form c.write_by_segments.result (λ w. take w.length c.write_by_segments.new.out) (λ w. w.paid) m
-    c.args.limits _ (λ w v h. h.own) c.segments-segments.ensures.bounds (omega arith) (omega arith)
-    (found_into m c.args.limits c.args.out.now c.write_by_segments.new.out c.write_by_segments.result told.written)
+    let m = g.M.Asked.message c.args.space in
+    let told = c.ask_into.ensures.1 in
+    answered_form c.ask_into.result (λ w. take w.length c.ask_into.new.out) (λ w. w.paid) m
+    c.args.limits _ (λ w v h. h.own) c.ask_into.ensures.0 (omega arith) (omega arith)
+    (found_into m c.args.limits c.args.out.now c.ask_into.new.out c.ask_into.result told.written)
 
 pub returns-clause-exactly : goal.returns-clause-exactly
 returns-clause-exactly g c =
-    let m = g.S.Space.message c.args.space.now in
-    let told = c.write_by_segments.ensures in
-    answered_form c.write_by_segments.result (λ w. take w.length c.write_by_segments.new.out) (λ w. w.paid) m
-    c.args.limits _ (λ w v h. h.exactly) c.segments-segments.ensures.bounds (omega arith) (omega arith)
-    (found_into m c.args.limits c.args.out.now c.write_by_segments.new.out c.write_by_segments.result told.written)
+    let m = g.M.Asked.message c.args.space in
+    let told = c.ask_into.ensures.1 in
+    answered_form c.ask_into.result (λ w. take w.length c.ask_into.new.out) (λ w. w.paid) m
+    c.args.limits _ (λ w v h. h.exactly) c.ask_into.ensures.0 (omega arith) (omega arith)
+    (found_into m c.args.limits c.args.out.now c.ask_into.new.out c.ask_into.result told.written)

@@ -1,4 +1,4 @@
-use Rattle.capn_canon.proofs.shared.OneBare.{one-bare}
+use Rattle.capn_target.proofs.shared.OneBare.{one-bare}
 use Rattle.capn_departure.proofs.only_segment.only_segment.Goals as goal
 
 pub returns : goal.returns

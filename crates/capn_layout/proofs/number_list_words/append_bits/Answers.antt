@@ -11,14 +11,14 @@ pub extend-end-requires-clause-whole : goal.extend-end-requires-clause-whole
 extend-end-requires-clause-whole g c =
     let h = c.requires.content.within in
     whole-bytes c.args.space.now c.args.start.segment c.args.start.word (c.args.bits / 64)
-    c.bytes.result.now (omega arith) c.bytes.ensures.bytes
+    c.bytes.result (omega arith) c.bytes.ensures.bytes
 
 pub extend-end-requires-clause-room : goal.extend-end-requires-clause-room
 extend-end-requires-clause-room g c =
     let h = c.requires.content.within in
     let r = c.requires.room in
     let l = length-copied c.args.space.now c.args.start.segment c.args.start.word (c.args.bits / 64)
-    c.bytes.result.now (omega arith) c.bytes.ensures.bytes in
+    c.bytes.result (omega arith) c.bytes.ensures.bytes in
     omega arith
 
 pub returns-then-rest-eq0-clause-appends : goal.returns-then-rest-eq0-clause-appends
@@ -28,7 +28,7 @@ returns-then-rest-eq0-clause-appends g c =
     let w = c.args.start.word in
     let h = c.requires.content.within in
     let a = copied m s w (c.args.bits / 64) c.args.len c.extend-end.result c.args.out.now c.extend-end.new.out
-    c.bytes.result.now c.requires.message (omega arith) c.bytes.ensures.bytes c.extend-end.ensures in
+    c.bytes.result c.requires.message (omega arith) c.bytes.ensures.bytes c.extend-end.ensures in
     record {
       words = words-appended (words_from m s w) c.args.bits (words_in c.args.len c.args.out.now)
           (words_in c.extend-end.result c.extend-end.new.out) c.if-rest-eq0.true a.words;
@@ -42,7 +42,7 @@ push-requires g c =
     let w = c.args.start.word in
     let h = c.requires.content.within in
     let e = copied-end m s w (c.args.bits / 64) c.args.len c.extend-end.result c.args.out.now c.extend-end.new.out
-    c.bytes.result.now c.requires.message (omega arith) c.bytes.ensures.bytes c.extend-end.ensures in
+    c.bytes.result c.requires.message (omega arith) c.bytes.ensures.bytes c.extend-end.ensures in
     let k = c.extend-end.ensures.kept.same in
     let r = c.requires.room in
     let n = c.if-rest-eq0.false in
@@ -55,7 +55,7 @@ returns-clause-appends g c =
     let w = c.args.start.word in
     let h = c.requires.content.within in
     let a = copied m s w (c.args.bits / 64) c.args.len c.extend-end.result c.args.out.now c.extend-end.new.out
-    c.bytes.result.now c.requires.message (omega arith) c.bytes.ensures.bytes c.extend-end.ensures in
+    c.bytes.result c.requires.message (omega arith) c.bytes.ensures.bytes c.extend-end.ensures in
     let b = c.push.ensures in
     let l = appends-length c.extend-end.result c.push.result _ c.extend-end.new.out c.push.new.out b in
     record {

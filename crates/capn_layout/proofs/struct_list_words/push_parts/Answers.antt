@@ -11,7 +11,7 @@ extend-requires-clause-whole g c =
     let e = c.if-words-size.true in
     let h = c.requires.content.within in
     whole-bytes c.args.space.now c.args.start.segment c.args.start.word
-    (c.args.words + c.args.slots) c.bytes.result.now (omega arith) c.bytes.ensures.bytes
+    (c.args.words + c.args.slots) c.bytes.result (omega arith) c.bytes.ensures.bytes
 
 pub extend-requires-clause-room : goal.extend-requires-clause-room
 extend-requires-clause-room g c =
@@ -19,7 +19,7 @@ extend-requires-clause-room g c =
     let h = c.requires.content.within in
     let r = c.requires.room in
     let l = length-copied c.args.space.now c.args.start.segment c.args.start.word
-    (c.args.words + c.args.slots) c.bytes.result.now (omega arith) c.bytes.ensures.bytes in
+    (c.args.words + c.args.slots) c.bytes.result (omega arith) c.bytes.ensures.bytes in
     omega arith
 
 pub returns-then-words-size-clause-appends : goal.returns-then-words-size-clause-appends
@@ -30,7 +30,7 @@ returns-then-words-size-clause-appends g c =
     let e = c.if-words-size.true in
     let h = c.requires.content.within in
     let a = copied m s w (c.args.words + c.args.slots) c.args.len c.extend.result c.args.out.now c.extend.new.out
-    c.bytes.result.now c.requires.message (omega arith) c.bytes.ensures.bytes c.extend.ensures in
+    c.bytes.result c.requires.message (omega arith) c.bytes.ensures.bytes c.extend.ensures in
     let p = words_in c.args.len c.args.out.now in
     record {
       words =
@@ -45,7 +45,7 @@ extend-end-requires-clause-whole g c =
     let h = c.requires.content.within in
     let p = c.requires.part in
     whole-bytes c.args.space.now c.args.start.segment c.args.start.word c.args.words
-    c.bytes-2.result.now (omega arith) c.bytes-2.ensures.bytes
+    c.bytes-2.result (omega arith) c.bytes-2.ensures.bytes
 
 pub extend-end-requires-clause-room : goal.extend-end-requires-clause-room
 extend-end-requires-clause-room g c =
@@ -53,14 +53,14 @@ extend-end-requires-clause-room g c =
     let p = c.requires.part in
     let r = c.requires.room in
     let l = length-copied c.args.space.now c.args.start.segment c.args.start.word c.args.words
-    c.bytes-2.result.now (omega arith) c.bytes-2.ensures.bytes in
+    c.bytes-2.result (omega arith) c.bytes-2.ensures.bytes in
     omega arith
 
 pub extend-requires-2-clause-whole : goal.extend-requires-2-clause-whole
 extend-requires-2-clause-whole g c =
     let h = c.requires.content.within in
     whole-bytes c.args.space.now c.args.start.segment (c.args.start.word + c.args.size) c.args.slots
-    c.bytes-3.result.now (omega arith) c.bytes-3.ensures.bytes
+    c.bytes-3.result (omega arith) c.bytes-3.ensures.bytes
 
 pub extend-requires-2-clause-room : goal.extend-requires-2-clause-room
 extend-requires-2-clause-room g c =
@@ -71,9 +71,9 @@ extend-requires-2-clause-room g c =
     let p = c.requires.part in
     let r = c.requires.room in
     let e = copied-end m s w c.args.words c.args.len c.extend-end.result c.args.out.now c.extend-end.new.out
-    c.bytes-2.result.now c.requires.message (omega arith) c.bytes-2.ensures.bytes c.extend-end.ensures in
+    c.bytes-2.result c.requires.message (omega arith) c.bytes-2.ensures.bytes c.extend-end.ensures in
     let k = c.extend-end.ensures.kept.same in
-    let l = length-copied m s (w + c.args.size) c.args.slots c.bytes-3.result.now (omega arith)
+    let l = length-copied m s (w + c.args.size) c.args.slots c.bytes-3.result (omega arith)
     c.bytes-3.ensures.bytes in
     omega arith
 
@@ -85,9 +85,9 @@ returns-clause-appends g c =
     let h = c.requires.content.within in
     let p = c.requires.part in
     let a = copied m s w c.args.words c.args.len c.extend-end.result c.args.out.now c.extend-end.new.out
-    c.bytes-2.result.now c.requires.message (omega arith) c.bytes-2.ensures.bytes c.extend-end.ensures in
+    c.bytes-2.result c.requires.message (omega arith) c.bytes-2.ensures.bytes c.extend-end.ensures in
     let b = copied m s (w + c.args.size) c.args.slots c.extend-end.result c.extend-2.result c.extend-end.new.out
-    c.extend-2.new.out c.bytes-3.result.now c.requires.message (omega arith) c.bytes-3.ensures.bytes
+    c.extend-2.new.out c.bytes-3.result c.requires.message (omega arith) c.bytes-3.ensures.bytes
     c.extend-2.ensures in
     appends-then c.args.len c.extend-end.result c.extend-2.result (take c.args.words (words_from m s w))
     (take c.args.slots (words_from m s (w + c.args.size))) c.args.out.now c.extend-end.new.out c.extend-2.new.out a b

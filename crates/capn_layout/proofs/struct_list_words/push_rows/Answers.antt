@@ -12,12 +12,12 @@ use Rattle.capn_layout.proofs.struct_list_words.push_rows.Goals as goal
 pub extend-requires-clause-whole : goal.extend-requires-clause-whole
 extend-requires-clause-whole g c =
     whole-bytes c.args.space.now c.args.start.segment c.args.start.word
-    (c.args.count * (c.args.words + c.args.slots)) c.bytes.result.now c.requires.content.within c.bytes.ensures.bytes
+    (c.args.count * (c.args.words + c.args.slots)) c.bytes.result c.requires.content.within c.bytes.ensures.bytes
 
 pub extend-requires-clause-room : goal.extend-requires-clause-room
 extend-requires-clause-room g c =
     let l = length-copied c.args.space.now c.args.start.segment c.args.start.word
-    (c.args.count * (c.args.words + c.args.slots)) c.bytes.result.now c.requires.content.within c.bytes.ensures.bytes in
+    (c.args.count * (c.args.words + c.args.slots)) c.bytes.result c.requires.content.within c.bytes.ensures.bytes in
     let e = ap (λ (k : ℕ). c.args.count * k) c.if-kept-below.true in
     let r = c.requires.room in
     omega arith
@@ -30,7 +30,7 @@ returns-then-kept-below-clause-appends g c =
     let step = c.args.words + c.args.slots in
     let all = c.if-kept-below.true in
     let a = copied m s w (c.args.count * step) c.args.len c.extend.result c.args.out.now c.extend.new.out
-    c.bytes.result.now c.requires.message c.requires.content.within c.bytes.ensures.bytes c.extend.ensures in
+    c.bytes.result c.requires.message c.requires.content.within c.bytes.ensures.bytes c.extend.ensures in
     record {
       words = cells-piece m s w step c.args.words c.args.kept c.args.below c.args.count
           (words_in c.args.len c.args.out.now) (words_in c.extend.result c.extend.new.out)

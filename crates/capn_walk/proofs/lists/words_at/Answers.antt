@@ -1,29 +1,15 @@
 use Rattle.std.proofs.Common.{◌≡◌, ◌*◌, arith, length, ◌∙◌}
 use Rattle.byteorder.specs.Endian.{little_number}
 use Rattle.capn_walk.proofs.shared.Elements.{length-read, are-words}
-use Rattle.capn_walk.proofs.NumbersFromBytes.{rest-holds, read-more}
+use Rattle.capn_walk.proofs.NumbersFromBytes.{next-holds, next-left, read-more}
 use Rattle.capn_walk.proofs.lists.words_at.Goals as goal
 
-pub slice_bounds-read_u64-count : goal.slice_bounds-read_u64-count
-slice_bounds-read_u64-count g c =
+pub next_word-requires : goal.next_word-requires
+next_word-requires g c =
     let inside = c.requires.content.within in
-    let size = length-read c.args.space.now c.args.at (8 * c.args.count) c.bytes-bytes.result.now
+    let size = length-read c.args.space.now c.args.at (8 * c.args.count) c.bytes-bytes.result
     c.bytes-bytes.ensures.bytes (omega arith) in
-    omega arith
-
-pub slice_bounds-read_u64-start : goal.slice_bounds-read_u64-start
-slice_bounds-read_u64-start g c =
-    let inside = c.requires.content.within in
-    let size = length-read c.args.space.now c.args.at (8 * c.args.count) c.bytes-bytes.result.now
-    c.bytes-bytes.ensures.bytes (omega arith) in
-    omega arith
-
-pub read_u64-requires : goal.read_u64-requires
-read_u64-requires g c =
-    let inside = c.requires.content.within in
-    let size = length-read c.args.space.now c.args.at (8 * c.args.count) c.bytes-bytes.result.now
-    c.bytes-bytes.ensures.bytes (omega arith) in
-    rest-holds 8 (8 * c.loop-i.i) c.bytes-bytes.result.now (omega arith)
+    next-holds 8 (8 * c.loop-i.i) c.bytes-bytes.result c.loop-i.bytes c.loop-i.invariant.left (omega arith)
 
 pub loop-i-preserved : goal.loop-i-preserved
 loop-i-preserved g c =
@@ -32,8 +18,11 @@ loop-i-preserved g c =
     record {
       number = let a = more.len in omega arith;
       room = more.capacity ∙ c.loop-i.invariant.room;
-      read = read-more little_number 8 c.loop-i.i c.bytes-bytes.result.now c.loop-i.words.items _ c.read_u64.result
-          more.items so_far c.loop-i.invariant.read c.read_u64.ensures;
+      left = next-left 8 c.loop-i.i c.bytes-bytes.result c.loop-i.bytes c.next_word.new.self c.loop-i.invariant.left
+          c.next_word.ensures.rest;
+      read = read-more little_number 8 c.loop-i.i c.bytes-bytes.result c.loop-i.bytes c.loop-i.words.items _
+          c.next_word.result more.items so_far c.loop-i.invariant.read c.loop-i.invariant.left
+          c.next_word.ensures.number;
     }
 
 pub returns-clause-words : goal.returns-clause-words
@@ -41,7 +30,7 @@ returns-clause-words g c =
     let inside = c.requires.content.within in
     let so_far = c.loop-i.invariant.number in
     let number : length c.loop-i.words.items ≡ c.args.count = omega arith in
-    let read = are-words c.args.space.now c.args.at (8 * c.args.count) c.bytes-bytes.result.now
+    let read = are-words c.args.space.now c.args.at (8 * c.args.count) c.bytes-bytes.result
     c.bytes-bytes.ensures.bytes (omega arith) c.loop-i.words.items (c.requires.message.each c.args.at.segment)
     (omega arith) c.loop-i.invariant.read in
     rw (c.from_vec.ensures, ← number) read

@@ -1,4 +1,4 @@
-use Rattle.std.proofs.Common.{◌≡◌, length, vec_capacity}
+use Rattle.std.proofs.Common.{◌≡◌, ◌*◌, drop, length, vec_capacity}
 use Rattle.byteorder.specs.Endian.{little_number, IsRead}
 use Rattle.capn_walk.proofs.lists.words_at.Given as goal
 
@@ -6,5 +6,6 @@ abbrev pub invariant-loop-i : goal.invariant-loop-i
 invariant-loop-i g l = record {
   number : length l.words.items ≡ l.i;
   room : vec_capacity l.words ≡ l.count;
-  read : IsRead little_number 8 l.bytes l.words.items;
+  left : l.bytes ≡ drop (8 * l.i) l.initial.bytes;
+  read : IsRead little_number 8 l.initial.bytes l.words.items;
 }

@@ -1,0 +1,139 @@
+//! A message on which one task is done, by calls that count.
+//!
+//! A call that takes an [`Asked`] in place of a `Space` can do one task on it and no more, since it is moved. The task
+//! has the message by calls that count alone ([`CountedTask`]), and asks it no more often than the message allows. So
+//! a clause `requires work { M.allows message n }` is one on the work of the call: its body is proved for each message
+//! that allows n, and so for one that allows no more. A reference to a `Space` allows all, so callers have nothing to
+//! show.
+
+ghost use Rattle.std.specs.Prelude.{◌≡◌, ℕ, ◌+◌, ◌<◌, ◌≤◌, List};
+
+use crate::reader::{CountedSpace, Reads, count_reads};
+use capn_words::Space;
+use std::marker::Brand;
+use std::sync::ledger::{Blank, Ledger};
+
+/// What is done on a message by calls that count.
+pub trait CountedTask {
+    /// What is answered.
+    type Told;
+
+    /// Of a message this is answered.
+    ghost tells: { Self → List (List ℕ) → Self.Told → Type 0 };
+
+    /// How often it asks the message and turns its loops at most, whatever the message.
+    ghost most: { Self → ℕ };
+
+    /// Does it.
+    fn run<S: Space, L: Ledger>(
+        self,
+        space: &CountedSpace<'_, S, L>,
+        reads: &mut Reads<L>,
+    ) -> Self::Told
+        ensures told { tells self space.now result }
+        ensures work { reads.new ≤ reads.old + most self };
+}
+
+/// What is done on a message and a buffer by calls that count.
+pub trait CountedWriter {
+    /// What is answered.
+    type Told;
+
+    /// Of a message this is answered, and the buffer has changed like this.
+    ghost tells: { Self → List (List ℕ) → List ℕ → List ℕ → Self.Told → Type 0 };
+
+    /// How often it asks the message and turns its loops at most, whatever the message.
+    ghost most: { Self → ℕ };
+
+    /// Does it.
+    fn run<S: Space, L: Ledger>(
+        self,
+        space: &CountedSpace<'_, S, L>,
+        out: &mut [u8],
+        reads: &mut Reads<L>,
+    ) -> Self::Told
+        ensures told { tells self space.now out.old out.new result }
+        ensures work { reads.new ≤ reads.old + most self };
+}
+
+/// A message on which one task is done.
+pub trait Asked {
+    /// The segments, each the list of its words.
+    ghost message: { Self → List (List ℕ) };
+
+    /// It may be asked so often.
+    ghost allows: { Self → ℕ → Type 0 };
+
+    /// Does a task with a new count, which is opened by one look at the number of segments.
+    fn ask<T: CountedTask>(self, task: T) -> T::Told
+        requires { allows self (T.most task) }
+        ensures { T.tells task (message self) result };
+
+    /// The same, with a buffer.
+    fn ask_into<T: CountedWriter>(self, task: T, out: &mut [u8]) -> T::Told
+        requires { allows self (T.most task) }
+        ensures { T.tells task (message self) out.old out.new result };
+}
+
+impl<'s, S: Space> Asked for &'s S {
+    ghost use Rattle.std.specs.Prelude.{⊤};
+
+    ghost message = { λ s. S.message s.now };
+
+    ghost allows = { λ _ _. ⊤ };
+
+    #[inline(always)]
+    fn ask<T: CountedTask>(self, task: T) -> T::Told {
+        run_counted(self, task)
+    }
+
+    #[inline(always)]
+    fn ask_into<T: CountedWriter>(self, task: T, out: &mut [u8]) -> T::Told {
+        write_counted(self, task, out)
+    }
+}
+
+/// Does a task with a new count.
+#[inline(always)]
+fn run_counted<S: Space, T: CountedTask>(space: &S, task: T) -> T::Told
+    ensures { T.tells task (S.message space.now) result }
+{
+    run_with_ledger::<S, T, Brand>(space, task, Blank::new(1))
+}
+
+/// The same, with a new ledger.
+#[inline(always)]
+fn run_with_ledger<S: Space, T: CountedTask, L: Ledger>(space: &S, task: T, blank: Blank) -> T::Told
+    requires name { blank.name ≡ L.name }
+    requires parts { blank.parts ≡ L.parts }
+    requires one { 0 < blank.parts }
+    ensures { T.tells task (S.message space.now) result }
+{
+    let (space, mut reads) = count_reads::<S, L>(space, blank);
+    task.run(&space, &mut reads)
+}
+
+/// Does a task on a buffer with a new count.
+#[inline(always)]
+fn write_counted<S: Space, T: CountedWriter>(space: &S, task: T, out: &mut [u8]) -> T::Told
+    ensures { T.tells task (S.message space.now) out.old out.new result }
+{
+    write_with_ledger::<S, T, Brand>(space, task, out, Blank::new(1))
+}
+
+/// The same, with a new ledger.
+#[inline(always)]
+fn write_with_ledger<S: Space, T: CountedWriter, L: Ledger>(
+    space: &S,
+    task: T,
+    out: &mut [u8],
+    blank: Blank,
+) -> T::Told
+    requires name { blank.name ≡ L.name }
+    requires parts { blank.parts ≡ L.parts }
+    requires one { 0 < blank.parts }
+    ensures { T.tells task (S.message space.now) out.old out.new result }
+{
+    let (space, mut reads) = count_reads::<S, L>(space, blank);
+    task.run(&space, out, &mut reads)
+}

@@ -1,0 +1,107 @@
+//! Bytes that were counted when they were given.
+
+ghost use Rattle.std.specs.Prelude.{◌≡◌, ◌≤◌, length, drop, slice_index, IfOk};
+ghost use Rattle.byteorder.specs.Endian.{little_number};
+
+use byteorder::{ByteOrder, LittleEndian};
+use capn_value::Items;
+use std::alloc::{AllocError, Allocator};
+use std::marker::Model;
+
+/// Bytes of a message, which were counted when they were given. Each is had once: what is read is gone, or all that
+/// are left are copied. So what was counted bounds what is read, and no call gives the slice.
+#[derive(Drop)]
+pub struct PaidBytes<'s> {
+    bytes: &'s [u8],
+}
+
+impl<'s> Model for PaidBytes<'s> {
+    ghost use Rattle.std.specs.Prelude.{ℕ, List};
+
+    ghost Value = { List ℕ };
+
+    ghost view = { λ b. b.bytes.now };
+}
+
+impl<'s> PaidBytes<'s> {
+    /// These bytes, once.
+    #[inline(always)]
+    pub(crate) fn of(bytes: &'s [u8]) -> PaidBytes<'s>
+        ensures { result ≡ bytes.now }
+    {
+        PaidBytes { bytes }
+    }
+
+    /// How many are left.
+    #[inline(always)]
+    pub fn len(&self) -> usize
+        ensures { result ≡ length self.now }
+    {
+        self.bytes.len()
+    }
+
+    /// The next byte.
+    #[inline(always)]
+    pub fn next_byte(&mut self) -> u8
+        requires { 1 ≤ length self.old }
+        ensures byte { result ≡ slice_index self.old 0 }
+        ensures rest { self.new ≡ drop 1 self.old }
+    {
+        let byte = self.bytes[0];
+        self.bytes = &self.bytes[1..];
+        byte
+    }
+
+    /// The number of the next two bytes.
+    #[inline(always)]
+    pub fn next_pair(&mut self) -> u16
+        requires { 2 ≤ length self.old }
+        ensures number { result ≡ little_number 2 self.old }
+        ensures rest { self.new ≡ drop 2 self.old }
+    {
+        let pair = LittleEndian::read_u16(self.bytes);
+        self.bytes = &self.bytes[2..];
+        pair
+    }
+
+    /// The number of the next four bytes.
+    #[inline(always)]
+    pub fn next_quad(&mut self) -> u32
+        requires { 4 ≤ length self.old }
+        ensures number { result ≡ little_number 4 self.old }
+        ensures rest { self.new ≡ drop 4 self.old }
+    {
+        let quad = LittleEndian::read_u32(self.bytes);
+        self.bytes = &self.bytes[4..];
+        quad
+    }
+
+    /// The number of the next eight bytes.
+    #[inline(always)]
+    pub fn next_word(&mut self) -> u64
+        requires { 8 ≤ length self.old }
+        ensures number { result ≡ little_number 8 self.old }
+        ensures rest { self.new ≡ drop 8 self.old }
+    {
+        let word = LittleEndian::read_u64(self.bytes);
+        self.bytes = &self.bytes[8..];
+        word
+    }
+
+    /// Copies all that are left over just as many.
+    #[inline(always)]
+    pub fn copy_to(self, out: &mut [u8])
+        requires { length self ≡ length out.old }
+        ensures { out.new ≡ self.entry }
+    {
+        out.copy_from_slice(self.bytes);
+    }
+
+    /// A copy of all that are left, in memory of just their size.
+    #[inline(always)]
+    pub fn into_items<A: Allocator>(self, alloc: A) -> Result<Items<u8, A>, AllocError>
+        ensures { IfOk result (λ bytes. bytes ≡ self.entry) }
+    {
+        Items::from_slice(alloc, self.bytes)
+    }
+}

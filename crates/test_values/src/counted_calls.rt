@@ -1,0 +1,139 @@
+//! How often a message is asked by the calls that take a `Space`, and not a counter.
+
+ghost use Rattle.std.specs.Prelude.{◌≡◌};
+
+use crate::words::bytes_of;
+use capn_canon::{canonical_into, canonical_length, canonical_of};
+use capn_stream::first;
+use capn_walk::{Entry, Limits, index_into, survey};
+use capn_words::{Place, Space};
+use std::alloc::Global;
+use std::cell::Cell;
+use std::test::Fail;
+
+/// A message that counts how often it is asked. Bytes count as the words that they take.
+#[derive(Drop)]
+struct Asked<'s, S: Space> {
+    space: &'s S,
+    times: Cell<u64>,
+}
+
+impl<'s, S: Space> Asked<'s, S> {
+    /// Asked so many times more.
+    fn add(&self, times: u64) {
+        self.times.set(self.times.get().wrapping_add(times));
+    }
+
+    /// How often it was asked since this was called.
+    fn taken(&self) -> u64 {
+        let times = self.times.get();
+        self.times.set(0);
+        times
+    }
+}
+
+impl<'s, S: Space> Space for Asked<'s, S> {
+    ghost message = { λ a. S.message a.space.now };
+
+    fn segments(&self) -> u32 {
+        self.add(1);
+        self.space.segments()
+    }
+
+    fn words(&self, segment: u32) -> Option<u32> {
+        self.add(1);
+        self.space.words(segment)
+    }
+
+    fn word(&self, at: Place) -> u64 {
+        self.add(1);
+        self.space.word(at)
+    }
+
+    fn bytes(&self, at: Place, len: usize) -> &[u8] {
+        self.add(len.div_ceil(8) as u64);
+        self.space.bytes(at, len)
+    }
+}
+
+/// The pointer to a struct of two slots after the next `between` words.
+fn pointer(between: u64) -> u64 {
+    0x2_0000_0000_0000 | between << 2
+}
+
+/// A frame of two segments: the root is behind a landing pad of one word, and has `levels` of structs below it, of two
+/// slots each, both of which lead to the next one.
+fn doubling(alloc: Global, levels: u8) -> Result<Vec<u8>, Fail> {
+    let mut words = Vec::new(alloc);
+    words.push(0x1_0000_0001)?;
+    words.push(3 + 2 * levels as u64)?;
+    words.push(0x1_0000_0002)?;
+    words.push(pointer(0))?;
+    for _ in 0..levels {
+        words.push(pointer(1))?;
+        words.push(pointer(0))?;
+    }
+    words.push(0)?;
+    words.push(0)?;
+    Ok(bytes_of(alloc, words.as_slice())?)
+}
+
+/// How often the five calls ask a frame within limits: `survey`, `index_into`, `canonical_length`, `canonical_into` and
+/// `canonical_of`.
+fn times_asked(alloc: Global, bytes: &[u8], limits: Limits) -> Result<[u64; 5], Fail> {
+    let Ok((message, _taken)) = first(alloc, bytes, 8_388_608) else {
+        return Err(Fail::new("no frame"));
+    };
+    let space = Asked {
+        space: &message,
+        times: Cell::new(0),
+    };
+    let mut room: [Entry; 0] = [];
+    let mut out = [0u8; 64];
+    let _surveyed = survey(alloc, &space, limits);
+    let surveyed = space.taken();
+    let _indexed = index_into(&space, limits, &mut room);
+    let indexed = space.taken();
+    let _length = canonical_length(&space, limits);
+    let length = space.taken();
+    let _written = canonical_into(&space, limits, &mut out);
+    let written = space.taken();
+    let _canonical = canonical_of(alloc, &space, limits);
+    Ok([surveyed, indexed, length, written, space.taken()])
+}
+
+/// The bounds of the counted calls hold of the calls without a counter, which ask once more. Here a walk without the
+/// budget has 8,191 visits.
+#[test]
+fn no_call_asks_more_than_its_counted_one(rt: HostRuntime) -> Result<(), Fail> {
+    let bytes = doubling(rt.alloc(), 11)?;
+    let Some(limits) = Limits::new(8_388_608, 7, 63) else {
+        return Err(Fail::new("no limits"));
+    };
+    let [surveyed, indexed, length, written, canonical] = times_asked(
+        rt.alloc(),
+        bytes.as_slice(),
+        limits,
+    )?;
+    assert!(rt; surveyed <= 14 * 8 + 2 && indexed <= 14 * 8 + 2);
+    assert!(rt; length <= 34 * 8 + 1 && written <= 54 * 8 + 1 && canonical <= 56 * 8 + 1);
+    Ok(())
+}
+
+/// The same of a message that is accepted, by what it pays.
+#[test]
+fn nor_where_it_answers(rt: HostRuntime) -> Result<(), Fail> {
+    let bytes = doubling(rt.alloc(), 2)?;
+    let Some(limits) = Limits::new(8_388_608, 1_000, 63) else {
+        return Err(Fail::new("no limits"));
+    };
+    let [surveyed, indexed, length, written, canonical] = times_asked(
+        rt.alloc(),
+        bytes.as_slice(),
+        limits,
+    )?;
+    // It pays 14 words, two for each of seven structs.
+    assert!(rt; 0 < surveyed && surveyed <= 14 * 15 + 2 && indexed <= 14 * 15 + 2);
+    assert!(rt; length <= 34 * 15 + 1 && written <= 54 * 15 + 1 && canonical <= 56 * 15 + 1);
+    Ok(())
+}
