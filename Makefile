@@ -7,8 +7,10 @@ override LIBDIR := $(abspath $(LIBDIR))
 PC_PREFIX ?= $(PREFIX)
 # The version is that of the file VERSION.
 VERSION := $(shell cat VERSION)
-# --anew: the gate proves and tries again what an earlier run of it has passed on this machine.
+# --anew: the whole run proves and tries again what an earlier run has passed on this machine.
 ANEW ?=
+# The crates whose edits are tried; none: all that are due.
+CRATES ?=
 PROGRAM := crates/capn
 # The kit's folder. Its c/liblibc_c.a has the allocator's code in C: malloc, realloc, free.
 KIT ?= $(dir $(shell rt doc))
@@ -28,8 +30,8 @@ FILE ?= dist/*
 BUILT ?=
 OVER ?=
 
-.PHONY: try program run test bench interop library linked install install-library uninstall uninstall-library
-.PHONY: beside dist verify-dist clean-root
+.PHONY: try program run test test-all edits pages write bench interop library beside linked
+.PHONY: install install-library uninstall uninstall-library dist verify-dist clean-root
 
 # The stored run, tried before any proof, in about a minute: what runs is not the proved program.
 try:
@@ -38,11 +40,11 @@ try:
 	@echo "out:"; cd $(PROGRAM) && rt try -- $$(cat args) < stdin | od -An -v -tx1 -w8
 	@echo "nothing was proved: this is not the proved program, which make run builds, in half an hour or more at first"
 
-# The program, proved and built: crates/capn/out/capn. What it needs is proved and nothing else, crate after crate, each
-# by as many processors as memory allows, which takes more minutes of theirs in all than `make beside` does.
+# The program, proved and built: crates/capn/out/capn. What it needs is proved and nothing else, several crates at a
+# time where processors and memory allow, with a line for each that is done.
 program:
-	@echo "proving and building capn: half an hour or more at first, less where an earlier check has left its work"
-	@cd $(PROGRAM) && rt run -- $$(cat args) < stdin > /dev/null
+	@echo "proving and building capn: half an hour or more at first, less where an earlier run has proved the same"
+	@.ci/prove capn
 
 # Builds the proved program and shows its stored run: the bytes in and the bytes out.
 run: program
@@ -50,34 +52,34 @@ run: program
 	@echo "in:"; od -An -v -tx1 -w8 $(PROGRAM)/stdin
 	@echo "out:"; $(PROGRAM)/out/capn $$(cat $(PROGRAM)/args) < $(PROGRAM)/stdin | od -An -v -tx1 -w8
 
-# The whole gate, line by line as .ci/README.md has it. What earlier checks built is removed first: after its run
-# `rt ci` would put that back in place of its own, and the library for C is built over its own. At the end the gate
-# packs twice what it built, compares, and writes build/PROVED: what passed, of which commit. It prints how long `rt ci`
-# took, and at last the sums of what it built. With ANEW=--anew it proves again what earlier runs have passed.
-test: export TIMEFORMAT := rt ci took %R seconds by the clock, and %U of processors
-test:
-	.ci/lines
-	.ci/borders
-	.ci/toolchain
-	.ci/version
-	.ci/lists
-	.ci/readings
-	.ci/counts
-	.ci/places
-	release/completions
-	tests/pages/touched
-	release/symbols
-	release/manual
-	rm -rf crates/*/out/rlib
-	mkdir -p $(BUILD) && rm -f $(BUILD)/PROVED
-	time rt ci $(ANEW) 2>&1 | tee $(BUILD)/gate.log
-	tests/program/statuses
-	tests/program/full-disk
-	tests/program/failures
-	.ci/library
-	release/installs
+# The lines of the gate that need no prover; those that need what it builds. .ci/README.md says of each when it fails.
+PAGE_LINES := .ci/lines .ci/borders .ci/toolchain .ci/version .ci/lists .ci/readings .ci/counts .ci/places \
+	release/completions tests/pages/touched release/symbols release/manual
+BUILT_LINES := tests/program/statuses tests/program/full-disk tests/program/failures .ci/library release/installs \
 	release/twice
-	release/proved
+
+# The gate: every crate of the product is proved, every test and stored case is run. It fails where edits are due.
+test:
+	@.ci/steps test $(PAGE_LINES) .ci/edits .ci/prove $(BUILT_LINES)
+
+# The whole run, which a release needs: proofs of tests too, and all edits that must fail. It alone writes build/PROVED:
+# what passed, of which commit. With ANEW=--anew it proves again what earlier runs have passed.
+test-all:
+	@rm -f $(BUILD)/PROVED
+	@.ci/steps test-all $(PAGE_LINES) ".ci/prove --all $(ANEW)" $(BUILT_LINES) release/proved
+
+# Tries the edits that must fail: those that are due, or those of CRATES, and writes down what was refused.
+edits:
+	@.ci/edits --try $(CRATES)
+
+# The lines of the gate that need no prover, in a minute.
+pages:
+	@.ci/steps pages $(PAGE_LINES) .ci/edits
+
+# Writes all that scripts write into pages, packages and tests.
+write:
+	.ci/version --write && .ci/lists --write && .ci/places --write && .ci/readings --write && .ci/counts --write
+	release/completions --write && release/manual --write && tests/pages/touched --write
 
 # The shortest times of each operation on each shape of message, in nanoseconds a byte.
 bench:
@@ -104,15 +106,15 @@ interop: $(if $(CAPN),,program library)
 
 # The library for C, proved: the archive of capn_c and what is made of it.
 library:
-	cd crates/capn_c && rt lib > /dev/null
-	$(MAKE) linked
+	@.ci/prove capn_c
+	@$(MAKE) --no-print-directory linked
 
-# What `make program library` leaves, proved several crates at a time where processors and memory allow. By kit 13f it
-# took 41 minutes by the clock from nothing, on a machine with four cores that did nothing else, and 82 of processors.
-# The longest chain is capn_words, value, target, walk, layout, canon, serve, archive, orders, tool and capn, each after
-# the other: a shorter one would shorten it, and so would more than one processor for capn_walk, which is proved alone.
+# The program and the library, proved in one run. By kit 13f it took 41 minutes by the clock from nothing, on a machine
+# with four cores that did nothing else, and 82 of processors. The longest chain is capn_words, value, target, walk,
+# layout, canon, serve, archive, orders, tool and capn, each after the other.
 beside:
-	release/beside
+	@.ci/prove capn capn_c
+	@$(MAKE) --no-print-directory linked
 
 # The two libraries that are linked with: the archive, the allocator, the texts and the defaults as one object, of which
 # the names capn_* alone are visible. The proved calls are named proved_capn_*, and c/defaults.c passes on to them.

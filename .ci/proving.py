@@ -1,0 +1,196 @@
+"""What the scripts that prove crates share: the crates of crates.txt, copies of them, runs of `rt ci` with a line for
+each crate that is done, and the library for C."""
+
+import glob
+import os
+import re
+import shutil
+import subprocess
+import sys
+import tempfile
+import time
+
+TOP = os.path.abspath(os.path.join(os.path.dirname(os.path.abspath(__file__)), ".."))
+BUILD = os.path.join(TOP, "build")
+# The library for C, of which `rt ci` builds no archive, and what is said while it is proved and built.
+LIBRARY = "capn_c"
+LIBRARY_LOG = os.path.join(BUILD, "library.log")
+# Crates that are run before a proof, and proved in the whole run alone: this one, and those with tests.
+UNPROVED = ("bench",)
+
+
+class Stop(Exception):
+    """Why a script ends with status 1."""
+
+
+def text_of(path):
+    with open(path, encoding="utf-8", errors="replace") as file:
+        return file.read()
+
+
+def crates(top=TOP):
+    """Each crate with the crates of the repository that it uses, in the order of crates.txt."""
+    lines = re.findall(r"^(\w+)(?: staticlib)?:(.*)$", text_of(os.path.join(top, "crates.txt")), re.M)
+    names = {name for name, _ in lines}
+    return {name: [it for it in used.split() if it in names] for name, used in lines}
+
+
+def below(names, uses):
+    """These crates and all below them, in the order of crates.txt."""
+    found, left = set(), list(names)
+    while left:
+        name = left.pop()
+        if name not in uses:
+            raise Stop(f"crates.txt has no crate {name}")
+        if name not in found:
+            found.add(name)
+            left += uses[name]
+    return [name for name in uses if name in found]
+
+
+def has_tests(name):
+    sources = glob.glob(os.path.join(TOP, "crates", name, "src", "**", "*.rt"), recursive=True)
+    return any(re.search(r"^\s*#\[test\]", text_of(it), re.M) for it in sources)
+
+
+def edits_of(name):
+    """The edits of a crate that the prover must refuse."""
+    return sorted(glob.glob(os.path.join(TOP, "crates", name, "must-fail", "*.edit")))
+
+
+def proved_by_the_gate(uses):
+    """The crates that the gate proves: all but those that are run before a proof."""
+    return below([it for it in uses if it not in UNPROVED and not has_tests(it)], uses)
+
+
+def copied(names, edits, room):
+    """Copies these crates, with the edits of some of them, as the top of a repository, and returns its folder."""
+    top = os.path.join(room, "repo")
+    os.makedirs(os.path.join(top, ".git"))
+    lines = text_of(os.path.join(TOP, "crates.txt")).split("\n")
+    with open(os.path.join(top, "crates.txt"), "w", encoding="utf-8") as file:
+        file.writelines(f"{line}\n" for line in lines if re.match(r"\w*", line)[0] in names)
+    shutil.copyfile(os.path.join(TOP, "HANDLES"), os.path.join(top, "HANDLES"))
+    for name in names:
+        left_out = ("out",) if name in edits else ("out", "must-fail")
+        here = os.path.join(TOP, "crates", name)
+        ignore = lambda at, found, here=here, left_out=left_out: left_out if at == here else ()
+        shutil.copytree(here, os.path.join(top, "crates", name), symlinks=True, ignore=ignore)
+    return top
+
+
+def told(line):
+    """Writes a line of how far a long command is, to the one who waits, also where its other output goes elsewhere."""
+    at = os.environ.get("CAPN_PROGRESS")
+    with os.fdopen(os.dup(int(at)), "w") if at else os.fdopen(os.dup(1), "w") as out:
+        print(line, file=out, flush=True)
+
+
+def minutes(since):
+    return f"{(time.time() - since) / 60:.1f} minutes so far"
+
+
+class Run:
+    """A run of `rt ci` at a folder, whose output goes to a file and whose crates are told one by one."""
+
+    DONE = re.compile(r"^rt: (\w+)(: its tests are)? (proved|is kept|NOT PROVED)")
+    TRIES = re.compile(r"^rt: (\w+): trying its must-fail edits \((\d+)\)")
+
+    def __init__(self, top, log, whole, quiet=False, since=None):
+        self.top, self.log, self.whole, self.quiet = top, log, whole, quiet
+        self.done, self.since, self.lines, self.after = 0, since or time.time(), [], []
+
+    def when(self, names, call):
+        """Calls this once, as soon as all of these crates are proved."""
+        self.after.append((set(names), call))
+
+    def look(self, line):
+        found = self.DONE.match(line)
+        tries = self.TRIES.match(line)
+        if found:
+            name, of_tests, how = found.groups()
+            self.done += 1
+            what = {"proved": "proved", "is kept": "proved by an earlier run here", "NOT PROVED": "NOT PROVED"}[how]
+            if not self.quiet:
+                tests = ": its tests" if of_tests else ""
+                told(f"  {self.done} of {self.whole}: {name}{tests} {what}, {minutes(self.since)}")
+            if how != "NOT PROVED" and not of_tests:
+                for names, _ in self.after:
+                    names.discard(name)
+                for it in [it for it in self.after if not it[0]]:
+                    self.after.remove(it)
+                    it[1]()
+        elif tries and not self.quiet:
+            told(f"  {tries[1]}: {tries[2]} edits are tried, {minutes(self.since)}")
+
+    def run(self, *words, env=None):
+        """Runs `rt ci` with these words, and returns whether it passed."""
+        how = {"stdin": subprocess.DEVNULL, "stdout": subprocess.PIPE, "stderr": subprocess.STDOUT}
+        os.makedirs(os.path.dirname(self.log), exist_ok=True)
+        with open(self.log, "w", encoding="utf-8") as log:
+            ran = subprocess.Popen(["rt", "ci", *words], cwd=self.top, env=env, text=True, errors="replace", **how)
+            for line in ran.stdout:
+                log.write(line)
+                log.flush()
+                self.lines.append(line.rstrip("\n"))
+                self.look(self.lines[-1])
+            return ran.wait() == 0
+
+    def failures(self):
+        """What the prover said of each crate that is not proved, and what `rt ci` said at the end."""
+        text = "\n".join(self.lines)
+        lines = r"^== \w+(?:: its tests)?\n(?:(?!^== ).*\n)*?^rt: \w+(?:: its tests are)? NOT PROVED.*$"
+        parts = re.findall(lines, text, re.M)
+        words = re.compile(r"rt: .*(NOT PROVED|NOT REFUSED|BAD EDIT|NOT TRIED|FAILED|differ)")
+        rest = [it for it in self.lines if words.match(it)]
+        return [*parts, *rest, *self.lines[-2:]]
+
+
+def room():
+    return tempfile.TemporaryDirectory(prefix="capn-proved-")
+
+
+def kit():
+    """The folder of the kit."""
+    said = subprocess.run(["rt", "doc"], stdout=subprocess.PIPE, text=True, check=True).stdout
+    return os.path.dirname(said.strip())
+
+
+def library_started(top, jobs):
+    """Begins to prove the library for C and to build its archive, over the libraries that a run has left in the folders
+    out/ of their crates below `top`, and returns the command."""
+    kit_folder, folder = kit(), os.path.join(TOP, "crates", LIBRARY)
+    words = ["-L", f"dependency={kit_folder}/rlibs"]
+    for it in sorted(glob.glob(os.path.join(top, "crates", "*", "out", "rlib"))):
+        words += ["-L", f"dependency={it}"]
+    used = re.search(rf"^{LIBRARY} staticlib: (.*)$", text_of(os.path.join(TOP, "crates.txt")), re.M)[1].split()
+    for name in ["std", *used]:
+        own = os.path.join(top, "crates", name)
+        at = f"{own}/out/rlib" if os.path.isdir(own) else f"{kit_folder}/rlibs"
+        words += ["--extern", f"{name}={at}/{name}.rlib"]
+    words += ["--antt-project", f"{kit_folder}/rattle/logic/antt-project.json"]
+    words += ["--logic-built", f"{kit_folder}/logic_built", "--toolchain", f"{kit_folder}/toolchain"]
+    os.makedirs(f"{folder}/out", exist_ok=True)
+    kind = ["build", "--crate-name", LIBRARY, "--crate-type", "staticlib", "src/lib.rt", "--backend", "llvm"]
+    with open(LIBRARY_LOG, "w", encoding="utf-8") as log:
+        how = {"cwd": folder, "stdin": subprocess.DEVNULL, "stdout": log, "stderr": subprocess.STDOUT}
+        made = ["-o", f"out/lib{LIBRARY}.a", "--jobs", str(jobs)]
+        return subprocess.Popen([f"{kit_folder}/bin/rattle", *kind, *words, *made], **how)
+
+
+def is_laid_out(name):
+    """Whether the files of a crate are as `rt fmt` lays them out."""
+    kinds = (f"{part}/**/*.{kind}" for part in ("src", "specs", "proofs") for kind in ("rt", "antt"))
+    folder = os.path.join(TOP, "crates", name)
+    files = [it for kind in kinds for it in glob.glob(os.path.join(folder, kind), recursive=True)]
+    words = [f"{kit()}/bin/rattle", "fmt", "--check", *files]
+    return subprocess.run(words, stdout=subprocess.DEVNULL, stderr=subprocess.DEVNULL).returncode == 0
+
+
+def ended(call):
+    """Runs a script, and ends with its status, or with why it failed."""
+    try:
+        sys.exit(call())
+    except Stop as why:
+        print(f"{os.path.basename(sys.argv[0])}: {why}", file=sys.stderr)
+        sys.exit(1)
