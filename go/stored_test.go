@@ -27,15 +27,17 @@ var (
 )
 
 func storedLines(t *testing.T, name string) []string {
-	data, err := os.ReadFile("../crates/conformance/" + name)
-	if err != nil {
-		t.Fatal(err)
-	}
 	var found []string
-	// Every other line is the name of a case.
-	for i, line := range strings.Split(strings.TrimSuffix(string(data), "\n"), "\n") {
-		if i%2 == 1 {
-			found = append(found, line)
+	for _, crate := range []string{"conformance_calls", "conformance_runs"} {
+		data, err := os.ReadFile("../crates/" + crate + "/" + name)
+		if err != nil {
+			t.Fatal(err)
+		}
+		// Every other line is the name of a case.
+		for i, line := range strings.Split(strings.TrimSuffix(string(data), "\n"), "\n") {
+			if i%2 == 1 {
+				found = append(found, line)
+			}
 		}
 	}
 	return found

@@ -5,7 +5,7 @@ from pathlib import Path
 
 import capn
 
-STORED = Path(__file__).resolve().parents[2] / "crates" / "conformance"
+CRATES = Path(__file__).resolve().parents[2] / "crates"
 CALLS = re.compile(
     r"(plain )?(canonicalise|is_canonical|survey|pack|unpack) .*|run \d+ hash --form (bare|stream) (?!--).*"
     # Of packed streams those of one message, whose digest is a line of 65 bytes.
@@ -14,15 +14,10 @@ CALLS = re.compile(
 
 
 def stored():
-    """Each case with its answer. Its name stands before both on a line of its own, so an answer ends where the next
-    name comes: one of two lines, as a run with two lines on standard error has it, is one answer."""
-    asked, told = ((STORED / name).read_text().splitlines() for name in ("stdin", "stdout"))
-    begin = 0
-    for name, case, following in zip(asked[::2], asked[1::2], [*asked[2::2], None], strict=True):
-        assert told[begin] == name, f"the answers have no {name!r}"
-        end = told.index(following, begin + 1) if following is not None else len(told)
-        yield case, "\n".join(told[begin + 1:end])
-        begin = end
+    """Each case with its answer: the second and the third line of its file."""
+    for file in sorted(CRATES.glob("conformance_*/cases/*/*")):
+        _, case, answer = file.read_text().splitlines()
+        yield case, answer
 
 
 def cases():

@@ -1,0 +1,230 @@
+//! Each message, cut at each byte.
+//! Its beginnings have the answer that the definitions give for them.
+
+use crate::messages::{canonical_text, paid_text, true_limits_at};
+use crate::refusals::told;
+use crate::tariff_and_call;
+use anyhow::{Result, anyhow, bail};
+use capn_canon::{Form, LayoutFault, Tree, layout};
+use capn_pack::{UnpackFault, Unpacker, unpack};
+use capn_walk::{Limits, walk};
+use capn_words::{Bare, MOST_MESSAGE_WORDS, MOST_SEGMENTS};
+use conformance_cases::{bytes_at, form_at, word_at};
+use std::alloc::Global;
+
+/// The first `len` bytes.
+fn start_of(bytes: &[u8], len: usize) -> &[u8] {
+    if len <= bytes.len() {
+        &bytes[..len]
+    } else {
+        bytes
+    }
+}
+
+/// What a tree answers by its layout, with what was paid for it.
+fn tree_text(alloc: Global, paid: u32, tree: &Tree) -> Result<String> {
+    match layout(alloc, tree) {
+        Ok(laid) => paid_text(alloc, paid, laid.as_slice()),
+        Err(LayoutFault::Capability(index)) => Ok(format!(in alloc; "capability {index}")?),
+        Err(LayoutFault::Memory) => Err(anyhow!("out of memory")),
+    }
+}
+
+/// What a bare message answers by its length and the layout of its tree.
+fn bare_text(alloc: Global, bytes: &[u8], limits: Limits) -> Result<String> {
+    let length = bytes.len();
+    let Ok(space) = Bare::new(bytes) else {
+        return Ok(format!(in alloc; "bare: NotWhole({length})")?);
+    };
+    match walk(alloc, &space, limits) {
+        Ok(walked) => {
+            let text = tree_text(alloc, walked.paid, &walked.tree);
+            // One call is cheaper to check than fields that are dropped one by one.
+            drop(walked);
+            text
+        }
+        Err(stopped) => told(alloc, stopped),
+    }
+}
+
+/// Where the group that starts at an offset ends, unless it is cut: one of zeros has two bytes, one of raw words ten
+/// and eight for each further word, and any other its tag and a byte for each bit of it.
+fn group_end(text: &[u8], at: usize) -> Option<usize> {
+    let len = match *text.get(at)? {
+        0 => 2,
+        0xff => 10 + 8 * *text.get(at.saturating_add(9))? as usize,
+        tag => 1 + tag.count_ones() as usize,
+    };
+    let end = at.saturating_add(len);
+    if end <= text.len() { Some(end) } else { None }
+}
+
+/// Where the group starts that a text is cut in, or the end of a text that is not cut.
+fn last_group(text: &[u8]) -> usize {
+    let mut at = 0usize;
+    for _ in 0..text.len() {
+        match group_end(text, at) {
+            Some(end) => at = end,
+            None => break,
+        }
+    }
+    at
+}
+
+/// Whether the words of a text's whole groups are answered, and where it is cut if it is: by one call, and in one
+/// piece.
+fn is_unpacked(alloc: Global, text: &[u8]) -> bool {
+    let at = last_group(text);
+    let mut unpacker = Unpacker::new();
+    let mut fed = Vec::new(alloc);
+    let ending = match unpacker.feed(text, &mut fed) {
+        Ok(()) => unpacker.finish(),
+        Err(fault) => Err(fault),
+    };
+    let is_whole = match unpack(alloc, start_of(text, at), MOST_MESSAGE_WORDS) {
+        Ok(words) => words.as_slice() == fed.as_slice(),
+        Err(_) => false,
+    };
+    let cut = if at < text.len() {
+        Some(at as u64)
+    } else {
+        None
+    };
+    is_whole && cut_of(ending) == cut && cut_of(unpack(alloc, text, MOST_MESSAGE_WORDS)) == cut
+}
+
+/// Where it was answered that a text is cut.
+fn cut_of<T: Drop>(answer: Result<T, UnpackFault>) -> Option<u64> {
+    match answer {
+        Err(UnpackFault::Cut { at }) => Some(at),
+        _ => None,
+    }
+}
+
+/// What a packed text answers by its groups: that it is cut, or what the stream answers that it packs.
+fn packed_text(alloc: Global, text: &[u8], limits: Limits) -> Result<String> {
+    if !is_unpacked(alloc, text) {
+        bail!("the groups of a beginning are other ones");
+    }
+    let at = last_group(text);
+    if at < text.len() {
+        return Ok(format!(in alloc; "packed: Cut at {at}")?);
+    }
+    match unpack(alloc, text, MOST_MESSAGE_WORDS) {
+        Ok(stream) => canonical_text(alloc, Form::Stream, stream.as_slice(), limits),
+        Err(_) => Err(anyhow!("no stream")),
+    }
+}
+
+/// The number in four bytes of a table.
+fn entry_at(bytes: &[u8], at: usize) -> Option<u64> {
+    let low = *bytes.get(at)? as u64;
+    let next = *bytes.get(at.saturating_add(1))? as u64;
+    let third = *bytes.get(at.saturating_add(2))? as u64;
+    let high = *bytes.get(at.saturating_add(3))? as u64;
+    Some(low | next << 8 | third << 16 | high << 24)
+}
+
+/// The sum of the sizes in a table.
+fn sizes_of(bytes: &[u8], count: u64) -> Option<u64> {
+    let mut sum = 0u64;
+    for segment in 1..=count {
+        sum = sum.saturating_add(entry_at(bytes, segment.saturating_mul(4) as usize)?);
+    }
+    Some(sum)
+}
+
+/// What a frame is refused for.
+#[derive(Clone, Copy)]
+enum FrameRefusal {
+    Empty,
+    Cut,
+    TooManySegments(u64),
+    TooManyWords(u64),
+}
+
+/// How the frame of a stream is refused, if it is.
+fn frame_refusal(bytes: &[u8], limits: Limits) -> Option<FrameRefusal> {
+    if bytes.is_empty() {
+        return Some(FrameRefusal::Empty);
+    }
+    let Some(last) = entry_at(bytes, 0) else {
+        return Some(FrameRefusal::Cut);
+    };
+    let count = last.saturating_add(1);
+    if count > MOST_SEGMENTS as u64 {
+        return Some(FrameRefusal::TooManySegments(count));
+    }
+    let table = count.saturating_add(2) / 2;
+    // Sizes are summed only if all are there: each beginning of a long table comes here.
+    if (bytes.len() as u64) < count.saturating_add(1).saturating_mul(4) {
+        return Some(FrameRefusal::Cut);
+    }
+    let Some(words) = sizes_of(bytes, count) else {
+        return Some(FrameRefusal::Cut);
+    };
+    if (bytes.len() as u64) < table.saturating_mul(8) {
+        return Some(FrameRefusal::Cut);
+    }
+    if words > limits.message_words() as u64 {
+        return Some(FrameRefusal::TooManyWords(words));
+    }
+    if (bytes.len() as u64) < table.saturating_add(words).saturating_mul(8) {
+        return Some(FrameRefusal::Cut);
+    }
+    None
+}
+
+/// A frame's refusal as a line.
+fn refusal_text(alloc: Global, refusal: FrameRefusal) -> Result<String> {
+    match refusal {
+        FrameRefusal::Empty => Ok(String::from_str(alloc, "frame: Empty")?),
+        FrameRefusal::Cut => Ok(String::from_str(alloc, "frame: Cut")?),
+        FrameRefusal::TooManySegments(count) => {
+            Ok(format!(in alloc; "frame: TooManySegments({count})")?)
+        }
+        FrameRefusal::TooManyWords(words) => {
+            Ok(format!(in alloc; "frame: TooManyWords({words})")?)
+        }
+    }
+}
+
+/// What a beginning answers, where the definitions say it without its message; else what it does answer.
+fn due_text(alloc: Global, form: Form, bytes: &[u8], limits: Limits) -> Result<String> {
+    match form {
+        Form::Bare => bare_text(alloc, bytes, limits),
+        Form::Packed => packed_text(alloc, bytes, limits),
+        Form::Stream => match frame_refusal(bytes, limits) {
+            Some(refusal) => refusal_text(alloc, refusal),
+            None => canonical_text(alloc, form, bytes, limits),
+        },
+    }
+}
+
+/// A message that is cut answers what it must.
+fn cut_once(alloc: Global, form: Form, start: &[u8], limits: Limits) -> Result<()> {
+    let told = canonical_text(alloc, form, start, limits)?;
+    let due = due_text(alloc, form, start, limits)?;
+    if told.as_str() == due.as_str() {
+        Ok(())
+    } else {
+        let len = start.len();
+        Err(anyhow!("cut at {len}: {told}"))
+    }
+}
+
+/// Cuts the message of a case at each byte, where the case is one of canonical bytes: each beginning answers what it
+/// must. A text that is longer than its limit is left out.
+pub(crate) fn cut_each(alloc: Global, words: &[&str], answer: &str) -> Result<()> {
+    let (tariff, words) = tariff_and_call(words);
+    if word_at(words, 0)? != "canonicalise" || answer.starts_with("packed: TooLong") {
+        return Ok(());
+    }
+    let form = form_at(words, 1)?;
+    let limits = true_limits_at(words, 2, tariff)?;
+    let bytes = bytes_at(alloc, words, 5)?;
+    for len in 0..bytes.len() {
+        cut_once(alloc, form, start_of(bytes.as_slice(), len), limits)?;
+    }
+    Ok(())
+}

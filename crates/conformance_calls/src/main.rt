@@ -1,0 +1,89 @@
+//! Answers to the cases of standard input that are calls of libraries, from packed bytes to canonical ones.
+//! A case is a line with its name and a line with a call, each word parted by a space. Bytes are hexadecimal, and `-`
+//! stands for none. A call after the word `plain` pays by the plain tariff, another by the strict one. What must come
+//! out is the stored output, which no run of ours wrote. Each call is made once with ample memory, and then as often as
+//! it grows with one growth refused; a message is cut at each byte too. The line of a case is printed only if it
+//! answered each time that memory ran out, and its answer afterwards, and for each beginning what the definitions give.
+#![tactic(auto)]
+
+mod cuts;
+mod frames;
+mod messages;
+mod packing;
+mod pieces;
+mod refusals;
+mod slots;
+mod unpackers;
+mod views;
+mod visits;
+
+use anyhow::{Result, bail};
+use capn_value::Tariff;
+use conformance_cases::{Answers, Heap, answer_each, word_at};
+use std::alloc::Global;
+use std::io::BufRead;
+use visits::Asked;
+
+/// The tariff by which a call pays, and the words of the call.
+fn tariff_and_call<'w, 'a>(words: &'w [&'a str]) -> (Tariff, &'w [&'a str]) {
+    match words {
+        [first, call @ ..] if *first == "plain" => (Tariff::Plain, call),
+        _ => (Tariff::Strict, words),
+    }
+}
+
+/// Calls of the libraries.
+#[derive(Clone, Copy)]
+struct Calls;
+
+impl Answers for Calls {
+    fn answer(&self, alloc: Global, heap: &Heap, words: &[&str]) -> Result<String> {
+        let (tariff, words) = tariff_and_call(words);
+        match word_at(words, 0)? {
+            "pack" => packing::pack_answer(alloc, heap, words),
+            "unpack" => packing::unpack_answer(alloc, heap, words),
+            "limits" => messages::limits_answer(alloc, words),
+            "resolve" => slots::resolve_answer(alloc, heap, words),
+            "walk" => visits::visits_answer(alloc, heap, Asked::Walk, words, tariff),
+            "canonicalise" => messages::canonicalise_answer(alloc, heap, words, tariff),
+            "again" => messages::again_answer(alloc, heap, words, tariff),
+            "equal" => messages::equal_answer(alloc, heap, words),
+            "first" => frames::first_answer(alloc, heap, words),
+            "frame" => frames::frame_answer(alloc, heap, words),
+            "tag" => packing::tag_answer(alloc, words),
+            "framer" => pieces::framer_answer(alloc, heap, words),
+            "pieces" => pieces::pieces_answer(alloc, heap, words),
+            "unpacker" => unpackers::unpacker_answer(alloc, heap, words),
+            "read" => pieces::read_answer(alloc, heap, words),
+            "write" => pieces::write_answer(alloc, heap, words),
+            "survey" => visits::visits_answer(alloc, heap, Asked::Survey, words, tariff),
+            "is_canonical" => visits::is_canonical_answer(alloc, heap, words, tariff),
+            "view" => views::view_answer(alloc, heap, words, tariff),
+            call => bail!("no call {call:?}"),
+        }
+    }
+}
+
+/// What a call answers, as a line. Each of its growths is refused once, and where its message is cut it answers what it
+/// must.
+fn answer_line(alloc: Global, line: &str) -> Result<String> {
+    let words: Vec<&str> = line.split(' ').collect(alloc)?;
+    let answer = answer_each(alloc, &Calls, words.as_slice())?;
+    cuts::cut_each(alloc, words.as_slice(), answer.as_str())?;
+    Ok(answer)
+}
+
+fn main(rt: HostRuntime) -> Result<()> {
+    let mut is_name = true;
+    for line in rt.reader().lines(rt.alloc()) {
+        let line = line?;
+        if is_name {
+            println!(rt; "{line}")?;
+        } else {
+            let answer = answer_line(rt.alloc(), line.as_str())?;
+            println!(rt; "{answer}")?;
+        }
+        is_name = !is_name;
+    }
+    Ok(())
+}

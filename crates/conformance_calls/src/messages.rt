@@ -1,0 +1,242 @@
+//! The calls on messages.
+
+use crate::refusals::told;
+use anyhow::{Result, anyhow, bail};
+use capn_canon::{Canonical, Form, LayoutFault, Refusal, canonicalise, layout};
+use capn_pack::{UnpackFault, unpack};
+use capn_stream::{FrameFault, first};
+use capn_value::{Memory, Tariff, Tree, copy, trim};
+use capn_walk::{Fault, Limits, walk};
+use capn_words::{Bare, MOST_MESSAGE_WORDS, Space};
+use conformance_cases::{Heap, MEMORY, bytes_at, digits_of, form_at, number_at};
+use std::alloc::Global;
+
+/// Three numbers from a place of the line on, as limits.
+fn limits_at(words: &[&str], at: usize) -> Result<Option<Limits>> {
+    let message_words = number_at(words, at)?;
+    let budget = number_at(words, at.saturating_add(1))?;
+    let depth = number_at(words, at.saturating_add(2))?;
+    Ok(Limits::new(message_words, budget, depth))
+}
+
+/// The same, where they have to be limits, with the prices of a tariff.
+pub(crate) fn true_limits_at(words: &[&str], at: usize, tariff: Tariff) -> Result<Limits> {
+    match limits_at(words, at)? {
+        Some(limits) => Ok(limits.with_tariff(tariff)),
+        None => Err(anyhow!("no limits")),
+    }
+}
+
+/// `limits MESSAGE_WORDS BUDGET DEPTH`.
+pub(crate) fn limits_answer(alloc: Global, words: &[&str]) -> Result<String> {
+    let text = match limits_at(words, 1)? {
+        Some(_) => "limits",
+        None => "none",
+    };
+    Ok(String::from_str(alloc, text)?)
+}
+
+/// Whether bytes are the layout of a tree; false if memory ran out.
+fn is_layout(heap: &Heap, tree: &Tree<&Heap>, bytes: &[u8]) -> Result<bool> {
+    match layout(heap, tree) {
+        Ok(laid) if laid.as_slice() == bytes => Ok(true),
+        Ok(_) => Err(anyhow!("the layout of the tree is another one")),
+        Err(LayoutFault::Memory) => Ok(false),
+        Err(_) => Err(anyhow!("no layout")),
+    }
+}
+
+/// Whether bytes are the layout of a tree that was to be made.
+fn is_layout_of_made(heap: &Heap, made: Result<Tree<&Heap>, Memory>, bytes: &[u8]) -> Result<bool> {
+    match made {
+        Ok(tree) => {
+            let told = is_layout(heap, &tree, bytes);
+            // One call is cheaper to check than fields that are dropped one by one.
+            drop(tree);
+            told
+        }
+        Err(_) => Ok(false),
+    }
+}
+
+/// Whether bytes are the layout of a tree, of its copy, and of its trimmed form.
+fn is_layout_of_each(heap: &Heap, tree: &Tree<&Heap>, bytes: &[u8]) -> Result<bool> {
+    Ok(
+        is_layout(heap, tree, bytes)?
+            && is_layout_of_made(heap, copy(heap, tree), bytes)?
+            && is_layout_of_made(heap, trim(heap, tree), bytes)?,
+    )
+}
+
+/// Whether bytes are the layout of the tree that a walk of the message makes.
+fn is_layout_of<S: Space>(heap: &Heap, space: &S, limits: Limits, bytes: &[u8]) -> Result<bool> {
+    match walk(heap, space, limits) {
+        Ok(walked) => {
+            let told = is_layout_of_each(heap, &walked.tree, bytes);
+            drop(walked);
+            told
+        }
+        Err(stopped) if matches!(stopped.fault, Fault::Memory) => Ok(false),
+        Err(_) => Err(anyhow!("no tree")),
+    }
+}
+
+/// Whether bytes are the layout of the tree of the first message.
+fn is_layout_of_frame(heap: &Heap, stream: &[u8], limits: Limits, bytes: &[u8]) -> Result<bool> {
+    match first(heap, stream, MOST_MESSAGE_WORDS) {
+        Ok((space, _)) => is_layout_of(heap, &space, limits, bytes),
+        Err(FrameFault::Memory) => Ok(false),
+        Err(_) => Err(anyhow!("no frame")),
+    }
+}
+
+/// Whether bytes are the layout of the tree of the message that an input is in a form.
+fn is_layout_in_form(
+    heap: &Heap,
+    form: Form,
+    input: &[u8],
+    limits: Limits,
+    bytes: &[u8],
+) -> Result<bool> {
+    match form {
+        Form::Bare => match Bare::new(input) {
+            Ok(space) => is_layout_of(heap, &space, limits, bytes),
+            Err(_) => Err(anyhow!("no segment")),
+        },
+        Form::Stream => is_layout_of_frame(heap, input, limits, bytes),
+        Form::Packed => match unpack(heap, input, MOST_MESSAGE_WORDS) {
+            Ok(text) => is_layout_of_frame(heap, text.as_slice(), limits, bytes),
+            Err(UnpackFault::Memory) => Ok(false),
+            Err(_) => Err(anyhow!("no text")),
+        },
+    }
+}
+
+/// Canonical bytes, and what was paid for them.
+pub(crate) fn paid_text(alloc: Global, paid: u32, bytes: &[u8]) -> Result<String> {
+    let digits = digits_of(alloc, bytes)?;
+    Ok(format!(in alloc; "paid {paid}, {digits}")?)
+}
+
+/// What the canonical bytes of a message are, or why it has none.
+pub(crate) fn canonical_text(
+    alloc: Global,
+    form: Form,
+    bytes: &[u8],
+    limits: Limits,
+) -> Result<String> {
+    match canonicalise(alloc, form, bytes, limits) {
+        Ok(canonical) => paid_text(alloc, canonical.paid, canonical.bytes.as_slice()),
+        Err(refusal) => told(alloc, refusal),
+    }
+}
+
+/// What is printed of canonical bytes, if they are the layout of the tree that a walk of the input makes, of its copy,
+/// and of its trimmed form.
+fn laid_text(
+    alloc: Global,
+    heap: &Heap,
+    form: Form,
+    input: &[u8],
+    limits: Limits,
+    canonical: &Canonical<&Heap>,
+) -> Result<String> {
+    if is_layout_in_form(heap, form, input, limits, canonical.bytes.as_slice())? {
+        paid_text(alloc, canonical.paid, canonical.bytes.as_slice())
+    } else {
+        Ok(String::from_str(alloc, MEMORY)?)
+    }
+}
+
+/// `canonicalise FORM MESSAGE_WORDS BUDGET DEPTH BYTES`. The bytes have to be the layout of the tree that a walk makes,
+/// of its copy, and of its trimmed form.
+pub(crate) fn canonicalise_answer(
+    alloc: Global,
+    heap: &Heap,
+    words: &[&str],
+    tariff: Tariff,
+) -> Result<String> {
+    let form = form_at(words, 1)?;
+    let limits = true_limits_at(words, 2, tariff)?;
+    let bytes = bytes_at(alloc, words, 5)?;
+    match canonicalise(heap, form, bytes.as_slice(), limits) {
+        Ok(canonical) => laid_text(alloc, heap, form, bytes.as_slice(), limits, &canonical),
+        Err(refusal) => told(alloc, refusal),
+    }
+}
+
+/// What is printed of canonical bytes, by whether they have themselves as canonical bytes.
+fn again_text(heap: &Heap, once: &[u8], limits: Limits) -> &'static str {
+    match canonicalise(heap, Form::Bare, once, limits) {
+        Ok(again) if again.bytes.as_slice() == once => "again",
+        Ok(_) => "others",
+        Err(Refusal::Memory) => MEMORY,
+        Err(_) => "refused again",
+    }
+}
+
+/// `again FORM MESSAGE_WORDS BUDGET DEPTH BYTES`: whether the canonical bytes, read bare, have themselves as canonical
+/// bytes under the same limits; `refused` where there are none.
+pub(crate) fn again_answer(
+    alloc: Global,
+    heap: &Heap,
+    words: &[&str],
+    tariff: Tariff,
+) -> Result<String> {
+    let form = form_at(words, 1)?;
+    let limits = true_limits_at(words, 2, tariff)?;
+    let bytes = bytes_at(alloc, words, 5)?;
+    let text = match canonicalise(heap, form, bytes.as_slice(), limits) {
+        Ok(once) => again_text(heap, once.bytes.as_slice(), limits),
+        Err(Refusal::Memory) => MEMORY,
+        Err(_) => "refused",
+    };
+    Ok(String::from_str(alloc, text)?)
+}
+
+/// What is printed of canonical bytes, beside those of the first message.
+fn equal_text(first: &[u8], canonical: Result<Canonical<&Heap>, Refusal>) -> Result<&'static str> {
+    match canonical {
+        Ok(canonical) if canonical.bytes.as_slice() == first => Ok("equal"),
+        Ok(_) => Ok("different"),
+        Err(Refusal::Memory) => Ok(MEMORY),
+        Err(_) => Err(anyhow!("refused")),
+    }
+}
+
+/// What is printed of the canonical bytes of the message at a place of the line, beside those of the first.
+fn equal_at(
+    alloc: Global,
+    heap: &Heap,
+    words: &[&str],
+    at: usize,
+    first: &[u8],
+) -> Result<&'static str> {
+    let form = form_at(words, at)?;
+    let bytes = bytes_at(alloc, words, at.saturating_add(1))?;
+    let canonical = canonicalise(heap, form, bytes.as_slice(), Limits::usual());
+    equal_text(first, canonical)
+}
+
+/// What is printed of the messages after the first: the first that isn't equal, if one isn't.
+fn equal_each(alloc: Global, heap: &Heap, words: &[&str], first: &[u8]) -> Result<&'static str> {
+    for pair in 1..words.len() / 2 {
+        let text = equal_at(alloc, heap, words, 2 * pair + 1, first)?;
+        if text != "equal" {
+            return Ok(text);
+        }
+    }
+    Ok("equal")
+}
+
+/// `equal FORM BYTES FORM BYTES ..`: whether all have the same canonical bytes under the usual limits.
+pub(crate) fn equal_answer(alloc: Global, heap: &Heap, words: &[&str]) -> Result<String> {
+    let form = form_at(words, 1)?;
+    let bytes = bytes_at(alloc, words, 2)?;
+    let text = match canonicalise(heap, form, bytes.as_slice(), Limits::usual()) {
+        Ok(first) => equal_each(alloc, heap, words, first.bytes.as_slice())?,
+        Err(Refusal::Memory) => MEMORY,
+        Err(_) => bail!("refused"),
+    };
+    Ok(String::from_str(alloc, text)?)
+}

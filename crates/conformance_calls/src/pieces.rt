@@ -1,0 +1,256 @@
+//! Calls on streams in pieces, and on readers and writers.
+
+ghost use Rattle.std.specs.Prelude.{◌≤◌};
+ghost use Rattle.capn_words.specs.Message.{most_message_words};
+
+use crate::frames::{limit_at, segments_text};
+use crate::refusals::told;
+use anyhow::{Result, anyhow, bail};
+use capn_stream::{FrameFault, Framer, ReadFault, Stored, read_message, write_message};
+use capn_words::{MOST_MESSAGE_WORDS, Watched};
+use conformance_cases::{Heap, MEMORY, bytes_at, digits_of, number_at, push_told, word_at};
+use std::alloc::Global;
+
+/// A message, by the bytes of its segments.
+fn message_text(alloc: Global, message: &Stored<&Heap>) -> Result<String> {
+    let segments = segments_text(alloc, message)?;
+    Ok(format!(in alloc; "message{segments}")?)
+}
+
+/// Appends a message.
+fn push_message(alloc: Global, message: &Stored<&Heap>, text: &mut String) -> Result<()> {
+    let told = message_text(alloc, message)?;
+    push_told(text, told.as_str())
+}
+
+/// What is printed of the end of a stream.
+fn ending_text(alloc: Global, ending: Result<(), FrameFault>) -> Result<String> {
+    match ending {
+        Ok(()) => Ok(String::from_str(alloc, "Ok")?),
+        Err(fault) => told(alloc, fault),
+    }
+}
+
+/// What a framer that is fed a piece answers.
+fn fed_text(framer: &mut Framer<&Heap>, alloc: Global, piece: &[u8]) -> Result<String> {
+    match framer.feed(piece) {
+        Ok(taken) => Ok(format!(in alloc; "{taken}")?),
+        Err(fault) => told(alloc, fault),
+    }
+}
+
+/// The message that a framer has, if it has one.
+fn taken_text(framer: &mut Framer<&Heap>, alloc: Global) -> Result<String> {
+    match framer.take() {
+        Some(message) => message_text(alloc, &message),
+        None => Ok(String::from_str(alloc, "none")?),
+    }
+}
+
+/// What a framer is to do, by a word of the line, and what it answers; bytes are those of the next word.
+fn framer_text(
+    framer: &mut Framer<&Heap>,
+    alloc: Global,
+    words: &[&str],
+    at: usize,
+) -> Result<String> {
+    match word_at(words, at)? {
+        "feed" => {
+            let piece = bytes_at(alloc, words, at.saturating_add(1))?;
+            fed_text(framer, alloc, piece.as_slice())
+        }
+        "take" => taken_text(framer, alloc),
+        "finish" => ending_text(alloc, framer.finish()),
+        step => bail!("no step {step:?}"),
+    }
+}
+
+/// If memory ran out, a framer has to fail from then on.
+fn has_to_fail(framer: &mut Framer<&Heap>) -> Result<()> {
+    match (framer.feed(&[0]), framer.finish(), framer.take()) {
+        (Err(FrameFault::Failed), Err(FrameFault::Failed), None) => Ok(()),
+        _ => Err(anyhow!("a framer goes on without memory")),
+    }
+}
+
+/// Appends what a framer answers to a step; whether memory ran out.
+fn framer_step(
+    framer: &mut Framer<&Heap>,
+    alloc: Global,
+    words: &[&str],
+    at: usize,
+    text: &mut String,
+) -> Result<bool> {
+    let told = framer_text(framer, alloc, words, at)?;
+    push_told(text, told.as_str())?;
+    Ok(told.as_str() == MEMORY)
+}
+
+/// What a framer answers to all steps, or to those up to the one at which memory ran out.
+fn framer_steps(framer: &mut Framer<&Heap>, alloc: Global, words: &[&str]) -> Result<String> {
+    let mut text = String::new(alloc);
+    let mut is_piece = false;
+    for at in 2..words.len() {
+        if is_piece {
+            is_piece = false;
+            continue;
+        }
+        if framer_step(framer, alloc, words, at, &mut text)? {
+            has_to_fail(framer)?;
+            break;
+        }
+        is_piece = word_at(words, at)? == "feed";
+    }
+    Ok(text)
+}
+
+/// `framer MOST_WORDS STEP ..`: each step is `feed BYTES`, `take` or `finish`.
+pub(crate) fn framer_answer(alloc: Global, heap: &Heap, words: &[&str]) -> Result<String> {
+    let mut framer = Framer::new(heap, limit_at(words, 1)?);
+    framer_steps(&mut framer, alloc, words)
+}
+
+/// The bytes from an offset on.
+fn rest_of(bytes: &[u8], at: usize) -> &[u8] {
+    if at <= bytes.len() { &bytes[at..] } else { &[] }
+}
+
+/// Appends the message that a framer has, if it has one.
+fn push_taken(framer: &mut Framer<&Heap>, alloc: Global, text: &mut String) -> Result<()> {
+    match framer.take() {
+        Some(message) => push_message(alloc, &message, text),
+        None => Ok(()),
+    }
+}
+
+/// Feeds a piece, and appends each message that it makes whole.
+fn feed_all(
+    framer: &mut Framer<&Heap>,
+    alloc: Global,
+    piece: &[u8],
+    text: &mut String,
+) -> Result<Result<(), FrameFault>> {
+    let mut at = 0usize;
+    for _ in 0..piece.len() {
+        match framer.feed(rest_of(piece, at)) {
+            Ok(taken) => at = at.saturating_add(taken),
+            Err(fault) => return Ok(Err(fault)),
+        }
+        push_taken(framer, alloc, text)?;
+        if at >= piece.len() {
+            break;
+        }
+    }
+    Ok(Ok(()))
+}
+
+/// Feeds the bytes, `size` at a time, and appends each message that they make whole; how that ends.
+fn feed_pieces(
+    framer: &mut Framer<&Heap>,
+    alloc: Global,
+    bytes: &[u8],
+    size: usize,
+    text: &mut String,
+) -> Result<Result<(), FrameFault>> {
+    if size == 0 {
+        bail!("pieces of no bytes");
+    }
+    for piece in bytes.chunks(size) {
+        let fed = feed_all(framer, alloc, piece, text)?;
+        if fed.is_err() {
+            return Ok(fed);
+        }
+    }
+    Ok(framer.finish())
+}
+
+/// The messages that a framer makes of the bytes, and the ending.
+fn pieces_text(
+    framer: &mut Framer<&Heap>,
+    alloc: Global,
+    bytes: &[u8],
+    size: usize,
+) -> Result<String> {
+    let mut text = String::new(alloc);
+    let ending = feed_pieces(framer, alloc, bytes, size, &mut text)?;
+    if ending == Err(FrameFault::Memory) {
+        has_to_fail(framer)?;
+    }
+    let told = ending_text(alloc, ending)?;
+    push_told(&mut text, told.as_str())?;
+    Ok(text)
+}
+
+/// `pieces SIZE MOST_WORDS BYTES`: the messages of the bytes, fed `SIZE` at a time, and the ending.
+pub(crate) fn pieces_answer(alloc: Global, heap: &Heap, words: &[&str]) -> Result<String> {
+    let size = number_at(words, 1)? as usize;
+    let limit = limit_at(words, 2)?;
+    let bytes = bytes_at(alloc, words, 3)?;
+    let mut framer = Framer::new(heap, limit);
+    pieces_text(&mut framer, alloc, bytes.as_slice(), size)
+}
+
+/// Appends a message that was read; that it was one.
+fn push_read(alloc: Global, message: &Stored<&Heap>, text: &mut String) -> Result<bool> {
+    push_message(alloc, message, text)?;
+    Ok(true)
+}
+
+/// Appends what a reader gives next, a message or the ending; whether it was a message.
+fn read_next(
+    reader: &mut Watched<&[u8]>,
+    alloc: Global,
+    heap: &Heap,
+    limit: u32,
+    text: &mut String,
+) -> Result<bool>
+    requires { limit ≤ most_message_words }
+{
+    if reader.failed() {
+        bail!("no input");
+    }
+    let ending = match read_message(heap, reader, limit) {
+        Ok(Some(message)) => return push_read(alloc, &message, text),
+        Ok(None) => Ok(()),
+        Err(ReadFault::Frame(fault)) => Err(fault),
+        Err(ReadFault::Memory) => Err(FrameFault::Memory),
+        Err(_) => bail!("no input"),
+    };
+    let told = ending_text(alloc, ending)?;
+    push_told(text, told.as_str())?;
+    Ok(false)
+}
+
+/// `read MOST_WORDS BYTES`: the messages of a reader that has the bytes to give, and the ending.
+pub(crate) fn read_answer(alloc: Global, heap: &Heap, words: &[&str]) -> Result<String> {
+    let limit = limit_at(words, 1)?;
+    let bytes = bytes_at(alloc, words, 2)?;
+    let mut reader = Watched::new(bytes.as_slice());
+    let mut text = String::new(alloc);
+    for _ in 0..=bytes.len() {
+        if !read_next(&mut reader, alloc, heap, limit, &mut text)? {
+            return Ok(text);
+        }
+    }
+    Err(anyhow!("a reader without end"))
+}
+
+/// What is written of a message.
+fn written_text(alloc: Global, message: &Stored<&Heap>) -> Result<String> {
+    let mut writer = Watched::new(Vec::new(alloc));
+    match write_message(&mut writer, message) {
+        Ok(()) => digits_of(alloc, writer.into_inner().as_slice()),
+        Err(_) => Err(anyhow!("no output")),
+    }
+}
+
+/// `write BYTES`: what is written of the message that a reader of the bytes gives first.
+pub(crate) fn write_answer(alloc: Global, heap: &Heap, words: &[&str]) -> Result<String> {
+    let bytes = bytes_at(alloc, words, 1)?;
+    let mut reader = Watched::new(bytes.as_slice());
+    match read_message(heap, &mut reader, MOST_MESSAGE_WORDS) {
+        Ok(Some(message)) => written_text(alloc, &message),
+        Err(ReadFault::Memory) => Ok(String::from_str(alloc, MEMORY)?),
+        _ => Err(anyhow!("no message")),
+    }
+}

@@ -1,0 +1,24 @@
+//! Refusals as lines.
+
+use anyhow::Result;
+use capn_walk::{Fault, Stopped};
+use conformance_cases::MEMORY;
+use std::alloc::Global;
+use std::fmt::Display;
+
+/// What a fault displays; if memory ran out, wherever that was, the one word by which growths know it.
+pub(crate) fn told<E: Display + Drop>(alloc: Global, fault: E) -> Result<String> {
+    let text = format!(in alloc; "{fault}")?;
+    match text.as_str().strip_suffix("out of memory") {
+        Some(before) => Ok(format!(in alloc; "{before}{MEMORY}")?),
+        None => Ok(text),
+    }
+}
+
+/// Why a walk by itself gave no answer.
+pub(crate) fn stop_told(alloc: Global, stopped: Stopped) -> Result<String> {
+    match stopped.fault {
+        Fault::Memory => Ok(String::from_str(alloc, MEMORY)?),
+        _ => told(alloc, stopped),
+    }
+}

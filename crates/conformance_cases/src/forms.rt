@@ -1,0 +1,15 @@
+//! The forms of a case.
+
+use crate::words::word_at;
+use anyhow::{Result, bail};
+use capn_canon::Form;
+
+/// The form at a place of the line.
+pub fn form_at(words: &[&str], at: usize) -> Result<Form> {
+    match word_at(words, at)? {
+        "stream" => Ok(Form::Stream),
+        "packed" => Ok(Form::Packed),
+        "bare" => Ok(Form::Bare),
+        form => bail!("no form {form:?}"),
+    }
+}

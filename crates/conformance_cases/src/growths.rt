@@ -1,0 +1,72 @@
+//! Each case, with ample and with refused memory.
+//! It is answered with ample memory, and then with each growth of its calls refused in turn.
+
+use anyhow::{Result, bail};
+use std::alloc::Global;
+use test_allocator::Refusing;
+
+/// Where the calls of a case take their memory. What a case itself takes, as for its text, is never refused.
+pub type Heap = Refusing<Global>;
+
+/// How the answer of a case ends whose call answered that memory ran out. Before it comes what was printed or written
+/// by then.
+pub const MEMORY: &str = "Memory";
+
+/// Answers cases.
+pub trait Answers {
+    /// What the call of a case answers, as a line, where it takes its memory from a heap.
+    fn answer(&self, alloc: Global, heap: &Heap, words: &[&str]) -> Result<String>;
+}
+
+/// What was written before memory ran out, and that it did.
+pub fn cut_short(alloc: Global, written: &[u8]) -> Result<String> {
+    let digits = hex::encode(alloc, written)?;
+    Ok(format!(in alloc; "{digits}{MEMORY}")?)
+}
+
+/// An answer after its status, if it has one.
+fn behind_status(text: &str) -> &str {
+    match text.strip_prefix("status 0, ") {
+        Some(rest) => rest,
+        None => text.strip_prefix("status 1, ").unwrap_or(text),
+    }
+}
+
+/// Whether a case with a refused growth gave a beginning of the answer, and then that memory ran out.
+fn is_cut_short(told: &str, want: &str) -> bool {
+    match told.strip_suffix(MEMORY) {
+        Some(begun) => want.starts_with(begun) || behind_status(want).starts_with(begun),
+        None => false,
+    }
+}
+
+/// Refuses a growth of a call: it must answer that memory ran out and nothing else, and the same call afterwards, which
+/// meets no refusal, must give the answer.
+fn refuse<C: Answers>(
+    alloc: Global,
+    calls: &C,
+    words: &[&str],
+    number: u64,
+    want: &str,
+) -> Result<()> {
+    let heap = Heap::nth(alloc, number);
+    let told = calls.answer(alloc, &heap, words)?;
+    if !is_cut_short(told.as_str(), want) {
+        bail!("growth {number}: {told}");
+    }
+    let again = calls.answer(alloc, &heap, words)?;
+    if again.as_str() != want {
+        bail!("after growth {number}: {again}");
+    }
+    Ok(())
+}
+
+/// What a call answers, as a line, once each of its growths was refused, and answered as it must be.
+pub fn answer_each<C: Answers>(alloc: Global, calls: &C, words: &[&str]) -> Result<String> {
+    let ample = Heap::nth(alloc, 0);
+    let want = calls.answer(alloc, &ample, words)?;
+    for number in 1..=ample.count() {
+        refuse(alloc, calls, words, number, want.as_str())?;
+    }
+    Ok(want)
+}

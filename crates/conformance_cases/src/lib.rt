@@ -1,0 +1,12 @@
+//! The cases of `conformance_calls` and `conformance_runs`: their words, and each with ample and with refused memory.
+//! A case is a line with its name and a line with a call, each word parted by a space. Bytes are hexadecimal, and `-`
+//! stands for none. A program answers a call as a line.
+#![tactic(auto)]
+
+mod forms;
+mod growths;
+mod words;
+
+pub use forms::form_at;
+pub use growths::{Answers, Heap, MEMORY, answer_each, cut_short};
+pub use words::{bytes_at, digits_of, number_at, push_told, word_at};

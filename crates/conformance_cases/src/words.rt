@@ -1,0 +1,43 @@
+//! The words of a case.
+
+use anyhow::{Result, anyhow};
+use std::alloc::Global;
+
+/// The word at a place of the line.
+pub fn word_at<'a>(words: &[&'a str], at: usize) -> Result<&'a str> {
+    match words.get(at) {
+        Some(word) => Ok(*word),
+        None => Err(anyhow!("no word {at}")),
+    }
+}
+
+/// The number at a place of the line.
+pub fn number_at(words: &[&str], at: usize) -> Result<u32> {
+    Ok(word_at(words, at)?.parse::<u32>()?)
+}
+
+/// The bytes at a place of the line.
+pub fn bytes_at(alloc: Global, words: &[&str], at: usize) -> Result<Vec<u8>> {
+    let digits = word_at(words, at)?;
+    if digits == "-" {
+        return Ok(Vec::new(alloc));
+    }
+    Ok(hex::decode(alloc, digits)?)
+}
+
+/// Bytes as they stand in a case.
+pub fn digits_of(alloc: Global, bytes: &[u8]) -> Result<String> {
+    if bytes.is_empty() {
+        return Ok(String::from_str(alloc, "-")?);
+    }
+    Ok(hex::encode(alloc, bytes)?)
+}
+
+/// Appends what is printed of one step of a case.
+pub fn push_told(text: &mut String, told: &str) -> Result<()> {
+    if !text.is_empty() {
+        text.push_str(", ")?;
+    }
+    text.push_str(told)?;
+    Ok(())
+}

@@ -1,0 +1,162 @@
+//! Runs over archives, and over texts.
+
+use crate::runs::{command_line, tool_told};
+use anyhow::{Result, anyhow};
+use capn_archive::{run_archive, run_uniq};
+use capn_flow::{FlowFault, pack_stream, unpack_stream};
+use capn_make::{MakeFault, make, make_texts};
+use capn_report::run_explain;
+use capn_serve::run_pick;
+use capn_tool::{
+    ArchiveFault, Flow, Order, RunFault, archive_text, order_of, pick_only, show_parts,
+    status_of_archive,
+};
+use capn_words::Watched;
+use conformance_cases::{Heap, bytes_at, cut_short, digits_of, form_at};
+use std::alloc::Global;
+
+/// The fault of a run that picks or explains messages, as one of a run over an archive.
+fn archive_fault_of(fault: RunFault) -> ArchiveFault {
+    match fault {
+        RunFault::Memory => ArchiveFault::Memory,
+        RunFault::Io => ArchiveFault::Io,
+        RunFault::InputTooLong => ArchiveFault::InputTooLong,
+        RunFault::Refused(at, refusal) => ArchiveFault::Refused(at, refusal),
+    }
+}
+
+/// The status of a run over an archive, what is written, and the line or both lines on standard error.
+fn archive_told(
+    alloc: Global,
+    heap: &Heap,
+    outcome: Result<(), ArchiveFault>,
+    written: &[u8],
+) -> Result<String> {
+    let status = status_of_archive(&outcome);
+    let digits = digits_of(alloc, written)?;
+    match outcome {
+        Ok(()) => Ok(format!(in alloc; "status {status}, {digits}")?),
+        Err(ArchiveFault::Memory) => cut_short(alloc, written),
+        Err(fault) => match archive_text(heap, &fault) {
+            Ok(text) => match text.as_str().split_once('\n') {
+                Some((line, last)) => {
+                    Ok(format!(in alloc; "status {status}, {digits}, capn: {line}, {last}")?)
+                }
+                None => Ok(format!(in alloc; "status {status}, {digits}, capn: {text}")?),
+            },
+            Err(_) => cut_short(alloc, written),
+        },
+    }
+}
+
+/// The same of a run that packs or unpacks.
+fn flow_told(alloc: Global, outcome: Result<(), FlowFault>, written: &[u8]) -> Result<String> {
+    let digits = digits_of(alloc, written)?;
+    match outcome {
+        Ok(()) => Ok(format!(in alloc; "status 0, {digits}")?),
+        Err(FlowFault::Memory) => cut_short(alloc, written),
+        Err(fault) => {
+            let status = fault.status();
+            Ok(format!(in alloc; "status {status}, {digits}, capn: {fault}")?)
+        }
+    }
+}
+
+/// `archive COUNT WORD .. BYTES`: the status, what is written, and the line on standard error, of a run whose input may
+/// have any length.
+pub(crate) fn archive_answer(alloc: Global, heap: &Heap, words: &[&str]) -> Result<String> {
+    let line = command_line(alloc, words)?;
+    let input = bytes_at(alloc, words, line.len().saturating_add(1))?;
+    let Ok(order) = order_of(alloc, line.as_slice()) else {
+        return Err(anyhow!("no order"));
+    };
+    let mut reader = Watched::new(input.as_slice());
+    let mut writer = Watched::new(Vec::new(alloc));
+    match order {
+        Order::Show(show) => {
+            let outcome = show_parts(heap, &show, &mut reader, &mut writer);
+            tool_told(alloc, heap, outcome, writer.into_inner().as_slice())
+        }
+        Order::Explain(explain) => {
+            let outcome = match run_explain(heap, explain, &mut reader, &mut writer) {
+                Ok(()) => Ok(()),
+                Err(fault) => Err(archive_fault_of(fault)),
+            };
+            archive_told(alloc, heap, outcome, writer.into_inner().as_slice())
+        }
+        Order::Archive(archive) => {
+            let outcome = run_archive(heap, archive, &mut reader, &mut writer);
+            archive_told(alloc, heap, outcome, writer.into_inner().as_slice())
+        }
+        Order::Uniq(uniq) => {
+            let outcome = run_uniq(heap, uniq, &mut reader, &mut writer);
+            archive_told(alloc, heap, outcome, writer.into_inner().as_slice())
+        }
+        Order::Pick(pick) => {
+            let outcome = match run_pick(heap, pick, &mut reader, &mut writer) {
+                Ok(()) => Ok(()),
+                Err(fault) => Err(archive_fault_of(fault)),
+            };
+            archive_told(alloc, heap, outcome, writer.into_inner().as_slice())
+        }
+        Order::Only(only) => {
+            let outcome = match pick_only(heap, &only, &mut reader, &mut writer) {
+                Ok(()) => Ok(()),
+                Err(fault) => Err(archive_fault_of(fault)),
+            };
+            archive_told(alloc, heap, outcome, writer.into_inner().as_slice())
+        }
+        Order::Flow(Flow::Pack) => {
+            let outcome = pack_stream(heap, &mut reader, &mut writer);
+            flow_told(alloc, outcome, writer.into_inner().as_slice())
+        }
+        Order::Flow(Flow::Unpack) => {
+            let outcome = unpack_stream(heap, &mut reader, &mut writer);
+            flow_told(alloc, outcome, writer.into_inner().as_slice())
+        }
+        Order::Make(order) => {
+            let outcome = if order.quoted {
+                make_texts(heap, order.form, &mut reader, &mut writer)
+            } else {
+                make(heap, order.form, &mut reader, &mut writer)
+            };
+            made_told(alloc, outcome, writer.into_inner().as_slice())
+        }
+        Order::Message(_) => Err(anyhow!("no run over an archive")),
+    }
+}
+
+/// `order COUNT WORD ..`: the status of a command line that orders nothing, for the whole program.
+pub(crate) fn order_answer(alloc: Global, words: &[&str]) -> Result<String> {
+    let line = command_line(alloc, words)?;
+    match order_of(alloc, line.as_slice()) {
+        Ok(_) => Ok(String::from_str(alloc, "an order")?),
+        Err(usage) => {
+            let status = usage.status();
+            Ok(format!(in alloc; "status {status}")?)
+        }
+    }
+}
+
+/// `make FORM BYTES`: the status, what is written for the texts that the bytes are, and the line on standard error.
+pub(crate) fn make_answer(alloc: Global, heap: &Heap, words: &[&str]) -> Result<String> {
+    let form = form_at(words, 1)?;
+    let input = bytes_at(alloc, words, 2)?;
+    let mut reader = Watched::new(input.as_slice());
+    let mut writer = Watched::new(Vec::new(alloc));
+    let outcome = make(heap, form, &mut reader, &mut writer);
+    made_told(alloc, outcome, writer.into_inner().as_slice())
+}
+
+/// How a run over texts ended: the status, what is written, and the line on standard error.
+fn made_told(alloc: Global, outcome: Result<(), MakeFault>, written: &[u8]) -> Result<String> {
+    let digits = digits_of(alloc, written)?;
+    match outcome {
+        Ok(()) => Ok(format!(in alloc; "status 0, {digits}")?),
+        Err(MakeFault::Memory) => cut_short(alloc, written),
+        Err(fault) => {
+            let status = fault.status();
+            Ok(format!(in alloc; "status {status}, {digits}, capn: {fault}")?)
+        }
+    }
+}

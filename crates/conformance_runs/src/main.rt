@@ -1,0 +1,52 @@
+//! Answers to the cases of standard input that are runs: what a command line orders, what a run writes, and its status.
+//! A case is a line with its name and a line with a call, each word parted by a space. Bytes are hexadecimal, and `-`
+//! stands for none. What must come out is the stored output, which no run of ours wrote. Each call is made once with
+//! ample memory, and then as often as it grows with one growth refused. The line of a case is printed only if it
+//! answered each time that memory ran out, and its answer afterwards.
+#![tactic(auto)]
+
+mod archives;
+mod runs;
+
+use anyhow::{Result, bail};
+use conformance_cases::{Answers, Heap, answer_each, word_at};
+use std::alloc::Global;
+use std::io::BufRead;
+
+/// Runs of the program, and of its commands.
+#[derive(Clone, Copy)]
+struct Runs;
+
+impl Answers for Runs {
+    fn answer(&self, alloc: Global, heap: &Heap, words: &[&str]) -> Result<String> {
+        match word_at(words, 0)? {
+            "run" => runs::run_answer(alloc, heap, words),
+            "usage" => runs::usage_answer(alloc, words),
+            "archive" => archives::archive_answer(alloc, heap, words),
+            "order" => archives::order_answer(alloc, words),
+            "make" => archives::make_answer(alloc, heap, words),
+            call => bail!("no call {call:?}"),
+        }
+    }
+}
+
+/// What a call answers, as a line.
+fn answer_line(alloc: Global, line: &str) -> Result<String> {
+    let words: Vec<&str> = line.split(' ').collect(alloc)?;
+    answer_each(alloc, &Runs, words.as_slice())
+}
+
+fn main(rt: HostRuntime) -> Result<()> {
+    let mut is_name = true;
+    for line in rt.reader().lines(rt.alloc()) {
+        let line = line?;
+        if is_name {
+            println!(rt; "{line}")?;
+        } else {
+            let answer = answer_line(rt.alloc(), line.as_str())?;
+            println!(rt; "{answer}")?;
+        }
+        is_name = !is_name;
+    }
+    Ok(())
+}

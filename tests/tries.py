@@ -1,0 +1,202 @@
+"""Runs tests and stored runs with no proof, by `rt try`, several crates at once: for tests/of and tests/quick."""
+
+import collections
+import concurrent.futures
+import os
+import re
+import subprocess
+import sys
+import tempfile
+import time
+
+import stored
+
+TOP = stored.TOP
+LOG = "build/tries.log"
+# What one run of `rt try` takes at most, in GiB: its compiler, and the check of names beside it.
+MEMORY = 2
+# Cases that the program is run on at once: few, so that those after one that ends it are tried.
+AT_ONCE = 40
+
+# What is tried of a crate: a word for it, and a call that returns what is wrong, or nothing, and what was said.
+Job = collections.namedtuple("Job", "crate what run")
+
+
+def text_of(*parts):
+    with open(os.path.join(TOP, *parts), encoding="utf-8") as file:
+        return file.read()
+
+
+def libraries():
+    """The repository's own libraries that each crate names in crates.txt."""
+    rows = [line.partition(":") for line in text_of("crates.txt").split("\n") if line and not line.startswith("#")]
+    names = {head.split()[0]: rest.split() for head, _, rest in rows}
+    return {crate: [name for name in found if name in names] for crate, found in names.items()}
+
+
+def below(crate, names):
+    """The crate and all below it."""
+    found, rest = set(), [crate]
+    while rest:
+        one = rest.pop()
+        if one not in found:
+            found.add(one)
+            rest += names[one]
+    return found
+
+
+def tests_of(crate):
+    """The names of the tests of a crate."""
+    found = []
+    for folder, _, names in os.walk(os.path.join(TOP, "crates", crate, "src")):
+        for name in sorted(names):
+            found += re.findall(r"#\[test\]\s*(?:#\[[^\n]*\]\s*)*fn (\w+)", text_of(folder, name))
+    return found
+
+
+def crates_of_calls(crate):
+    """The libraries that the answer to each call names, of one of the crates with cases: those of the module that
+    answers it, and of those that this one uses."""
+    folder = os.path.join(TOP, "crates", crate, "src")
+    modules = {name[:-3]: text_of("crates", crate, "src", name) for name in os.listdir(folder)}
+
+    def named(module, seen):
+        seen.add(module)
+        for used in re.findall(r"^use crate::(\w+)::", modules[module], re.M):
+            if used in modules and used not in seen:
+                named(used, seen)
+        return seen
+
+    for word, module in re.findall(r'"(\w+)" => (\w+)::', modules["main"]):
+        used = named(module, set())
+        yield word, {name for one in used for name in re.findall(r"^use (capn_\w+)", modules[one], re.M)}
+
+
+def try_crate(crate, words, given=b""):
+    """Runs `rt try`: its status, what came out, and what it said."""
+    folder = os.path.join(TOP, "crates", crate)
+    done = subprocess.run(["rt", "try", *words], cwd=folder, input=given, capture_output=True)
+    return done.returncode, done.stdout, done.stderr.decode(errors="replace")
+
+
+def tests_job(crate):
+    """All tests of a crate."""
+
+    def run():
+        status, out, said = try_crate(crate, ["--test"])
+        return (f"its tests end with status {status}" if status else ""), out.decode(errors="replace") + said
+
+    return Job(crate, f"{len(tests_of(crate))} tests", run)
+
+
+def stored_job(crate):
+    """The stored run of a program, beside its src/."""
+
+    def run():
+        files = {name: "" for name in ("args", "stdin", "stdout")}
+        for name in files:
+            if os.path.exists(os.path.join(TOP, "crates", crate, name)):
+                files[name] = text_of("crates", crate, name)
+        status, out, said = try_crate(crate, ["--", *files["args"].split("\n")[:-1]], files["stdin"].encode())
+        if status:
+            return f"its stored run ends with status {status}", said
+        if out != files["stdout"].encode():
+            return f"its stored run writes\n{out.decode(errors='replace')}not what its stdout has", said
+        return "", said
+
+    return Job(crate, "stored run", run)
+
+
+def differences(cases, out):
+    """What is wrong with the answers of a run over these cases."""
+    lines = out.split("\n")
+    for at, case in enumerate(cases):
+        name, got = (lines[2 * at:2 * at + 2] + [None, None])[:2]
+        if name != case.name or got is None or len(lines) <= 2 * at + 2:
+            yield f"{case.path}\n  call:   {case.call}\n  wanted: {case.answer}\n  got:    no answer, as the log says"
+            return
+        if got != case.answer:
+            yield f"{case.path}\n  call:   {case.call}\n  wanted: {case.answer}\n  got:    {got}"
+
+
+def cases_job(crate, cases):
+    """Some cases of a crate, each compared with its answer."""
+
+    def run():
+        parts = [cases[at:at + AT_ONCE] for at in range(0, len(cases), AT_ONCE)]
+        with tempfile.TemporaryDirectory() as folder:
+            for number, part in enumerate(parts):
+                with open(os.path.join(folder, f"{number:04}"), "w", encoding="utf-8") as file:
+                    file.write(stored.asked(part))
+            # The interpreter can't run what takes memory from the system.
+            status, out, said = try_crate(crate, ["--steps", "1", "--seconds", "600", "--cases", folder])
+        outs = dict(zip(*[iter(re.split(r"^== (\d{4})\n", out.decode(errors="replace"), flags=re.M)[1:])] * 2))
+        wrong = [it for at, part in enumerate(parts) for it in differences(part, outs.get(f"{at:04}", ""))]
+        if status and not wrong:
+            wrong = [f"its cases end with status {status}"]
+        return "\n".join(wrong), said
+
+    return Job(crate, f"{len(cases)} cases", run)
+
+
+def workers():
+    """How many crates are tried at once: one a processor, as memory allows."""
+    with open("/proc/meminfo", encoding="ascii") as file:
+        free = int(re.search(r"^MemAvailable: +(\d+)", file.read(), re.M)[1]) // (MEMORY << 20)
+    return max(1, min(len(os.sched_getaffinity(0)), free))
+
+
+def run_all(jobs):
+    """Runs the jobs, the first first. Prints a line for each that is done, and in the end what is wrong; the rest goes
+    into a log. Returns the exit status."""
+    begun, faults = time.monotonic(), []
+    os.makedirs(os.path.join(TOP, "build"), exist_ok=True)
+    with open(os.path.join(TOP, LOG), "w", encoding="utf-8") as log, \
+            concurrent.futures.ThreadPoolExecutor(workers()) as pool:
+        pending = {pool.submit(job.run): job for job in jobs}
+        for number, done in enumerate(concurrent.futures.as_completed(pending), 1):
+            job, (wrong, said) = pending[done], done.result()
+            print(f"== {job.crate}: {job.what}\n{said}\n{wrong}", file=log, flush=True)
+            minutes = (time.monotonic() - begun) / 60
+            word = "WRONG" if wrong else "right"
+            print(f"{number} of {len(jobs)}: {job.crate}, {job.what}: {word}; {minutes:.1f} minutes", flush=True)
+            if wrong:
+                faults.append((job, wrong, said))
+    for job, wrong, said in faults:
+        print(f"\n{job.crate}, {job.what}:\n{wrong}", file=sys.stderr)
+        if job.what.endswith("tests"):
+            print("\n".join(said.strip().split("\n")[-20:]), file=sys.stderr)
+    if faults:
+        print(f"\nall that was said: {LOG}", file=sys.stderr)
+    return 1 if faults else 0
+
+
+def nearest(crate, names, tried):
+    """Those of these crates that reach a crate by the fewest steps, where those that name it take one."""
+    above = {crate}
+    while above:
+        found = [it for it in tried if it in above and it != crate]
+        if found:
+            return found
+        above = {it for it, used in names.items() if above & set(used)} - {crate}
+    return []
+
+
+def calls_reaching(crate, names):
+    """The calls of cases that reach a crate, and the program that answers them: of the first program that has some,
+    those whose answer names the crate, or where none does, those that reach it."""
+    for one in stored.CRATES:
+        found = dict(crates_of_calls(one))
+        if crate == one or crate in names[one] and crate not in set().union(*found.values()):
+            return one, list(found)
+        words = [word for word, used in found.items() if crate in used]
+        words = words or [word for word, used in found.items() if any(crate in below(it, names) for it in used)]
+        if words:
+            return one, words
+    return None, []
+
+
+def reaching(crate):
+    """The nearest crates with tests that reach a crate, a program with cases that does, and their calls."""
+    names = libraries()
+    return nearest(crate, names, [it for it in names if tests_of(it)]), *calls_reaching(crate, names)
