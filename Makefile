@@ -19,11 +19,14 @@ BUILD := build
 SHELL := bash
 .SHELLFLAGS := -o pipefail -c
 
-# The pages that are installed with the program.
-PAGES := $(addprefix docs/,GUIDE.md DIAGNOSTICS.md FORMAT.md PROFILE.md DIFFERENCES.md CHANGES.md SECURITY.md)
-# The headers, and the pages that are installed with them.
+# The pages that are installed, with the program and with the library, in the repository's own folders, so that their
+# links hold: what they link to is among them, and contrib/ but for the scripts that try it in a clone.
+PAGES := README.md LICENSE NOTICE $(wildcard docs/*.md docs/capn.[13] docs/internals/*.md docs/pictures/*.svg) \
+	$(wildcard .ci/*.md bench/*.md release/*.md tests/*.md) \
+	$(wildcard $(sort $(shell grep -oh 'crates/[a-z_]*/specs/[A-Za-z/]*\.antt' docs/internals/*.md))) \
+	$(filter-out %/run,$(sort $(shell find contrib -type f ! -path '*/__pycache__/*')))
+# The headers.
 HEADERS := $(wildcard c/*.h c/*.hpp)
-LIBRARY_PAGES := $(wildcard docs/C.md docs/CPP.md)
 # A file of a release, for verify-dist; and a clone where its commit is built already (BUILT), or where the gate passed
 # it, so that what it proved of the crates below the program and the library need not be proved again (OVER).
 FILE ?= dist/*
@@ -142,23 +145,23 @@ install:
 	install -D -m 644 docs/capn.bash $(into)/share/bash-completion/completions/capn
 	install -D -m 644 docs/capn.zsh $(into)/share/zsh/site-functions/_capn
 	install -D -m 644 docs/capn.fish $(into)/share/fish/vendor_completions.d/capn.fish
-	install -d -m 755 $(into)/share/doc/capn
-	install -m 644 $(PAGES) LICENSE NOTICE $(into)/share/doc/capn
+	for it in $(PAGES); do \
+		install -D -m $$(test -x $$it && echo 755 || echo 644) $$it $(into)/share/doc/capn/$$it || exit 1; done
 
 # Removes what install put there, by its names.
 uninstall: into := $(DESTDIR)$(PREFIX)
 uninstall:
 	rm -f $(into)/bin/capn $(into)/share/man/man1/capn.1 $(into)/share/bash-completion/completions/capn
 	rm -f $(into)/share/zsh/site-functions/_capn $(into)/share/fish/vendor_completions.d/capn.fish
-	rm -f $(addprefix $(into)/share/doc/capn/,$(notdir $(PAGES)) LICENSE NOTICE)
-	test ! -d $(into)/share/doc/capn || rmdir --ignore-fail-on-non-empty $(into)/share/doc/capn
+	rm -f $(addprefix $(into)/share/doc/capn/,$(PAGES))
+	test ! -d $(into)/share/doc/capn || find $(into)/share/doc/capn -type d -empty -delete
 
 # The library for C: both forms, headers, its manual page, and what pkg-config and CMake read. Builds nothing either.
 install-library: into := $(DESTDIR)$(PREFIX)
 install-library:
 	@test -f $(BUILD)/libcapn.a -a -f $(BUILD)/libcapn.so.1 \
 		|| { echo "there is no library to install: run make library first" >&2; exit 1; }
-	install -d -m 755 $(into)/include $(into)/share/doc/libcapn
+	install -d -m 755 $(into)/include
 	install -m 644 $(HEADERS) $(into)/include
 	install -D -m 644 $(BUILD)/libcapn.a $(DESTDIR)$(LIBDIR)/libcapn.a
 	install -D -m 755 $(BUILD)/libcapn.so.1 $(DESTDIR)$(LIBDIR)/libcapn.so.1
@@ -170,7 +173,8 @@ install-library:
 			-e "s,@VERSION@,$(VERSION),; s,@INCLUDE@,$$include," c/$${it##*/}.in \
 			| install -m 644 /dev/stdin $(DESTDIR)$(LIBDIR)/$$it || exit 1; done
 	install -D -m 644 docs/capn.3 $(into)/share/man/man3/capn.3
-	install -m 644 $(LIBRARY_PAGES) LICENSE NOTICE $(into)/share/doc/libcapn
+	for it in $(PAGES); do \
+		install -D -m $$(test -x $$it && echo 755 || echo 644) $$it $(into)/share/doc/libcapn/$$it || exit 1; done
 
 # Removes what install-library put there, by its names.
 uninstall-library: into := $(DESTDIR)$(PREFIX)
@@ -179,12 +183,12 @@ uninstall-library:
 	rm -f $(addprefix $(into)/include/,$(notdir $(HEADERS))) $(into)/share/man/man3/capn.3
 	rm -f $(addprefix $(libraries)/,libcapn.a libcapn.so.1 libcapn.so pkgconfig/capn.pc)
 	rm -f $(libraries)/cmake/capn/capn-config.cmake $(libraries)/cmake/capn/capn-config-version.cmake
-	rm -f $(addprefix $(into)/share/doc/libcapn/,$(notdir $(LIBRARY_PAGES)) LICENSE NOTICE)
+	rm -f $(addprefix $(into)/share/doc/libcapn/,$(PAGES))
 	for it in $(libraries)/cmake/capn $(into)/share/doc/libcapn; do \
-		test ! -d $$it || rmdir --ignore-fail-on-non-empty $$it; done
+		test ! -d $$it || find $$it -type d -empty -delete; done
 
 # The files of a release, in dist/, of the program and the libraries that are built. It needs Debian's dpkg-dev, lintian
-# and python3-wheel, and what docs/PYTHON.md lists.
+# and python3-wheel, and what docs/PYTHON.md lists. Their names say so where the whole run has not passed.
 dist:
 	release/dist
 

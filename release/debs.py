@@ -9,14 +9,15 @@ import re
 import shutil
 
 import packing
-from packing import BUILT, DEBIAN_VERSION, TOP, VERSION, Stop, said, write
+from packing import BUILT, TOP, VERSION, Stop, said, write
 
 TEMPLATES = os.path.join(TOP, "release", "debian")
 LIBRARIES = "/usr/lib/x86_64-linux-gnu"
 
 
 class Debs:
-    """What makes them, of a release: it has a folder `work`, a time `seconds`, a text `proved`, and a list `made`."""
+    """What makes them, of a release: it has a folder `work`, a time `seconds`, a text `proved`, a `debian_version` and
+    a list `made`."""
 
     def debs(self, has_wheel):
         """The packages of Debian: each a part of what is staged, with its own control files."""
@@ -40,8 +41,9 @@ class Debs:
         pages = os.path.join(self.work, "deb", "libcapn-dev", "usr/share/doc/libcapn-dev")
         os.makedirs(os.path.dirname(pages), exist_ok=True)
         os.rename(os.path.join(staged, "usr/share/doc/libcapn"), pages)
-        shutil.copytree(os.path.join(TOP, "c", "examples"), os.path.join(pages, "examples"),
+        shutil.copytree(os.path.join(TOP, "c", "examples"), os.path.join(pages, "c", "examples"),
                         ignore=shutil.ignore_patterns("*.py", "*.rs"))
+        os.symlink("c/examples", os.path.join(pages, "examples"))
         if has_wheel:
             folder = os.path.join(self.work, "deb", "python3-capn")
             shutil.copytree(os.path.join(self.work, "inside"), os.path.join(folder, "usr/lib/python3/dist-packages"))
@@ -49,9 +51,8 @@ class Debs:
                 with_info = os.path.join(folder, f"usr/lib/python3/dist-packages/capn-{VERSION}.dist-info", name)
                 if os.path.exists(with_info):
                     os.remove(with_info)
-            pages = os.path.join(folder, "usr/share/doc/python3-capn")
-            os.makedirs(pages)
-            shutil.copy(os.path.join(TOP, "docs", "PYTHON.md"), pages)
+            shutil.copytree(os.path.join(self.work, "deb", "capn", "usr/share/doc/capn"),
+                            os.path.join(folder, "usr/share/doc/python3-capn"))
         for package in [*take, *(["python3-capn"] if has_wheel else [])]:
             self.deb(package, os.path.join(self.work, "deb", package))
 
@@ -65,8 +66,9 @@ class Debs:
             head = file.read()
         write(os.path.join(pages, "copyright"), head)
         day = datetime.datetime.fromtimestamp(self.seconds, datetime.timezone.utc)
-        change = (f"capn ({DEBIAN_VERSION}) stable; urgency=medium\n\n  * Version {VERSION}: the page CHANGES.md says"
-                  f" what is new.\n\n -- {self.field('Maintainer')}  {day:%a, %d %b %Y %H:%M:%S} +0000\n")
+        change = (f"capn ({self.debian_version}) stable; urgency=medium\n\n"
+                  f"  * Version {VERSION}: the page CHANGES.md says what is new.\n\n"
+                  f" -- {self.field('Maintainer')}  {day:%a, %d %b %Y %H:%M:%S} +0000\n")
         write(os.path.join(pages, "changelog.Debian.gz"), self.zipped(change.encode()))
         if self.proved:
             write(os.path.join(pages, "PROVED"), self.proved)
@@ -93,7 +95,7 @@ class Debs:
         with open(os.path.join(TEMPLATES, f"{package}.control"), encoding="utf-8") as file:
             text = file.read()
         text = text if needs else re.sub(r"^Depends: @NEEDS@\n|, @NEEDS@$", "", text, flags=re.M)
-        text = text.replace("@VERSION@", DEBIAN_VERSION).replace("@SIZE@", str(size)).replace("@NEEDS@", needs)
+        text = text.replace("@VERSION@", self.debian_version).replace("@SIZE@", str(size)).replace("@NEEDS@", needs)
         write(os.path.join(control, "control"), text.replace("@MAINTAINER@", self.field("Maintainer")))
         sums = []
         for name in files:
@@ -103,7 +105,7 @@ class Debs:
                     sums.append(f"{hashlib.md5(file.read()).hexdigest()}  {name}\n")
         write(os.path.join(control, "md5sums"), "".join(sums))
         packing.settle(folder, self.seconds)
-        path = os.path.join(self.work, f"{package}_{DEBIAN_VERSION}_amd64.deb")
+        path = os.path.join(self.work, f"{package}_{self.debian_version}_amd64.deb")
         said("dpkg-deb", "--root-owner-group", "-Zxz", "-z9", "--threads-max=1", "--build", folder, path)
         self.made.append(path)
 

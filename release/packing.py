@@ -5,6 +5,7 @@ import hashlib
 import io
 import os
 import re
+import shutil
 import subprocess
 import tarfile
 import time
@@ -14,8 +15,6 @@ import zlib
 TOP = os.path.abspath(os.path.join(os.path.dirname(os.path.abspath(__file__)), ".."))
 with open(os.path.join(TOP, "VERSION"), encoding="utf-8") as _file:
     VERSION = _file.read().strip()
-ARCHIVE = f"capn-{VERSION}-x86_64-linux-gnu"
-DEBIAN_VERSION = f"{VERSION}-1"
 # What is built and packed, by the names that PROVED has.
 BUILT = {
     "program": os.path.join(TOP, "crates", "capn", "out", "capn"),
@@ -62,6 +61,48 @@ def commit_of(top=TOP):
         return commit, tree, int(seconds), not said("git", "status", "--porcelain", cwd=top).strip()
     except Stop as why:
         raise Stop(f"this is no clone of a repository, so there is no commit to name: {why}") from None
+
+
+def proof(commit, tree, is_clean):
+    """What the whole run wrote of this tree and these files; fails where there is nothing."""
+    if not os.path.exists(PROVED):
+        raise Stop("the whole run has not passed here: make test-all")
+    with open(PROVED, encoding="utf-8") as file:
+        text = file.read()
+    claims = claims_of(text)
+    if (claims.get("commit"), claims.get("tree")) != (commit, tree):
+        raise Stop(f"the whole run passed commit {claims.get('commit')}, and this is {commit}")
+    if not is_clean:
+        raise Stop("the tree was changed since its commit")
+    for name, path in BUILT.items():
+        if not os.path.exists(path) or claims.get(f"sha256 {name}") != sum_of(path):
+            raise Stop(f"{name} is not the one that the whole run built")
+    return text
+
+
+def installed(folder, prefix, libraries, *words):
+    """A folder into which the two targets of installing put what they install, by make with these words beside."""
+    words = [f"DESTDIR={folder}", f"PREFIX={prefix}", f"LIBDIR={libraries}", *words]
+    # what a make above passes on, as a prefix of its own, is not for this one
+    env = {key: value for key, value in os.environ.items() if not key.startswith("MAKE") and key != "MFLAGS"}
+    said("make", "--no-print-directory", "install", "install-library", *words, env=env)
+    return folder
+
+
+def sources(folder):
+    """Copies what the archive has of the repository beside its pages: the crate, the module for Go, and examples in C.
+    Left out are tests that need a clone."""
+    left_out = shutil.ignore_patterns(".gitignore", "target", "reference", "test", "*_test.go", "__pycache__")
+    for name in ("rust", "go", "c/examples"):
+        shutil.copytree(os.path.join(TOP, name), os.path.join(folder, name), ignore=left_out)
+
+
+def unpacked(path, folder):
+    """Unpacks a file of a release into a folder."""
+    if path.endswith(".deb"):
+        said("dpkg-deb", "--extract", path, folder)
+    else:
+        shutil.unpack_archive(path, folder, "zip" if path.endswith(".whl") else None)
 
 
 def settle(folder, seconds):
