@@ -34,7 +34,7 @@ BUILT ?=
 OVER ?=
 
 .PHONY: try program run test test-all edits pages write bench interop library beside linked
-.PHONY: install install-library uninstall uninstall-library dist verify-dist clean-root
+.PHONY: install install-library uninstall uninstall-library release dist verify-dist clean-root
 
 # The stored run, tried before any proof, in about a minute: what runs is not the proved program.
 try:
@@ -187,6 +187,11 @@ uninstall-library:
 	for it in $(libraries)/cmake/capn $(into)/share/doc/libcapn; do \
 		test ! -d $$it || find $$it -type d -empty -delete; done
 
+# A release of this very commit: the whole run, the files, and what tries them, each step in turn. It goes on where it
+# was stopped. With OVER the last step takes what the whole run proved in that clone, as OVER=. does of this one.
+release:
+	release/all $(if $(OVER),--over $(OVER))
+
 # The files of a release, in dist/, of the program and the libraries that are built. It needs Debian's dpkg-dev, lintian
 # and python3-wheel, and what docs/PYTHON.md lists. Their names say so where the whole run has not passed.
 dist:
@@ -196,6 +201,7 @@ dist:
 verify-dist:
 	release/verify $(if $(BUILT),--built $(BUILT)) $(if $(OVER),--over $(OVER)) $(FILE)
 
-# The files of dist/ installed, used and removed in a root that has nothing else.
+# The files of dist/ installed, used and removed in roots of Debian 12 and 13 that have nothing else.
 clean-root:
-	release/clean-root
+	release/clean-root --debian 12
+	release/clean-root --debian 13
