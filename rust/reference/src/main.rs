@@ -7,7 +7,7 @@ use capn::{segments, Form, Limits};
 use capnp::message::{AllocationStrategy, Builder, HeapAllocator};
 use capnp::primitive_list;
 use capnp::private::layout::{
-    ElementSize, PointerBuilder, PrimitiveElement, StructBuilder, StructSize,
+    ElementSize, ListBuilder, PointerBuilder, PrimitiveElement, StructBuilder, StructSize,
 };
 use capnp::traits::FromPointerBuilder;
 
@@ -56,13 +56,42 @@ fn size(source: &mut Source, most: u64) -> StructSize {
     }
 }
 
-fn structure(source: &mut Source, to: StructBuilder, size: StructSize, depth: u32) {
+/// Where a struct is, to be asked for each of its parts: a builder can be copied in some versions of the crate alone.
+trait Place {
+    fn structure(&mut self) -> StructBuilder<'_>;
+}
+
+struct Slot<'a>(PointerBuilder<'a>, StructSize);
+
+impl Place for Slot<'_> {
+    fn structure(&mut self) -> StructBuilder<'_> {
+        self.0
+            .reborrow()
+            .get_struct(self.1, None)
+            .expect("a struct")
+    }
+}
+
+struct Row<'a>(ListBuilder<'a>, u32);
+
+impl Place for Row<'_> {
+    fn structure(&mut self) -> StructBuilder<'_> {
+        self.0.reborrow().get_struct_element(self.1)
+    }
+}
+
+fn structure(source: &mut Source, to: &mut impl Place, size: StructSize, depth: u32) {
     for at in 0..usize::from(size.data) {
-        to.set_data_field::<u64>(at, source.word());
+        to.structure().set_data_field::<u64>(at, source.word());
     }
     for at in 0..usize::from(size.pointers) {
-        object(source, to.get_pointer_field(at), depth);
+        object(source, to.structure().get_pointer_field(at), depth);
     }
+}
+
+fn init(source: &mut Source, mut to: PointerBuilder, size: StructSize, depth: u32) {
+    to.reborrow().init_struct(size);
+    structure(source, &mut Slot(to, size), size, depth);
 }
 
 fn list<T: PrimitiveElement>(to: PointerBuilder, count: u32, mut number: impl FnMut() -> T) {
@@ -100,17 +129,13 @@ fn object(source: &mut Source, to: PointerBuilder, depth: u32) {
             let (count, size) = (source.below(5), size(source, 3));
             let mut list = to.init_struct_list(count, size);
             for i in 0..count {
-                structure(
-                    source,
-                    list.reborrow().get_struct_element(i),
-                    size,
-                    depth + 1,
-                );
+                let row = &mut Row(list.reborrow(), i);
+                structure(source, row, size, depth + 1);
             }
         }
         _ => {
             let size = size(source, 5);
-            structure(source, to.init_struct(size), size, depth + 1);
+            init(source, to, size, depth + 1);
         }
     }
 }
@@ -127,7 +152,7 @@ fn is_several(source: &mut Source) -> bool {
     let mut message = Builder::new(allocator);
     let Any(root) = message.init_root::<Any>();
     let size = size(source, 5);
-    structure(source, root.init_struct(size), size, 0);
+    init(source, root, size, 0);
 
     let limits = Limits::usual();
     let held = message.get_segments_for_output();
