@@ -9,6 +9,7 @@ package capn
 // typedef struct { capn_status status; capn_report report; } capn_told;
 // typedef struct { capn_status status; capn_report report; uint8_t digest[32]; } capn_hashed;
 // typedef struct { capn_status status; capn_report report; capn_figures figures; } capn_surveyed;
+// typedef struct { capn_status status; capn_report report; capn_departed departed; } capn_left;
 //
 // static capn_told told_check(uint32_t form, const uint8_t *bytes, size_t size, capn_limits limits) {
 //     capn_told told;
@@ -60,6 +61,18 @@ package capn
 // static capn_told told_first(const uint8_t *bytes, size_t size, capn_limits limits) {
 //     capn_told told;
 //     told.status = capn_first(bytes, size, &limits, &told.report);
+//     return told;
+// }
+// static capn_told told_refusal_way(uint32_t form, const uint8_t *bytes, size_t size, capn_limits limits,
+//                                   uint32_t *way, size_t most) {
+//     capn_told told;
+//     told.status = capn_refusal_way(form, bytes, size, &limits, way, most, &told.report);
+//     return told;
+// }
+// static capn_left told_departure(uint32_t form, const uint8_t *bytes, size_t size, capn_limits limits, uint32_t *way,
+//                                 size_t most) {
+//     capn_left told;
+//     told.status = capn_departure(form, bytes, size, &limits, &told.departed, way, most, &told.report);
 //     return told;
 // }
 // static capn_told told_index(uint32_t form, const uint8_t *bytes, size_t size, capn_limits limits,
@@ -159,6 +172,33 @@ func callUnpackSome(m, out []byte) (uint32, report) {
 func callFirst(m []byte, l Limits) (uint32, report) {
 	told := C.told_first(start(m), C.size_t(len(m)), laidOut(l))
 	return uint32(told.status), reported(told.report)
+}
+
+func callRefusalWay(form Form, m []byte, l Limits, way []uint32) (uint32, report) {
+	told := C.told_refusal_way(C.uint32_t(form), start(m), C.size_t(len(m)), laidOut(l), startOfWay(way),
+		C.size_t(len(way)))
+	return uint32(told.status), reported(told.report)
+}
+
+func callDeparture(form Form, m []byte, l Limits, way []uint32) (departed, uint32, report) {
+	told := C.told_departure(C.uint32_t(form), start(m), C.size_t(len(m)), laidOut(l), startOfWay(way),
+		C.size_t(len(way)))
+	if told.status != ok {
+		return departed{}, uint32(told.status), reported(told.report)
+	}
+	d := told.departed
+	found := departed{
+		is: uint64(d.is), canonical: uint64(d.canonical), kind: uint32(d.kind), owner: uint32(d.owner),
+		word: uint32(d.word), count: uint32(d.count), numbers: uint32(d.numbers),
+	}
+	return found, ok, reported(told.report)
+}
+
+func startOfWay(way []uint32) *C.uint32_t {
+	if len(way) == 0 {
+		return nil
+	}
+	return (*C.uint32_t)(unsafe.Pointer(&way[0]))
 }
 
 func callIndex(form Form, m []byte, l Limits, entries []entry) (uint32, report) {

@@ -89,6 +89,54 @@ func TestLongAnswer(t *testing.T) {
 	}
 }
 
+// A message that lies where the answer would be written stays as it is, and another slice is returned.
+func TestOverlappingAnswer(t *testing.T) {
+	source := rand.New(rand.NewSource(82))
+	for i := 0; i < 500; i++ {
+		message, err := framed(bytesOf(segmentsOf(source, randomItem(source, 0), 1+source.Intn(3))))
+		if err != nil {
+			t.Fatal(err)
+		}
+		want, err := Canonical(message, Stream, nil)
+		if err != nil {
+			t.Fatal(err)
+		}
+		// The message begins `before` bytes behind the end of dst, or reaches into it.
+		for _, before := range []int{0, 1, 8, 64, -3} {
+			begin := 100 + before
+			whole := make([]byte, begin+len(message), begin+len(message)+i)
+			copy(whole[begin:], message)
+			inside := whole[begin : begin+len(message)]
+			dst := whole[:100]
+			first := append([]byte{}, dst...)
+			got, err := AppendCanonical(dst, inside, Stream, nil)
+			if err != nil || !bytes.Equal(got[:100], first) || !bytes.Equal(got[100:], want) {
+				t.Fatalf("%d bytes before: %x, %v", before, got, err)
+			}
+			if !bytes.Equal(inside, message) {
+				t.Fatalf("%d bytes before: the message was changed", before)
+			}
+		}
+		// The idiom by which a slice is used again; and a refusal, which leaves dst as it was.
+		m := append([]byte{}, message...)
+		got, err := AppendCanonical(m[:0], m, Stream, nil)
+		if err != nil || !bytes.Equal(got, want) || !bytes.Equal(m, message) {
+			t.Fatalf("%x, %v", got, err)
+		}
+		got, err = AppendCanonical(m[:2], m[:len(m)-1], Stream, nil)
+		if err == nil || len(got) != 2 || &got[0] != &m[0] {
+			t.Fatal(got, err)
+		}
+	}
+	// Where there is room and no byte in common, the room is used.
+	room := make([]byte, 200)
+	copy(room[100:], small)
+	got, err := AppendCanonical(room[:4:100], room[100:132], Stream, nil)
+	if err != nil || &got[0] != &room[0] {
+		t.Fatal(got, err)
+	}
+}
+
 func TestShow(t *testing.T) {
 	list := bytesOf([][]uint64{{1 | 26<<32, 0x6968}})[0]
 	letter := bytesOf([][]uint64{{1 | 26<<32, 0xa4c3}})[0]

@@ -1,21 +1,24 @@
-// Package capn checks, canonicalises, hashes and packs Cap'n Proto messages, without a schema, by proved code.
+// Package capn checks, canonicalizes, hashes and packs Cap'n Proto messages, without a schema, by proved code.
 //
-// It calls the library for C by cgo, on Linux and amd64; elsewhere, and without cgo, each call answers ErrUnsupported.
+// It calls the library for C by cgo, on Linux and amd64; elsewhere, and without cgo, each call returns ErrUnsupported.
 // The layer between is tested, not proved.
 //
-// Each call takes one message, its form, and limits; limits that are nil are the usual ones. A message that is refused
-// is an *Error, which errors.Is compares with a Kind such as ErrTooDeep. The bytes must not change while a call runs:
-// the library relies on that, and who changes them meanwhile can make it read outside of them.
+// Each call takes one message, its form, and limits; limits that are nil are the default ones. A message that is
+// refused is an *Error, which errors.Is compares with a Kind such as ErrTooDeep. The bytes must not change while a call
+// runs: the library relies on that, and a change can make it read outside of them.
 package capn
 
-import "errors"
+import (
+	"errors"
+	"unsafe"
+)
 
 // Form is how the bytes of a message are written.
 type Form uint32
 
 const (
 	Stream Form = iota // a segment table, then the segments
-	Packed             // the packed text of such bytes
+	Packed             // such bytes, packed
 	Bare               // the words of one segment, with no table
 )
 
@@ -75,10 +78,10 @@ type Figures struct {
 	Canonical     bool   // whether it has one segment, which is the canonical bytes of its value
 }
 
-// Version is the version of the library that runs, as "1.0.0".
+// Version returns the version of the library that runs, as "1.0.0".
 func Version() string { return callVersion() }
 
-// Check says whether one message is accepted within limits, with what reading it costs.
+// Check returns what reading one message costs, or an error if the message is refused within limits.
 func Check(message []byte, form Form, limits *Limits) (Checked, error) {
 	status, r := callCheck(form, message, limitsOf(limits))
 	if status != ok {
@@ -87,7 +90,7 @@ func Check(message []byte, form Form, limits *Limits) (Checked, error) {
 	return Checked{r.paid, r.visits}, nil
 }
 
-// Survey has the figures of one message.
+// Survey returns the figures of one message.
 func Survey(message []byte, form Form, limits *Limits) (Figures, error) {
 	figures, status, r := callSurvey(form, message, limitsOf(limits))
 	if status != ok {
@@ -96,14 +99,15 @@ func Survey(message []byte, form Form, limits *Limits) (Figures, error) {
 	return figures, nil
 }
 
-// Canonical has the canonical bytes of one message: the same for equal values alone, whoever wrote the message. There
-// are at most 8 * (Budget + 1) of them.
+// Canonical returns the canonical bytes of one message: the same for equal values alone, whichever encoder wrote the
+// message. There are at most 8 * (Budget + 1) of them.
 func Canonical(message []byte, form Form, limits *Limits) ([]byte, error) {
 	return AppendCanonical(nil, message, form, limits)
 }
 
-// AppendCanonical appends the canonical bytes of one message to dst. If the message is refused, dst is answered as it
-// was. The message must not lie behind the end of dst, in its capacity.
+// AppendCanonical appends the canonical bytes of one message to dst. If the message is refused, it returns dst as it
+// was. The message may overlap dst, as in AppendCanonical(m[:0], m, ..): it stays as it is, and where it lies in what
+// would be written, a new slice is returned.
 func AppendCanonical(dst, message []byte, form Form, limits *Limits) ([]byte, error) {
 	l := limitsOf(limits)
 	// As long as the words that the message has: mostly enough. If it isn't, the call reports the length.
@@ -111,10 +115,28 @@ func AppendCanonical(dst, message []byte, form Form, limits *Limits) ([]byte, er
 	if form == Packed {
 		room *= 4
 	}
-	return filled(dst, room, func(out []byte) (uint32, report) { return callCanonical(form, message, l, out) })
+	into := dst
+	if overlap(message, dst[len(dst):cap(dst)]) {
+		into = dst[:len(dst):len(dst)]
+	}
+	out, err := filled(into, room, func(out []byte) (uint32, report) { return callCanonical(form, message, l, out) })
+	if err != nil {
+		return dst, err
+	}
+	return out, nil
 }
 
-// Digest is the SHA-256 of the canonical bytes of one message.
+// overlap says whether two slices have a byte in common.
+func overlap(one, other []byte) bool {
+	if len(one) == 0 || len(other) == 0 {
+		return false
+	}
+	from, to := uintptr(unsafe.Pointer(&one[0])), uintptr(unsafe.Pointer(&other[0]))
+	return from < to+uintptr(len(other)) && to < from+uintptr(len(one))
+}
+
+// Digest returns the SHA-256 of the canonical bytes of one message. It says nothing of the type of the value: sign a
+// statement over it that names the protocol and the type.
 func Digest(message []byte, form Form, limits *Limits) ([32]byte, error) {
 	digest, status, r := callHash(form, message, limitsOf(limits))
 	if status != ok {
@@ -123,7 +145,22 @@ func Digest(message []byte, form Form, limits *Limits) ([32]byte, error) {
 	return digest, nil
 }
 
-// IsCanonical says whether bytes, read as Bare, are the canonical bytes of their value. An error if they have none.
+// IsCanonicalIn reports whether one message is canonical: whether it has one segment, and that is the canonical bytes
+// of its value. It returns an error if the message is refused, or has a capability and so no canonical bytes.
+func IsCanonicalIn(message []byte, form Form, limits *Limits) (bool, error) {
+	if form == Bare {
+		return IsCanonical(message, limits)
+	}
+	figures, err := Survey(message, form, limits)
+	if err == nil && figures.HasCapability {
+		err = &Error{Kind: ErrCapability, At: uint64(figures.Capability)}
+	}
+	return err == nil && figures.Canonical, err
+}
+
+// IsCanonical reports whether bytes, read as Bare, are the canonical bytes of their value. It returns an error if they
+// have none. It takes no segment table: with its table before it, nearly any message of one segment passes as a bare
+// one that is canonical. Ask IsCanonicalIn about a Stream.
 func IsCanonical(bytes []byte, limits *Limits) (bool, error) {
 	status, r := callIsCanonical(bytes, limitsOf(limits))
 	if status != ok && status != notCanonical {
@@ -132,8 +169,8 @@ func IsCanonical(bytes []byte, limits *Limits) (bool, error) {
 	return status == ok, nil
 }
 
-// Show has the text of one message: what the program capn show writes of it in a style. It may be far longer than a
-// small message, so have limits.
+// Show returns the text of one message: what the program capn show writes of it in a style. It may be far longer than
+// the message, so have limits.
 func Show(message []byte, form Form, limits *Limits, style Style) (string, error) {
 	room := 4*len(message) + 256
 	if form == Packed {
@@ -144,7 +181,7 @@ func Show(message []byte, form Form, limits *Limits, style Style) (string, error
 	return string(text), err
 }
 
-// Pack has the packed text of whole words.
+// Pack returns whole words packed.
 func Pack(words []byte) ([]byte, error) {
 	packed, err := filled(nil, len(words)/8*10, func(out []byte) (uint32, report) { return callPack(words, out) })
 	var refused *Error
@@ -154,17 +191,17 @@ func Pack(words []byte) ([]byte, error) {
 	return packed, err
 }
 
-// Unpack has the words of a packed text, of which there may be maxWords at most.
-func Unpack(text []byte, maxWords uint32) ([]byte, error) {
-	room := 4 * len(text)
+// Unpack returns the words of packed bytes, at most maxWords of them.
+func Unpack(packed []byte, maxWords uint32) ([]byte, error) {
+	room := 4 * len(packed)
 	if uint64(room) > 8*uint64(maxWords) {
 		room = int(8 * uint64(maxWords))
 	}
-	return filled(nil, room, func(out []byte) (uint32, report) { return callUnpack(text, maxWords, out) })
+	return filled(nil, room, func(out []byte) (uint32, report) { return callUnpack(packed, maxWords, out) })
 }
 
-// A message that is held in segments: each has whole words, and the first one begins with the root. These calls answer
-// what those above answer of the same segments behind their table, and copy them to there.
+// A message that is held in segments: each has whole words, and the first one begins with the root. These calls copy
+// the segments behind their table, and return what those above do.
 
 // CheckSegments is Check of a message that is held in segments.
 func CheckSegments(segments [][]byte, limits *Limits) (Checked, error) {

@@ -52,7 +52,7 @@ type Index struct {
 	checked Checked
 }
 
-// NewIndex makes the index of one message. A packed message is unpacked first. An index takes 24 bytes for each slot;
+// NewIndex returns the index of one message. A packed message is unpacked first. An index takes 24 bytes for each slot;
 // there is at most one slot more than words were paid.
 func NewIndex(message []byte, form Form, limits *Limits) (*Index, error) {
 	l := limitsOf(limits)
@@ -81,15 +81,17 @@ func (x *Index) Checked() Checked { return x.checked }
 // Root is what the root's slot has.
 func (x *Index) Root() Value { return x.value(0) }
 
-// Value is what is in a slot, or a row of a list of structs, whose kind is Struct. The zero Value is a null one.
+// Value is what a pointer leads to, or an element of a list of structs, whose kind is Struct. The zero Value is null.
+// Whoever wrote the message chose its kind: to read it by a schema, use the methods whose names begin with As.
 type Value struct {
 	index        *Index
 	kind         ValueKind
 	count        uint32
 	words, slots uint16
+	part         uint8 // of an element of an older list of numbers: its bytes of data, if they are less than a word
+	areAlone     bool  // whether its slots have nothing below them
 	offset       uint64
 	first        uint32 // the entry of its first slot
-	areAlone     bool   // whether its slots have nothing below them
 }
 
 func (x *Index) value(at uint32) Value {
@@ -101,7 +103,7 @@ func (x *Index) value(at uint32) Value {
 	case Rows:
 		below = e.count * uint32(e.slots)
 	}
-	return Value{x, ValueKind(e.kind), e.count, e.words, e.slots, e.offset, at + 1, e.span == below+1}
+	return Value{x, ValueKind(e.kind), e.count, e.words, e.slots, 0, e.span == below+1, e.offset, at + 1}
 }
 
 // Kind is what the value is.
@@ -152,7 +154,8 @@ func (v Value) child(i uint32) Value {
 	return v.index.value(at)
 }
 
-// Pointers are the elements of a list of pointers, each what its slot has.
+// Pointers are the elements of a list of pointers, each what it leads to: nil for a value of another kind. The slice
+// has 40 bytes for each; AsPointers needs none, and reads lists of older and newer schemas.
 func (v Value) Pointers() []Value {
 	if v.kind != Pointers {
 		return nil
@@ -165,23 +168,28 @@ func (v Value) Pointers() []Value {
 	return found
 }
 
-// Rows are the structs of a list of structs.
+// Rows are the structs of a list of structs: nil for a value of another kind. The slice has 40 bytes for each, and a
+// message of 24 bytes can have as many structs without fields as the budget allows. AsRows needs none, and reads lists
+// of older and newer schemas.
 func (v Value) Rows() []Value {
 	if v.kind != Rows {
 		return nil
 	}
 	found, at := make([]Value, v.count), v.first
-	size := 8 * (uint64(v.words) + uint64(v.slots))
+	size := v.rowSize()
 	for i := range found {
 		// The rows come after the tag.
 		offset := v.offset + 8 + uint64(i)*size
-		found[i] = Value{v.index, Struct, 0, v.words, v.slots, offset, at, v.areAlone}
+		found[i] = Value{v.index, Struct, 0, v.words, v.slots, 0, v.areAlone, offset, at}
 		for k := uint16(0); k < v.slots; k++ {
 			at = v.index.next(at)
 		}
 	}
 	return found
 }
+
+// rowSize is how many bytes each struct of a list of structs has.
+func (v Value) rowSize() uint64 { return 8 * (uint64(v.words) + uint64(v.slots)) }
 
 // Bytes are the bytes of a list of bytes, in the message itself: nil of another value.
 func (v Value) Bytes() []byte {
@@ -193,7 +201,7 @@ func (v Value) Bytes() []byte {
 }
 
 // Text is the text that a list of bytes is, without the zero byte at its end: false if there is no such byte, or if the
-// others are not UTF-8, or if it is no list of bytes.
+// others are not UTF-8, or if the value is null or of another kind. AsText tells a null from what is wrong.
 func (v Value) Text() (string, bool) {
 	b := v.Bytes()
 	if len(b) == 0 || b[len(b)-1] != 0 || !utf8.Valid(b) {
@@ -202,25 +210,24 @@ func (v Value) Text() (string, bool) {
 	return string(b[:len(b)-1]), true
 }
 
-// At is element i of a list of numbers without sign or of bits, which are 0 and 1. It panics if there is none.
+// At is element i of a list of numbers without sign or of bits, which are 0 and 1. It is 0 where there is none: in a
+// list of other elements, in another value, and from Len on. AsNumbers tells these apart. It panics if i is negative.
 func (v Value) At(i int) uint64 {
-	if i < 0 || i >= v.Len() {
-		panic(fmt.Sprintf("capn: element %d of %d", i, v.Len()))
+	if i < 0 {
+		panic(fmt.Sprintf("capn: an element has a number from 0 on, not %d", i))
+	}
+	if i >= v.Len() {
+		return 0
 	}
 	rest := v.index.bytes[v.offset:]
 	switch v.kind {
 	case Bits:
 		return uint64(rest[i/8] >> (i % 8) & 1)
-	case Bytes:
-		return uint64(rest[i])
-	case U16s:
-		return uint64(binary.LittleEndian.Uint16(rest[2*i:]))
-	case U32s:
-		return uint64(binary.LittleEndian.Uint32(rest[4*i:]))
-	case U64s:
-		return binary.LittleEndian.Uint64(rest[8*i:])
+	case Bytes, U16s, U32s, U64s:
+		size := 1 << (v.kind - Bytes)
+		return number(rest[size*i:], 8*size)
 	}
-	panic("capn: a list of " + v.kind.String() + " has no numbers")
+	return 0
 }
 
 // A field of data is stored XOR its default, so what reads one takes the default, and answers it where the struct is
@@ -280,6 +287,9 @@ func (v Value) field(bits, offset int) uint64 {
 	if offset < 0 {
 		panic(fmt.Sprintf("capn: an offset is a number from 0 on, not %d", offset))
 	}
+	if v.part > 0 {
+		return v.fieldOfPart(bits, offset)
+	}
 	perWord := 64 / bits
 	word := offset / perWord
 	if v.kind != Struct || word >= int(v.words) {
@@ -290,4 +300,17 @@ func (v Value) field(bits, offset int) uint64 {
 		return stored
 	}
 	return stored >> (offset % perWord * bits) & (1<<bits - 1)
+}
+
+// fieldOfPart is the same of an element of an older list of numbers.
+func (v Value) fieldOfPart(bits, offset int) uint64 {
+	has := 8 * int(v.part)
+	if bits > has || offset > has/bits-1 {
+		return 0
+	}
+	from := v.index.bytes[v.offset : v.offset+uint64(v.part)]
+	if bits == 1 {
+		return uint64(from[offset/8] >> (offset % 8) & 1)
+	}
+	return number(from[offset*bits/8:], bits)
 }

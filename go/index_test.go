@@ -119,7 +119,7 @@ func TestOtherKinds(t *testing.T) {
 		t.Fatal("of no value")
 	}
 	for _, call := range []func(){
-		func() { root.At(0) }, func() { root.Uint8(-1, 0) },
+		func() { root.At(-1) }, func() { root.Uint8(-1, 0) },
 	} {
 		func() {
 			defer func() {

@@ -2,7 +2,7 @@ package capn
 
 import "io"
 
-// Reader reads a stream message by message. It takes no byte after the message that it answers, and waits for none. So
+// Reader reads a stream message by message. It takes no byte after the message that it returns, and waits for none. So
 // let it read from a bufio.Reader where each read is a call of the system.
 type Reader struct {
 	from   io.Reader
@@ -21,20 +21,21 @@ const (
 	most  = 65536 // bytes of memory that a frame has that has merely been announced
 )
 
-// NewReader makes a reader of a stream, which is not packed. MessageWords of the limits, of which nil are the usual
+// NewReader returns a reader of a stream, which is not packed. MessageWords of the limits, of which nil are the default
 // ones, bounds each message; nothing else is checked.
 func NewReader(from io.Reader, limits *Limits) *Reader {
 	return &Reader{from: from, limits: limitsOf(limits), need: count}
 }
 
-// NewPackedReader makes a reader of a packed stream. It takes no byte after the group in which a message ends.
+// NewPackedReader returns a reader of a packed stream. It takes no byte after the group in which a message ends.
 func NewPackedReader(from io.Reader, limits *Limits) *Reader {
 	return NewReader(&unpacker{from: from}, limits)
 }
 
-// Next is the next message, one frame. At the end of the stream it is io.EOF; of a stream that is cut an *Error that is
-// io.ErrUnexpectedEOF by errors.Is. A refusal has the Message and Offset, and comes from each call after it. After
-// another error of the reader, such as a timeout, Next goes on where it was. The bytes are the caller's.
+// Next returns the next message, with its segment table. At the end of the stream it returns io.EOF, and at the end of
+// one that is truncated an *Error that is io.ErrUnexpectedEOF by errors.Is. A refusal has the Message and Offset, and
+// comes from each call after it. After another error of the reader, such as a timeout, Next goes on where it was. The
+// bytes are the caller's.
 func (r *Reader) Next() ([]byte, error) {
 	if r.over != nil {
 		return nil, r.over
@@ -59,10 +60,11 @@ func (r *Reader) Next() ([]byte, error) {
 	}
 }
 
-// Number is how many messages were answered.
+// Number is how many messages Next has returned.
 func (r *Reader) Number() int64 { return r.number }
 
-// Offset is where the next message begins.
+// Offset is where the next message begins in the stream: after a refusal where the refused one does, and at the end how
+// long the stream is. Of a packed stream it counts the bytes that are unpacked.
 func (r *Reader) Offset() int64 { return r.offset }
 
 // fill reads until there are as many bytes as are needed. Memory grows as they come.

@@ -78,6 +78,37 @@ func TestMessages(t *testing.T) {
 	}
 }
 
+// The offset is where the next message begins, or the one that is refused.
+func TestOffset(t *testing.T) {
+	for _, isPacked := range []bool{false, true} {
+		data := append(append(append([]byte{}, small...), small[:4]...), 1, 0, 0, 0, 0, 0, 0, 0, 0, 0, 0, 0)
+		data = append(data, "\x00\x00\x00\x00\x09\x00\x00\x00"...)
+		reader := NewReader(bytes.NewReader(data), nil)
+		if isPacked {
+			words, err := Pack(data)
+			if err != nil {
+				t.Fatal(err)
+			}
+			reader = NewPackedReader(bytes.NewReader(words), nil)
+		}
+		if reader.Offset() != 0 {
+			t.Fatal(reader.Offset())
+		}
+		for i, want := range []int64{32, 48} {
+			if _, err := reader.Next(); err != nil || reader.Offset() != want || reader.Number() != int64(i+1) {
+				t.Fatal(reader.Number(), reader.Offset(), err)
+			}
+		}
+		for i := 0; i < 2; i++ {
+			var refused *Error
+			_, err := reader.Next()
+			if !errors.As(err, &refused) || refused.Offset != 48 || reader.Offset() != 48 || reader.Number() != 2 {
+				t.Fatal(reader.Number(), reader.Offset(), err)
+			}
+		}
+	}
+}
+
 // A message is answered as soon as it is there, and no byte after it is read.
 func TestConnection(t *testing.T) {
 	near, far := net.Pipe()

@@ -28,4 +28,10 @@ func callUnpackSome(_, _ []byte) (uint32, report) { return unsupported, report{}
 
 func callFirst([]byte, Limits) (uint32, report) { return unsupported, report{} }
 
+func callRefusalWay(Form, []byte, Limits, []uint32) (uint32, report) { return unsupported, report{} }
+
+func callDeparture(Form, []byte, Limits, []uint32) (departed, uint32, report) {
+	return departed{}, unsupported, report{}
+}
+
 func callIndex(Form, []byte, Limits, []entry) (uint32, report) { return unsupported, report{} }

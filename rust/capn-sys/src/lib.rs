@@ -61,6 +61,20 @@ pub struct capn_entry {
     pub kind: u32,
 }
 
+/// Where an accepted message leaves its canonical bytes, and why.
+#[repr(C)]
+#[derive(Clone, Copy, Debug, Default, PartialEq, Eq)]
+pub struct capn_departed {
+    pub is: u64,
+    pub canonical: u64,
+    pub kind: u32,
+    pub owner: u32,
+    pub word: u32,
+    pub count: u32,
+    pub numbers: u32,
+    pub zero: u32,
+}
+
 /// A segment of a message: `count` words of 8 bytes, at any address.
 #[repr(C)]
 #[derive(Clone, Copy, Debug)]
@@ -76,6 +90,7 @@ const _: () = assert!(
         && core::mem::size_of::<capn_figures>() == 32
         && core::mem::size_of::<capn_entry>() == 24
         && core::mem::size_of::<capn_segment>() == 16
+        && core::mem::size_of::<capn_departed>() == 40
 );
 
 extern "C" {
@@ -164,6 +179,25 @@ extern "C" {
         style: u32,
         out: *mut c_char,
         room: usize,
+        report: *mut capn_report,
+    ) -> capn_status;
+    pub fn capn_refusal_way(
+        form: u32,
+        bytes: *const u8,
+        size: usize,
+        limits: *const capn_limits,
+        way: *mut u32,
+        most_numbers: usize,
+        report: *mut capn_report,
+    ) -> capn_status;
+    pub fn capn_departure(
+        form: u32,
+        bytes: *const u8,
+        size: usize,
+        limits: *const capn_limits,
+        departed: *mut capn_departed,
+        way: *mut u32,
+        most_numbers: usize,
         report: *mut capn_report,
     ) -> capn_status;
     pub fn capn_canonical_segments(

@@ -6,12 +6,17 @@ use alloc::string::String;
 use alloc::vec::Vec;
 use core::mem::MaybeUninit;
 
-use capn_sys::{capn_entry, capn_figures, capn_limits, capn_report, capn_segment, capn_status};
+use capn_sys::{
+    capn_departed, capn_entry, capn_figures, capn_limits, capn_report, capn_segment, capn_status,
+};
 
 use crate::{Error, Form, Style};
 
 const OK: capn_status = 0;
 const NO_ROOM: capn_status = 1;
+/// The refusals of a walk are these and those between them.
+pub(crate) const WALK_FIRST: capn_status = 64;
+pub(crate) const WALK_LAST: capn_status = 79;
 
 /// The report of a call, or why there is no answer.
 #[inline]
@@ -232,6 +237,60 @@ pub(crate) fn index(
             _ => return Err(Error::of(status, &report)),
         }
     }
+}
+
+/// Room for each way within limits: two numbers for each level of depth, of which there may be 256.
+fn room_for_way(limits: &capn_limits) -> Result<Vec<u32>, Error> {
+    let mut way = Vec::new();
+    way.try_reserve_exact(2 * limits.depth.min(256) as usize)
+        .map_err(|_| Error::Memory)?;
+    Ok(way)
+}
+
+/// The way to the pointer at which a walk stopped; none if no walk refuses the message.
+pub(crate) fn refusal_way(
+    form: Form,
+    message: &[u8],
+    limits: &capn_limits,
+) -> Result<Option<Vec<u32>>, Error> {
+    const REFUSALS: core::ops::RangeInclusive<capn_status> = 16..=127;
+    let (bytes, size) = (message.as_ptr(), message.len());
+    let mut way = room_for_way(limits)?;
+    let (at, room) = (way.as_mut_ptr(), way.capacity());
+    let mut report = capn_report::default();
+    let status = unsafe {
+        capn_sys::capn_refusal_way(form as u32, bytes, size, limits, at, room, &mut report)
+    };
+    match status {
+        WALK_FIRST..=WALK_LAST => {
+            let numbers = report.length as usize / 4;
+            assert!(numbers <= room, "no more than there is room for");
+            unsafe { way.set_len(numbers) };
+            Ok(Some(way))
+        }
+        status if status == OK || REFUSALS.contains(&status) => Ok(None),
+        status => Err(Error::of(status, &report)),
+    }
+}
+
+/// Where a message leaves its canonical bytes, and the way that goes with it.
+pub(crate) fn departure(
+    form: Form,
+    message: &[u8],
+    limits: &capn_limits,
+) -> Result<(capn_departed, Vec<u32>), Error> {
+    let (bytes, size) = (message.as_ptr(), message.len());
+    let mut way = room_for_way(limits)?;
+    let (at, room) = (way.as_mut_ptr(), way.capacity());
+    let mut departed = capn_departed::default();
+    reported(|report| unsafe {
+        let (number, to) = (form as u32, &mut departed);
+        capn_sys::capn_departure(number, bytes, size, limits, to, at, room, report)
+    })?;
+    let numbers = departed.numbers as usize;
+    assert!(numbers <= room, "no more than there is room for");
+    unsafe { way.set_len(numbers) };
+    Ok((departed, way))
 }
 
 /// Calls with the segments as the library takes them: words at their addresses, on the stack if they are few.

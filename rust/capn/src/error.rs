@@ -41,6 +41,8 @@ pub enum Place {
     Nowhere,
     /// An offset, a count or an index, as the kind says.
     At(u64),
+    /// Of [`pack`](crate::pack), which takes words of no form: how many bytes there are.
+    Words(u64),
     /// The slot at which a walk was refused.
     Slot {
         /// Its segment.
@@ -131,7 +133,7 @@ impl Error {
             6 => return Error::Style,
             8 => return Error::Memory,
             48 | 51 => Place::Nowhere,
-            64..=79 => Place::Slot {
+            call::WALK_FIRST..=call::WALK_LAST => Place::Slot {
                 segment: report.segment,
                 word: report.word,
                 paid: report.paid,
@@ -159,6 +161,28 @@ impl Error {
         Error::Refused {
             kind: Kind::NotWhole,
             place: Place::At(count as u64),
+        }
+    }
+
+    /// Bytes that are to be packed and are not whole words.
+    pub(crate) fn of_words(self) -> Self {
+        match self {
+            Error::Refused {
+                kind: kind @ Kind::NotWhole,
+                place: Place::At(count),
+            } => Error::Refused {
+                kind,
+                place: Place::Words(count),
+            },
+            other => other,
+        }
+    }
+
+    /// A value that has no canonical bytes, since it has this capability.
+    pub(crate) fn capability(index: u32) -> Self {
+        Error::Refused {
+            kind: Kind::Capability,
+            place: Place::At(u64::from(index)),
         }
     }
 
@@ -191,8 +215,14 @@ impl fmt::Display for Error {
             Error::Form => (2, Place::Nowhere),
             Error::Style => (6, Place::Nowhere),
         };
-        let report = place.report();
-        f.write_str(call::refusal_text(status, &report, &mut [0; 128]))
+        let (report, mut room) = (place.report(), [0; 128]);
+        let text = call::refusal_text(status, &report, &mut room);
+        // Of words alone the program names no form.
+        let is_of_words = matches!(place, Place::Words(_));
+        f.write_str(match text.strip_prefix("bare: ") {
+            Some(rest) if is_of_words => rest,
+            _ => text,
+        })
     }
 }
 
@@ -202,7 +232,7 @@ impl Place {
         let mut report = capn_report::default();
         match self {
             Place::Nowhere => {}
-            Place::At(at) => report.at = at,
+            Place::At(at) | Place::Words(at) => report.at = at,
             Place::Slot {
                 segment,
                 word,

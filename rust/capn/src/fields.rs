@@ -96,10 +96,22 @@ impl<'a> Struct<'a> {
         }
     }
 
-    /// The data field at a bit, which is stored XOR its default; a struct that is too short for it has the default.
+    /// Returns the data field at a bit, which is stored XOR its default; `default` if the struct is too short for it.
     ///
-    /// `capnp compile -ocapnp` writes where a field lies: `bits[64, 96)` is `get::<u32>(64, default)`. A field begins
-    /// at a whole multiple of its width, so at another bit there is none, and the default is answered.
+    /// `capnp compile -ocapnp` writes where a field lies: `bits[64, 96)` is `get::<u32>(64, default)`. A schema has a
+    /// field at a multiple of its width alone. This call takes the bytes from any whole byte on; at a bit within a byte
+    /// it returns `default`, but of a `bool` the bit.
+    ///
+    /// ```
+    /// let words = [1u64 << 32, 0x0102_0304].map(u64::to_le_bytes).concat();
+    /// let index = capn::Index::new(&words, capn::Form::Bare, &capn::Limits::usual())?;
+    /// let root = index.root().as_struct()?;
+    /// assert_eq!(root.get::<u32>(0, 0), 0x0102_0304);
+    /// assert_eq!(root.get::<u32>(8, 0), 0x0001_0203);
+    /// assert_eq!(root.get::<u32>(4, 7), 7);
+    /// assert!(root.get(8, false) && root.get(9, false));
+    /// # Ok::<(), capn::Error>(())
+    /// ```
     #[inline]
     pub fn get<T: Number>(&self, bit: u32, default: T) -> T {
         T::of_bits(field::<T>(self.data, bit as usize) ^ default.to_bits())

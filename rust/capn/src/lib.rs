@@ -44,15 +44,17 @@ mod message;
 mod reader;
 pub mod segments;
 mod stream;
+mod ways;
 
 pub use error::{Error, Kind, Place};
 pub use fields::{Number, Numbers, Pointers, Rows, Struct};
 pub use index::{Index, Value};
 pub use limits::{Form, Limits, Style, Tariff};
 pub use message::{
-    canonical, canonical_into, check, digest, is_canonical, pack, show, survey, unpack, Checked,
-    Figures,
+    canonical, canonical_into, check, digest, is_canonical, is_canonical_in, pack, show, survey,
+    unpack, Checked, Figures,
 };
 #[cfg(feature = "std")]
 pub use reader::{ReadError, Reader};
 pub use stream::{messages, Messages};
+pub use ways::{departure, refusal_way, Departure, Owner, Way};

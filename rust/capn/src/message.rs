@@ -68,16 +68,30 @@ pub fn canonical(message: &[u8], form: Form, limits: &Limits) -> Result<Vec<u8>,
     Ok(out)
 }
 
-/// Appends the canonical bytes of one message, and answers what its walk paid. After an error `out` has the bytes that
+/// Appends the canonical bytes of one message, and returns what its walk paid. After an error `out` has the bytes that
 /// it had.
+///
+/// To write many messages with one buffer, clear it before each:
 ///
 /// ```
 /// use capn::{Form, Limits};
 ///
-/// let mut statement = b"my-protocol v1, Invoice, ".to_vec();
 /// let message = [0, 0, 0, 0, 1, 0, 0, 0, 0, 0, 0, 0, 0, 0, 0, 0];
-/// assert_eq!(capn::canonical_into(&message, Form::Stream, &Limits::usual(), &mut statement)?, 0);
-/// assert!(statement.ends_with(b"Invoice, \0\0\0\0\0\0\0\0"));
+/// let mut out = Vec::new();
+/// for _ in 0..2 {
+///     out.clear();
+///     assert_eq!(capn::canonical_into(&message, Form::Stream, &Limits::usual(), &mut out)?, 0);
+///     assert_eq!(out, [0; 8]);
+/// }
+/// # Ok::<(), capn::Error>(())
+/// ```
+///
+/// A message can't lie in what is written, since `out` is borrowed alone:
+///
+/// ```compile_fail,E0502
+/// # use capn::{Form, Limits};
+/// let mut message = vec![0; 16];
+/// capn::canonical_into(&message, Form::Bare, &Limits::usual(), &mut message)?;
 /// # Ok::<(), capn::Error>(())
 /// ```
 #[inline]
@@ -95,19 +109,21 @@ pub fn canonical_into(
     Ok(call::canonical(form, message, &limits.raw(), hint, out)?.paid)
 }
 
-/// The SHA-256 of the canonical bytes of one message.
+/// Returns the SHA-256 of the canonical bytes of one message.
+///
+/// It says nothing of the type of the value: sign a statement over it that names the type and the protocol.
 ///
 /// ```
 /// use capn::{Form, Limits};
 ///
-/// /// Whether the bytes are exactly one message, of the value that has this digest.
-/// fn is_signed(message: &[u8], digest: &[u8; 32], limits: &Limits) -> bool {
+/// /// Returns true if the bytes are exactly one message, of the value that has this digest.
+/// fn has_digest(message: &[u8], digest: &[u8; 32], limits: &Limits) -> bool {
 ///     capn::digest(message, Form::Stream, limits).as_ref() == Ok(digest)
 /// }
 /// let message = [0, 0, 0, 0, 1, 0, 0, 0, 0, 0, 0, 0, 0, 0, 0, 0];
 /// let digest = capn::digest(&message, Form::Stream, &Limits::usual())?;
-/// assert!(is_signed(&message, &digest, &Limits::usual()));
-/// assert!(!is_signed(&message[..8], &digest, &Limits::usual()));
+/// assert!(has_digest(&message, &digest, &Limits::usual()));
+/// assert!(!has_digest(&message[..8], &digest, &Limits::usual()));
 /// # Ok::<(), capn::Error>(())
 /// ```
 #[inline]
@@ -115,7 +131,36 @@ pub fn digest(message: &[u8], form: Form, limits: &Limits) -> Result<[u8; 32], E
     call::hash(form, message, &limits.raw())
 }
 
-/// Whether bytes, read bare, are the canonical bytes of their value.
+/// Returns true if one message is canonical: if it has one segment, and that is the canonical bytes of its value. An
+/// error if the message is refused, or has a capability and so no canonical bytes.
+///
+/// ```
+/// use capn::{Form, Limits};
+///
+/// // A struct of two words, 5 and 0: canonical bytes have no word of zeros at its end.
+/// let message = [0u64, 2 << 32, 5, 0].map(u64::to_le_bytes).concat();
+/// let framed = [&[0, 0, 0, 0, 3, 0, 0, 0], &message[8..]].concat();
+/// assert!(!capn::is_canonical_in(&framed, Form::Stream, &Limits::usual())?);
+///
+/// let canonical = capn::canonical(&framed, Form::Stream, &Limits::usual())?;
+/// assert!(capn::is_canonical_in(&canonical, Form::Bare, &Limits::usual())?);
+/// # Ok::<(), capn::Error>(())
+/// ```
+pub fn is_canonical_in(message: &[u8], form: Form, limits: &Limits) -> Result<bool, Error> {
+    if form == Form::Bare {
+        return is_canonical(message, limits);
+    }
+    let figures = survey(message, form, limits)?;
+    match figures.capability {
+        Some(index) => Err(Error::capability(index)),
+        None => Ok(figures.is_canonical),
+    }
+}
+
+/// Returns true if bytes, read bare, are the canonical bytes of their value.
+///
+/// It takes no segment table: with its table before it, nearly any message of one segment passes as a bare one that is
+/// canonical. Ask [`is_canonical_in`] about a stream.
 ///
 /// ```
 /// assert!(capn::is_canonical(&[0; 8], &capn::Limits::usual())?);
@@ -186,11 +231,12 @@ pub fn show(message: &[u8], form: Form, limits: &Limits, style: Style) -> Result
 ///
 /// ```
 /// assert_eq!(capn::pack(&[5, 0, 0, 0, 0, 0, 0, 0])?, [1, 5]);
+/// assert_eq!(capn::pack(&[5, 0, 0]).unwrap_err().to_string(), "NotWhole(3)");
 /// # Ok::<(), capn::Error>(())
 /// ```
 pub fn pack(words: &[u8]) -> Result<Vec<u8>, Error> {
     let mut out = Vec::new();
-    call::pack(words, &mut out)?;
+    call::pack(words, &mut out).map_err(Error::of_words)?;
     Ok(out)
 }
 

@@ -1,0 +1,268 @@
+//go:build cgo && linux && amd64
+
+package capn
+
+import (
+	"bytes"
+	"fmt"
+	"io"
+	"math"
+	"os"
+	"path/filepath"
+	"strings"
+	"testing"
+)
+
+// The fields of tests/c/fields.capnp, read as its older or its newer type, and each message of other schemas as
+// anything. CAPN_FIELDS names a folder with what the reference implementation's generated code wrote and read.
+
+// reading reads fields until one is not as the schema says.
+type reading struct {
+	out strings.Builder
+	err error
+}
+
+func (r *reading) write(format string, values ...any) { fmt.Fprintf(&r.out, format, values...) }
+
+func (r *reading) text(of Value, slot int, byDefault string) string {
+	text, err := of.Slot(slot).AsText(byDefault)
+	r.check(err)
+	return fmt.Sprintf("%x", text)
+}
+
+func (r *reading) check(err error) {
+	if r.err == nil {
+		r.err = err
+	}
+}
+
+func (r *reading) rows(v Value) Items {
+	items, err := v.AsRows()
+	r.check(err)
+	return items
+}
+
+func (r *reading) numbers(v Value, bits int) Numbers {
+	numbers, err := v.AsNumbers(bits)
+	r.check(err)
+	return numbers
+}
+
+func (r *reading) point(of Value, isNew bool) {
+	r.write("%d;%d;%s;", of.Int32(0, 0), of.Int32(1, -1), r.text(of, 0, ""))
+	if isNew {
+		r.write("%d;%s;", of.Int32(2, 77), r.text(of, 1, ""))
+	}
+}
+
+func digit(is bool) int {
+	if is {
+		return 1
+	}
+	return 0
+}
+
+// shown is a message as the generated code shows it.
+func shown(message []byte, isNew bool) (string, error) {
+	index, err := NewIndex(message, Stream, nil)
+	if err != nil {
+		return "", err
+	}
+	root, err := index.Root().AsStruct()
+	r := &reading{err: err}
+	blob, err := root.Slot(1).AsData()
+	r.check(err)
+	r.write("%d;%d;%d;%d;%016x;%08x;%s;%x;[", digit(root.Bool(0, true)), root.Int8(1, -5), root.Uint64(1, 7),
+		root.Uint16(1, 1), math.Float64bits(root.Float64(2, 1.5)), math.Float32bits(root.Float32(1, -2.5)),
+		r.text(root, 0, "none"), blob)
+	if isNew {
+		for rows := r.rows(root.Slot(2)); rows.Next(); {
+			row := rows.Item()
+			r.write("%d;%d;%s;", row.Uint16(0, 0), row.Uint16(1, 3), r.text(row, 0, ""))
+		}
+	} else {
+		numbers := r.numbers(root.Slot(2), 16)
+		for i := 0; i < numbers.Len(); i++ {
+			r.write("%d;", numbers.At(i))
+		}
+	}
+	r.write("][")
+	if isNew {
+		for rows := r.rows(root.Slot(3)); rows.Next(); {
+			r.write("%s;%d;", r.text(rows.Item(), 0, ""), rows.Item().Uint32(0, 8))
+		}
+	} else {
+		texts, err := root.Slot(3).AsPointers()
+		r.check(err)
+		for texts.Next() {
+			text, err := texts.Item().AsText("")
+			r.check(err)
+			r.write("%x;", text)
+		}
+	}
+	r.write("][")
+	for rows := r.rows(root.Slot(4)); rows.Next(); {
+		r.point(rows.Item(), isNew)
+	}
+	r.write("][")
+	bits := r.numbers(root.Slot(5), 1)
+	for i := 0; i < bits.Len(); i++ {
+		r.write("%d;", bits.At(i))
+	}
+	r.write("][")
+	if isNew {
+		for rows := r.rows(root.Slot(6)); rows.Next(); {
+			row := rows.Item()
+			r.write("%d;%08x;", row.Int64(0, 0), math.Float32bits(row.Float32(2, 0.5)))
+		}
+	} else {
+		large := r.numbers(root.Slot(6), 64)
+		for i := 0; i < large.Len(); i++ {
+			r.write("%d;", int64(large.At(i)))
+		}
+	}
+	voids := r.rows(root.Slot(7))
+	r.write("]%d;", voids.Len())
+	inner, err := root.Slot(8).AsStruct()
+	r.check(err)
+	r.point(inner, isNew)
+	which := root.Uint16(14, 0)
+	r.write("%d;%d:", digit(root.Bool(1, false)), which)
+	switch {
+	case which == 0:
+		r.write("%d", root.Uint32(6, 100))
+	case which == 1:
+		r.write("%s", r.text(root, 9, ""))
+	case which == 3 && isNew:
+		r.write("%016x", math.Float64bits(root.Float64(5, 0.25)))
+	}
+	r.write(";")
+	if isNew {
+		note, err := root.Slot(10).AsText("no note")
+		r.check(err)
+		r.write("%d;%d;%x;%d;", root.Uint16(15, 12345), digit(root.Bool(2, true)), note, root.Int64(4, -9))
+	}
+	return r.out.String(), r.err
+}
+
+// readStruct reads fields and pointers of a struct, within it and beyond.
+func readStruct(t *testing.T, of Value) {
+	for i := 0; i < of.DataWords()+3; i++ {
+		_ = of.Uint64(i, 1)
+		for k := 0; k < 8; k++ {
+			_ = of.Bool(64*i+9*k, true)
+			_ = of.Uint8(8*i+k, 1)
+			_ = of.Uint16(4*i+k/2, 1)
+			_ = of.Uint32(2*i+k/4, 1)
+		}
+	}
+	for k := of.NumSlots(); k < of.NumSlots()+2; k++ {
+		if of.Slot(k).Kind() != Null {
+			t.Fatalf("pointer %d of %d", k, of.NumSlots())
+		}
+	}
+}
+
+// readAny counts how many things a pointer and those below it are taken for, and how many pointers they are.
+func readAny(t *testing.T, v Value, things, pointers *int) {
+	*pointers++
+	if of, err := v.AsStruct(); err == nil {
+		readStruct(t, of)
+		*things++
+	}
+	if data, err := v.AsData(); err == nil {
+		*things++
+		// A text that may not be UTF-8.
+		if v.Kind() == Null || len(data) > 0 && data[len(data)-1] == 0 {
+			*things++
+		}
+	}
+	// A list without size is one of structs, and of nothing else.
+	if v.Kind() == Null || v.Kind() == Voids || v.Kind() == Rows {
+		*things++
+	}
+	for _, bits := range []int{1, 8, 16, 32, 64} {
+		if numbers, err := v.AsNumbers(bits); err == nil {
+			*things++
+			for i := 0; i < numbers.Len() && i < 1000; i++ {
+				_ = numbers.At(i)
+			}
+		}
+	}
+	for _, list := range []func() (Items, error){v.AsPointers, v.AsRows} {
+		items, err := list()
+		if err != nil {
+			continue
+		}
+		*things++
+		for i := 0; i < 1000 && items.Next(); i++ {
+			readStruct(t, items.Item())
+		}
+	}
+	switch v.Kind() {
+	case Struct:
+		for k := 0; k < v.NumSlots(); k++ {
+			readAny(t, v.Slot(k), things, pointers)
+		}
+	case Pointers:
+		for items, _ := v.AsPointers(); items.Next(); {
+			readAny(t, items.Item(), things, pointers)
+		}
+	case Rows:
+		for items, _ := v.AsRows(); v.NumSlots() > 0 && items.Next(); {
+			for k := 0; k < v.NumSlots(); k++ {
+				readAny(t, items.Item().Slot(k), things, pointers)
+			}
+		}
+	}
+}
+
+func TestFieldsOfWritten(t *testing.T) {
+	folder := os.Getenv("CAPN_FIELDS")
+	if folder == "" {
+		t.Skip("CAPN_FIELDS names no folder")
+	}
+	file := func(name string) []byte {
+		data, err := os.ReadFile(filepath.Join(folder, name))
+		if err != nil {
+			t.Fatal(err)
+		}
+		return data
+	}
+	each := func(stream []byte, call func([]byte)) {
+		for reader := NewReader(bytes.NewReader(stream), nil); ; {
+			message, err := reader.Next()
+			if err == io.EOF {
+				return
+			}
+			if err != nil {
+				t.Fatal(err)
+			}
+			call(message)
+		}
+	}
+	for _, name := range []string{"old", "new"} {
+		wanted, at := strings.Split(string(file(name)), "\n"), 0
+		each(file("messages"), func(message []byte) {
+			got, err := shown(message, name == "new")
+			if err != nil || got != wanted[at] {
+				t.Fatalf("message %d by the %s type: %s %v, not %s", at, name, got, err, wanted[at])
+			}
+			at++
+		})
+		if at < 1000 {
+			t.Errorf("%d messages", at)
+		}
+	}
+	messages, pointers, things := 0, 0, 0
+	each(file("stream"), func(message []byte) {
+		if index, err := NewIndex(message, Stream, nil); err == nil {
+			messages++
+			readAny(t, index.Root(), &things, &pointers)
+		}
+	})
+	got := fmt.Sprintf("%d messages, %d pointers, %d\n", messages, pointers, things)
+	if want := string(file("anything")); got != want {
+		t.Errorf("read as anything: %s, not %s", got, want)
+	}
+}

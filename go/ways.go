@@ -1,0 +1,197 @@
+package capn
+
+import (
+	"encoding/hex"
+	"fmt"
+	"strconv"
+	"strings"
+)
+
+// Way is the path from the root of a message to a pointer. A number leads from a struct to a pointer of it, from a list
+// of pointers to an element, and from a list of structs to an element, of which the next number says the pointer. The
+// way to the root has no numbers. A nil Way is none at all.
+type Way []uint32
+
+// String is what capn show --at takes, such as "0.2", or "root".
+func (w Way) String() string {
+	switch {
+	case w == nil:
+		return "none"
+	case len(w) == 0:
+		return "root"
+	}
+	numbers := make([]string, len(w))
+	for i, number := range w {
+		numbers[i] = strconv.FormatUint(uint64(number), 10)
+	}
+	return strings.Join(numbers, ".")
+}
+
+// RefusalWay returns what Check says of one message, nil if it is accepted, and where a walk refuses it the way to the
+// pointer at which it stopped: what Segment and Word of the *Error say by their numbers. The way is nil if no walk
+// refuses the message. It walks a refused message twice, so call it where the way is of use, after Check or in place of
+// it.
+func RefusalWay(message []byte, form Form, limits *Limits) (Way, error) {
+	l := limitsOf(limits)
+	way := roomForWay(l)
+	status, r := callRefusalWay(form, message, l, way)
+	if status == ok {
+		return nil, nil
+	}
+	if !Kind(status).isOfWalk() {
+		return nil, failure(status, r)
+	}
+	return Way(way[:r.length/4]), failure(status, r)
+}
+
+// roomForWay has room for each way within limits.
+func roomForWay(l Limits) []uint32 {
+	depth := l.Depth
+	if depth > maxDepth {
+		depth = maxDepth
+	}
+	return make([]uint32, 2*depth)
+}
+
+// maxDepth is the most that the limit of depth may be.
+const maxDepth = 256
+
+// DepartureKind is why a message is not canonical.
+type DepartureKind uint32
+
+const (
+	DepartsNot        DepartureKind = iota // it is canonical: it has one segment, and that is its canonical bytes
+	DepartsSegments                        // it has several segments
+	DepartsCapability                      // its value has a capability
+	DepartsWord                            // a word is not that of the canonical bytes
+	DepartsAfter                           // words come after the canonical bytes
+)
+
+// Owner is what a word of canonical bytes belongs to, beside the way to a pointer.
+type Owner uint32
+
+const (
+	OwnerNone     Owner = iota
+	OwnerPointer        // it is the pointer itself,
+	OwnerTag            // the tag of the list of structs that the pointer leads to,
+	OwnerLastWord       // or the last word of the list of bits, bytes or numbers that it leads to
+)
+
+// String is the word that capn explain has for an owner.
+func (o Owner) String() string {
+	switch o {
+	case OwnerNone:
+		return "none"
+	case OwnerPointer:
+		return "pointer"
+	case OwnerTag:
+		return "tag"
+	case OwnerLastWord:
+		return "last word"
+	}
+	return fmt.Sprintf("Owner(%d)", uint32(o))
+}
+
+// Departure is the first reason why an accepted message is not canonical. A field that the kind doesn't speak of is
+// zero.
+type Departure struct {
+	Kind          DepartureKind
+	Segments      uint32 // of DepartsSegments: how many there are
+	Capability    uint32 // of DepartsCapability: the index of the first one in preorder
+	Way           Way    // to that capability, or of DepartsWord to the pointer that Owner says the word by
+	Byte          uint64 // of a word: where it begins in the message, of a packed one in what it unpacks to
+	Word          uint64 // what it is there,
+	CanonicalWord uint64 // and of DepartsWord what it is in the canonical bytes,
+	Owner         Owner  // and what it belongs to there
+}
+
+// FindDeparture returns the first reason why one message that is accepted is not canonical, and with DepartsNot that it
+// is. It walks the message several times, and allocates memory for its canonical bytes: IsCanonicalIn says sooner
+// whether there is a reason.
+func FindDeparture(message []byte, form Form, limits *Limits) (Departure, error) {
+	l := limitsOf(limits)
+	way := roomForWay(l)
+	d, status, r := callDeparture(form, message, l, way)
+	if status != ok {
+		return Departure{}, failure(status, r)
+	}
+	found := Departure{Kind: DepartureKind(d.kind)}
+	switch found.Kind {
+	case DepartsSegments:
+		found.Segments = d.count
+	case DepartsCapability:
+		found.Capability, found.Way = d.count, way[:d.numbers]
+	case DepartsWord:
+		found.CanonicalWord, found.Owner, found.Way = d.canonical, Owner(d.owner), way[:d.numbers]
+		fallthrough
+	case DepartsAfter:
+		found.Word, found.Byte = d.is, 8*uint64(d.word)
+		if form != Bare {
+			found.Byte += 8 // of the table
+		}
+	}
+	return found, nil
+}
+
+// departed is a departure as the library has it.
+type departed struct {
+	is, canonical                     uint64
+	kind, owner, word, count, numbers uint32
+}
+
+// String is what capn explain writes after "canonical: ", of a message at the start of its input.
+func (d Departure) String() string {
+	ofPointer := d.Owner == OwnerPointer
+	switch d.Kind {
+	case DepartsNot:
+		return "yes"
+	case DepartsSegments:
+		return fmt.Sprintf("no: %d segments", d.Segments)
+	case DepartsCapability:
+		return fmt.Sprintf("no: capability %d at %v", d.Capability, d.Way)
+	case DepartsAfter:
+		return fmt.Sprintf("no: at byte %d: %s, canonical nothing, after the value", d.Byte, written(d.Word, false))
+	}
+	preposition := "of"
+	if ofPointer {
+		preposition = "at"
+	}
+	return fmt.Sprintf("no: at byte %d: %s, canonical %s, the %v %s %v", d.Byte, written(d.Word, ofPointer),
+		written(d.CanonicalWord, ofPointer), d.Owner, preposition, d.Way)
+}
+
+// written is a word by its bytes, in the order in which they lie, and if it is a pointer what that says.
+func written(word uint64, isPointer bool) string {
+	var digits [8]byte
+	for i := range digits {
+		digits[i] = byte(word >> (8 * i))
+	}
+	if isPointer {
+		return hex.EncodeToString(digits[:]) + " (" + pointerText(word) + ")"
+	}
+	return hex.EncodeToString(digits[:])
+}
+
+// pointerText is what a word says as a pointer.
+func pointerText(word uint64) string {
+	low, high := uint32(word), uint32(word>>32)
+	offset := int32(low) >> 2
+	switch {
+	case word == 0:
+		return "null"
+	case low&3 == 0:
+		return fmt.Sprintf("struct of %d words and %d slots, offset %d", high&0xFFFF, high>>16, offset)
+	case low&3 == 1 && high&7 == 7:
+		return fmt.Sprintf("list of structs in %d words, offset %d", high>>3, offset)
+	case low&3 == 1:
+		names := [...]string{"voids", "bits", "bytes", "u16", "u32", "u64", "pointers"}
+		return fmt.Sprintf("list of %d %s, offset %d", high>>3, names[high&7], offset)
+	case low&7 == 2:
+		return fmt.Sprintf("far to segment %d word %d", high, low>>3)
+	case low&7 == 6:
+		return fmt.Sprintf("double far to segment %d word %d", high, low>>3)
+	case low>>2 == 0:
+		return fmt.Sprintf("capability %d", high)
+	}
+	return "reserved"
+}

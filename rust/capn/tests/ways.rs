@@ -1,0 +1,305 @@
+//! Where messages are refused, and where accepted ones leave their canonical bytes.
+use capn::{Departure, Form, Index, Kind, Limits, Owner, Place, Tariff};
+
+const USUAL: Limits = Limits::usual();
+
+fn words(words: &[u64]) -> Vec<u8> {
+    words.iter().flat_map(|word| word.to_le_bytes()).collect()
+}
+
+fn framed(content: &[u64]) -> Vec<u8> {
+    [words(&[(content.len() as u64) << 32]), words(content)].concat()
+}
+
+/// A struct of two words, 5 and 0, of which the last has no place in the canonical bytes.
+const LOOSE: [u64; 3] = [2 << 32, 5, 0];
+/// A list of two structs of a pointer each, of which the second leads past the end.
+const OUTSIDE: [u64; 4] = [
+    1 | 7 << 32 | 2 << 35,
+    8 | 1 << 48,
+    0,
+    1 | 2 << 32 | 99 << 35,
+];
+
+#[test]
+fn whether_a_message_is_canonical_in_its_form() {
+    let stream = framed(&LOOSE);
+    // Read bare, the table and the segment are a struct of data: the call of C has no form.
+    assert_eq!(capn::is_canonical(&stream, &USUAL), Ok(true));
+    assert_eq!(
+        capn::is_canonical_in(&stream, Form::Stream, &USUAL),
+        Ok(false)
+    );
+    let packed = capn::pack(&stream).unwrap();
+    assert_eq!(
+        capn::is_canonical_in(&packed, Form::Packed, &USUAL),
+        Ok(false)
+    );
+    assert_eq!(
+        capn::is_canonical_in(&stream[8..], Form::Bare, &USUAL),
+        Ok(false)
+    );
+
+    let stream = framed(&[1 << 32, 5]);
+    let packed = capn::pack(&stream).unwrap();
+    assert_eq!(
+        capn::is_canonical_in(&stream, Form::Stream, &USUAL),
+        Ok(true)
+    );
+    assert_eq!(
+        capn::is_canonical_in(&packed, Form::Packed, &USUAL),
+        Ok(true)
+    );
+    assert_eq!(
+        capn::is_canonical_in(&stream[8..], Form::Bare, &USUAL),
+        Ok(true)
+    );
+
+    // The same in two segments; a message that is cut; a capability, of which there are no canonical bytes.
+    let two = words(&[1 | 2 << 32, 0, 1 << 32, 5]);
+    assert_eq!(capn::is_canonical_in(&two, Form::Stream, &USUAL), Ok(false));
+    let cut = capn::is_canonical_in(&stream[..20], Form::Stream, &USUAL).unwrap_err();
+    assert_eq!(cut.kind(), Some(Kind::FrameCut));
+    let capability = framed(&[1 << 48, 3 | 7 << 32]);
+    for (message, form) in [
+        (&capability[..], Form::Stream),
+        (&capability[8..], Form::Bare),
+    ] {
+        let refused = capn::is_canonical_in(message, form, &USUAL).unwrap_err();
+        assert_eq!(
+            (refused.kind(), refused.place()),
+            (Some(Kind::Capability), Some(Place::At(7)))
+        );
+    }
+}
+
+#[test]
+fn the_way_to_a_refusal() {
+    let stream = framed(&OUTSIDE);
+    let packed = capn::pack(&stream).unwrap();
+    for (message, form) in [
+        (&stream[..], Form::Stream),
+        (&stream[8..], Form::Bare),
+        (&packed[..], Form::Packed),
+    ] {
+        let way = capn::refusal_way(message, form, &USUAL)
+            .unwrap()
+            .expect("a way");
+        assert_eq!((way.to_string(), &way[..]), ("1.0".into(), &[1, 0][..]));
+        assert_eq!(Vec::from(way), [1, 0]);
+    }
+    let root = capn::refusal_way(&words(&[1 << 32]), Form::Bare, &USUAL).unwrap();
+    assert_eq!(
+        root.map(|way| (way.len(), way.to_string())),
+        Some((0, "root".into()))
+    );
+    // No walk refuses these.
+    assert_eq!(
+        capn::refusal_way(&framed(&LOOSE), Form::Stream, &USUAL),
+        Ok(None)
+    );
+    assert_eq!(
+        capn::refusal_way(&stream[..20], Form::Stream, &USUAL),
+        Ok(None)
+    );
+    assert_eq!(capn::refusal_way(&[0; 9], Form::Bare, &USUAL), Ok(None));
+    for depth in [0, 257, u32::MAX] {
+        let limits = Limits { depth, ..USUAL };
+        assert_eq!(
+            capn::refusal_way(&stream, Form::Stream, &limits),
+            Err(capn::Error::Limits)
+        );
+        assert_eq!(
+            capn::departure(&stream, Form::Stream, &limits),
+            Err(capn::Error::Limits)
+        );
+    }
+    // As long as a way may be: two numbers for each level.
+    let mut deep = Vec::new();
+    for _ in 0..256 {
+        deep.extend([1 | 7 << 32 | 1 << 35, 4 | 1 << 48]);
+    }
+    deep.push(3 | 9 << 32);
+    let limits = Limits {
+        depth: 256,
+        ..USUAL
+    };
+    match capn::departure(&words(&deep), Form::Bare, &limits).unwrap() {
+        Some(Departure::Capability { index: 9, way }) => assert_eq!(&way[..], [0; 512]),
+        other => panic!("{other:?}"),
+    }
+    *deep.last_mut().unwrap() = 7;
+    let way = capn::refusal_way(&words(&deep), Form::Bare, &limits).unwrap();
+    assert_eq!(way.map(Vec::from), Some(vec![0; 512]));
+}
+
+#[test]
+fn departures_by_their_kinds() {
+    let of = |message: &[u64]| capn::departure(&words(message), Form::Bare, &USUAL).unwrap();
+    assert_eq!(of(&[1 << 32, 5]), None);
+    match capn::departure(&framed(&LOOSE), Form::Stream, &USUAL).unwrap() {
+        Some(Departure::Word {
+            byte,
+            word,
+            canonical,
+            owner,
+            way,
+        }) => {
+            assert_eq!((byte, word, canonical), (8, 2 << 32, 1 << 32));
+            assert_eq!((owner, way.len()), (Owner::Pointer, 0));
+        }
+        other => panic!("{other:?}"),
+    }
+    assert_eq!(of(&[0, 5]), Some(Departure::After { byte: 8, word: 5 }));
+    let two = capn::departure(&words(&[1 | 1 << 32, 0, 0]), Form::Stream, &USUAL).unwrap();
+    assert_eq!(two, Some(Departure::Segments { count: 2 }));
+    // Bits after the last byte of a list, and a tag of structs that are longer than they have to be.
+    let last = of(&[1 | 2 << 32 | 1 << 35, 0x4141]).unwrap();
+    assert!(
+        matches!(
+            last,
+            Departure::Word {
+                owner: Owner::LastWord,
+                byte: 8,
+                ..
+            }
+        ),
+        "{last:?}"
+    );
+    let text = "at byte 8: 4141000000000000, canonical 4100000000000000, the last word of root";
+    assert_eq!(last.to_string(), text);
+    let refused = capn::departure(&words(&OUTSIDE), Form::Bare, &USUAL).unwrap_err();
+    assert_eq!(refused.kind(), Some(Kind::Range));
+}
+
+/// A number at a bit that no schema has it at, and the text of what can't be packed.
+#[test]
+fn what_the_pages_say_of_small_things() {
+    let message = words(&[1 << 32, 0x0100_0007]);
+    let index = Index::new(&message, Form::Bare, &USUAL).unwrap();
+    let root = index.root().as_struct().unwrap();
+    assert_eq!(
+        (root.get::<u32>(8, 0), root.get::<u32>(4, 7)),
+        (0x1_0000, 7)
+    );
+    let refused = capn::pack(&[1, 2, 3]).unwrap_err();
+    assert_eq!(
+        (refused.kind(), refused.to_string()),
+        (Some(Kind::NotWhole), "NotWhole(3)".into())
+    );
+    let refused = capn::check(&[1, 2, 3], Form::Bare, &USUAL).unwrap_err();
+    assert_eq!(refused.to_string(), "bare: NotWhole(3)");
+}
+
+fn bytes_of(digits: &str) -> Vec<u8> {
+    let byte = |at| u8::from_str_radix(&digits[at..at + 2], 16).expect("digits");
+    (0..digits.len() / 2).map(|at| byte(2 * at)).collect()
+}
+
+/// The input of a stored explanation: its form, its limits and its bytes.
+fn input_of(call: &str) -> Option<(Form, Limits, Vec<u8>)> {
+    let (_, options) = call.split_once(" explain ")?;
+    let (mut form, mut limits) = (Form::Stream, USUAL);
+    let mut words = options.split(' ');
+    loop {
+        let word = words.next()?;
+        match word {
+            "--form" => {
+                form = match words.next()? {
+                    "packed" => Form::Packed,
+                    "bare" => Form::Bare,
+                    _ => Form::Stream,
+                }
+            }
+            "--tariff" => {
+                limits.tariff =
+                    [Tariff::Strict, Tariff::Plain][usize::from(words.next()? == "plain")]
+            }
+            "--budget" => limits.budget = words.next()?.parse().ok()?,
+            "--depth" => limits.depth = words.next()?.parse().ok()?,
+            "--message-words" => limits.message_words = words.next()?.parse().ok()?,
+            "--number" => drop(words.next()?),
+            digits => return Some((form, limits, bytes_of(digits.trim_start_matches('-')))),
+        }
+    }
+}
+
+/// The same departure in a stream in which the message begins so far on.
+fn moved(departure: Departure, offset: u64) -> Departure {
+    match departure {
+        Departure::Word {
+            byte,
+            word,
+            canonical,
+            owner,
+            way,
+        } => Departure::Word {
+            byte: byte + offset,
+            word,
+            canonical,
+            owner,
+            way,
+        },
+        Departure::After { byte, word } => Departure::After {
+            byte: byte + offset,
+            word,
+        },
+        other => other,
+    }
+}
+
+/// How many ways and departures of one stored explanation are those that are found.
+fn explained(line: &str) -> Option<(usize, usize)> {
+    let (call, answer) = line.split_once('|')?;
+    let (mut form, limits, mut data) = input_of(call)?;
+    let digits = answer.split(", ").nth(1)?.trim_start_matches('-');
+    let text = String::from_utf8(bytes_of(digits)).expect("a text");
+    let said = |key: &str| {
+        let mut lines = text.lines();
+        lines.find_map(|line| line.strip_prefix(key)?.strip_prefix(": "))
+    };
+    let (place, way, canonical) = (said("message")?, said("way"), said("canonical"));
+    way.or(canonical)?;
+    if form == Form::Packed {
+        form = Form::Stream;
+        data = capn::unpack(&data, 1 << 20).expect("words");
+    }
+    let (number, offset) = place.split_once(" at ").expect("a place");
+    let (number, offset): (usize, u64) = (number.parse().unwrap(), offset.parse().unwrap());
+    let mut inputs = vec![(data, form)];
+    if form == Form::Stream {
+        let mut messages = capn::messages(&inputs[0].0, limits);
+        let message = messages.nth(number - 1).expect("a message");
+        let message = message.expect("a frame").to_vec();
+        let packed = capn::pack(&message).unwrap();
+        inputs = vec![(message, Form::Stream), (packed, Form::Packed)];
+    }
+    for (message, form) in &inputs {
+        if let Some(way) = way {
+            let found = capn::refusal_way(message, *form, &limits).unwrap();
+            assert_eq!(found.expect("a way").to_string(), way, "{call}");
+        }
+        if let Some(why) = canonical {
+            let found = capn::departure(message, *form, &limits).expect("a message");
+            let found = found.map(|it| format!("no: {}", moved(it, offset)));
+            assert_eq!(found.as_deref().unwrap_or("yes"), why, "{call}");
+        }
+    }
+    Some((usize::from(way.is_some()), usize::from(canonical.is_some())))
+}
+
+/// What is stored that the program explains, in the file of lines `CALL|ANSWER` that `CAPN_STORED` names.
+#[test]
+fn as_stored_explanations_say_it() {
+    let name = match std::env::var_os("CAPN_STORED") {
+        Some(name) => name,
+        None => return println!("CAPN_STORED names no stored cases"),
+    };
+    let stored = std::fs::read_to_string(name).expect("stored cases");
+    let found = stored.lines().filter_map(explained);
+    let (ways, departures) = found.fold((0, 0), |all, one| (all.0 + one.0, all.1 + one.1));
+    assert!(
+        ways >= 20 && departures >= 10,
+        "{ways} ways, {departures} departures"
+    );
+}
