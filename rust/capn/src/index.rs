@@ -160,7 +160,7 @@ impl<'a> Value<'a> {
         })
     }
 
-    /// A struct; of a null pointer one in which each field has its default.
+    /// Returns a struct; of a null pointer one in which each field has its default.
     pub fn as_struct(&self) -> Result<Struct<'a>, Error> {
         match self {
             Value::Null => Ok(Struct::new(&[], &[], &[], 0)),
@@ -169,7 +169,7 @@ impl<'a> Value<'a> {
         }
     }
 
-    /// The bytes of a text, without the zero that ends it: only bytes of which the last one is zero are a text.
+    /// Returns the bytes of a text without the zero that ends it: only bytes of which the last one is zero are a text.
     pub fn as_text_bytes(&self) -> Result<Option<&'a [u8]>, Error> {
         match self {
             Value::Null => Ok(None),
@@ -178,7 +178,7 @@ impl<'a> Value<'a> {
         }
     }
 
-    /// A text that is UTF-8; of a null pointer none, and the schema says what its default is.
+    /// Returns a text, which has to be UTF-8; of a null pointer `None`, and the schema says what the default is.
     pub fn as_text(&self) -> Result<Option<&'a str>, Error> {
         match self.as_text_bytes()?.map(core::str::from_utf8) {
             None => Ok(None),
@@ -187,7 +187,7 @@ impl<'a> Value<'a> {
         }
     }
 
-    /// The bytes of a data.
+    /// Returns the bytes of a data; of a null pointer `None`.
     pub fn as_data(&self) -> Result<Option<&'a [u8]>, Error> {
         match self {
             Value::Null => Ok(None),
@@ -196,7 +196,10 @@ impl<'a> Value<'a> {
         }
     }
 
-    /// A list of numbers, or the first fields of the structs that a newer writer made of them.
+    /// Returns a list of numbers, or the first fields of the structs that a newer writer made of them.
+    ///
+    /// The list is an iterator, with a `len` and a `get`. A list of numbers of another width is an error, also a wider
+    /// one, which the reference implementation reads.
     pub fn as_list<T: Number>(&self) -> Result<Numbers<'a, T>, Error> {
         let numbers = match self {
             Value::Null => Some(Numbers::none()),
@@ -211,7 +214,7 @@ impl<'a> Value<'a> {
         numbers.map_or_else(|| self.unexpected("list of these numbers"), Ok)
     }
 
-    /// A list of structs, or of the numbers or pointers of an older writer that had only their first field.
+    /// Returns a list of structs, or of the numbers or pointers of an older writer that had only their first field.
     pub fn as_rows(&self) -> Result<Rows<'a>, Error> {
         Ok(Rows(match self {
             Value::Null => Items::none(),
@@ -225,7 +228,7 @@ impl<'a> Value<'a> {
         }))
     }
 
-    /// A list of pointers, or the first slots of the structs that a newer writer made of them.
+    /// Returns a list of pointers, or the first pointers of the structs that a newer writer made of them.
     pub fn as_pointers(&self) -> Result<Pointers<'a>, Error> {
         match self {
             Value::Null => Ok(Pointers(Items::none())),

@@ -6,7 +6,7 @@ pub enum Form {
     /// A segment table, then the segments.
     #[default]
     Stream,
-    /// The packed text of such bytes.
+    /// Such bytes, packed.
     Packed,
     /// The words of one segment, with no table.
     Bare,

@@ -48,7 +48,7 @@ impl Figures {
     }
 }
 
-/// The canonical bytes of one message.
+/// Returns the canonical bytes of one message.
 ///
 /// ```
 /// use capn::{Form, Kind, Limits};
@@ -172,7 +172,7 @@ pub fn is_canonical(words: &[u8], limits: &Limits) -> Result<bool, Error> {
     call::is_canonical(words, &limits.raw())
 }
 
-/// Whether one message is accepted within limits, and what reading it pays.
+/// Returns what reading one message costs, or an error if the message is refused within limits.
 ///
 /// ```
 /// use capn::{Form, Kind, Limits, Place};
@@ -193,7 +193,7 @@ pub fn check(message: &[u8], form: Form, limits: &Limits) -> Result<Checked, Err
     })
 }
 
-/// The figures of one message.
+/// Returns the figures of one message.
 ///
 /// ```
 /// use capn::{Form, Limits};
@@ -208,7 +208,7 @@ pub fn survey(message: &[u8], form: Form, limits: &Limits) -> Result<Figures, Er
     Ok(Figures::of(&call::survey(form, message, &limits.raw())?))
 }
 
-/// The text of one message: what `capn show` writes of it in a style. It may be far longer than a small message, so
+/// Returns the text of one message: what `capn show` writes of it in a style. It may be far longer than the message, so
 /// have limits.
 ///
 /// ```
@@ -227,7 +227,7 @@ pub fn show(message: &[u8], form: Form, limits: &Limits, style: Style) -> Result
     call::show(form, message, &limits.raw(), style)
 }
 
-/// The packed text of whole words.
+/// Returns whole words packed.
 ///
 /// ```
 /// assert_eq!(capn::pack(&[5, 0, 0, 0, 0, 0, 0, 0])?, [1, 5]);
@@ -240,15 +240,15 @@ pub fn pack(words: &[u8]) -> Result<Vec<u8>, Error> {
     Ok(out)
 }
 
-/// The words of a packed text, at most `most_words`.
+/// Returns the words of packed bytes, at most `most_words` of them.
 ///
 /// ```
 /// assert_eq!(capn::unpack(&[1, 5], 1)?, [5, 0, 0, 0, 0, 0, 0, 0]);
 /// assert_eq!(capn::unpack(&[1, 5], 0).unwrap_err().to_string(), "packed: TooLong at 0");
 /// # Ok::<(), capn::Error>(())
 /// ```
-pub fn unpack(text: &[u8], most_words: u32) -> Result<Vec<u8>, Error> {
+pub fn unpack(packed: &[u8], most_words: u32) -> Result<Vec<u8>, Error> {
     let mut out = Vec::new();
-    call::unpack(text, most_words, &mut out)?;
+    call::unpack(packed, most_words, &mut out)?;
     Ok(out)
 }

@@ -122,14 +122,16 @@ impl<R: Read> Reader<R> {
 }
 
 impl<R> Reader<R> {
-    /// How many messages were given.
+    /// Returns how many messages were given.
     pub fn number(&self) -> u64 {
         self.number
     }
 
-    /// The offset in the stream of the message that was given last, or of the one that is next.
+    /// Returns where the next message begins in the stream: after a refusal where the refused one does, and at the end
+    /// how long the stream is.
     pub fn offset(&self) -> u64 {
-        self.offset
+        let given = if self.is_whole { self.have } else { 0 };
+        self.offset + given as u64
     }
 
     /// The input, to read on after the messages.

@@ -9,7 +9,7 @@ use crate::call;
 use crate::message::{Checked, Figures};
 use crate::{Error, Limits};
 
-/// The canonical bytes of a message.
+/// Returns the canonical bytes of a message.
 ///
 /// ```
 /// // The root pointer leads to the second segment, where a struct of one word is, after its landing pad.
@@ -26,7 +26,7 @@ pub fn canonical(segments: &[&[u8]], limits: &Limits) -> Result<Vec<u8>, Error> 
     Ok(out)
 }
 
-/// Appends the canonical bytes of a message, and answers what its walk paid. After an error `out` has the bytes that it
+/// Appends the canonical bytes of a message, and returns what its walk paid. After an error `out` has the bytes that it
 /// had.
 pub fn canonical_into(
     segments: &[&[u8]],
@@ -40,12 +40,12 @@ pub fn canonical_into(
     Ok(call::canonical_segments(segments, &limits.raw(), hint, out)?.paid)
 }
 
-/// The SHA-256 of the canonical bytes of a message.
+/// Returns the SHA-256 of the canonical bytes of a message.
 pub fn digest(segments: &[&[u8]], limits: &Limits) -> Result<[u8; 32], Error> {
     call::hash_segments(segments, &limits.raw())
 }
 
-/// Whether a message is accepted within limits, and what reading it pays.
+/// Returns what reading a message costs, or an error if the message is refused within limits.
 pub fn check(segments: &[&[u8]], limits: &Limits) -> Result<Checked, Error> {
     let report = call::check_segments(segments, &limits.raw())?;
     Ok(Checked {
@@ -54,7 +54,7 @@ pub fn check(segments: &[&[u8]], limits: &Limits) -> Result<Checked, Error> {
     })
 }
 
-/// The figures of a message.
+/// Returns the figures of a message.
 pub fn survey(segments: &[&[u8]], limits: &Limits) -> Result<Figures, Error> {
     Ok(Figures::of(&call::survey_segments(
         segments,

@@ -39,12 +39,26 @@ pub struct Messages<'a> {
 }
 
 impl Messages<'_> {
-    /// The number of the message, or the error, that was given last, counted from 1.
+    /// Returns the number of the message, or the error, that was given last, counted from 1.
     pub fn number(&self) -> u64 {
         self.number
     }
 
-    /// Its offset in the stream.
+    /// Returns where the next message begins in the stream; after an error where the refused one does, and at the end
+    /// how long the stream is.
+    ///
+    /// ```
+    /// let stream = [[0, 0, 0, 0, 1, 0, 0, 0], [0; 8]].concat().repeat(2);
+    /// let mut messages = capn::messages(&stream, capn::Limits::usual());
+    /// let (mut at, mut offsets) = (messages.offset(), Vec::new());
+    /// while let Some(message) = messages.next() {
+    ///     message?;
+    ///     offsets.push(at);
+    ///     at = messages.offset();
+    /// }
+    /// assert_eq!(offsets, [0, 16]);
+    /// # Ok::<(), capn::Error>(())
+    /// ```
     pub fn offset(&self) -> u64 {
         self.offset as u64
     }
@@ -60,12 +74,12 @@ impl<'a> Iterator for Messages<'a> {
             .get(self.next..)
             .filter(|rest| !rest.is_empty())?;
         self.number += 1;
-        self.offset = self.next;
         // A copy, so that nothing else of the iterator has to be in memory during the call.
         let limits = self.limits;
         match call::whole(rest, &limits) {
             Ok(message) => {
                 self.next += message.len();
+                self.offset = self.next;
                 Some(Ok(message))
             }
             Err(error) => Some(Err(self.ended(error))),

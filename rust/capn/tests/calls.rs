@@ -172,8 +172,9 @@ fn a_stream_in_memory() {
     let stream = [one(), one(), one()[..20].to_vec()].concat();
     let mut messages = capn::messages(&stream, USUAL);
     assert_eq!(messages.next(), Some(Ok(&one()[..])));
-    assert_eq!((messages.number(), messages.offset()), (1, 0));
+    assert_eq!((messages.number(), messages.offset()), (1, 32));
     assert_eq!(messages.next(), Some(Ok(&one()[..])));
+    assert_eq!((messages.number(), messages.offset()), (2, 64));
     let cut = messages.next().unwrap().unwrap_err();
     assert_eq!((messages.number(), messages.offset()), (3, 64));
     assert_eq!(cut.to_string(), "frame: Cut");
@@ -230,11 +231,14 @@ fn a_reader_goes_on_after_each_error_of_its_input() {
 fn a_reader_says_where_a_stream_is_refused() {
     let stream = [one(), one()[..20].to_vec()].concat();
     let mut reader = Reader::new(&stream[..], USUAL);
+    assert_eq!((reader.number(), reader.offset()), (0, 0));
     assert!(reader.read().unwrap().is_some());
+    assert_eq!((reader.number(), reader.offset()), (1, 32));
     assert_eq!(
         reader.read().unwrap_err().to_string(),
         "message 2 at 32: frame: Cut"
     );
+    assert_eq!((reader.number(), reader.offset()), (1, 32));
     let mut reader = Reader::new(&[0xff; 99][..], USUAL);
     let text = "message 1 at 0: frame: TooManySegments(4294967296)";
     assert_eq!(reader.read().unwrap_err().to_string(), text);
