@@ -4,6 +4,8 @@ package capn
 
 import (
 	"bytes"
+	"crypto/ed25519"
+	"encoding/hex"
 	"fmt"
 	"os"
 	"os/exec"
@@ -12,53 +14,80 @@ import (
 	"testing"
 )
 
-// blocks are the indented blocks of a page.
-func blocks(t *testing.T, page string) []string {
+// blocks are the fenced blocks of a page in a language.
+func blocks(t *testing.T, page, language string) []string {
+	t.Helper()
 	text, err := os.ReadFile(page)
 	if err != nil {
 		t.Fatal(err)
 	}
 	var found []string
-	inside := false
+	inside := ""
 	for _, line := range strings.Split(string(text), "\n") {
 		switch {
-		case strings.HasPrefix(line, "    "):
-			if !inside {
+		case strings.HasPrefix(line, "```") && inside == "":
+			inside = line
+			if inside == "```"+language {
 				found = append(found, "")
 			}
-			inside = true
-			found[len(found)-1] += line[4:] + "\n"
-		case inside && line == "":
-			found[len(found)-1] += "\n"
-		default:
-			inside = false
+		case line == "```":
+			inside = ""
+		case inside == "```"+language:
+			found[len(found)-1] += line + "\n"
 		}
-	}
-	for i, block := range found {
-		found[i] = strings.TrimRight(block, "\n") + "\n"
 	}
 	return found
 }
 
-// The program of docs/GO.md, in a module of its own that is made as the page says, does as the page says.
-func TestPage(t *testing.T) {
-	found := blocks(t, "../docs/GO.md")
-	if len(found) != 3 {
-		t.Fatalf("%d blocks", len(found))
+// What the page's functions are called by.
+const callers = `package main
+
+import (
+	"crypto/ed25519"
+	"encoding/hex"
+	"fmt"
+	"io"
+	"os"
+
+	"capn"
+)
+
+type marshaled []byte
+
+func (m marshaled) Marshal() ([]byte, error) { return m, nil }
+
+func init() {
+	if len(os.Args) < 2 {
+		return
 	}
-	here, err := os.Getwd()
-	if err != nil {
-		t.Fatal(err)
+	message, _ := io.ReadAll(os.Stdin)
+	switch os.Args[1] {
+	case "digest":
+		digest, err := digestOf(marshaled(message))
+		fmt.Printf("%x %v\n", digest, err)
+	case "sign":
+		signature, err := sign(message, ed25519.NewKeyFromSeed(make([]byte, 32)))
+		fmt.Printf("%x %v\n", signature, err)
+	case "signed":
+		signature, _ := hex.DecodeString(os.Args[2])
+		signer := ed25519.NewKeyFromSeed(make([]byte, 32)).Public().(ed25519.PublicKey)
+		fmt.Println(isSigned(message, signature, signer))
+	case "explain":
+		fmt.Println(explain(message))
+	}
+	os.Exit(0)
+}
+
+`
+
+// The program of docs/GO.md and its functions, in a module of its own that is made as the page says, with what the page
+// says to install, do as the page says.
+func TestPage(t *testing.T) {
+	shells, parts := blocks(t, "../docs/GO.md", "sh"), blocks(t, "../docs/GO.md", "go")
+	if len(shells) != 2 || len(parts) != 4 {
+		t.Fatalf("%d and %d blocks", len(shells), len(parts))
 	}
 	folder := t.TempDir()
-	formatted := exec.Command("gofmt", "-l")
-	formatted.Stdin = strings.NewReader(found[2])
-	if wrote, err := formatted.CombinedOutput(); err != nil || len(wrote) != 0 {
-		t.Errorf("gofmt of the program: %s %v", wrote, err)
-	}
-	if err := os.WriteFile(filepath.Join(folder, "main.go"), []byte(found[2]), 0o666); err != nil {
-		t.Fatal(err)
-	}
 	run := func(input []byte, words ...string) (string, string, int) {
 		t.Helper()
 		ran := exec.Command(words[0], words[1:]...)
@@ -73,42 +102,117 @@ func TestPage(t *testing.T) {
 	}
 	must := func(words ...string) {
 		t.Helper()
-		if _, errors, status := run(nil, words...); status != 0 {
-			t.Fatalf("%v: %s", words, errors)
+		if out, errors, status := run(nil, words...); status != 0 {
+			t.Fatalf("%v: %s %s", words, out, errors)
 		}
 	}
-	must("go", "mod", "init", "example.org/reader")
-	// The page's line is for a folder beside that of the checkout.
-	lines := strings.ReplaceAll(found[1], "../capn/go", here)
-	must("sh", "-ec", lines)
-	must("go", "vet", ".")
-	must("go", "build", "-o", "reader", ".")
-
-	texts := []byte("\x00\x00\x00\x00\x04\x00\x00\x00" + "\x00\x00\x00\x00\x01\x00\x01\x00" +
-		"\x05\x00\x00\x00\x00\x00\x00\x00" + "\x01\x00\x00\x00\x22\x00\x00\x00" + "abc\x00\x00\x00\x00\x00")
-	digest, err := Digest(texts, Stream, nil)
+	// An archive as the release has it: the library that the tests are linked with, and the module.
+	library := os.Getenv("CAPN_INSTALLED")
+	if library == "" {
+		t.Skip("CAPN_INSTALLED names no folder into which the library is installed")
+	}
+	here, err := os.Getwd()
 	if err != nil {
 		t.Fatal(err)
 	}
-	null := make([]byte, 16)
-	null[4] = 1
+	must("sh", "-ec", `mkdir capn-0 program
+		cp -r "$0/lib" "$0/include" capn-0
+		mkdir capn-0/go && cp "$1"/*.go "$1"/go.mod capn-0/go && rm capn-0/go/*_test.go
+		sed -i "s,^prefix=.*,prefix=$PWD/capn-0," capn-0/lib/pkgconfig/capn.pc
+		tar czf capn-0.tar.gz capn-0 && rm -r capn-0`, library, here)
+	files := map[string]string{"main.go": parts[2], "parts.go": callers + strings.Join([]string{parts[0], parts[1], parts[3]}, "\n")}
+	for name, text := range files {
+		if err := os.WriteFile(filepath.Join(folder, "program", name), []byte(text), 0o666); err != nil {
+			t.Fatal(err)
+		}
+	}
+	must("sh", "-ec", shells[0]+"cd ../program\ngo mod init example.org/reader\n"+shells[1]+
+		"unformatted=$(gofmt -l .)\n[ -z \"$unformatted\" ]\ngo vet .\nCGO_CFLAGS= go build -o ../reader .")
+	t.Setenv("LD_LIBRARY_PATH", filepath.Join(folder, "capn-0/lib"))
+
+	// A person of the age 30, named "abc", with a friend and two scores; and messages that are wrong, each in a way.
+	person, err := framed([][]byte{bare(1<<32|3<<48, 30^18, 8|1|2<<32|4<<35, 8|1|7<<32|1<<35,
+		16|1|3<<32|2<<35, 0x636261, 4|1<<48, 1|2<<32|4<<35, 0x7a7978, 0x00050003)})
+	if err != nil {
+		t.Fatal(err)
+	}
+	null := []byte("\x00\x00\x00\x00\x01\x00\x00\x00\x00\x00\x00\x00\x00\x00\x00\x00")
+	outside := []byte("\x00\x00\x00\x00\x01\x00\x00\x00\x00\x00\x00\x00\x01\x00\x00\x00")
+	// The name is a struct.
+	unexpected, err := framed([][]byte{bare(1<<32|1<<48, 0, 0xfffffffc)})
+	if err != nil {
+		t.Fatal(err)
+	}
+	both := func(one, other []byte) []byte { return append(append([]byte{}, one...), other...) }
+	const said = "abc 30\na friend: xyz\na score: 3\na score: 5\n"
 	for _, one := range []struct {
 		input       []byte
 		out, errors string
 		status      int
 	}{
 		{nil, "", "", 0},
-		{texts, "2 \"abc\" of 5 words, signed\n", "", 0},
-		{append(append([]byte{}, null...), texts...), "7 \"\" of 0 words\n2 \"abc\" of 5 words, signed\n", "", 0},
-		{texts[:39], "", "the stream is cut: capn: message 1 at 0: frame: Cut\n", 1},
-		{append([]byte("\x00\x00\x00\x00\x01\x00\x00\x00\x00\x00\x00\x00\x01\x00\x00\x00"), texts...), "",
-			"refused: capn: Range at 0:0, paid 0, visits 1\n", 1},
-		{append(append([]byte{}, texts...), "\xff\xff\xff\xff\xff\xff\xff\xff"...), "2 \"abc\" of 5 words, signed\n",
-			"refused: capn: message 2 at 40: frame: TooManySegments(4294967296)\n", 1},
+		{person, said, "", 0},
+		{both(null, person), "nobody 18\n" + said, "", 0},
+		{both(person, unexpected), said, "capn: text expected, struct found\n", 1},
+		{person[:39], "", "the stream is truncated: capn: message 1 at 0: frame: Cut\n", 1},
+		{both(outside, person), "", "capn: Range at 0:0, paid 0, visits 1\n", 1},
+		{both(person, bytes.Repeat([]byte{255}, 8)), said,
+			fmt.Sprintf("capn: message 2 at %d: frame: TooManySegments(4294967296)\n", len(person)), 1},
 	} {
-		out, errors, status := run(one.input, "./reader", fmt.Sprintf("%x", digest))
+		out, errors, status := run(one.input, "./reader")
 		if out != one.out || errors != one.errors || status != one.status {
 			t.Errorf("%x: %q %q %d", one.input, out, errors, status)
 		}
+	}
+
+	told := func(input []byte, words ...string) string {
+		t.Helper()
+		out, errors, _ := run(input, append([]string{"./reader"}, words...)...)
+		return out + errors
+	}
+	digest, err := Digest(person, Stream, nil)
+	if err != nil {
+		t.Fatal(err)
+	}
+	if got := told(person, "digest"); got != fmt.Sprintf("%x <nil>\n", digest) {
+		t.Error(got)
+	}
+	statement := fmt.Sprintf("capn statement 1\nprotocol: example.org/billing\ntype: Invoice\ncanonical form: 1\n"+
+		"sha-256: %x\n", digest)
+	signature := hex.EncodeToString(ed25519.Sign(ed25519.NewKeyFromSeed(make([]byte, 32)), []byte(statement)))
+	if got := told(person, "sign"); got != signature+" <nil>\n" {
+		t.Error(got)
+	}
+	canonical, err := Canonical(person, Stream, nil)
+	if err != nil {
+		t.Fatal(err)
+	}
+	again, err := framed([][]byte{canonical})
+	if err != nil {
+		t.Fatal(err)
+	}
+	changed := append([]byte{}, person...)
+	changed[16] ^= 1
+	for _, one := range []struct {
+		message []byte
+		is      bool
+	}{
+		{person, true}, {again, true}, {changed, false}, {both(person, null), false}, {person[:39], false}, {nil, false},
+	} {
+		if got := told(one.message, "signed", signature); got != fmt.Sprintln(one.is) {
+			t.Errorf("%x: %s", one.message, got)
+		}
+	}
+	if got := told(outside, "explain"); got != "capn: Range at 0:0, paid 0, visits 1, way: root\n" {
+		t.Error(got)
+	}
+	if got := told(again, "explain"); got != "canonical: yes\n" {
+		t.Error(got)
+	}
+	if got := told(small, "explain"); !strings.HasPrefix(got, "canonical: no: at byte 8: 0000000002000000 (struct of ") {
+		t.Error(got)
+	}
+	if got := told(small[:20], "explain"); got != "capn: frame: Cut, way: none\n" {
+		t.Error(got)
 	}
 }
