@@ -111,7 +111,10 @@ private:
 class refusal : public std::runtime_error {
 public:
     refusal(capn_status status, const capn_report &report, const std::string &where = {})
-        : std::runtime_error(where + text(status, report)), status_(status), report_(report) {}
+        : refusal(status, report, where, text(status, report)) {}
+    /* With another text than that of the status. */
+    refusal(capn_status status, const capn_report &report, const std::string &where, const std::string &text)
+        : std::runtime_error(where + text), status_(status), report_(report) {}
 
     /* One of capn.h, from 16 on, such as CAPN_TOO_DEEP. */
     capn_status status() const noexcept { return status_; }
@@ -120,13 +123,14 @@ public:
     /* The name of the status, such as "TooDeep". */
     const char *name() const noexcept { return capn_status_name(status_); }
 
-private:
+    /* The text that the program prints for a status, with its place. */
     static std::string text(capn_status status, const capn_report &report) {
         char room[160];
         const std::size_t length = capn_refusal_text(status, &report, room, sizeof room);
         return std::string(room, std::min(length, sizeof room - 1));
     }
 
+private:
     capn_status status_;
     capn_report report_;
 };
@@ -159,19 +163,27 @@ inline std::uint32_t number(form written) noexcept { return static_cast<std::uin
     throw refusal(status, report);
 }
 
+/* The same of words alone, as `pack` takes them: the program names no form. */
+[[noreturn]] CAPN_COLD inline void unanswered_of_words(capn_status status, const capn_report &report) {
+    if (status < CAPN_NOT_WHOLE) unanswered(status, report);
+    const std::string text = refusal::text(status, report), form = "bare: ";
+    throw refusal(status, report, {}, text.compare(0, form.size(), form) ? text : text.substr(form.size()));
+}
+
 /* Throws, unless the status is that of an answer. */
 inline void answered(capn_status status, const capn_report &report) {
     if (status != CAPN_OK) unanswered(status, report);
 }
 
 /* An answer of a length that a call reports: with the room at hand, and if that is too little with what is enough. */
-template <class Call> buffer made(std::size_t room, Call call) {
+template <class Call>
+buffer made(std::size_t room, Call call, void (*otherwise)(capn_status, const capn_report &) = unanswered) {
     buffer out(room);
     capn_report report;
     for (;;) {
         const capn_status status = call(reinterpret_cast<std::uint8_t *>(out.data()), out.size(), &report);
         if (status != CAPN_NO_ROOM) {
-            answered(status, report);
+            if (status != CAPN_OK) otherwise(status, report);
             out.resize(static_cast<std::size_t>(report.length));
             return out;
         }
@@ -214,7 +226,8 @@ inline digest_bytes digest(bytes message, form written = form::stream, const lim
     return out;
 }
 
-/* Whether bytes, read bare, are the canonical bytes of their value. */
+/* Whether bytes, read bare, are the canonical bytes of their value; it throws if that has none. A frame is not bare
+ * words: with its table before it, nearly any message of one segment passes as canonical. Of a frame pass the form. */
 inline bool is_canonical(bytes words, const limits &most = {}) {
     capn_report report;
     const capn_status status = capn_is_canonical(words.u8(), words.size(), &most, &report);
@@ -239,6 +252,21 @@ inline capn_figures survey(bytes message, form written = form::stream, const lim
     return figures;
 }
 
+/* Whether one message in a form has one segment, and that is the canonical bytes of its value; it throws if that has
+ * none, or if the message is refused. Of a packed message it says so of what it unpacks to. (A template, so that `{}`
+ * stands for limits, as in the call without a form.) */
+template <class Form, std::enable_if_t<std::is_same_v<Form, form>, int> = 0>
+bool is_canonical(bytes message, Form written, const limits &most = {}) {
+    if (written == form::bare) return is_canonical(message, most);
+    const capn_figures figures = survey(message, written, most);
+    if (figures.has_capability) {
+        capn_report report{};
+        report.at = figures.capability;
+        throw refusal(CAPN_CAPABILITY, report);
+    }
+    return figures.canonical;
+}
+
 /* How the text of a message is written: lines, the same with printable bytes between quotes, one line of JSON, or the
  * same with each text as a text, in UTF-8. */
 enum class style : std::uint32_t {
@@ -259,11 +287,74 @@ inline std::string show(bytes message, form written = form::stream, const limits
     return std::string(bytes(out).chars());
 }
 
+/* A way to a slot: the numbers that lead to it from the root, as `capn show --at` takes them. */
+using way = std::vector<std::uint32_t>;
+
+/* The text of a way, as `capn explain` writes it: its numbers with dots, or `root`. */
+inline std::string way_text(const way &numbers) {
+    std::string out;
+    for (const std::uint32_t number : numbers) out += (out.empty() ? "" : ".") + std::to_string(number);
+    return out.empty() ? "root" : out;
+}
+
+/* The way to the slot at which the walk of one message stopped; none if no walk refuses it. It walks the message again,
+ * so it is asked for once a call threw. */
+inline std::optional<way> refusal_way(bytes message, form written = form::stream, const limits &most = {}) {
+    way numbers(2 * std::min<std::size_t>(most.depth, 256));
+    capn_report report;
+    const capn_status status = capn_refusal_way(detail::number(written), message.u8(), message.size(), &most,
+                                                numbers.data(), numbers.size(), &report);
+    if (status == CAPN_MEMORY || (status != CAPN_OK && status < CAPN_NOT_WHOLE)) detail::unanswered(status, report);
+    if (status < CAPN_NO_ROOT || status > CAPN_OVER_BUDGET) return std::nullopt;
+    numbers.resize(static_cast<std::size_t>(report.length / 4));
+    return numbers;
+}
+
+/* Why a message is not its canonical bytes, and whose a word of these is. */
+enum class reason : std::uint32_t {
+    segments = CAPN_DEPARTS_SEGMENTS,     /* it has more segments than one: `count` */
+    capability = CAPN_DEPARTS_CAPABILITY, /* its value has a capability, of index `count`, in the slot at `to` */
+    word = CAPN_DEPARTS_WORD,             /* a word of it is another one in the canonical bytes */
+    after = CAPN_DEPARTS_AFTER            /* the canonical bytes end before a word of it */
+};
+enum class owner : std::uint32_t {
+    none = CAPN_OWNER_NONE,          /* of no other reason than a word is an owner told */
+    pointer = CAPN_OWNER_POINTER,    /* it is the pointer of the slot at `to`, */
+    tag = CAPN_OWNER_TAG,            /* the tag of the list of structs there, */
+    last_word = CAPN_OWNER_LAST_WORD /* or the last word of the list there */
+};
+
+/* The first reason why an accepted message is not canonical. A field of which the reason says nothing is 0 or empty. */
+struct departed {
+    reason why;
+    std::uint32_t count;          /* of segments; the index of a capability */
+    std::uint64_t byte;           /* where the word begins in the message; of a packed one, in what it unpacks to */
+    std::uint64_t word;           /* what the word is in the message, */
+    std::uint64_t canonical_word; /* and what in the canonical bytes */
+    capn::owner owner;            /* whose it is in the canonical bytes */
+    way to;                       /* the way to that slot */
+};
+
+/* Where one message leaves its canonical bytes, and why, as `capn explain` says it; none if it is canonical. */
+inline std::optional<departed> departure(bytes message, form written = form::stream, const limits &most = {}) {
+    way numbers(2 * std::min<std::size_t>(most.depth, 256));
+    capn_departed found;
+    capn_report report;
+    detail::answered(capn_departure(detail::number(written), message.u8(), message.size(), &most, &found,
+                                    numbers.data(), numbers.size(), &report), report);
+    if (found.kind == CAPN_DEPARTS_NOT) return std::nullopt;
+    numbers.resize(found.numbers);
+    const bool is_of_word = found.kind == CAPN_DEPARTS_WORD || found.kind == CAPN_DEPARTS_AFTER;
+    const std::uint64_t table = written == form::bare ? 0 : 8;
+    return departed{static_cast<reason>(found.kind), found.count, is_of_word ? table + 8ull * found.word : 0, found.is,
+                    found.canonical, static_cast<capn::owner>(found.owner), std::move(numbers)};
+}
+
 /* The packed text of whole words. */
 inline buffer pack(bytes words) {
     return detail::made(words.size() / 2 + 16, [&](std::uint8_t *out, std::size_t room, capn_report *report) {
         return capn_pack(words.u8(), words.size(), out, room, report);
-    });
+    }, detail::unanswered_of_words);
 }
 
 /* The words of a packed text, at most `most_words`. */
@@ -386,9 +477,9 @@ public:
             have_ += came;
         }
     }
-    /* How many messages there were so far, and the offset of the last one in the stream. */
+    /* How many messages were given, and where the next one begins in the stream. */
     std::uint64_t number() const noexcept { return number_; }
-    std::uint64_t offset() const noexcept { return offset_; }
+    std::uint64_t offset() const noexcept { return whole_ ? offset_ + have_ : offset_; }
 
 private:
     const std::uint8_t *u8() const noexcept { return reinterpret_cast<const std::uint8_t *>(held_.data()); }
@@ -580,8 +671,10 @@ public:
         const numbers *of_;
         std::uint32_t at_;
     };
-    iterator begin() const noexcept { return {this, 0}; }
-    iterator end() const noexcept { return {this, size()}; }
+    iterator begin() const & noexcept { return {this, 0}; }
+    iterator end() const & noexcept { return {this, size()}; }
+    iterator begin() const && = delete;
+    iterator end() const && = delete;
 
 private:
     capn_items items_;
@@ -627,10 +720,24 @@ inline rows value::pointers() const {
     return {message_, items};
 }
 
+namespace detail {
+
+/* Whether a container has the bytes itself, so that they go with it; a view of bytes is copied as it lies. */
+template <class C, class = void> inline constexpr bool has_fixed_size = false;
+template <class C> inline constexpr bool has_fixed_size<C, std::void_t<decltype(std::tuple_size<C>::value)>> = true;
+template <class C>
+inline constexpr bool owns_bytes = holds_bytes<C> && (!std::is_trivially_copyable_v<C> || has_fixed_size<C>);
+
+} // namespace detail
+
 /* The index of one message, by which it is read in place: an entry for each slot, in preorder. The bytes stay where
- * they are, and neither they nor the index may go while a value of it is used. */
+ * they are, and neither they nor the index may go while a value of it is used: so keep both in variables. To read by
+ * an index that has no name, or to make one of a container that has none, does not compile. */
 class index {
 public:
+    template <class C, std::enable_if_t<!std::is_lvalue_reference_v<C> && detail::owns_bytes<std::remove_cv_t<C>>,
+                                        int> = 0>
+    static index of(C &&message, form written = form::stream, const limits &most = {}) = delete;
     /* Checks a message, a stream or bare, and makes its index, 24 bytes a slot. Unpack a packed one first. */
     static index of(bytes message, form written = form::stream, const limits &most = {}) {
         constexpr std::size_t at_hand = 64;
@@ -650,7 +757,8 @@ public:
         return made;
     }
 
-    value root() const noexcept { return {message_.u8(), entries_.get()}; }
+    value root() const & noexcept { return {message_.u8(), entries_.get()}; }
+    value root() const && = delete;
     /* Its entries. */
     const capn_entry *data() const noexcept { return entries_.get(); }
     std::size_t size() const noexcept { return size_; }

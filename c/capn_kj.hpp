@@ -20,13 +20,23 @@ public:
     }
     /* What `messageToFlatArray` would write. A builder without a root has no segment, and is refused. */
     kj_segments(capnp::MessageBuilder &message) : kj_segments(message.getSegmentsForOutput()) {}
-    /* A reader's own limits don't matter here: it only says where its segments are. */
+    /* A reader's own limits don't matter here: it only says where its segments are. A null segment says that it has no
+     * more; so pass the array itself, or its reader by its type, where an array has a null segment between others. */
     kj_segments(capnp::MessageReader &message) {
         for (unsigned id = 0;; id++) {
             const kj::ArrayPtr<const capnp::word> segment = message.getSegment(id);
             if (segment == nullptr && segment.begin() == nullptr) break;
             add(segment);
         }
+    }
+    /* The segments of the array behind this reader may be null, and others follow them: each number is asked for that a
+     * message can have. To pass the array itself is faster. */
+    kj_segments(capnp::SegmentArrayMessageReader &message) {
+        constexpr unsigned most = 4096;
+        unsigned count = 0;
+        for (unsigned id = 0; id <= most; id++)
+            if (message.getSegment(id) != nullptr) count = id + 1;
+        for (unsigned id = 0; id < count; id++) add(message.getSegment(id));
     }
     operator segments() const noexcept { return {all_.data(), all_.size()}; }
 

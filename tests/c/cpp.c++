@@ -77,9 +77,63 @@ static void answers() {
     want("unpack", capn::bytes(capn::unpack(packed)).chars() == one);
     want("packed", capn::canonical(packed, capn::form::packed) == capn::canonical(one));
     want("is canonical", capn::is_canonical(capn::canonical(one)) && !capn::is_canonical(one.substr(8)));
+    /* A frame of one segment whose last word is zero: read bare, with its table, it passes; as a stream it doesn't. */
+    using capn::form;
+    const capn::limits few(99, 2, 9);
+    const std::string short_one = framed(words({1ull << 32, 5})), capability = framed(words({3 | 7ull << 32}));
+    want("a frame, read bare", capn::is_canonical(one) && capn::is_canonical(one, form::bare));
+    want("a frame", !capn::is_canonical(one, form::stream) && capn::is_canonical(short_one, form::stream));
+    want("a packed frame", !capn::is_canonical(packed, form::packed)
+                               && capn::is_canonical(capn::pack(short_one), form::packed));
+    want("two segments", !capn::is_canonical(words({1 | 1ull << 32, 1, 2 | 1ull << 32, 1ull << 32, 5}), form::stream));
+    want("limits without a form", capn::is_canonical(one, {}) && thrown<capn::refusal>([&] {
+                                      capn::is_canonical(one, few);
+                                  }) == "OverBudget at 0:0, paid 0, visits 1");
+    want("limits and a form", thrown<capn::refusal>([&] { capn::is_canonical(one, form::stream, few); })
+                                  == "OverBudget at 0:0, paid 0, visits 1");
+    for (const auto written : {form::stream, form::bare}) {
+        const std::string message = written == form::bare ? capability.substr(8) : capability;
+        want("a capability", thrown<capn::refusal>([&] { capn::is_canonical(message, written); }) == "capability 7");
+    }
     /* An object that three pointers lead to is written three times: the answer is longer than the message. */
     const std::string shared = framed(words({3ull << 48, 8 | 1ull << 32, 4 | 1ull << 32, 1ull << 32, 7}));
     want("a longer answer", capn::canonical(shared).size() == 56 && shared.size() == 48);
+}
+
+/* The way to what is refused, and where an accepted message leaves its canonical bytes. */
+static void ways() {
+    using capn::form;
+    /* A struct whose slot 1 leads to two rows, of which the second has a slot that names more bytes than there are. */
+    const std::uint64_t too_long = 1 | 2ull << 32 | 99ull << 35;
+    const std::string wrong = framed(words({2ull << 48, 0, 1 | 7ull << 32 | 2ull << 35, 8 | 1ull << 48, 0, too_long}));
+    const auto way = capn::refusal_way(wrong);
+    want("a way", way && *way == capn::way{1, 1, 0} && capn::way_text(*way) == "1.1.0");
+    const auto packed_way = capn::refusal_way(capn::pack(wrong), form::packed);
+    want("a way of a packed one", packed_way && *packed_way == *way);
+    want("the root's", capn::refusal_way(framed(words({7})), form::stream) == capn::way{});
+    want("its text", capn::way_text({}) == "root");
+    want("no way", !capn::refusal_way(one) && !capn::refusal_way(cut) && !capn::refusal_way(std::string()));
+    want("a deep one", capn::refusal_way(hostile)->size() == 64);
+    want("a way within wrong limits", thrown<std::invalid_argument>([] {
+                                          capn::refusal_way(one, form::stream, {1, 1, 0});
+                                      }) == "a limit is out of its range");
+
+    want("no departure", !capn::departure(capn::canonical(one), form::bare));
+    const auto word = capn::departure(one);
+    want("a pointer", word && word->why == capn::reason::word && word->owner == capn::owner::pointer && word->to.empty()
+                          && word->byte == 8 && word->word == 2ull << 32 && word->canonical_word == 1ull << 32);
+    want("of bare words", capn::departure(one.substr(8), form::bare)->byte == 0);
+    const auto after = capn::departure(framed(words({1ull << 32, 5, 9})));
+    want("a word after them", after && after->why == capn::reason::after && after->byte == 24 && after->word == 9);
+    const auto bits = capn::departure(framed(words({1ull << 48, 1 | 1ull << 32 | 3ull << 35, 0xff})));
+    want("a last word", bits && bits->owner == capn::owner::last_word && bits->to == capn::way{0} && bits->byte == 24
+                            && bits->word == 0xff && bits->canonical_word == 7);
+    const auto several = capn::departure(words({1 | 1ull << 32, 1, 2 | 1ull << 32, 1ull << 32, 5}));
+    want("segments", several && several->why == capn::reason::segments && several->count == 2 && !several->byte);
+    const auto capability = capn::departure(framed(words({1ull << 48, 3 | 7ull << 32})));
+    want("a capability", capability && capability->why == capn::reason::capability && capability->count == 7
+                             && capability->to == capn::way{0});
+    want("none of a refused one", thrown<capn::refusal>([] { capn::departure(cut); }) == "frame: Cut");
 }
 
 static void refusals() {
@@ -93,6 +147,9 @@ static void refusals() {
         want("its status", why.status() == CAPN_TOO_DEEP && why.report().visits == 65);
         want("its name", std::string(why.name()) == "TooDeep");
     }
+    want("no words", thrown<capn::refusal>([] { capn::pack(std::string(3, 'x')); }) == "NotWhole(3)");
+    want("no bare words", thrown<capn::refusal>([] { capn::check(std::string(3, 'x'), capn::form::bare); })
+                              == "bare: NotWhole(3)");
     want("no text", thrown<capn::refusal>([] { capn::show(hostile); }) == "TooDeep at 0:0, paid 128, visits 65");
     want("no style", thrown<std::invalid_argument>([] {
                          capn::show(one, capn::form::stream, {}, static_cast<capn::style>(4));
@@ -151,7 +208,7 @@ static void streams() {
             if (more) want("a message", message->chars() == (++got == 2 ? framed(words({0})) : one));
         } catch (std::size_t) {
         }
-        want("all messages", got == 3 && reader.number() == 3);
+        want("all messages", got == 3 && reader.number() == 3 && reader.offset() == all.size());
     }
     const auto from = [at = std::size_t{0}](std::byte *to, std::size_t room) mutable {
         const std::string all = one + cut;
@@ -161,7 +218,9 @@ static void streams() {
         return taken;
     };
     capn::reader reader(from);
+    want("the beginning", reader.offset() == 0);
     want("the first one", reader.next().has_value());
+    want("where the next one begins", reader.number() == 1 && reader.offset() == 32);
     want("the cut one", thrown<capn::refusal>([&] { reader.next(); }) == "message 2 at 32: frame: Cut");
 }
 
@@ -193,6 +252,21 @@ static void sockets() {
     close(ends[1]);
 }
 
+/* What goes before it is used is refused by the compiler. */
+template <class T, class = void> constexpr bool has_root = false;
+template <class T> constexpr bool has_root<T, std::void_t<decltype(std::declval<T>().root())>> = true;
+template <class T, class = void> constexpr bool is_indexed = false;
+template <class T> constexpr bool is_indexed<T, std::void_t<decltype(capn::index::of(std::declval<T>()))>> = true;
+static_assert(has_root<capn::index &> && has_root<const capn::index &>);
+static_assert(!has_root<capn::index> && !has_root<const capn::index>);
+static_assert(is_indexed<std::string &> && is_indexed<const std::vector<char> &> && is_indexed<const capn::buffer &>);
+static_assert(is_indexed<capn::bytes> && is_indexed<std::string_view> && is_indexed<std::array<char, 8> &>);
+static_assert(!is_indexed<std::string> && !is_indexed<std::vector<char>> && !is_indexed<const capn::buffer>);
+static_assert(!is_indexed<std::array<char, 8>> && !is_indexed<const std::string>);
+#ifdef __cpp_lib_span
+static_assert(is_indexed<std::span<const std::byte>>);
+#endif
+
 static void fields() {
     /* A struct of a word and two slots: `x @0 :UInt64 = 7`, a text, and rows of a newer writer in place of numbers. */
     const std::string message = framed(words({1ull << 32 | 2ull << 48, 5 ^ 7, 5 | 0x22ull << 32, 5 | 0x17ull << 32,
@@ -216,11 +290,13 @@ static void fields() {
     for (int i = 0; i < 200; i++) many += words({0});
     std::string wide(8, '\0');
     wide[4] = static_cast<char>(201);
-    want("many slots", capn::index::of(wide + many).size() == 201);
+    const std::string whole = wide + many;
+    want("many slots", capn::index::of(whole).size() == 201);
 }
 
 int main() {
     answers();
+    ways();
     refusals();
     containers();
     streams();

@@ -94,6 +94,23 @@ bool try_one() {
     return held.size() > 1;
 }
 
+/* A null segment between two others, as an array of segments may have one: the root leads to the last of them. */
+void try_null_segment() {
+    const std::uint64_t first = 2 | 2ull << 32, last[] = {1ull << 32, 5};
+    const auto of = [](const std::uint64_t *words, std::size_t count) {
+        return kj::arrayPtr(reinterpret_cast<const capnp::word *>(words), count);
+    };
+    const kj::ArrayPtr<const capnp::word> all[] = {of(&first, 1), nullptr, of(last, 2)};
+    const kj::ArrayPtr<const kj::ArrayPtr<const capnp::word>> segments(all, 3);
+    capnp::SegmentArrayMessageReader reader(segments);
+    want("a null segment of an array", capn::check(segments).paid == 2);
+    try {
+        want("a null segment of a reader", capn::check(reader).paid == 2);
+    } catch (const capn::refusal &why) {
+        want(why.what(), false);
+    }
+}
+
 /* Segments that no builder makes: a refusal, and its text. */
 void try_refused() {
     capnp::MallocMessageBuilder empty;
@@ -123,6 +140,7 @@ int main(int count, char **words) {
     long several = 0, one = 0;
     while (several < std::atol(words[2])) (try_one() ? several : one)++;
     try_refused();
+    try_null_segment();
     std::printf("cpp_builders: %ld builders of several segments, %ld of one, %d failed\n", several, one, failed);
     return failed != 0;
 }
