@@ -111,11 +111,10 @@ DECLARED = """
                              capn_report *report);
     typedef struct {
         capn_limits limits;
-        uint64_t number, offset;
-        size_t have;
+        size_t have, whole;
         uint8_t out[...];
     } capn_raw;
-    size_t capn_read_one(int file, capn_raw *raw);
+    void capn_read_one(int file, capn_raw *raw);
     capn_status capn_look_at_packed(const uint8_t *text, size_t size, const capn_limits *limits, uint8_t *out,
                                     size_t room, uint32_t most, capn_look *look, capn_report *report);
     typedef struct {
@@ -124,15 +123,13 @@ DECLARED = """
         size_t room, length, take, got;
         capn_status status;
         capn_report report;
-        uint64_t number, offset, taken;
         ...;
     } capn_packed_one;
     size_t capn_look_on(const uint8_t *text, size_t size, capn_packed_one *one);
     size_t capn_look_at_one(const uint8_t *text, size_t size, capn_packed_one *one);
-    void capn_not_taken(capn_packed_one *one);
     typedef struct {
         capn_packed_one one;
-        size_t have;
+        size_t have, whole;
         uint8_t seen[...];
         uint8_t came[...];
         ...;
@@ -140,7 +137,7 @@ DECLARED = """
     void capn_pipe_begin(capn_pipe *pipe, const capn_limits *limits, uint8_t *out, size_t room);
     void capn_pipe_end(capn_pipe *pipe);
     size_t capn_peek(int file, capn_pipe *pipe);
-    size_t capn_read_packed(int file, capn_pipe *pipe);
+    void capn_read_packed(int file, capn_pipe *pipe);
 """
 
 binding = FFI()

@@ -65,8 +65,7 @@ static capn_status capn_look_at_packed(const uint8_t *text, size_t size, const c
     return CAPN_OK;
 }
 
-/* The first message of a packed text: where it is unpacked to, and what was found of it; and how many messages were
- * found so, and how many bytes they have, unpacked and packed. */
+/* The first message of a packed text: where it is unpacked to, and what was found of it. */
 typedef struct {
     capn_limits limits;
     uint8_t *out;
@@ -74,17 +73,14 @@ typedef struct {
     size_t got;                /* how many bytes were unpacked of one that is cut, from `take` packed ones */
     capn_status status;
     capn_report report;
-    uint64_t number, offset, taken;
-    int is_counted;   /* whether the last look found a message */
     uint8_t table[8]; /* the last one of one segment, and how many bytes its frame has */
     size_t size;
 } capn_packed_one;
 
-/* The same of one message, which is counted; the answer is how many packed bytes it has, or 0. If it is cut, this goes
+/* The same of one message; the answer is how many packed bytes it has, or 0. If it is cut, this goes
  * on with a text that begins with the one before, and unpacks nothing twice. */
 static size_t capn_look_on(const uint8_t *text, size_t size, capn_packed_one *one) {
     capn_report *const report = &one->report;
-    one->is_counted = 0;
     for (;;) {
         one->status = capn_unpack_some(text + one->take, size - one->take, one->out + one->got,
                                        one->length - one->got, report);
@@ -115,10 +111,6 @@ static size_t capn_look_on(const uint8_t *text, size_t size, capn_packed_one *on
         }
     }
     one->status = CAPN_OK;
-    one->is_counted = 1;
-    one->number++;
-    one->offset += one->length;
-    one->taken += one->take;
     return one->take;
 }
 
@@ -129,36 +121,26 @@ static size_t capn_look_at_one(const uint8_t *text, size_t size, capn_packed_one
     return capn_look_on(text, size, one);
 }
 
-/* Counts the message no more that the last look found, if it found one. */
-static void capn_not_taken(capn_packed_one *one) {
-    if (!one->is_counted) return;
-    one->is_counted = 0;
-    one->number--;
-    one->offset -= one->length;
-    one->taken -= one->take;
-}
-
-/* A file that the system has, as a pipe is: the limits, and the message that was read last or has begun. */
+/* A file that the system has, as a pipe is: the limits, and what was read of it. */
 typedef struct {
     capn_limits limits;
-    uint64_t number, offset; /* how many messages were read, and how many bytes they have */
-    size_t have;             /* the bytes of one that has begun */
+    size_t have;  /* the bytes of a message that has begun, */
+    size_t whole; /* or of one that is whole; it is the caller's to hand it out and to set this to 0 */
     uint8_t out[65536];
 } capn_raw;
 
-/* Reads the next message off a file, by two of the system's reads if that has one segment. The answer is its length, or
- * 0: then it isn't whole yet, or not read so. A call goes on with the bytes that there are. */
-static size_t capn_read_one(int file, capn_raw *raw) {
+/* Reads the next message off a file, by two of the system's reads if that has one segment; unless it is whole then, it
+ * isn't there yet, or not read so. A call goes on with the bytes that there are. */
+static void capn_read_one(int file, capn_raw *raw) {
     size_t have = raw->have, need = 8;
     capn_report report;
     for (;;) {
         if (have >= need) {
             const capn_status status = capn_first(raw->out, have, &raw->limits, &report);
             if (status == CAPN_OK) {
-                raw->number++;
-                raw->offset += have;
                 raw->have = 0;
-                return have;
+                raw->whole = have;
+                return;
             }
             need = report.length;
             if (status != CAPN_FRAME_CUT || need > sizeof raw->out) break;
@@ -169,15 +151,15 @@ static size_t capn_read_one(int file, capn_raw *raw) {
         if (have < need) break;
     }
     raw->have = have;
-    return 0;
 }
 
-/* A pipe of packed messages: a second one, by which it is looked into, how many bytes are looked at, and those that
- * were read and are not as they were seen. */
+/* A pipe of packed messages: a second one, by which it is looked into, how many bytes are looked at, those that were
+ * read and are not as they were seen, and how long the message is that was read: it is the caller's to hand that out,
+ * and to set this to 0. */
 typedef struct {
     capn_packed_one one;
     int second[2];
-    size_t most, have;
+    size_t most, have, whole;
     uint8_t seen[32768], came[32768];
 } capn_pipe;
 
@@ -220,16 +202,16 @@ static size_t capn_peek(int file, capn_pipe *pipe) {
 }
 
 /* Reads the next message off a pipe, if all of it is there and it ends where a group does, by three of the system's
- * calls; where there is nothing, it waits. The answer is the length of the message, or 0: then it has to be read
- * otherwise, and nothing of it was read but what `came` has. */
-static size_t capn_read_packed(int file, capn_pipe *pipe) {
+ * calls; where there is nothing, it waits. Unless it is whole then, it has to be read otherwise, and nothing of it was
+ * read but what `came` has. */
+static void capn_read_packed(int file, capn_pipe *pipe) {
     size_t seen, taken;
     for (unsigned how = 0;; how = SPLICE_F_NONBLOCK) {
         seen = capn_look_into(file, pipe, pipe->most, how);
-        if (!seen) return 0;
+        if (!seen) return;
         taken = capn_look_at_one(pipe->seen, seen, &pipe->one);
         if (taken) break;
-        if (pipe->one.status != CAPN_PACKED_CUT || seen < pipe->most || seen == sizeof pipe->seen) return 0;
+        if (pipe->one.status != CAPN_PACKED_CUT || seen < pipe->most || seen == sizeof pipe->seen) return;
         pipe->most = pipe->most < sizeof pipe->seen / 4 ? 4 * pipe->most : sizeof pipe->seen;
     }
     const ssize_t came = read(file, pipe->came, taken);
@@ -237,9 +219,8 @@ static size_t capn_read_packed(int file, capn_pipe *pipe) {
         /* The next one may be as long, and a little more. */
         pipe->most = taken + taken / 8 < 512 ? 512 : taken + taken / 8;
         if (pipe->most > sizeof pipe->seen) pipe->most = sizeof pipe->seen;
-        return pipe->one.length;
+        pipe->whole = pipe->one.length;
+        return;
     }
-    capn_not_taken(&pipe->one);
     pipe->have = came > 0 ? (size_t)came : 0;
-    return 0;
 }

@@ -2,7 +2,8 @@
 
 A call takes any object that has a buffer, and one message in it. It raises `Refusal` where the program `capn` refuses,
 and `MemoryError` where memory runs out; `TypeError` and `ValueError` for arguments that are wrong in themselves, before
-any byte is read.
+any byte is read. What is read of a message raises `Mismatch` where it has something else. Both are a `ValueError`:
+whatever a message has, reading it raises nothing else.
 
 Other threads run meanwhile, and the library relies on bytes that stay as they are. So those of an object that may
 change, as a `bytearray`, a mapped file or an array does, are copied first; `bytes` are not, nor a view of them. With
@@ -25,6 +26,7 @@ from ._message import (
     Capability,
     List,
     Message,
+    Mismatch,
     Null,
     Numbers,
     Object,
@@ -59,6 +61,7 @@ __all__ = [
     "List",
     "Message",
     "Messages",
+    "Mismatch",
     "Null",
     "Numbers",
     "Object",

@@ -152,14 +152,32 @@ def canonical(data: Buffer, form: Form = "stream", limits: Limits = _USUAL, *, i
         lambda status, report: refused(status, report, number, data, given, bounds))
 
 
-def is_canonical(data: Buffer, limits: Limits = _USUAL, *, in_place: bool = False) -> bool:
-    """Whether bytes, read bare, are the canonical bytes of their value. A refusal if they have none."""
+def is_canonical(
+    data: Buffer, limits: Limits = _USUAL, *, form: Form = "bare", in_place: bool = False
+) -> bool:
+    """Whether one message has one segment, which is the canonical bytes of its value. A refusal if it has none.
+
+    Without a form the bytes are read bare. A frame is not bare words: with its table before it, nearly any message of
+    one segment passes as canonical. So of a frame pass `form="stream"`; of a packed one it is said of what it unpacks
+    to."""
+    if form != "bare":
+        return _is_canonical_frame(data, form, limits, in_place)
     given, bounds, report = taken(data, in_place), _laid_out(limits), _report()
     status = lib.capn_is_canonical(given, len(given), bounds, report)
     if status not in (lib.CAPN_OK, lib.CAPN_NOT_CANONICAL):
         raise refused(status, report, lib.CAPN_BARE, data, given, bounds)
     _reports.append(report)
     return bool(status == lib.CAPN_OK)
+
+
+def _is_canonical_frame(data: Buffer, form: Form, limits: Limits, in_place: bool) -> bool:
+    """The same of a message that has a table, by a survey."""
+    surveyed = survey(data, form, limits, in_place=in_place)
+    if surveyed.capability is not None:
+        report = _report()
+        report.at = surveyed.capability
+        raise failure(lib.CAPN_CAPABILITY, report)
+    return surveyed.canonical
 
 
 def digest(data: Buffer, form: Form = "stream", limits: Limits = _USUAL, *, in_place: bool = False) -> bytes:

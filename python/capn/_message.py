@@ -6,7 +6,7 @@ from array import array
 from operator import index
 from struct import pack, unpack
 from types import TracebackType
-from typing import Any, Iterator, Literal, Sequence, TypeVar, Union, overload
+from typing import TYPE_CHECKING, Any, Iterator, Literal, NoReturn, Sequence, TypeVar, Union, overload
 from weakref import WeakValueDictionary
 
 from ._bytes import Buffer, no_buffer
@@ -21,6 +21,21 @@ _entries_type = ffi.typeof("capn_entry[]")
 # The entries for which there is room at once; if there are more, the library says how many.
 _FEW = 64
 _WIDTHS = (8, 16, 32, 64)
+# What objects of some kinds have, and of others not.
+_OF_KINDS = ("words", "slots", "word", "slot", "uint", "int", "float", "bool", "text", "view", "index")
+
+
+class Mismatch(ValueError):
+    """A message has something else than is asked for: an object of another kind, or fewer elements. Whoever sends a
+    message chooses that, so it is a `ValueError`, as a refusal is; it is an `IndexError` or an `AttributeError` too."""
+
+
+class _Missing(Mismatch, IndexError):
+    """There is no such element."""
+
+
+class _Other(Mismatch, AttributeError):
+    """An object of this kind has no such attribute."""
 
 
 class Object:
@@ -40,6 +55,16 @@ class Object:
         """The word that `capn show` has for it."""
         raise NotImplementedError
 
+    def struct(self) -> Body:
+        """What is read as a struct: the struct that it is, and of a null pointer one without words and slots. A
+        `Mismatch` of anything else."""
+        raise Mismatch(f"there is no struct, but {self!r}")
+
+    def list(self) -> Sequence[Any]:
+        """What is read as a list: the list that it is, and of a null pointer one without elements. A `Mismatch` of
+        anything else. What its elements are is said by its `kind`."""
+        raise Mismatch(f"there is no list, but {self!r}")
+
     def __eq__(self, other: object) -> bool:
         if not isinstance(other, (Object, Row)):
             return NotImplemented
@@ -48,15 +73,12 @@ class Object:
     def __repr__(self) -> str:
         return f"<capn {self.kind}>"
 
+    if not TYPE_CHECKING:
 
-class Null(Object):
-    """A null pointer."""
-
-    __slots__ = ()
-    kind: Literal["null"] = "null"
-
-    def __bool__(self) -> bool:
-        return False
+        def __getattr__(self, name: str) -> NoReturn:
+            # What other kinds have is not here because of the message.
+            wrong = _Other if name in _OF_KINDS else AttributeError
+            raise wrong(f"an object of class {type(self).__name__} has no {name}")
 
 
 class Capability(Object):
@@ -89,7 +111,10 @@ class _Items(Sequence[_T]):
     def __getitem__(self, i: int | slice) -> _T | list[_T]:
         if isinstance(i, slice):
             return [self._item(k) for k in range(*i.indices(len(self)))]
-        return self._item(range(len(self))[i])
+        try:
+            return self._item(range(len(self))[i])
+        except IndexError:
+            raise _Missing(f"there is no element {i}: they are {len(self)}") from None
 
     def __iter__(self) -> Iterator[_T]:
         return map(self._item, range(len(self)))
@@ -170,6 +195,20 @@ class Body:
         """A bit."""
         return bool(self._field(1, offset)) is not default
 
+    def word(self, i: builtins.int) -> builtins.int:
+        """A data word as it is stored, a number below 2^64; 0 where the struct is too short for it."""
+        return self._field(64, i)
+
+    def slot(self, i: builtins.int) -> Value:
+        """The object of a slot; null where the struct doesn't have the slot."""
+        if i < 0:
+            raise ValueError(f"a slot has a number from 0 on, not {i}")
+        return self.slots[i] if i < len(self.slots) else Null(self.slots._message, -1)
+
+    def struct(self) -> Body:
+        """Itself, as an object is read as a struct."""
+        return self
+
     def text(self, i: builtins.int, default: str = "") -> str:
         """The text of a slot, or the default where it is null or missing. A `ValueError` if another object is there, or
         no text in UTF-8."""
@@ -207,11 +246,46 @@ class Row(Body):
         return f"<capn row, {len(self.words)} words, {len(self.slots)} slots>"
 
 
+class Null(Object, Body):
+    """A null pointer. It is read as a struct without words and slots, and as a list without elements."""
+
+    __slots__ = ()
+    kind: Literal["null"] = "null"  # type: ignore[assignment]
+    words = memoryview(b"").cast("Q")
+
+    def __init__(self, message: Message, at: int) -> None:
+        # A slot that a struct doesn't have has no entry.
+        self._message, self._at, self._entry = message, at, message._entries[max(at, 0)]
+
+    @property
+    def slots(self) -> Slots:  # type: ignore[override]
+        """None."""
+        return Slots(self._message, ())
+
+    def struct(self) -> Body:
+        """Itself: a struct without words and slots."""
+        return self
+
+    def list(self) -> Sequence[Any]:
+        """A list without elements."""
+        return ()
+
+    def __bool__(self) -> bool:
+        return False
+
+    def __repr__(self) -> str:
+        return "<capn null>"
+
+
 class Struct(Object, Body):
     """A struct."""
 
     __slots__ = ("words", "slots")
     kind: Literal["struct"] = "struct"
+
+    def struct(self) -> Body:
+        """Itself."""
+        return self
 
     def __init__(self, message: Message, at: int) -> None:
         Object.__init__(self, message, at)
@@ -230,6 +304,10 @@ class List(Object, _Items[_T]):
 
     def __len__(self) -> int:
         return int(self._entry.count)
+
+    def list(self) -> Sequence[Any]:
+        """Itself."""
+        return self
 
     def __eq__(self, other: object) -> bool:
         return _same(self, other) if isinstance(other, (Object, Row)) else self._is_list(other)
@@ -300,11 +378,13 @@ class Bytes(_Numbers):
     @overload
     def __getitem__(self, i: slice) -> bytes: ...
     def __getitem__(self, i: int | slice) -> int | bytes:
-        return self.view[i].tobytes() if isinstance(i, slice) else self.view[i]
+        return self.view[i].tobytes() if isinstance(i, slice) else super().__getitem__(i)
 
-    def text(self) -> str:
+    def text(self, i: int | None = None, default: str = "") -> str:
         """The text that it is, without the zero byte at its end. A `ValueError` if there is no such byte, or if the
-        others are not UTF-8."""
+        others are not UTF-8; and if the text of a slot is asked for, as of a struct."""
+        if i is not None:
+            raise Mismatch(f"there is no struct, but {self!r}")
         if not self.view or self.view[-1]:
             raise ValueError("the last byte of a text is zero, and of this list of bytes it is not")
         return self.view[:-1].tobytes().decode()
@@ -416,7 +496,12 @@ def _same(one: Any, other: Any) -> bool:
 
 
 class _Closed:
-    """The entries of a message that was closed: none."""
+    """The entries of a message that was closed: none, but those that objects have are kept as long as these."""
+
+    __slots__ = ("_kept",)
+
+    def __init__(self, kept: Any) -> None:
+        self._kept = kept
 
     def __getitem__(self, at: int) -> Any:
         raise ValueError("the message is closed")
@@ -485,7 +570,7 @@ class Message:
         for view in list(self._views.values()) if self._views is not None else []:
             view.release()
         self._data.release()
-        self._entries = _Closed()
+        self._entries = _Closed(self._entries)
         self._places = {}
 
     def __enter__(self) -> Message:

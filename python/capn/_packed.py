@@ -14,7 +14,7 @@ __all__ = ["Packed", "Piped"]
 
 _first, _unpack_some = lib.capn_first, lib.capn_unpack_some
 _look_at_one, _look_on = lib.capn_look_at_one, lib.capn_look_on
-_not_taken, _read_packed, _peek_at = lib.capn_not_taken, lib.capn_read_packed, lib.capn_peek
+_read_packed, _peek_at = lib.capn_read_packed, lib.capn_peek
 _one_type, _pipe_type = ffi.typeof("capn_packed_one *"), ffi.typeof("capn_pipe *")
 
 
@@ -32,53 +32,36 @@ class Packed(Messages):
         self._peek, self._out = peek, splitter._out
         self._words = ffi.buffer(splitter._out)
         self._one = one or ffi.new(_one_type, {"limits": self._bounds[0], "out": self._out, "room": PIECE})
-        # Messages that a group ended all at once.
+        # Messages that a group ended all at once, the last one first.
         self._ready: list[bytes] = []
         # Whether it may be within a message, or can't be looked into.
         self._has_begun = peek is None
 
-    @property
-    def number(self) -> int:
-        return self._number + self._one.number  # type: ignore[no-any-return]
-
-    @property
-    def offset(self) -> int:
-        return self._offset + self._one.offset  # type: ignore[no-any-return]
-
-    def _count(self) -> None:
-        """Counts here what was taken by a look at all of it."""
-        one = self._one
-        self._number += one.number
-        self._offset += one.offset
-        self._taken += one.taken
-        one.number = one.offset = one.taken = 0
-
     def _is_between(self) -> bool:
         splitter = self._splitter
-        return not (self._held or self._ready or splitter._held or splitter._text or self._over is not None)
+        return not (self._held or self._new or self._ready or splitter._held or splitter._text
+                    or self._over is not None)
 
     def __next__(self) -> bytes:
-        if self._has_begun:
+        new = self._new
+        if self._has_begun or new:
             return self._any()
         # As most messages are: short, all of it can be seen, and it ends where a group does.
         seen = self._peek(1)  # type: ignore[misc]
         if seen.__class__ is bytes and seen:
             one, size = self._one, len(seen)
-            try:
-                taken = _look_at_one(seen, size, one)
-                if taken:
-                    piece = self._read(taken)
-                    if piece and len(piece) == taken:
-                        return self._words[0:one.length]  # type: ignore[no-any-return]
-            except BaseException:
-                _not_taken(one)
-                raise
+            taken = _look_at_one(seen, size, one)
             if taken:
-                _not_taken(one)
-                self._has_begun = True
-                self._came(piece)
+                new.extend(map(self._read, (taken,)))
+                if new and new[0] and len(new[0]) == taken:
+                    need = one.length
+                    self._last = frame = self._words[0:need]
+                    self._number += 1
+                    self._offset += need
+                    self._taken += taken
+                    del new[:]
+                    return frame  # type: ignore[no-any-return]
             elif one.status == PACKED_CUT:
-                self._has_begun = True
                 return self._crossing(seen)
             elif one.status == MEMORY:
                 raise failure(MEMORY, one.report)
@@ -87,83 +70,82 @@ class Packed(Messages):
     def _crossing(self, seen: bytes) -> bytes:
         """The next message, of which all that was seen is a part: by looks at what comes next, if those have the
         rest of it."""
-        one, peek, taken = self._one, self._peek, 0
+        one, peek, new, taken = self._one, self._peek, self._new, 0
+        self._has_begun = True
         while not taken and one.status == PACKED_CUT:
-            piece = self._read(len(seen))
-            self._came(piece)
-            if piece != seen:
+            self._more(len(seen))
+            is_seen = new[0] == seen
+            self._take()
+            if not is_seen:
                 break
             seen = peek(1)  # type: ignore[misc]
             if not seen:
                 break
             text = bytes(self._held) + seen
-            try:
-                taken = _look_on(text, len(text), one)
-            finally:
-                _not_taken(one)
+            taken = _look_on(text, len(text), one)
         if taken:
-            piece = self._read(taken - len(self._held))
-            if piece and len(piece) == taken - len(self._held):
-                self._held = b""
-                self._has_begun = False
+            rest = taken - len(self._held)
+            self._more(rest)
+            if new[0] and len(new[0]) == rest:
                 need = one.length
-                self._taken += taken
+                self._last = frame = self._words[0:need]
                 self._number += 1
                 self._offset += need
-                return self._words[0:need]  # type: ignore[no-any-return]
-            self._came(piece)
+                self._taken += taken
+                self._held, self._has_begun = b"", False
+                del new[:]
+                return frame  # type: ignore[no-any-return]
         return self._any()
 
     def _any(self) -> bytes:
-        self._count()
         self._has_begun = True
-        frame = self._whole()
-        self._has_begun = self._peek is None or not self._is_between()
+        splitter, frame = self._splitter, self._whole()
+        if not (self._peek is None or self._held or self._new or self._ready or splitter._held or splitter._text
+                or self._over is not None):
+            self._has_begun = False
         return frame
 
     def _whole(self) -> bytes:
         """The next message, of whatever shape."""
-        if self._over is not None:
-            raise self._over
         splitter = self._splitter
         while not self._ready:
+            if self._over is not None:
+                raise self._over
+            self._take()
             if self._peek is not None and not splitter._held and not splitter._text:
                 frame = self._at_once(self._peek)
                 if frame is not None:
-                    self._number += 1
-                    self._offset += len(frame)
                     return frame
-            elif not splitter.wanted:
-                self._gives(b"")
+            elif self._held or not splitter.wanted:
+                self._gives()
             elif self._peek is not None and (seen := self._peek(1)):
                 self._part(seen)
             else:
-                piece = self._read(1 if self._peek is not None else splitter.wanted)
-                if not piece:
-                    self._stop(piece)
-                self._gives(piece)
-        frame = self._ready.pop(0)
+                self._more(1 if self._peek is not None else splitter.wanted)
+        frame = self._ready[-1]
+        need = len(frame)
+        self._last = frame
         self._number += 1
-        self._offset += len(frame)
+        self._offset += need
+        del self._ready[-1]
         return frame
 
-    def _gives(self, text: bytes, at: int = 0, words: int = 0) -> None:
-        """Gives packed bytes to the splitter, of which the first ones were unpacked already, and keeps its refusal."""
-        splitter = self._splitter
+    def _gives(self, at: int = 0, words: int = 0) -> None:
+        """Gives what is held to the splitter, of which the first bytes were unpacked already, and keeps its refusal."""
+        splitter, given = self._splitter, bytes(self._held)
         splitter.number, splitter.offset, splitter._taken = self._number, self._offset, self._taken
-        try:
-            self._ready = splitter._went_on(text, at, words)
-        except Refusal as refusal:
-            self._over = refusal
-            raise
-        finally:
-            self._taken = splitter._taken
+        found, fault = splitter._fed(given, at, words)
+        self._held, self._taken, self._ready = b"", splitter._taken, found[::-1]
+        if fault is not None:
+            if isinstance(fault, Refusal):
+                self._over = fault
+            raise fault
 
     def _end(self) -> None:
-        held, self._held = bytes(self._held), b""
-        self._gives(held)
+        splitter = self._splitter
+        splitter.number, splitter.offset = self._number, self._offset
         try:
-            self._splitter.end()
+            splitter.end()
         except Refusal as refusal:
             self._over = refusal
             raise
@@ -174,8 +156,11 @@ class Packed(Messages):
         held, seen, report, out = bytes(self._held), peek(1), self._report, self._out
         if not seen:
             # Reading says whether the file has ended.
-            self._came(self._read(1))
-            held = bytes(self._held)
+            if held:
+                self._gives()
+            else:
+                self._more(1)
+            return None
         text = held + seen if held else bytes(seen)
         need, status, taken = HEAD, OK, 0
         while need <= PIECE:
@@ -186,37 +171,43 @@ class Packed(Messages):
             if report.length < need:
                 at, words = taken, report.length
                 taken = at + group(text[at:at + 10]) if status == PACKED_TOO_LONG else len(text)
-                if self._take(taken - len(held)) and len(self._held) == taken:
-                    self._held = b""
-                    self._gives(text[:taken], at, words)
+                if self._reads(taken - len(held)) and self._held == text[:taken]:
+                    self._gives(at, words)
                     return None
                 break
             first = _first(out, need, self._bounds, report)
             if first == OK:
-                if self._take(taken - len(held)):
-                    self._held = b""
+                if self._reads(taken - len(held)):
+                    left = bytes(self._held)[taken:]
+                    self._last = frame = self._words[0:need]
+                    self._number += 1
+                    self._offset += need
                     self._taken += taken
-                    return self._words[0:need]  # type: ignore[no-any-return]
+                    self._held = left
+                    return frame  # type: ignore[no-any-return]
                 break
             if first != FRAME_CUT:
                 self._refuse(first)
             need = report.length
         else:
-            self._take(taken - len(held))
+            self._reads(taken - len(held))
         # The splitter unpacks what comes after that, and nothing twice.
-        held, self._held = bytes(self._held), b""
-        self._gives(held)
+        self._gives()
         return None
 
-    def _take(self, count: int) -> bool:
+    def _reads(self, count: int) -> bool:
         """Reads as many bytes of those that were seen, and holds them: whether they all came."""
         if count <= 0:
             return True
-        piece = self._read(count)
+        self._more(count)
+        new = self._new
+        piece = new[0]
         if piece is None:
             self._stop(piece)
+        size = len(piece)
         self._held += piece
-        return len(piece) == count
+        del new[:]
+        return size == count
 
     def _part(self, seen: bytes) -> None:
         """Reads what can be seen of the message of which the splitter has the beginning, but no group after that in
@@ -231,13 +222,8 @@ class Packed(Messages):
         taken = at
         if words < room:
             taken = at + group(text[at:at + 10]) if status == PACKED_TOO_LONG else len(text)
-        piece = self._read(taken - held)
-        if not piece:
-            self._stop(piece)
-        if len(piece) == taken - held:
-            self._gives(piece, at, words)
-        else:
-            self._gives(piece)
+        if self._reads(taken - held) and self._held == text[held:taken]:
+            self._gives(at, words)
 
 
 class Piped(Packed):
@@ -258,12 +244,21 @@ class Piped(Packed):
         self._number_of = number_of
 
     def __next__(self) -> bytes:
-        if not self._has_begun:
-            count = _read_packed(self._number_of(), self._pipe)
-            if count:
-                return self._words[0:count]  # type: ignore[no-any-return]
+        if not self._has_begun and not self._new:
             pipe = self._pipe
+            if not pipe.whole and not pipe.have:
+                _read_packed(self._number_of(), pipe)
+            count = pipe.whole
+            if count:
+                self._last = frame = self._words[0:count]
+                self._number += 1
+                self._offset += count
+                self._taken += self._one.take
+                pipe.whole = 0
+                return frame  # type: ignore[no-any-return]
             if pipe.have:
                 # The pipe gave something else than was seen in it, since others read it.
-                self._held, pipe.have = ffi.buffer(pipe.came)[0:pipe.have], 0
+                came = ffi.buffer(pipe.came)
+                self._held, self._has_begun = came[0:pipe.have], True
+                pipe.have = 0
         return self._any()

@@ -1,33 +1,45 @@
-"""The messages of a file, read as they come in."""
+"""The messages of a file, read as they come in.
+
+A signal's handler may raise an exception after any call that Python makes, and what that call answered is lost then. So
+a file is read by a call of C that puts what it gave into a list, `_new`. From there bytes are taken, and messages are
+counted and handed out, by lines that call nothing: each is done in whole or not at all, and nothing is lost or read
+twice."""
 from __future__ import annotations
 
-from collections import deque
 from io import FileIO
 from typing import Any, Callable, Iterator, NoReturn
 
+from ._bytes import copied
 from ._capn import ffi, lib
 from ._refusal import Refusal
 from ._splitter import FRAME_CUT, HEAD, LEAST, OK, ONE, PIECE, Splitter
 
-__all__ = ["Ahead", "Messages", "Raw"]
+__all__ = ["Ahead", "Buffered", "Messages", "Raw"]
 
 _raw, _raw_type = ffi.new_allocator(should_clear_after_alloc=False), ffi.typeof("capn_raw *")
 _first, _read_one = lib.capn_first, lib.capn_read_one
 # How many tables are remembered at most, each with how many bytes follow it.
 _TABLES = 256
+_HEADS, _PIECES, _ONES = (HEAD,), (PIECE,), (1,)
 
 
 class Messages(Iterator[bytes]):
-    """The messages of a stream, one frame each; `messages` makes it. It goes on after an exception of the file."""
+    """The messages of a stream, one frame each; `messages` makes it. It goes on after an exception of the file, and
+    after one of a signal's handler.
 
-    __slots__ = ("_splitter", "_read", "_report", "_bounds", "_sizes", "_held", "_need", "_over", "_taken", "_number",
-                 "_offset")
+    A loop over it loses no message then. Where `next` is called, the exception may come when it has just answered: the
+    message is counted, and `last` has it."""
+
+    __slots__ = ("_splitter", "_read", "_report", "_bounds", "_sizes", "_new", "_held", "_need", "_over", "_taken",
+                 "_number", "_offset", "_last")
 
     def __init__(self, read: Callable[[int], Any], splitter: Splitter) -> None:
         self._read, self._splitter = read, splitter
         self._report, self._bounds = splitter._report, splitter._bounds
         # What `_size` answered of the tables that came, by the table: to find it here is faster than to call.
         self._sizes: dict[bytes, int] = {}
+        # What the file gave, and was not taken yet.
+        self._new: list[Any] = []
         # The bytes of the message that has begun, and how many say more about it.
         self._held: bytes | bytearray = b""
         self._need = LEAST
@@ -36,6 +48,7 @@ class Messages(Iterator[bytes]):
         # Of a packed stream, how many bytes came before what is held.
         self._taken = 0
         self._number = self._offset = 0
+        self._last: bytes | None = None
 
     def __repr__(self) -> str:
         return f"<capn messages, {self.number} so far>"
@@ -50,35 +63,32 @@ class Messages(Iterator[bytes]):
         """Where the next one begins, in the unpacked bytes."""
         return self._offset
 
-    def _count(self) -> None:
-        """Counts here what was counted elsewhere."""
+    @property
+    def last(self) -> bytes | None:
+        """The message that was handed out last, or None."""
+        return self._last
 
     def _is_between(self) -> bool:
         """Whether the file stands between two messages, and has not been refused."""
-        return not self._held and self._over is None
+        return not self._held and not self._new and self._over is None
 
     def __next__(self) -> bytes:
-        if self._held or self._over is not None:
+        new = self._new
+        if new or self._held or self._over is not None:
             return self._any()
         # As most messages are: of one segment, short, and read by two calls of the file.
         read = self._read
-        head = read(HEAD)
-        if type(head) is bytes:
+        new.extend(map(read, _HEADS))
+        if new and type(head := new[0]) is bytes:
             size = self._sizes.get(head) or self._size(head)
             if size:
-                try:
-                    body = read(size)
-                except BaseException:
-                    self._held = head
-                    raise
-                if type(body) is bytes and len(body) == size:
+                new.extend(map(read, (size,)))
+                if len(new) == 2 and type(body := new[1]) is bytes and len(body) == size:
+                    self._last = frame = head + body
                     self._number += 1
                     self._offset += HEAD + size
-                    return head + body
-                self._held = head
-                self._came(body)
-                return self._any()
-        self._came(head)
+                    del new[:]
+                    return frame  # type: ignore[no-any-return]
         return self._any()
 
     def _size(self, head: bytes) -> int:
@@ -94,25 +104,37 @@ class Messages(Iterator[bytes]):
             sizes[head] = size
         return size
 
-    def _came(self, piece: Any) -> None:
+    def _more(self, size: int) -> None:
+        """Has the file give at most so many bytes."""
+        self._new.extend(map(self._read, (size,)))
+        if not self._new:
+            # So a file ends a loop by an exception of its own.
+            raise StopIteration
+
+    def _take(self) -> None:
         """Holds what the file gave, or raises what it means that it gave nothing."""
-        if not piece:
-            self._stop(piece)
-        self._held += piece
+        new = self._new
+        while new:
+            piece = new[0]
+            if not piece:
+                self._stop(piece)
+            self._held += piece
+            del new[0]
 
     def _any(self) -> bytes:
         """The next message, of whatever shape, of which some bytes are held."""
-        if self._over is not None:
-            raise self._over
         report = self._report
         while True:
+            if self._over is not None:
+                raise self._over
+            self._take()
             have, need = len(self._held), self._need
             if have < need:
                 missing = max(need, HEAD) - have
                 if missing > PIECE:
                     # Memory grows as bytes come.
                     missing = min(missing, max(PIECE, have))
-                self._came(self._read(missing))
+                self._more(missing)
                 continue
             frame = bytes(self._held)
             status = _first(frame, have, self._bounds, report)
@@ -120,9 +142,10 @@ class Messages(Iterator[bytes]):
                 need = report.length
                 # What is left, if the file gave more than it was asked for.
                 self._held, self._need = frame[need:], LEAST
+                self._last = frame = frame[:need]
                 self._number += 1
                 self._offset += need
-                return frame[:need]
+                return frame
             if status != FRAME_CUT:
                 self._refuse(status)
             self._need = report.length
@@ -139,6 +162,7 @@ class Messages(Iterator[bytes]):
 
     def _stop(self, piece: Any) -> NoReturn:
         if piece is None:
+            del self._new[:]
             raise BlockingIOError("the file has no bytes now, and has not ended")
         self._end()
         self._over = StopIteration()
@@ -148,6 +172,39 @@ class Messages(Iterator[bytes]):
         """Refuses a message that is cut."""
         if self._held:
             self._refuse(FRAME_CUT)
+
+
+class Buffered(Messages):
+    """The same of a buffered file that can't be wound, as of a socket. It would lose what it has read if a signal's
+    handler raised while it waits for more. So it is looked into, which loses nothing, and gives what it has."""
+
+    __slots__ = ("_peek", "_some")
+
+    def __init__(self, file: Any, splitter: Splitter) -> None:
+        super().__init__(file.read, splitter)
+        self._peek, self._some = file.peek, file.read1
+
+    def __next__(self) -> bytes:
+        new = self._new
+        if not new and not self._held and self._over is None:
+            # As most messages are: of one segment, and all of it can be seen.
+            seen = self._peek(1)
+            head = seen[:HEAD]
+            size = self._sizes.get(head) or self._size(head)
+            if size and len(seen) >= HEAD + size:
+                size += HEAD
+                new.extend(map(self._some, (size,)))
+                if new and len(frame := new[0]) == size and frame.startswith(head):
+                    self._last = frame
+                    self._number += 1
+                    self._offset += size
+                    del new[:]
+                    return frame  # type: ignore[no-any-return]
+        return self._any()
+
+    def _more(self, size: int) -> None:
+        # What is there is given at once; where nothing is, `read` tells the end from none now.
+        self._new.extend(map(self._some if self._peek(1) else self._read, (size,)))
 
 
 class Raw(Messages):
@@ -161,28 +218,25 @@ class Raw(Messages):
         # The number that the system gave to the file; it raises an exception if the file is closed.
         self._number_of = file.fileno
         self._raw = _raw(_raw_type)
-        self._raw.limits, self._raw.number, self._raw.offset, self._raw.have = self._bounds[0], 0, 0, 0
+        self._raw.limits, self._raw.have, self._raw.whole = self._bounds[0], 0, 0
         self._words = ffi.buffer(self._raw.out)
 
-    @property
-    def number(self) -> int:
-        return self._number + self._raw.number  # type: ignore[no-any-return]
-
-    @property
-    def offset(self) -> int:
-        return self._offset + self._raw.offset  # type: ignore[no-any-return]
-
     def __next__(self) -> bytes:
-        if self._held or self._over is not None:
+        if self._held or self._new or self._over is not None:
             return self._any()
-        # A signal's handler that raises an exception here leaves what was read in `_raw`.
-        count = _read_one(self._number_of(), self._raw)
-        if count:
-            return self._words[0:count]  # type: ignore[no-any-return]
-        # The file says what it means that no more came.
         raw = self._raw
-        self._number, self._offset, self._held = self.number, self.offset, self._words[0:raw.have]
-        raw.number = raw.offset = raw.have = 0
+        if not raw.whole:
+            _read_one(self._number_of(), raw)
+        count = raw.whole
+        if count:
+            self._last = frame = self._words[0:count]
+            self._number += 1
+            self._offset += count
+            raw.whole = 0
+            return frame  # type: ignore[no-any-return]
+        # The file says what it means that no more came.
+        self._held = self._words[0:raw.have]
+        raw.have = 0
         return self._any()
 
 
@@ -195,35 +249,45 @@ class Ahead(Messages):
         super().__init__(read, splitter)
         # What reads as many bytes as there are, and does not tell none at the end from none now.
         self._some = some
-        self._ready: deque[bytes] = deque()
+        # Messages that are whole, the last one first.
+        self._ready: list[bytes] = []
 
     def __next__(self) -> bytes:
-        ready = self._ready
-        if not ready:
-            self._more()
-        frame = ready.popleft()
+        while not self._ready:
+            self._read_on()
+        frame = self._ready[-1]
+        size = len(frame)
+        self._last = frame
         self._number += 1
-        self._offset += len(frame)
+        self._offset += size
+        del self._ready[-1]
         return frame
 
-    def _more(self) -> None:
-        splitter = self._splitter
-        while not self._ready:
-            if self._over is not None:
-                raise self._over
-            piece: Any = b""
-            is_more = splitter.wanted > 0
-            if is_more:
-                piece = self._some(PIECE)
-                if piece is not None and not piece:
-                    piece = self._read(1)
-            try:
-                if is_more and not piece:
-                    self._stop(piece)
-                self._ready.extend(splitter.feed(piece))
-            except Refusal as refusal:
-                self._over = refusal
-                raise
+    def _read_on(self) -> None:
+        if self._over is not None:
+            raise self._over
+        splitter, new, piece = self._splitter, self._new, b""
+        if splitter.wanted > 0:
+            if not new:
+                new.extend(map(self._some, _PIECES))
+            if len(new) == 1 and new[0] is not None and not new[0]:
+                new.extend(map(self._read, _ONES))
+            if not new:
+                raise StopIteration
+            piece = new[-1]
+            if not piece:
+                self._stop(piece)
+        found, fault = splitter._fed(piece if type(piece) is bytes else copied(piece))
+        self._ready = found[::-1]
+        del new[:]
+        if fault is not None:
+            if isinstance(fault, Refusal):
+                self._over = fault
+            raise fault
 
     def _end(self) -> None:
-        self._splitter.end()
+        try:
+            self._splitter.end()
+        except Refusal as refusal:
+            self._over = refusal
+            raise

@@ -1,14 +1,14 @@
 """The messages of a file that can be wound, and what is best for each file."""
 from __future__ import annotations
 
-from io import BufferedRandom, BufferedReader, BytesIO, FileIO
+from io import BufferedRandom, BufferedReader, BufferedRWPair, BytesIO, FileIO
 from os import fstat, pread
 from stat import S_ISFIFO
 from typing import Any, Callable
 
 from ._capn import ffi, lib
 from ._packed import Packed, Piped
-from ._reader import Messages, Raw
+from ._reader import Buffered, Messages, Raw
 from ._refusal import failure
 from ._splitter import HEAD, MEMORY, ONE, PIECE, Splitter
 
@@ -18,7 +18,9 @@ __all__ = ["Seen", "reader"]
 _LONG, _FEW = 8192, 4096
 # From how many bytes on a message is passed over in a file that buffers: beyond a buffer that takes less than reading.
 _BEYOND, _NEVER = 2048, 1 << 64
-_BUFFERED = (BufferedReader, BufferedRandom)
+_BUFFERED = (BufferedReader, BufferedRandom, BufferedRWPair)
+# From where on a file is wound.
+_HERE = (1,)
 # How many messages are found at once.
 _MOST = 128
 _look_at, _look_at_packed = lib.capn_look_at, lib.capn_look_at_packed
@@ -71,28 +73,38 @@ class Seen(Messages):
         return self._offset + (self._ends[handed - 1] if handed else 0)
 
     def __next__(self) -> bytes:
-        rest = self._rest
+        rest, new = self._rest, self._new
         if self._ready or rest._is_between() and self._is_found():
-            taken, at, frame = self._ready[-1]
+            ready = self._ready
+            taken, at, frame = ready[-1]
+            # What the file answers is in `new`, also after an exception: so it is wound once for each read.
             if self._place < 0:
-                piece = self._read(taken)
+                if not new:
+                    new.extend(map(self._read, (taken,)))
+                piece = new[0]
                 if piece and len(piece) == taken and self._text.startswith(piece, at):
-                    del self._ready[-1]
-                    return frame or piece
+                    self._last = frame = frame or piece
+                    del ready[-1], new[:]
+                    return frame
                 taken = len(piece or b"")
-            elif frame is not None and self._seek(taken, 1) == self._place + at + taken:
-                del self._ready[-1]
-                return frame
-            self._seek(-taken, 1)
+            else:
+                if not new:
+                    new.extend(map(self._seek, (taken,), _HERE))
+                if new[0] == self._place + at + taken:
+                    self._last = frame
+                    del ready[-1], new[:]
+                    return frame  # type: ignore[return-value]
+            if len(new) < 2:
+                new.extend(map(self._seek, (-taken,), _HERE))
             # What was seen says nothing of what comes next.
             self._report.length = 0
+            del new[:]
         self._close()
         rest._number, rest._offset, rest._taken = self._number, self._offset, self._taken
         try:
-            return self._long() or next(rest)
+            return self._long() or rest.__next__()
         finally:
-            rest._count()
-            self._number, self._offset, self._taken = rest._number, rest._offset, rest._taken
+            self._number, self._offset, self._taken, self._last = rest._number, rest._offset, rest._taken, rest._last
 
     def _close(self) -> None:
         """Counts the messages that were seen and handed out, and forgets the others."""
@@ -101,8 +113,7 @@ class Seen(Messages):
             self._number += handed
             self._offset += self._ends[handed - 1]
             self._taken += self._takes[handed - 1]
-        self._ready.clear()
-        self._found = 0
+        self._ready, self._found = [], 0
 
     def _is_found(self) -> bool:
         """Looks at the bytes that come next: whether there are whole messages."""
@@ -127,27 +138,32 @@ class Seen(Messages):
         self._place = -1 if mean < self._short else place
         words = text if out is None else ffi.buffer(out)
         is_cut = out is not None or self._place >= 0
-        ready, begin, at = self._ready, 0, 0
+        ready: list[tuple[int, int, bytes | None]] = []
+        begin, at = 0, 0
         for end, take in zip(ends, takes):
             if is_cut:
                 frame = words[begin:end]
             ready.append((take - at, at, frame))
             begin, at = end, take
-        ready.reverse()
-        self._found = len(ready)
-        return bool(ready)
+        found = len(ready)
+        self._ready, self._found = ready[::-1], found
+        return found > 0
 
     def _long(self) -> bytes | None:
         """A message of one segment, of which only the beginning was seen."""
         rest, need, text = self._rest, self._report.length, self._text
         if self._out is not None or not HEAD < need <= PIECE or not text.startswith(ONE) or not rest._is_between():
             return None
-        piece = self._read(need)
+        new = rest._new
+        rest._more(need)
+        piece = new[0]
         if piece and len(piece) == need and piece.startswith(text):
+            rest._last = piece
             rest._number += 1
             rest._offset += need
+            del new[:]
             return piece  # type: ignore[no-any-return]
-        rest._came(piece)
+        # What was read of it is taken by what reads all other messages.
         return None
 
 
@@ -175,10 +191,11 @@ def reader(file: Any, splitter: Splitter) -> Messages:
             return b""
 
     def seen(least: int) -> Any:
-        found = read(_FEW)
-        if found:
-            file.seek(-len(found), 1)
-        return found
+        place = file.seek(0, 1)
+        try:
+            return read(_FEW)
+        finally:
+            file.seek(place)
 
     look = peek if callable(peek) else seen
     raw = file.raw if is_wound and kind is BufferedReader else file
@@ -193,4 +210,6 @@ def reader(file: Any, splitter: Splitter) -> Messages:
         return Piped(file, splitter)
     if splitter._packed:
         return Packed(read, look if is_wound or callable(peek) else None, splitter)
+    if not is_wound and kind in _BUFFERED:
+        return Buffered(file, splitter)
     return Raw(file, splitter) if kind is FileIO and not is_wound else Messages(read, splitter)

@@ -82,26 +82,50 @@ class Splitter:
         return group(self._text) - len(self._text) if self._packed else missing
 
     def feed(self, data: Buffer) -> list[bytes]:
-        """The messages that these bytes complete. They are copied."""
+        """The messages that these bytes complete. They are copied. An exception that comes from elsewhere, as from a
+        signal's handler, leaves the splitter as it was: feed the same bytes again."""
         if self._refusal is not None:
             raise self._refusal
-        given = data if type(data) is bytes else copied(data)
-        if self._packed:
-            self._unpack(self._text + given)
-        else:
-            self._held += given
-        return self._whole()
+        found, fault = self._fed(data if type(data) is bytes else copied(data))
+        if fault is not None:
+            raise fault
+        return found
 
-    def _went_on(self, text: bytes, at: int, words: int) -> list[bytes]:
-        """The same as `feed` of packed bytes; so many of them and of those that were held were unpacked already, to so
-        many bytes of words."""
+    def _fed(self, given: bytes, at: int = 0, words: int = 0) -> tuple[list[bytes], Exception | None]:
+        """Takes bytes in: the messages that they complete, or the fault where there are none. Of packed bytes, and of
+        those that were held, so many were unpacked already, to so many bytes of words. An exception that comes from
+        elsewhere leaves all as it was."""
         if self._refusal is not None:
-            raise self._refusal
-        text = self._text + text
-        self._held += ffi.buffer(self._out, words)
-        self._text, self._taken = text[at:], self._taken + at
-        self._unpack(self._text)
-        return self._whole()
+            return [], self._refusal
+        held, text, taken, need, status = self._held, self._text, self._taken, self._need, OK
+        begin, end, count = len(held), 0, 0
+        found: list[bytes] = []
+        fault: Exception | None = None
+        refusal: Refusal | None = None
+        try:
+            if self._packed:
+                text += given
+                held += ffi.buffer(self._out, words)
+                at, status = self._unpack(text, at)
+                text, taken = text[at:], taken + at
+            else:
+                held += given
+            if status == OK and len(held) >= need:
+                end, need, status = self._whole(found)
+                count = len(found)
+            if status == MEMORY:
+                fault = failure(status, self._report)
+            elif status not in (OK, FRAME_CUT):
+                fault = refusal = self._refused(status, self.number + count + 1, self.offset + end)
+        except BaseException:
+            del held[begin:]
+            raise
+        # From here on nothing is called, so no signal is handled: all of it is done.
+        self.number += count
+        self.offset += end
+        del held[:end]
+        self._need, self._text, self._taken, self._refusal = need, text, taken, refusal
+        return found, None if found else fault
 
     def end(self) -> None:
         """Ends the stream: a refusal if a message is cut."""
@@ -115,50 +139,44 @@ class Splitter:
 
     def _refuse(self, status: int) -> None:
         """Refuses the message that has begun, for good; but memory may be there later."""
+        if status == MEMORY:
+            raise failure(status, self._report)
+        self._refusal = self._refused(status, self.number + 1, self.offset)
+
+    def _refused(self, status: int, number: int, offset: int) -> Refusal:
+        """The refusal of a message, by the last report."""
         fault = failure(status, self._report)
         if not isinstance(fault, Refusal):
             raise fault
-        self._refusal = fault._of_message(self.number + 1, self.offset)
+        return fault._of_message(number, offset)
 
-    def _unpack(self, text: bytes) -> None:
-        """Unpacks the whole groups of a text to the words that are held."""
-        report, out, at, status = self._report, self._out, 0, PACKED_TOO_LONG
+    def _unpack(self, text: bytes, at: int) -> tuple[int, int]:
+        """Unpacks the whole groups of a text from a place on, to the words that are held: where they end, and OK or
+        MEMORY."""
+        report, out, status = self._report, self._out, PACKED_TOO_LONG
         given = ffi.from_buffer("uint8_t[]", text)
         while status == PACKED_TOO_LONG:
             status = _unpack_some(given + at, len(text) - at, out, PIECE, report)
             if status in (OK, PACKED_CUT, PACKED_TOO_LONG):
                 self._held += ffi.buffer(out, report.length)
                 at += report.at
-        self._text, self._taken = text[at:], self._taken + at
-        if status not in (OK, PACKED_CUT):
-            raise failure(status, report)
+        return at, OK if status == PACKED_CUT else status
 
-    def _whole(self) -> list[bytes]:
-        """Takes the whole frames off what is held."""
-        held, need, report, look, at = self._held, self._need, self._report, self._look, 0
-        found: list[bytes] = []
-        status, have = OK, len(held)
-        if have >= need:
-            with ffi.from_buffer("uint8_t[]", held) as base:
-                whole = ffi.buffer(base)
-                while have - at >= need:
-                    status = _look_at(base + at, have - at, self._bounds, look, report)
-                    begin, need = at, LEAST
-                    for end in ffi.unpack(look.ends, look.count):
-                        found.append(whole[at:begin + end])
-                        at = begin + end
-                    if status == FRAME_CUT:
-                        need = report.length
-                    elif status != OK:
-                        break
-            self.number += len(found)
-            self.offset += at
-            del held[:at]
-            self._need = need
-            if status not in (OK, FRAME_CUT, MEMORY):
-                self._refuse(status)
-            if not found and status == MEMORY:
-                raise failure(status, report)
-            if not found and self._refusal is not None:
-                raise self._refusal
-        return found
+    def _whole(self, found: list[bytes]) -> tuple[int, int, int]:
+        """Finds the whole frames in what is held: where they end, how many bytes say more about the next one, and the
+        status of what comes there."""
+        held, need, report, look = self._held, self._need, self._report, self._look
+        status, have, at = OK, len(held), 0
+        with ffi.from_buffer("uint8_t[]", held) as base:
+            whole = ffi.buffer(base)
+            while have - at >= need:
+                status = _look_at(base + at, have - at, self._bounds, look, report)
+                begin, need = at, LEAST
+                for end in ffi.unpack(look.ends, look.count):
+                    found.append(whole[at:begin + end])
+                    at = begin + end
+                if status == FRAME_CUT:
+                    need = report.length
+                elif status != OK:
+                    break
+        return at, need, status

@@ -1,7 +1,6 @@
 """Streams of messages, read message by message."""
 from __future__ import annotations
 
-from collections import deque
 from io import BufferedReader, BytesIO
 from typing import Any, AsyncIterator, Awaitable, Callable, Iterator, Protocol
 
@@ -38,12 +37,14 @@ def messages(
     """The messages of a stream that a binary file has, or that an object with a buffer is, one frame each.
 
     Each is handed out as soon as it is there, and no byte after it is read; of a packed stream, none after the group in
-    which it ends. After an exception of the file, as `BlockingIOError` is, `next` goes on. `limits.message_words`
-    bounds each message. A refusal comes when the messages before have been handed out, and has the `number` of its
-    message and the `offset` at which that begins; each `next` after it raises it again.
+    which it ends. After an exception of the file, as `BlockingIOError` is, or of a signal's handler, `next` goes on,
+    and nothing is lost or read twice. `limits.message_words` bounds each message. A refusal comes when the messages
+    before have been handed out, and has the `number` of its message and the `offset` at which that begins; each `next`
+    after it raises it again.
 
-    No more is held than the message that has begun. But a file that can be wound, as one on a disk, is looked at, 64
-    KiB at once; it stands at the end of the message that was handed out all the same.
+    No more is held than the message that has begun, and the `last` one that was handed out. But a file that can be
+    wound, as one on a disk, is looked at, 64 KiB at once; it stands at the end of the message that was handed out all
+    the same.
 
     With `read_ahead` up to 64 KiB are read at once, as many as there are, so that messages after this one may have been
     taken off the file: faster, above all of what can't be wound, as a pipe or a socket."""
@@ -70,10 +71,13 @@ def messages(
 class Digests(Iterator[bytes]):
     """The digests of the messages of a stream; `digests` makes it."""
 
-    __slots__ = ("_messages", "_limits")
+    __slots__ = ("_messages", "_limits", "_frame", "_at")
 
     def __init__(self, found: Messages, limits: Limits) -> None:
         self._messages, self._limits = found, limits
+        # The message whose digest is next, if it was read, and where it begins.
+        self._frame: bytes | None = None
+        self._at = 0
 
     def __repr__(self) -> str:
         return f"<capn digests, of {self.number} messages so far>"
@@ -81,15 +85,22 @@ class Digests(Iterator[bytes]):
     @property
     def number(self) -> int:
         """How many messages were read."""
-        return self._messages.number
+        return self._messages.number - (self._frame is not None)
 
     def __next__(self) -> bytes:
-        offset = self._messages.offset
-        frame = next(self._messages)
+        # An exception of a signal's handler may come before the digest is handed out: the message is kept till then.
+        frame = self._frame
+        if frame is None:
+            self._at = self._messages.offset
+            self._frame = frame = self._messages.__next__()
         try:
-            return digest(frame, limits=self._limits)
+            answer = digest(frame, limits=self._limits)
         except Refusal as refusal:
-            raise refusal._of_message(self._messages.number, offset)
+            refused = refusal._of_message(self._messages.number, self._at)
+            self._frame = None
+            raise refused
+        self._frame = None
+        return answer
 
 
 def digests(
@@ -113,7 +124,8 @@ class AsyncMessages(AsyncIterator[bytes]):
 
     def __init__(self, read: Callable[[int], Awaitable[bytes]], splitter: Splitter) -> None:
         self._read, self._splitter = read, splitter
-        self._ready: deque[bytes] = deque()
+        # Messages that are whole, the last one first.
+        self._ready: list[bytes] = []
 
     def __repr__(self) -> str:
         return f"<capn messages, {self.number} so far>"
@@ -131,8 +143,10 @@ class AsyncMessages(AsyncIterator[bytes]):
             if wanted and not piece:
                 splitter.end()
                 raise StopAsyncIteration
-            self._ready.extend(splitter.feed(piece))
-        return self._ready.popleft()
+            self._ready = splitter.feed(piece)[::-1]
+        frame = self._ready[-1]
+        del self._ready[-1]
+        return frame
 
 
 def amessages(reader: AsyncReadable, limits: Limits = _USUAL, *, form: Form = "stream") -> AsyncMessages:

@@ -1,0 +1,227 @@
+"""A signal's handler that raises an exception while a stream is read: nothing is lost, and nothing read twice.
+
+Python runs a handler after a call that it made, or when a function of its own begins. So a first run of a stream is
+made with an exception after the first such call in the package, the next one after the second call, and so on, in steps
+that grow, until none is left; each time reading goes on, and all messages have to come. Then signals
+themselves, while a pipe waits."""
+import gzip
+import io
+import os
+import signal
+import socket
+import sys
+import tempfile
+import threading
+import time
+import unittest
+
+import capn
+from messages import stream
+from test_reading import Pieces
+from test_streams import SECONDS, SMALL, Blocking, Peeking
+
+LONG = stream(bytes(range(1, 249)) * 20)
+# Of one segment and of two, of no words, equal ones beside each other, and one that is longer than a look.
+MESSAGES = [SMALL, SMALL, stream(bytes(8), bytes(16)), stream(b""), SMALL, LONG, SMALL]
+
+
+class Interrupted(Exception):
+    """What the handler raises."""
+
+
+def after(count):
+    """Raises an exception after this number of calls in the package, once."""
+
+    def watch(frame, event, _):
+        nonlocal count
+        if event in ("call", "c_return") and frame.f_globals.get("__name__", "").startswith("capn."):
+            count -= 1
+            if count == 0:
+                raise Interrupted
+
+    sys.setprofile(watch)
+
+
+def taken(found):
+    """What a stream answers, which goes on after an exception of the handler, and how many of these came."""
+    got, raised = [], 0
+    try:
+        while True:
+            try:
+                got.append(found.__next__())
+            except Interrupted:
+                raised += 1
+            except StopIteration:
+                return got, raised
+    finally:
+        sys.setprofile(None)
+
+
+class EachCall(unittest.TestCase):
+    """An exception after each call that is made."""
+
+    def files(self, data, folder):
+        """What makes files of these bytes."""
+        path = os.path.join(folder, "file")
+        with open(path, "wb") as file:
+            file.write(data)
+
+        def pipe(buffering):
+            read, write = os.pipe()
+            os.write(write, data)
+            os.close(write)
+            return open(read, "rb", buffering=buffering)
+
+        def of_socket(buffering):
+            near, far = socket.socketpair()
+            with near, far:
+                near.sendall(data)
+                return far.makefile("rb", buffering=buffering)
+
+        def pair():
+            return io.BufferedRWPair(pipe(0), io.BytesIO())
+
+        yield lambda: open(path, "rb")
+        yield lambda: open(path, "rb", buffering=0)
+        yield lambda: open(path, "r+b", buffering=0)
+        yield lambda: io.BytesIO(data)
+        yield lambda: io.BufferedReader(io.BytesIO(data), 100)
+        yield lambda: io.BufferedReader(io.BytesIO(data), 3)
+        yield lambda: gzip.GzipFile(fileobj=io.BytesIO(gzip.compress(data)))
+        yield lambda: pipe(-1)
+        yield lambda: pipe(0)
+        yield pair
+        yield lambda: of_socket(-1)
+        yield lambda: of_socket(0)
+        yield lambda: Pieces(data, 7)
+        yield lambda: Blocking([data])
+        yield lambda: Peeking([data[:9], data[9:11], data[11:]])
+
+    def each(self, data, make, wanted):
+        """Every message comes, whichever call an exception comes after."""
+        with tempfile.TemporaryDirectory() as folder:
+            for number, file_of in enumerate(self.files(data, folder)):
+                with self.subTest(file=number):
+                    calls, raised = 0, 1
+                    while raised:
+                        calls += 1 + calls // 30
+                        file = file_of()
+                        found = make(file)
+                        after(calls)
+                        got, raised = taken(found)
+                        self.assertEqual((got, found.number), (wanted, len(wanted)), f"after {calls} calls")
+                        getattr(file, "close", lambda: None)()
+                    self.assertGreater(calls, 10)
+
+    def test_messages(self):
+        for packed in False, True:
+            for ahead in False, True:
+                with self.subTest(packed=packed, ahead=ahead):
+                    data = b"".join(MESSAGES)
+                    self.each(capn.pack(data) if packed else data,
+                              lambda file: capn.messages(file, packed, read_ahead=ahead), MESSAGES)
+
+    def test_digests(self):
+        data = b"".join(MESSAGES)
+        self.each(data, capn.digests, [capn.digest(message) for message in MESSAGES])
+
+    def test_the_last_one(self):
+        for packed in False, True:
+            data = b"".join(MESSAGES)
+            with tempfile.TemporaryDirectory() as folder:
+                for file_of in self.files(capn.pack(data) if packed else data, folder):
+                    file = file_of()
+                    found, offset = capn.messages(file, packed), 0
+                    self.assertIsNone(found.last)
+                    for number, message in enumerate(MESSAGES):
+                        self.assertEqual((next(found), found.last, found.number), (message, message, number + 1))
+                        offset += len(message)
+                        self.assertEqual(found.offset, offset)
+                    self.assertRaises(StopIteration, next, found)
+                    getattr(file, "close", lambda: None)()
+
+    def test_a_splitter(self):
+        for form in "stream", "packed":
+            data = b"".join(MESSAGES)
+            sent = capn.pack(data) if form == "packed" else data
+            for size in 5, 11, 4000, len(sent):
+                pieces = [sent[at:at + size] for at in range(0, len(sent), size)]
+                calls, raised = 0, True
+                while raised:
+                    calls += 1 + calls // 30
+                    splitter, got, raised = capn.Splitter(form), [], False
+                    after(calls)
+                    for piece in pieces:
+                        try:
+                            got += splitter.feed(piece)
+                        except Interrupted:
+                            raised = True
+                            got += splitter.feed(piece)
+                    sys.setprofile(None)
+                    splitter.end()
+                    self.assertEqual((got, splitter.number), (MESSAGES, len(MESSAGES)))
+
+
+class Signals(unittest.TestCase):
+    """Signals right after what comes through a pipe in pieces; after each, the handler raises while `next` runs."""
+
+    def setUp(self):
+        self.is_in_next = False
+
+        def handler(*_):
+            if self.is_in_next:
+                raise Interrupted
+
+        self.before = signal.signal(signal.SIGUSR1, handler)
+
+    def tearDown(self):
+        signal.signal(signal.SIGUSR1, self.before)
+
+    def read(self, found):
+        """The messages; one that was counted when an exception came is the last one."""
+        got, raised, number = [], 0, 0
+        while True:
+            try:
+                self.is_in_next = True
+                message = next(found)
+                self.is_in_next = False
+                got.append(message)
+            except Interrupted:
+                self.is_in_next = False
+                raised += 1
+                if found.number > number:
+                    got.append(found.last)
+            except StopIteration:
+                self.is_in_next = False
+                return got, raised
+            number = found.number
+
+    def test_a_pipe(self):
+        message = stream(bytes(range(1, 248)) * 3 + bytes(3))
+        many = [message, SMALL] * 15
+        for packed in False, True:
+            sent = b"".join(map(capn.pack, many)) if packed else b"".join(many)
+            for buffering in -1, 0:
+                for ahead in False, True:
+                    with self.subTest(packed=packed, buffering=buffering, ahead=ahead):
+                        read, write = os.pipe()
+
+                        def send(sent=sent, write=write):
+                            for at in range(0, len(sent), 50):
+                                os.write(write, sent[at:at + 50])
+                                os.kill(os.getpid(), signal.SIGUSR1)
+                                time.sleep(0.0002)
+                            os.close(write)
+
+                        thread = threading.Thread(target=send, daemon=True)
+                        with open(read, "rb", buffering=buffering) as file:
+                            found = capn.messages(file, packed, read_ahead=ahead)
+                            thread.start()
+                            got, raised = self.read(found)
+                        thread.join(SECONDS)
+                        self.assertEqual((got == many, len(got), found.number), (True, len(many), len(many)))
+                        self.assertGreater(raised, 10)
+
+
+if __name__ == "__main__":
+    unittest.main()

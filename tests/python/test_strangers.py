@@ -1,0 +1,117 @@
+"""What a stranger chooses: a message of another schema, an older or newer one, a frame that passes for bare words. All
+that is raised of it is a `ValueError`."""
+import unittest
+
+import capn
+from messages import bare, stream
+from test_values import capability, of, text
+
+SMALL = bytes.fromhex("0000000003000000" "0000000002000000" "0500000000000000" "0000000000000000")
+
+
+class Canonical(unittest.TestCase):
+    """`is_canonical` reads bare words, and with a form what that says."""
+
+    def test_a_frame(self):
+        # One segment, whose last word is zero: with its table, read bare, it is a struct of data.
+        self.assertTrue(capn.is_canonical(SMALL))
+        self.assertTrue(capn.is_canonical(SMALL, form="bare"))
+        self.assertFalse(capn.is_canonical(SMALL, form="stream"))
+        self.assertFalse(capn.is_canonical(SMALL[8:]))
+        self.assertFalse(capn.is_canonical(capn.pack(SMALL), form="packed"))
+        whole = stream(capn.canonical(SMALL))
+        self.assertTrue(capn.is_canonical(whole, form="stream"))
+        self.assertTrue(capn.is_canonical(capn.pack(whole), form="packed"))
+        self.assertTrue(capn.is_canonical(bytearray(whole), form="stream", in_place=True))
+
+    def test_several_segments(self):
+        far = stream(bytes.fromhex("0200000001000000"), bytes.fromhex("0000000001000000" "0500000000000000"))
+        self.assertFalse(capn.is_canonical(far, form="stream"))
+        self.assertTrue(capn.is_canonical(stream(capn.canonical(far)), form="stream"))
+
+    def test_a_refusal(self):
+        for form in "bare", "stream":
+            words = (3 | 7 << 32).to_bytes(8, "little")
+            with self.assertRaises(capn.Refusal) as caught:
+                capn.is_canonical(words if form == "bare" else stream(words), form=form)
+            self.assertEqual((caught.exception.name, caught.exception.at, str(caught.exception)),
+                             ("Capability", 7, "capability 7"))
+            with self.assertRaisesRegex(capn.Refusal, "OverBudget"):
+                capn.is_canonical(SMALL, capn.Limits(budget=2), form=form)
+        with self.assertRaisesRegex(capn.Refusal, "frame: Cut"):
+            capn.is_canonical(SMALL[:-8], form="stream")
+        self.assertRaises(ValueError, capn.is_canonical, SMALL, form="framed")
+        self.assertRaises(TypeError, capn.is_canonical, SMALL, form=3)
+
+
+class Schemas(unittest.TestCase):
+    def test_an_older_layout(self):
+        root = of(("struct", [5], [text("abc")]))
+        self.assertEqual((root.word(0), root.word(1), root.slot(0).text()), (5, 0, "abc"))
+        self.assertEqual((root.slot(1).kind, root.slot(1).struct().text(0, "none"), [*root.slot(1).list()]),
+                         ("null", "none", []))
+        for wrong in lambda: root.slots[1], lambda: root.slot(0)[4], lambda: root.slot(0).view[4]:
+            self.assertRaises(IndexError, wrong)
+        for wrong in lambda: root.slots[1], lambda: root.slot(0)[4], lambda: root.slots[-2]:
+            self.assertRaises(ValueError, wrong)
+        for wrong in lambda: root.slot(-1), lambda: root.word(-1):
+            self.assertRaises(ValueError, wrong)
+
+    def test_null_is_an_empty_struct(self):
+        null = of(None)
+        self.assertEqual((null.uint(8, 3, 9), null.int(16, 0, -1), null.float(64, 0, 1.5), null.bool(0, True)),
+                         (9, -1, 1.5, True))
+        self.assertEqual((null.text(0), null.text(0, "none"), null.word(3), len(null.words), len(null.slots)),
+                         ("", "none", 0, 0, 0))
+        self.assertEqual((null.slot(0).kind, null.slot(7).slot(7).kind, bool(null)), ("null", "null", False))
+        self.assertEqual((null, null.slot(0)), (null.slot(3), null))
+        self.assertNotEqual(null, of(("struct", [], [])))
+        self.assertRaises(ValueError, lambda: null.slots[0])
+
+    def test_other_kinds(self):
+        values = [None, ("struct", [1], [None]), ("list", 0, 3, b""), ("list", 1, 3, bytes(8)), text("abc"),
+                  ("list", 3, 1, bytes(8)), ("pointers", [None]), ("rows", 1, 1, [([5], [None])])]
+        reads = [
+            lambda it: it.struct(), lambda it: it.list(), lambda it: it.words, lambda it: it.slots,
+            lambda it: it.word(0), lambda it: it.slot(0), lambda it: it.uint(8, 0), lambda it: it.int(8, 0),
+            lambda it: it.float(32, 0), lambda it: it.bool(0), lambda it: it.text(0), lambda it: it.text(0, "x"),
+            lambda it: it.view,
+        ]
+        answered = raised = 0
+        for root in [*map(of, values), *(of(("struct", [], [value])).slot(0) for value in values), capability(7)]:
+            for number, read in enumerate(reads):
+                with self.subTest(kind=root.kind, read=number):
+                    try:
+                        read(root)
+                        answered += 1
+                    except ValueError:
+                        raised += 1
+            if root.kind in ("null", "struct"):
+                self.assertIs(root.struct(), root)
+            else:
+                self.assertRaisesRegex(capn.Mismatch, "^there is no struct, but <capn ", root.struct)
+            if isinstance(root, capn.List):
+                self.assertIs(root.list(), root)
+            elif root.kind != "null":
+                self.assertRaisesRegex(capn.Mismatch, "^there is no list, but <capn ", root.list)
+        self.assertGreater(min(answered, raised), 50)
+
+    def test_names_that_are_of_no_kind(self):
+        with self.assertRaises(AttributeError) as caught:
+            of(None).wrods
+        self.assertNotIsInstance(caught.exception, ValueError)
+        self.assertFalse(hasattr(of(text("abc")), "words"))
+
+    def test_a_closed_message(self):
+        message = capn.read(bare(("struct", [5], [("pointers", [text("abc")] * 3)])), "bare")
+        root = message.root
+        pointers = root.slot(0)
+        message.close()
+        message.close()
+        self.assertEqual(len(pointers), 3)
+        for wrong in lambda: pointers[0], lambda: root.word(0), lambda: root.slot(0), lambda: root.slot(9):
+            self.assertRaises(ValueError, wrong)
+
+
+if __name__ == "__main__":
+    unittest.main()
