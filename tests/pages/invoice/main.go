@@ -1,0 +1,36 @@
+// What the page's program in Go is run with: files and keys, as `main.c++`; `sign` takes a message that is there.
+package main
+
+import (
+	"crypto/x509"
+	"encoding/pem"
+	"fmt"
+	"os"
+)
+
+func orFail[T any](value T, err error) T {
+	if err != nil {
+		fmt.Println("refused:", err)
+		os.Exit(0)
+	}
+	return value
+}
+
+func main() {
+	block, _ := pem.Decode(orFail(os.ReadFile(os.Args[2])))
+	message := orFail(os.ReadFile(os.Args[3]))
+	if os.Args[1] == "sign" {
+		key := orFail(x509.ParsePKCS8PrivateKey(block.Bytes)).(ed25519.PrivateKey)
+		if err := os.WriteFile(os.Args[4], orFail(sign(message, key)), 0o644); err != nil {
+			panic(err)
+		}
+		return
+	}
+	signer := orFail(x509.ParsePKIXPublicKey(block.Bytes)).(ed25519.PublicKey)
+	signature := orFail(os.ReadFile(os.Args[4]))
+	if !orFail(isSigned(message, signature, signer)) {
+		fmt.Println("not signed")
+	} else if err := showInvoice(message); err != nil {
+		fmt.Println("refused:", err)
+	}
+}
