@@ -120,7 +120,8 @@ func TestPage(t *testing.T) {
 		mkdir capn-0/go && cp "$1"/*.go "$1"/go.mod capn-0/go && rm capn-0/go/*_test.go
 		sed -i "s,^prefix=.*,prefix=$PWD/capn-0," capn-0/lib/pkgconfig/capn.pc
 		tar czf capn-0.tar.gz capn-0 && rm -r capn-0`, library, here)
-	files := map[string]string{"main.go": parts[2], "parts.go": callers + strings.Join([]string{parts[0], parts[1], parts[3]}, "\n")}
+	rest := strings.Join([]string{parts[0], parts[1], parts[3]}, "\n")
+	files := map[string]string{"main.go": parts[2], "parts.go": callers + rest}
 	for name, text := range files {
 		if err := os.WriteFile(filepath.Join(folder, "program", name), []byte(text), 0o666); err != nil {
 			t.Fatal(err)
