@@ -33,7 +33,7 @@ FILE ?= dist/*
 BUILT ?=
 OVER ?=
 
-.PHONY: try program run test test-all edits pages write bench interop library beside linked
+.PHONY: try program run test test-all quick edits pages write bench interop library beside linked
 .PHONY: install install-library uninstall uninstall-library release dist verify-dist clean-root
 
 # The stored run, tried before any proof, in about a minute: what runs is not the proved program.
@@ -57,7 +57,8 @@ run: program
 
 # The lines of the gate that need no prover; those that need what it builds. .ci/README.md says of each when it fails.
 PAGE_LINES := .ci/lines .ci/borders .ci/toolchain .ci/version .ci/lists .ci/readings .ci/counts .ci/places \
-	release/completions tests/pages/touched release/symbols release/manual
+	release/completions tests/pages/touched tests/cases release/symbols release/manual release/links \
+	tests/release/steps
 BUILT_LINES := tests/program/statuses tests/program/full-disk tests/program/failures .ci/library release/installs \
 	release/twice
 
@@ -71,6 +72,10 @@ test-all:
 	@rm -f $(BUILD)/PROVED
 	@.ci/steps test-all $(PAGE_LINES) ".ci/prove --all $(ANEW)" $(BUILT_LINES) release/proved
 
+# All tests and stored cases, with no proof, for a tree that is being changed.
+quick:
+	@tests/quick
+
 # Tries the edits that must fail: those that are due, or those of CRATES, and writes down what was refused.
 edits:
 	@.ci/edits --try $(CRATES)
@@ -81,8 +86,8 @@ pages:
 
 # Writes all that scripts write into pages, packages and tests.
 write:
-	.ci/version --write && .ci/lists --write && .ci/places --write && .ci/readings --write && .ci/counts --write
-	release/completions --write && release/manual --write && tests/pages/touched --write
+	.ci/version --write && .ci/lists --write && .ci/places --write && .ci/readings --write && tests/cases --write
+	release/completions --write && release/manual --write && tests/pages/touched --write && .ci/counts --write
 
 # The shortest times of each operation on each shape of message, in nanoseconds a byte.
 bench:
