@@ -4,7 +4,7 @@
  * input more than once and rely on what it read before, so whoever changes the bytes meanwhile can make it read outside
  * of them. Copy first what another thread, another process or a device can write: shared memory, a mapped file.
  *
- * What the caller owes beside:
+ * The caller owes this too:
  *   - Each pointer leads to what its type and the size after it say. A pointer to no bytes may be null, and so may
  *     limits, which are then the usual ones, and a report that is not wanted; no other may. (Code in C sees to that,
  *     which is tested, not proved.) Bytes may start at any address; limits, figures, entries, the numbers of a way,
@@ -13,7 +13,7 @@
  *     that it is given, and nothing else reads or writes it while the call runs.
  *   - No call is made from a signal handler, nor from the child of a `fork` of a process with several threads.
  *   - malloc, realloc and free belong to one allocator, which aligns each block as C asks, up to 16 bytes.
- * Any numbers may be passed.
+ * Every number is tested: a form, a limit, a tariff or a style out of its range is refused.
  *
  * A call reads bytes, writes into a buffer of the caller's, and keeps nothing: no state, no handle, nothing to free.
  * Calls may run in any threads at once, also on the same input. A call that takes memory asks malloc for it, and gives
@@ -48,8 +48,8 @@ enum capn_form {
 
 /* How a walk counts what it pays. */
 enum capn_tariff {
-    CAPN_STRICT = 0, /* each struct and list pays a word beside its size */
-    CAPN_PLAIN = 1   /* nothing beside it, as the traversal limit of the C++ implementation counts */
+    CAPN_STRICT = 0, /* each struct and list pays its size and a word more */
+    CAPN_PLAIN = 1   /* its size alone, as the C++ implementation counts, whose traversal limit counts 2 words more */
 };
 
 /* How the text of a message is written. */
@@ -119,7 +119,7 @@ typedef struct capn_segment {
 typedef struct capn_entry {
     uint64_t offset; /* the offset in `bytes` of its content; of CAPN_KIND_ROWS its tag, 8 bytes before the rows */
     uint32_t count;  /* elements or rows of a list; the index of a capability; else 0 */
-    uint32_t span;   /* entries of this slot and of all below it: the slot beside it has the entry so much further on */
+    uint32_t span;   /* entries of this slot and of all below it: the next sibling of entry i has the entry i + span */
     uint16_t words;  /* data words of a struct, or of each row; else 0 */
     uint16_t slots;  /* pointers of a struct, or of each row; else 0 */
     uint32_t kind;   /* CAPN_KIND_NULL to CAPN_KIND_CAPABILITY */
@@ -222,7 +222,8 @@ capn_status capn_canonical(uint32_t form, const uint8_t *bytes, size_t size, con
                            size_t room, capn_report *report);
 
 /* Whether bytes, read bare, are the canonical bytes of their value: CAPN_OK, CAPN_NOT_CANONICAL, or a refusal; with the
- * first two every field of the report is 0. It takes no memory. */
+ * first two every field of the report is 0. It takes no memory. A frame is not bare words: with its table before it,
+ * nearly any message of one segment passes. Of a frame ask capn_survey, whose figures say whether it is canonical. */
 capn_status capn_is_canonical(const uint8_t *bytes, size_t size, const capn_limits *limits, capn_report *report);
 
 /* The SHA-256 of the canonical bytes of one message. It takes memory for these bytes, for the table of a stream of more
@@ -277,9 +278,8 @@ capn_status capn_survey(uint32_t form, const uint8_t *bytes, size_t size, const 
  * It has an entry for each slot that the walk visits, in preorder: first the root, and after each entry those of its
  * slots, one a `span` after the other.
  * CAPN_OK: `visits` entries are at the start of `entries`, and the rest is as it was. CAPN_NO_ROOM: there are `visits`
- * entries, more than `most_entries`. In both `length` is 24 * visits. With no room it reports the number alone.
- * `most_entries` counts entries, and `length` bytes: so have malloc(report.length), and pass report.visits, never
- * report.length.
+ * entries, more than `most_entries`. In both `length` is the bytes that they take, 24 * visits. With no room it reports
+ * these alone; capn_count_entries of capn_fields.h answers the number of entries.
  * It accepts and refuses what capn_check does. Unless it answers CAPN_OK, the entries are as they were. It takes memory
  * where capn_check does: of a stream of more than 64 segments, for its table.
  * All that an entry says lies within `bytes`, also of a hostile message: an offset, and from there on as many bytes as

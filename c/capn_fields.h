@@ -39,6 +39,16 @@ typedef struct capn_items {
     uint32_t width;          /* of a list of numbers that is read as such: the bits of a number */
 } capn_items;
 
+/* How many entries the index of a message has, which is what `most_entries` of capn_index counts: CAPN_OK, or what
+ * capn_index refuses. The index takes `*count * sizeof(capn_entry)` bytes. */
+static inline capn_status capn_count_entries(uint32_t form, const uint8_t *bytes, size_t size,
+                                             const capn_limits *limits, size_t *count, capn_report *report) {
+    capn_report own;
+    const capn_status status = capn_index(form, bytes, size, limits, NULL, 0, report ? report : &own);
+    *count = status == CAPN_NO_ROOM ? (report ? report : &own)->visits : 0;
+    return status == CAPN_NO_ROOM ? (capn_status)CAPN_OK : status;
+}
+
 /* Whether a pointer is absent: its field has the default then. */
 static inline int capn_is_absent(const capn_entry *entry) {
     return !entry || entry->kind == CAPN_KIND_NULL;

@@ -1,5 +1,6 @@
 /* index FILE: writes the tree of a message that a stranger sent, with no schema: a line for each slot, by its index. */
 #include "capn.h"
+#include "capn_fields.h"
 #include <inttypes.h>
 #include <stdio.h>
 #include <stdlib.h>
@@ -31,9 +32,9 @@ int main(int count, char **words) {
     fclose(file);
 
     capn_report report;
-    capn_status status = capn_index(CAPN_STREAM, bytes, size, &limits, NULL, 0, &report);
-    if (status == CAPN_NO_ROOM) {
-        const size_t entries = report.visits; /* at most the budget and 1; `length` is in bytes */
+    size_t entries; /* at most the budget and 1 */
+    capn_status status = capn_count_entries(CAPN_STREAM, bytes, size, &limits, &entries, &report);
+    if (status == CAPN_OK) {
         capn_entry *all = malloc(entries * sizeof *all);
         status = all ? capn_index(CAPN_STREAM, bytes, size, &limits, all, entries, &report) : CAPN_MEMORY;
         if (status == CAPN_OK) show(all, 0, 0, bytes);

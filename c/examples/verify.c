@@ -1,5 +1,5 @@
-/* verify FILE DIGEST: whether a file is exactly one message of the value whose canonical bytes have this SHA-256, as a
- * verifier of a signature asks it once the signature over the digest, the type and the context is found good. */
+/* verify FILE DIGEST: succeeds if a file is exactly one message whose canonical bytes have this SHA-256. It checks no
+ * signature: a verifier first finds good the one over a statement of protocol, type and digest, and then asks this. */
 #include "capn.h"
 #include <stdio.h>
 #include <string.h>

@@ -226,6 +226,23 @@ static void by_hand(void) {
         }
     want("far beyond", (int64_t)capn_field(&record, UINT32_MAX, 64, 9), 9);
 
+    /* How many entries an index has, and that no less room is enough. */
+    static const uint8_t nested[] = {0, 0, 0, 0, 4, 0, 0, 0, 0, 0, 0, 0, 0, 0, 2, 0, 4, 0, 0, 0, 0, 0, 1, 0,
+                                     0, 0, 0, 0, 0, 0, 0, 0, 0, 0, 0, 0, 0, 0, 0, 0};
+    const capn_limits usual = CAPN_USUAL_LIMITS;
+    capn_entry all[4];
+    capn_report report;
+    size_t count = 9;
+    want("counted", capn_count_entries(CAPN_STREAM, nested, sizeof nested, &usual, &count, &report), CAPN_OK);
+    want("entries", (int64_t)count, 4);
+    want("bytes", (int64_t)report.length, (int64_t)(count * sizeof *all));
+    want("no report", capn_count_entries(CAPN_STREAM, nested, sizeof nested, NULL, &count, NULL), CAPN_OK);
+    want("indexed", capn_index(CAPN_STREAM, nested, sizeof nested, &usual, all, count, &report), CAPN_OK);
+    want("too few", capn_index(CAPN_STREAM, nested, sizeof nested, &usual, all, count - 1, &report), CAPN_NO_ROOM);
+    want("a cut one", capn_count_entries(CAPN_STREAM, nested, 20, &usual, &count, &report), CAPN_FRAME_CUT);
+    want("no entries", (int64_t)count, 0);
+    want("a packed one", capn_count_entries(CAPN_PACKED, nested, 20, &usual, &count, NULL), CAPN_BAD_FORM);
+
     /* A text: only bytes with a zero at their end. */
     static const uint8_t abc[] = {'a', 'b', 'c', 0, 'd'};
     const char *text;

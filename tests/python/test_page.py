@@ -1,8 +1,8 @@
 """The programs of docs/PYTHON.md do as the page says."""
+import re
 import subprocess
 import sys
 import tempfile
-import textwrap
 import unittest
 from pathlib import Path
 
@@ -10,30 +10,21 @@ import capn
 
 PAGE = Path(__file__).resolve().parents[2] / "docs" / "PYTHON.md"
 MESSAGE = bytes.fromhex("0000000003000000" "0000000002000000" "0500000000000000" "0000000000000000")
+# Two children in slot 1, of which one has the name "ab".
+CHILDREN = bytes.fromhex("0000000007000000" "0000000000000200" "0000000000000000" "0100000017000000" "0800000000000100"
+                         "050000001a000000" "0000000000000000" "6162000000000000")
 TEXT = bytes.fromhex("0000000004000000" "0000000001000100" "0500000000000000" "0100000022000000" "6162630000000000")
 
 
-def blocks():
-    """The indented blocks of the page."""
-    lines, block = PAGE.read_text().splitlines() + ["end"], []
-    for line in lines:
-        if line.startswith("    ") or (block and not line):
-            block.append(line)
-        elif block:
-            yield textwrap.dedent("\n".join(block))
-            block = []
-
-
 def programs():
-    """The programs of the page, each after what it goes on from. What comes before them is for a shell."""
-    found = list(blocks())
-    first = next(i for i, block in enumerate(found) if block.startswith("import sys"))
-    return found[first:first + 1] + [f"{found[first]}\n\n{block}" for block in found[first + 1:]]
+    """The programs of the page, each after what it goes on from: the first one, and the limits."""
+    first, verify, *others = re.findall(r"^```python\n(.*?)^```$", PAGE.read_text(), re.M | re.S)
+    return [first, *(f"{first}\n\n{verify}\n\n{block}" for block in ["", *others])]
 
 
 class Page(unittest.TestCase):
     def setUp(self):
-        self.check, self.verify, self.read, self.told, self.stream = programs()
+        self.digest, self.verify, self.check, self.read, self.told, self.stream = programs()
 
     def run_on(self, message, program, more=""):
         with tempfile.TemporaryDirectory() as folder:
@@ -43,29 +34,48 @@ class Page(unittest.TestCase):
                                  capture_output=True, check=False, text=True)
         return ran.returncode, ran.stdout + ran.stderr
 
+    def test_digest(self):
+        self.assertEqual(self.run_on(MESSAGE, self.digest), (0, f"{capn.digest(MESSAGE).hex()}\n"))
+        self.assertEqual(self.run_on(MESSAGE[:-8], self.digest), (1, "refused: frame: Cut\n"))
+        self.assertEqual(self.run_on(MESSAGE * 2, self.digest), (1, "refused: trailing bytes at 32\n"))
+        self.assertEqual(self.run_on(b"", self.digest), (1, "refused: frame: Empty\n"))
+        self.assertEqual(self.run_on(bytes((1 << 20) + 1), self.digest), (1, "too long\n"))
+
+    def after_digest(self, message, program):
+        """What a program says after the digest of its message."""
+        status, wrote = self.run_on(message, program)
+        digest, _, rest = wrote.partition("\n")
+        self.assertEqual(digest, capn.digest(message).hex())
+        return status, rest
+
     def test_check(self):
-        self.assertEqual(self.run_on(MESSAGE, self.check), (0, "reading it costs 3 words\n"))
-        self.assertEqual(self.run_on(MESSAGE[:-8], self.check), (1, "refused: frame: Cut\n"))
-        self.assertEqual(self.run_on(MESSAGE * 2, self.check), (1, "refused: trailing bytes at 32\n"))
-        self.assertEqual(self.run_on(b"", self.check), (1, "refused: frame: Empty\n"))
-        self.assertEqual(self.run_on(bytes((1 << 20) + 1), self.check), (1, "too long\n"))
+        self.assertEqual(self.after_digest(MESSAGE, self.check), (0, "reading it costs 3 words\n"))
+        # Structs in each other, 40 deep: within the usual limits, and not within those of the page.
+        deep = (41 << 32).to_bytes(8, "little") + (1 << 48).to_bytes(8, "little") * 40 + bytes(8)
+        self.assertEqual(self.after_digest(deep, self.check), (1, "refused: TooDeep at 0:32, paid 64, visits 33\n"))
 
     def test_verify(self):
         digest = capn.digest(MESSAGE)
         for message, expected in (MESSAGE, True), (MESSAGE[:-8], False), (MESSAGE * 2, False), (b"", False):
-            asked = f"print(is_signed({message!r}, {digest!r}), is_signed({message!r}, bytes(32)))"
+            asked = f"print(has_digest({message!r}, {digest!r}), has_digest({message!r}, bytes(32)))"
             status, wrote = self.run_on(MESSAGE, self.verify, asked)
             self.assertEqual((status, wrote.splitlines()[-1]), (0, f"{expected} False"))
 
     def test_read(self):
         # The number is stored XOR 7.
-        self.assertEqual(self.run_on(TEXT, self.read), (0, "reading it costs 5 words\n2 abc\n"))
-        self.assertEqual(self.run_on(MESSAGE, self.read), (0, "reading it costs 3 words\n2 nobody\n"))
-        self.assertEqual(self.run_on(bytes(4) + b"\1" + bytes(11), self.read), (0, "reading it costs 0 words\n"))
-        # Of three bytes the last one is no zero.
-        status, wrote = self.run_on(TEXT.replace(b"\x22", b"\x1a"), self.read)
-        self.assertEqual(status, 1)
-        self.assertRegex(wrote, "\nrefused: the last byte of a text is zero")
+        self.assertEqual(self.after_digest(TEXT, self.read), (0, "2 abc\n"))
+        self.assertEqual(self.after_digest(MESSAGE, self.read), (0, "2 nobody\n"))
+        self.assertEqual(self.after_digest(bytes(4) + b"\1" + bytes(11), self.read), (0, "7 nobody\n"))
+        self.assertEqual(self.after_digest(CHILDREN, self.read), (0, "7 nobody\nab\nnobody\n"))
+        # Of three bytes the last one is no zero; a list of bytes is no struct, and a struct is no list.
+        for message, why in (
+            (TEXT.replace(b"\x22", b"\x1a"), "the last byte of a text is zero"),
+            (bytes.fromhex("0000000002000000" "010000001a000000" "6162630000000000"), "there is no struct, but"),
+            (CHILDREN.replace(b"\1\0\0\0\x17", b"\0\0\0\0\1"), "there is no list, but"),
+        ):
+            status, wrote = self.run_on(message, self.read)
+            self.assertEqual(status, 1)
+            self.assertRegex(wrote, f"\nrefused: {why}")
 
     def test_told(self):
         # A zero word at the end of a struct, and more bytes in a list than there are.

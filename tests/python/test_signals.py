@@ -163,7 +163,7 @@ class EachCall(unittest.TestCase):
 
 
 class Signals(unittest.TestCase):
-    """Signals right after what comes through a pipe in pieces; after each, the handler raises while `next` runs."""
+    """Signals right after what comes through a pipe or a socket in pieces: the handler raises while `next` runs."""
 
     def setUp(self):
         self.is_in_next = False
@@ -196,15 +196,22 @@ class Signals(unittest.TestCase):
                 return got, raised
             number = found.number
 
-    def test_a_pipe(self):
+    def test_pipes_and_sockets(self):
+        def of_sockets():
+            far, near = socket.socketpair()
+            return far.detach(), near.detach()
+
         message = stream(bytes(range(1, 248)) * 3 + bytes(3))
         many = [message, SMALL] * 15
         for packed in False, True:
             sent = b"".join(map(capn.pack, many)) if packed else b"".join(many)
-            for buffering in -1, 0:
+            for pair, buffering in (os.pipe, -1), (os.pipe, 0), (of_sockets, -1), (of_sockets, 0):
                 for ahead in False, True:
-                    with self.subTest(packed=packed, buffering=buffering, ahead=ahead):
-                        read, write = os.pipe()
+                    if pair is of_sockets and packed and not ahead and not buffering:
+                        # It would be read group by group.
+                        continue
+                    with self.subTest(packed=packed, pair=pair, buffering=buffering, ahead=ahead):
+                        read, write = pair()
 
                         def send(sent=sent, write=write):
                             for at in range(0, len(sent), 50):
