@@ -12,6 +12,9 @@ import time
 import stored
 
 TOP = stored.TOP
+sys.path.insert(0, os.path.join(TOP, ".ci"))
+import proving
+
 LOG = "build/tries.log"
 # What one run of `rt try` takes at most, in GiB: its compiler, and the check of names beside it.
 MEMORY = 2
@@ -25,24 +28,6 @@ Job = collections.namedtuple("Job", "crate what run")
 def text_of(*parts):
     with open(os.path.join(TOP, *parts), encoding="utf-8") as file:
         return file.read()
-
-
-def libraries():
-    """The repository's own libraries that each crate names in crates.txt."""
-    rows = [line.partition(":") for line in text_of("crates.txt").split("\n") if line and not line.startswith("#")]
-    names = {head.split()[0]: rest.split() for head, _, rest in rows}
-    return {crate: [name for name in found if name in names] for crate, found in names.items()}
-
-
-def below(crate, names):
-    """The crate and all below it."""
-    found, rest = set(), [crate]
-    while rest:
-        one = rest.pop()
-        if one not in found:
-            found.add(one)
-            rest += names[one]
-    return found
 
 
 def tests_of(crate):
@@ -84,39 +69,55 @@ def tests_job(crate):
 
     def run():
         status, out, said = try_crate(crate, ["--test"])
-        return (f"its tests end with status {status}" if status else ""), out.decode(errors="replace") + said
+        said = out.decode(errors="replace") + said
+        passed = re.search(r"^test result: ok\. \d+ passed; 0 failed", said, re.M)
+        return "" if passed and not status else f"its tests end with status {status}", said
 
     return Job(crate, f"{len(tests_of(crate))} tests", run)
+
+
+def bytes_beside(crate, name):
+    """The bytes of a file beside the src/ of a program, none if there is no file."""
+    path = os.path.join(TOP, "crates", crate, name)
+    if not os.path.exists(path):
+        return b""
+    with open(path, "rb") as file:
+        return file.read()
 
 
 def stored_job(crate):
     """The stored run of a program, beside its src/."""
 
     def run():
-        files = {name: "" for name in ("args", "stdin", "stdout")}
-        for name in files:
-            if os.path.exists(os.path.join(TOP, "crates", crate, name)):
-                files[name] = text_of("crates", crate, name)
-        status, out, said = try_crate(crate, ["--", *files["args"].split("\n")[:-1]], files["stdin"].encode())
+        args, given, wanted = (bytes_beside(crate, name) for name in ("args", "stdin", "stdout"))
+        status, out, said = try_crate(crate, ["--", *args.decode().split("\n")[:-1]], given)
         if status:
             return f"its stored run ends with status {status}", said
-        if out != files["stdout"].encode():
-            return f"its stored run writes\n{out.decode(errors='replace')}not what its stdout has", said
-        return "", said
+        return f"wanted: {wanted.hex()}\ngot:    {out.hex()}" * (out != wanted), said
 
     return Job(crate, "stored run", run)
+
+
+def shown(text, at=0):
+    """A text, of a long one what is around a place."""
+    begin = max(0, at - 100)
+    end = begin + 400
+    return f"{'..' * (begin > 0)}{text[begin:end]}{'..' * (end < len(text))}"
 
 
 def differences(cases, out):
     """What is wrong with the answers of a run over these cases."""
     lines = out.split("\n")
     for at, case in enumerate(cases):
-        name, got = (lines[2 * at:2 * at + 2] + [None, None])[:2]
-        if name != case.name or got is None or len(lines) <= 2 * at + 2:
-            yield f"{case.path}\n  call:   {case.call}\n  wanted: {case.answer}\n  got:    no answer, as the log says"
+        name, got = (lines[2 * at:2 * at + 2] + ["", ""])[:2]
+        is_answered = name == case.name and len(lines) > 2 * at + 2
+        if is_answered and got == case.answer:
+            continue
+        place = len(os.path.commonprefix([got, case.answer])) if is_answered else 0
+        told = shown(got, place) if is_answered else "no answer, and none for those after it"
+        yield f"{case.path}\n  call:   {shown(case.call)}\n  wanted: {shown(case.answer, place)}\n  got:    {told}"
+        if not is_answered:
             return
-        if got != case.answer:
-            yield f"{case.path}\n  call:   {case.call}\n  wanted: {case.answer}\n  got:    {got}"
 
 
 def cases_job(crate, cases):
@@ -149,7 +150,7 @@ def workers():
 def run_all(jobs):
     """Runs the jobs, the first first. Prints a line for each that is done, and in the end what is wrong; the rest goes
     into a log. Returns the exit status."""
-    begun, faults = time.monotonic(), []
+    begun, faults = time.time(), []
     os.makedirs(os.path.join(TOP, "build"), exist_ok=True)
     with open(os.path.join(TOP, LOG), "w", encoding="utf-8") as log, \
             concurrent.futures.ThreadPoolExecutor(workers()) as pool:
@@ -157,9 +158,8 @@ def run_all(jobs):
         for number, done in enumerate(concurrent.futures.as_completed(pending), 1):
             job, (wrong, said) = pending[done], done.result()
             print(f"== {job.crate}: {job.what}\n{said}\n{wrong}", file=log, flush=True)
-            minutes = (time.monotonic() - begun) / 60
             word = "WRONG" if wrong else "right"
-            print(f"{number} of {len(jobs)}: {job.crate}, {job.what}: {word}; {minutes:.1f} minutes", flush=True)
+            proving.told(f"  {number} of {len(jobs)}: {job.crate}: {job.what} {word}, {proving.minutes(begun)}")
             if wrong:
                 faults.append((job, wrong, said))
     for job, wrong, said in faults:
@@ -190,7 +190,7 @@ def calls_reaching(crate, names):
         if crate == one or crate in names[one] and crate not in set().union(*found.values()):
             return one, list(found)
         words = [word for word, used in found.items() if crate in used]
-        words = words or [word for word, used in found.items() if any(crate in below(it, names) for it in used)]
+        words = words or [word for word, used in found.items() if crate in proving.below(used, names)]
         if words:
             return one, words
     return None, []
@@ -198,5 +198,5 @@ def calls_reaching(crate, names):
 
 def reaching(crate):
     """The nearest crates with tests that reach a crate, a program with cases that does, and their calls."""
-    names = libraries()
+    names = proving.crates()
     return nearest(crate, names, [it for it in names if tests_of(it)]), *calls_reaching(crate, names)
