@@ -223,7 +223,7 @@ capn_status capn_canonical(uint32_t form, const uint8_t *bytes, size_t size, con
 
 /* Whether bytes, read bare, are the canonical bytes of their value: CAPN_OK, CAPN_NOT_CANONICAL, or a refusal; with the
  * first two every field of the report is 0. It takes no memory. A frame is not bare words: with its table before it,
- * nearly any message of one segment passes. Of a frame ask capn_survey, whose figures say whether it is canonical. */
+ * nearly any message of one segment passes. For a frame, ask capn_survey: its figures say whether it is canonical. */
 capn_status capn_is_canonical(const uint8_t *bytes, size_t size, const capn_limits *limits, capn_report *report);
 
 /* The SHA-256 of the canonical bytes of one message. It takes memory for these bytes, for the table of a stream of more

@@ -227,7 +227,7 @@ inline digest_bytes digest(bytes message, form written = form::stream, const lim
 }
 
 /* Whether bytes, read bare, are the canonical bytes of their value; it throws if that has none. A frame is not bare
- * words: with its table before it, nearly any message of one segment passes as canonical. Of a frame pass the form. */
+ * words: with its table before it, nearly any message of one segment passes as canonical. For a frame, pass a form. */
 inline bool is_canonical(bytes words, const limits &most = {}) {
     capn_report report;
     const capn_status status = capn_is_canonical(words.u8(), words.size(), &most, &report);

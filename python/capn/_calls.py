@@ -158,7 +158,7 @@ def is_canonical(
     """Whether one message has one segment, which is the canonical bytes of its value. A refusal if it has none.
 
     Without a form the bytes are read bare. A frame is not bare words: with its table before it, nearly any message of
-    one segment passes as canonical. So of a frame pass `form="stream"`; of a packed one it is said of what it unpacks
+    one segment passes as canonical. So for a frame pass `form="stream"`. A packed message is judged by what it unpacks
     to."""
     if form != "bare":
         return _is_canonical_frame(data, form, limits, in_place)

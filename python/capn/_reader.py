@@ -21,6 +21,8 @@ _first, _read_one = lib.capn_first, lib.capn_read_one
 # How many tables are remembered at most, each with how many bytes follow it.
 _TABLES = 256
 _HEADS, _PIECES, _ONES = (HEAD,), (PIECE,), (1,)
+# From how many bytes on a buffered file is read without its buffer.
+_LITTLE = 2048
 
 
 class Messages(Iterator[bytes]):
@@ -175,36 +177,56 @@ class Messages(Iterator[bytes]):
 
 
 class Buffered(Messages):
-    """The same of a buffered file that can't be wound, as of a socket. It would lose what it has read if a signal's
-    handler raised while it waits for more. So it is looked into, which loses nothing, and gives what it has."""
+    """The same of a buffered file that can't be wound, as of a socket. Its `read` would lose what it has read if a
+    signal's handler raised while it waits for more. So `read1` reads, which gives what is there and waits for some
+    bytes at most. It does not fill the buffer, as a look does."""
 
-    __slots__ = ("_peek", "_some")
+    __slots__ = ("_peek", "_some", "_left")
 
     def __init__(self, file: Any, splitter: Splitter) -> None:
         super().__init__(file.read, splitter)
         self._peek, self._some = file.peek, file.read1
+        # How many bytes the buffer has, unless others read of it: with fewer it is filled.
+        self._left = 0
 
     def __next__(self) -> bytes:
         new = self._new
-        if not new and not self._held and self._over is None:
-            # As most messages are: of one segment, and all of it can be seen.
-            seen = self._peek(1)
-            head = seen[:HEAD]
-            size = self._sizes.get(head) or self._size(head)
-            if size and len(seen) >= HEAD + size:
-                size += HEAD
-                new.extend(map(self._some, (size,)))
-                if new and len(frame := new[0]) == size and frame.startswith(head):
-                    self._last = frame
-                    self._number += 1
-                    self._offset += size
-                    del new[:]
-                    return frame  # type: ignore[no-any-return]
+        if new or self._held or self._over is not None:
+            return self._any()
+        # As most messages are: of one segment, short, and read by two calls of the file.
+        some = self._some
+        if self._left < HEAD:
+            self._left = len(self._peek(1))
+        new.extend(map(some, _HEADS))
+        head = new[0]
+        if not head:
+            del new[0]
+            return self._any()
+        size = self._sizes.get(head) or self._size(head)
+        if size:
+            new.extend(map(some, (size,)))
+            self._left -= HEAD + size
+            body = new[1]
+            if len(body) == size:
+                self._last = frame = head + body
+                self._number += 1
+                self._offset += HEAD + size
+                del new[:]
+                return frame  # type: ignore[no-any-return]
+            if not body:
+                del new[1]
         return self._any()
 
     def _more(self, size: int) -> None:
-        # What is there is given at once; where nothing is, `read` tells the end from none now.
-        self._new.extend(map(self._some if self._peek(1) else self._read, (size,)))
+        new = self._new
+        if self._left < size < _LITTLE:
+            self._left = len(self._peek(1))
+        new.extend(map(self._some, (size,)))
+        self._left -= size
+        if not new[0]:
+            # One byte more tells the end from none now.
+            del new[0]
+            new.extend(map(self._read, _ONES))
 
 
 class Raw(Messages):
