@@ -20,6 +20,8 @@ LOG = "build/tries.log"
 MEMORY = 2
 # Cases that the program is run on at once: few, so that those after one that ends it are tried.
 AT_ONCE = 40
+# How long they may take, on a busy machine too.
+SECONDS = 1200
 
 # What is tried of a crate: a word for it, and a call that returns what is wrong, or nothing, and what was said.
 Job = collections.namedtuple("Job", "crate what run")
@@ -130,9 +132,15 @@ def cases_job(crate, cases):
                 with open(os.path.join(folder, f"{number:04}"), "w", encoding="utf-8") as file:
                     file.write(stored.asked(part))
             # The interpreter can't run what takes memory from the system.
-            status, out, said = try_crate(crate, ["--steps", "1", "--seconds", "600", "--cases", folder])
+            status, out, said = try_crate(crate, ["--steps", "1", "--seconds", str(SECONDS), "--cases", folder])
         outs = dict(zip(*[iter(re.split(r"^== (\d{4})\n", out.decode(errors="replace"), flags=re.M)[1:])] * 2))
-        wrong = [it for at, part in enumerate(parts) for it in differences(part, outs.get(f"{at:04}", ""))]
+        late = {int(it) for it in re.findall(r"^case=(\d{4}) run=no-answer", said, re.M)}
+        wrong = []
+        for at, part in enumerate(parts):
+            if at in late:
+                wrong.append(f"{part[0].path} and {len(part) - 1} cases after it: no end in {SECONDS} seconds")
+            else:
+                wrong += differences(part, outs.get(f"{at:04}", ""))
         if status and not wrong:
             wrong = [f"its cases end with status {status}"]
         return "\n".join(wrong), said
