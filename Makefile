@@ -23,8 +23,8 @@ SHELL := bash
 # links hold: what they link to is among them, and contrib/ but for the scripts that try it in a clone.
 PAGES := README.md LICENSE NOTICE $(wildcard docs/*.md docs/capn.[13] docs/internals/*.md docs/pictures/*.svg) \
 	$(wildcard .ci/*.md .ci/refused bench/*.md release/*.md tests/*.md) \
-	$(wildcard $(sort $(shell grep -oh 'crates/[a-z_]*/specs/[A-Za-z/]*\.antt' docs/internals/*.md))) \
-	$(filter-out %/run,$(sort $(shell find contrib -type f ! -path '*/__pycache__/*')))
+	$(wildcard $(sort $(shell grep -ohs 'crates/[a-z_]*/specs/[A-Za-z/]*\.antt' docs/internals/*.md))) \
+	$(filter-out %/run,$(sort $(shell find contrib -type f ! -path '*/__pycache__/*' 2> /dev/null)))
 # The headers.
 HEADERS := $(wildcard c/*.h c/*.hpp)
 # A file of a release, for verify-dist; and a clone where its commit is built already (BUILT), or where the gate passed
