@@ -1,0 +1,247 @@
+#!/usr/bin/env python3
+"""Writes the good messages of a damaged archive: recover.py --good GOOD ARCHIVE > KEPT
+
+GOOD is an archive of the same kind without damage, such as the first messages of ARCHIVE. A message is suspect if it
+has more words than `capn limits` gives for GOOD, or leaves more of its words unused than any message there. From a
+message that is refused or suspect, the script looks for the byte at which good ones go on. Standard error says which
+bytes were passed over, and why. The status is 0 if none were, 1 if some were, 3 if reading, writing or `capn` failed.
+"""
+
+from __future__ import annotations
+
+import argparse
+import mmap
+import os
+import re
+import struct
+import subprocess
+import sys
+import tempfile
+from collections.abc import Iterator
+from contextlib import closing
+from itertools import islice
+from typing import NamedTuple
+
+# The plain tariff counts words alone: a message that uses all of its words costs one less, its root's pointer.
+LIST = [os.environ.get("CAPN", "capn"), "list", "--keep-going", "--tariff", "plain"]
+LIMITS = [LIST[0], "limits"]
+LINE = re.compile(rb"\d+ at (\d+) bytes (\d+) segments \d+ words (\d+) (?:paid (\d+) |refused (.*))")
+FAULT = re.compile(rb"capn: message \d+ at (\d+): (.*)")
+# Where a table of at most 4,096 segments may begin whose first segment isn't empty: any byte, since some may be lost.
+TABLE = re.compile(rb"(?=.[\0-\x0f]\0\0(?!\0{4}))", re.DOTALL)
+# One process checks at most this many rows of frames, or about this many bytes.
+MOST_ROWS, MOST_BYTES = 1 << 12, 1 << 24
+
+
+class Message(NamedTuple):
+    """A message by its frame, with what reading it costs or why it is refused; one without a frame ends at once."""
+
+    begin: int
+    end: int
+    words: int
+    cost: int | None
+    refusal: str
+
+    @property
+    def fault(self) -> str:
+        return self.refusal or f"suspect: words {self.words}, paid {self.cost}"
+
+
+class Span(NamedTuple):
+    """Bytes of an archive: whole messages that are kept, or, with their fault, some that are passed over."""
+
+    begin: int
+    end: int
+    messages: int
+    fault: str
+
+
+def message_of(line: bytes, offset: int) -> Message:
+    """The message of a line of `capn list`, which began to read at this offset."""
+    found = LINE.match(line)
+    if not found:
+        raise RuntimeError(f"not a line of capn list: {line!r}")
+    at, length, words, cost, refusal = found.groups()
+    begin = offset + int(at)
+    return Message(begin, begin + int(length), int(words), None if refusal else int(cost), (refusal or b"").decode())
+
+
+def listed(path: str, offset: int) -> Iterator[Message]:
+    """The messages of a file from an offset on, and at last the fault of a frame that ended the list."""
+    with open(path, "rb", buffering=0) as archive, tempfile.TemporaryFile() as errors:
+        archive.seek(offset)
+        with subprocess.Popen(LIST, stdin=archive, stdout=subprocess.PIPE, stderr=errors) as listing:
+            assert listing.stdout
+            try:
+                for line in listing.stdout:
+                    yield message_of(line, offset)
+            except GeneratorExit:
+                listing.kill()
+                raise
+        errors.seek(0)
+        said = errors.read().strip()
+    if listing.returncode not in (0, 1):
+        raise RuntimeError(said.decode())
+    if fault := FAULT.fullmatch(said.split(b"\n")[-1]):
+        begin = offset + int(fault[1])
+        yield Message(begin, begin, 0, None, fault[2].decode())
+
+
+class Sample:
+    """An archive without damage, which says what a good message is like."""
+
+    def __init__(self, path: str) -> None:
+        with open(path, "rb") as file:
+            needed = subprocess.run(LIMITS, stdin=file, capture_output=True, check=False)
+        use = re.search(rb"^use --message-words (\d+)", needed.stdout, re.MULTILINE)
+        if not use or needed.stdout.startswith(b"messages 0\n"):
+            raise RuntimeError(f"{path} has a fault, or no message: {needed.stderr.decode().strip()}")
+        self.words = int(use[1])
+        self.unused, self.has_null = -self.words, False
+        for message in listed(path, 0):
+            cost = message.cost or 0
+            self.unused = max(self.unused, message.words - cost)
+            self.has_null = self.has_null or cost == 0
+
+    def takes(self, message: Message) -> bool:
+        """Whether a message is accepted, and not null where none of the sample is: two words of garbage can be so."""
+        return message.cost is not None and (message.cost > 0 or self.has_null)
+
+    def is_like(self, message: Message) -> bool:
+        """Whether a message is accepted and not suspect."""
+        return self.takes(message) and message.words <= min(self.words, self.unused + (message.cost or 0))
+
+
+class Archive:
+    """A damaged archive."""
+
+    def __init__(self, path: str, sample: Sample, options: argparse.Namespace) -> None:
+        self.path, self.sample, self.row, self.nested = path, sample, options.row, options.nested
+        self.size = os.path.getsize(path)
+        with open(path, "rb") as file:
+            self.data = mmap.mmap(file.fileno(), 0, access=mmap.ACCESS_READ) if self.size else b""
+
+    def spans(self) -> Iterator[Span]:
+        """The bytes of the archive, in order, kept or passed over."""
+        at = 0
+        while at < self.size:
+            begin, messages, bad = at, 0, None
+            with closing(listed(self.path, at)) as found:
+                for message in found:
+                    if not self.sample.is_like(message):
+                        bad = message
+                        break
+                    at, messages = message.end, messages + 1
+            if messages:
+                yield Span(begin, at, messages, "")
+            if bad:
+                at = self.next_good(bad)
+                yield from self.between(bad, at)
+
+    def next_good(self, bad: Message) -> int:
+        """The first byte after the beginning of a bad message where a row of good ones begins, or the archive's end."""
+        rows: list[tuple[int, list[int]]] = []
+        most, size = 1, 0
+        if self.nested and bad.end > bad.begin and self.first_good([(bad.end, self.ends(bad.end))]):
+            return bad.end
+        for found in TABLE.finditer(self.data, bad.begin + 1):
+            if ends := self.ends(found.start()):
+                rows.append((found.start(), ends))
+                size += ends[-1] - found.start()
+                if len(rows) == most or size > MOST_BYTES:
+                    if good := self.first_good(rows):
+                        return good
+                    rows, most, size = [], min(2 * most, MOST_ROWS), 0
+        return self.first_good(rows) or self.size
+
+    def ends(self, at: int) -> list[int]:
+        """The ends of a row of frames that begins here, by their tables; of fewer frames only if the archive ends."""
+        ends: list[int] = []
+        while len(ends) < self.row and at < self.size:
+            at = self.end(at)
+            if at > self.size:
+                break
+            if at == 0:
+                return []
+            ends.append(at)
+        return ends
+
+    def end(self, at: int) -> int:
+        """Where the frame that begins here ends by its table, or 0 if it has more words than the sample allows."""
+        if at + 8 > self.size:
+            return self.size + 1
+        last, first = struct.unpack_from("<II", self.data, at)
+        if last >= 4096 or not 0 < first <= self.sample.words:
+            return 0
+        table = 8 * ((last + 1) // 2 + 1)
+        if at + table > self.size:
+            return self.size + 1
+        words = sum(struct.unpack_from(f"<{last + 1}I", self.data, at + 4))
+        return at + table + 8 * words if words <= self.sample.words else 0
+
+    def first_good(self, rows: list[tuple[int, list[int]]]) -> int:
+        """Where the first of these rows begins whose messages are all good, or 0. One process checks them all."""
+        frames = b"".join(self.data[begin:ends[-1]] for begin, ends in rows if ends)
+        lines = subprocess.run(LIST, input=frames, capture_output=True, check=False).stdout.splitlines()
+        messages = (message_of(line, 0) for line in lines)
+        for begin, ends in rows:
+            row = [self.sample.is_like(message) for message in islice(messages, len(ends))]
+            if row and all(row):
+                return begin
+        return 0
+
+    def between(self, bad: Message, good: int) -> Iterator[Span]:
+        """The bytes from a bad message to a good one. If the frames between lead to the good one, each was where it
+        should be, so what is accepted is kept: also what was suspect."""
+        end = bad.begin
+        with closing(listed(self.path, bad.begin)) as found:
+            for message in found:
+                end = message.end
+                if end >= good:
+                    break
+        if end != good:
+            yield Span(bad.begin, good, 0, bad.fault)
+            return
+        last = None
+        with closing(listed(self.path, bad.begin)) as found:
+            for message in found:
+                if message.begin >= good:
+                    break
+                is_kept = self.sample.takes(message)
+                span = Span(message.begin, message.end, int(is_kept), "" if is_kept else message.fault)
+                if last and bool(last.messages) == is_kept:
+                    span = Span(last.begin, span.end, last.messages + span.messages, last.fault)
+                elif last:
+                    yield last
+                last = span
+        if last:
+            yield last
+
+
+def main() -> int:
+    parser = argparse.ArgumentParser(description="Writes the good messages of a damaged archive.")
+    parser.add_argument("--good", required=True, help="an archive of the same kind without damage")
+    parser.add_argument("--row", type=int, default=3, help="how many good messages in a row end a damage (default: 3)")
+    parser.add_argument("--nested", action="store_true", help="messages may hold others: take none from a refused one")
+    parser.add_argument("archive")
+    options = parser.parse_args()
+    kept = lost = places = 0
+    try:
+        archive = Archive(options.archive, Sample(options.good), options)
+        for span in archive.spans():
+            kept += span.messages
+            if span.fault:
+                lost, places = lost + span.end - span.begin, places + 1
+                print(f"recover: bytes {span.begin} to {span.end} passed over: {span.fault}", file=sys.stderr)
+            else:
+                sys.stdout.buffer.write(memoryview(archive.data)[span.begin:span.end])
+        sys.stdout.flush()
+    except (OSError, RuntimeError) as fault:
+        print(f"recover: {fault}", file=sys.stderr)
+        return 3
+    print(f"recover: messages kept: {kept}; bytes passed over: {lost}, places: {places}", file=sys.stderr)
+    return 1 if lost else 0
+
+
+if __name__ == "__main__":
+    sys.exit(main())

@@ -1,0 +1,170 @@
+"""Tries the scripts of this folder on small archives, in the current folder, by the program that CAPN names.
+
+Of a damaged archive each message whose bytes are whole has to be kept, and no other; of an archive in parts each
+command has to write what one process writes.
+"""
+
+from __future__ import annotations
+
+import os
+import random
+import resource
+import struct
+import subprocess
+import sys
+from pathlib import Path
+
+HERE = Path(__file__).parent
+sys.path.append(str(HERE.with_name("dask")))
+from messages import canonical, framed, in_two_segments, with_zeros
+
+CAPN = os.environ["CAPN"]
+MEGABYTE = 1 << 20
+# How often the messages after a wrong table come, so that it can hide 5,000 words of them.
+MANY = 6
+Ran = tuple[bytes, str, int]
+Place = tuple[int, int, str]
+REFUSED = framed([1 << 32 | 9 << 2])
+faults: list[str] = []
+passed = 0
+
+
+def see(is_so: bool, what: str) -> None:
+    global passed
+    if is_so:
+        passed += 1
+    else:
+        faults.append(what)
+
+
+def seconds() -> float:
+    """What processes of this one took so far, of a processor."""
+    used = resource.getrusage(resource.RUSAGE_CHILDREN)
+    return used.ru_utime + used.ru_stime
+
+
+def ran(*words: str, given: bytes = b"") -> Ran:
+    done = subprocess.run(words, input=given, capture_output=True, check=False)
+    return done.stdout, done.stderr.decode(), done.returncode
+
+
+def script(name: str, *words: str) -> Ran:
+    return ran(sys.executable, "-B", str(HERE / name), *words)
+
+
+def fault_of(archive: bytes) -> str:
+    """What is wrong with the first message, as recover.py has it."""
+    out, errors, _ = ran(CAPN, "list", "--keep-going", "--tariff", "plain", given=archive)
+    if not out:
+        return errors.strip().split(": ", 2)[2]
+    line = out.decode().split("\n")[0]
+    return line.partition(" refused ")[2] or f"suspect: words {line.split()[8]}, paid {line.split()[10]}"
+
+
+def recovered(what: str, damaged: bytes, kept: list[bytes], *places: Place, options: tuple[str, ...] = ()) -> None:
+    """Sees that these messages are kept of a damaged archive, and no other bytes, and that it says the rest: of each
+    place its offset, its length and its fault."""
+    Path("damaged").write_bytes(damaged)
+    whole = b"".join(kept)
+    out, errors, status = script("recover.py", "--good", "good", *options, "damaged")
+    told = [f"bytes {begin} to {begin + length} passed over: {fault}" for begin, length, fault in places]
+    told.append(f"messages kept: {len(kept)}; bytes passed over: {len(damaged) - len(whole)}, places: {len(places)}")
+    see(out == whole, f"{what}: {len(out)} bytes are kept of {len(whole)}: {errors}")
+    said = "".join(f"recover: {line}\n" for line in told)
+    see((errors, status) == (said, int(bool(places))), f"{what}: it says, with status {status}: {errors}")
+
+
+def nested(inner: bytes) -> bytes:
+    """A message whose only data is another message."""
+    words = struct.unpack(f"<{len(inner) // 8}Q", inner)
+    return framed([1 << 48, 1 | 2 << 32 | len(inner) << 35, *words])
+
+
+def sized(message: bytes, words: int) -> bytes:
+    """A message of one segment whose table says that it has this many words."""
+    return message[:4] + struct.pack("<I", words) + message[8:]
+
+
+def recover(source: random.Random, messages: list[bytes]) -> None:
+    """Damages an archive in the middle: each kind of damage, with the line that names it."""
+    Path("good").write_bytes(b"".join(messages[:100]))
+    before, after = messages[:150], messages[150:]
+    head, tail = b"".join(before), b"".join(after)
+    at, first, rest = len(head), len(after[0]), b"".join(after[1:])
+    recovered("no damage", head + tail, messages)
+    recovered("an empty archive", b"", [])
+    for size in (MEGABYTE, MEGABYTE + 3):
+        garbage = b"\xff\xff" + source.randbytes(size - 2)
+        fault = f"frame: TooManySegments({1 + int.from_bytes(garbage[:4], 'little')})"
+        began = seconds()
+        recovered(f"{size} bytes of garbage", head + garbage + tail, messages, (at, size, fault))
+        see(seconds() - began < 2, f"{size} bytes of garbage took {seconds() - began} seconds of a processor")
+    # Tables: one word too few and too many, as many as with the next message, and more than there are.
+    words = first // 8 - 1
+    for said in (words - 1, words + 1, words + len(after[1]) // 8, 5000, 1 << 24):
+        table = sized(after[0], said)
+        recovered(f"a table of {said} words", head + table + rest * MANY, before + after[1:] * MANY,
+                  (at, first, fault_of(table + rest * MANY)))
+    # Zeros over the end of a message, the next one, and the beginning of a third.
+    zeros = tail[:16] + bytes(first + len(after[1]) - 8) + tail[first + len(after[1]) + 8:]
+    recovered("zeros", head + zeros, before + after[3:], (at, sum(map(len, after[:3])), fault_of(zeros)))
+    recovered("13 bytes lost", head + rest[13:], before + after[2:], (at, len(after[1]) - 13, fault_of(rest[13:])))
+    # Refused messages with a good one between; long ones, and one with a gap, of which nothing is lost.
+    refused = REFUSED + after[0] + REFUSED
+    recovered("two refused", head + refused + rest, messages, (at, len(REFUSED), fault_of(REFUSED)),
+              (at + len(refused) - len(REFUSED), len(REFUSED), fault_of(REFUSED)))
+    long = framed([500 << 32, *range(500)])
+    recovered("long messages", head + long + long + tail, before + [long, long] + after)
+    gap = framed([1 << 32, 7, *range(9)])
+    recovered("a message with a gap", head + gap + tail, before + [gap] + after)
+    last = len(messages[-1])
+    recovered("a cut", (head + tail)[:-8], messages[:-1], (len(head + tail) - last, last - 8, "frame: Cut"))
+    # A message within a refused one is taken for one of the archive, unless it is said that there are such.
+    holder = nested(after[0])
+    holder = holder[:23] + b"\x7f" + holder[24:]
+    fault = fault_of(holder)
+    recovered("a message in a refused one", head + holder + tail, before + [after[0]] + after, (at, 24, fault))
+    recovered("the same, if messages hold others", head + holder + tail, messages, (at, len(holder), fault),
+              options=("--nested",))
+    Path("good").write_bytes(REFUSED)
+    see(script("recover.py", "--good", "good", "damaged")[2] == 3, "a bad archive as the good one")
+
+
+def parallel(messages: list[bytes]) -> None:
+    """Compares what processes write of parts with what one writes, of archives that are whole, refused and cut."""
+    some = [it if n % 70 else REFUSED for n, it in enumerate(messages)]
+    capability = framed([1 << 48, 3])
+    archives = {
+        "whole": messages, "empty": [], "one": messages[:1], "cut": [*messages, messages[0][:-8]],
+        "refused": some, "refused and cut": [*some, b"\1"], "a capability": [*messages, capability, *messages],
+        "a table": [*some, b"\xff" * 8, *messages], "refused at once": [REFUSED, *messages],
+    }
+    commands = ["hash", "check", "list", "list --digest --keep-going", "canonical --framed",
+                "canonical --framed --keep-going", "check --budget 6", "list --keep-going --message-words=6"]
+    for name, parts in archives.items():
+        Path("archive").write_bytes(b"".join(parts))
+        for command in commands:
+            one = ran(CAPN, *command.split(), given=b"".join(parts))
+            see(one == script("parallel.py", "--processes", "2", "--part", "4096", "archive", *command.split()),
+                f"{name}, in parts: {command}")
+    Path("archive").write_bytes(b"".join(messages))
+    for command in ["canonical", "hash --form packed", "show", "list --foo", "hash --help", "foo"]:
+        one = ran(CAPN, *command.split(), given=b"".join(messages))
+        see(one == script("parallel.py", "archive", *command.split()), f"not in parts: {command}")
+    see(script("parallel.py", "--part", "4096", "--processes", "1", "archive", "list")
+        == ran(CAPN, "list", given=b"".join(messages)), "one process, in parts")
+
+
+def main() -> int:
+    source = random.Random(82)
+    messages = [source.choice([canonical, with_zeros, in_two_segments])(source.randint(1, 9999)) for _ in range(300)]
+    messages[150] = canonical(7)
+    recover(source, messages)
+    parallel(messages)
+    print(*(f"archives: {fault}" for fault in faults), sep="\n", end="\n" if faults else "")
+    print(f"archives: {passed} passed, {len(faults)} failed")
+    return 1 if faults else 0
+
+
+if __name__ == "__main__":
+    sys.exit(main())
