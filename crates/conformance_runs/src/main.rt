@@ -15,9 +15,9 @@ use std::io::BufRead;
 
 /// Runs of the program, and of its commands.
 #[derive(Clone, Copy)]
-struct Runs;
+struct RunAnswers;
 
-impl Answers for Runs {
+impl Answers for RunAnswers {
     fn answer(&self, alloc: Global, heap: &Heap, words: &[&str]) -> Result<String> {
         match word_at(words, 0)? {
             "run" => runs::run_answer(alloc, heap, words),
@@ -33,7 +33,7 @@ impl Answers for Runs {
 /// What a call answers, as a line.
 fn answer_line(alloc: Global, line: &str) -> Result<String> {
     let words: Vec<&str> = line.split(' ').collect(alloc)?;
-    answer_each(alloc, &Runs, words.as_slice())
+    answer_each(alloc, &RunAnswers, words.as_slice())
 }
 
 fn main(rt: HostRuntime) -> Result<()> {
