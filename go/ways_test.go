@@ -37,8 +37,8 @@ func packed(t *testing.T, words []byte) []byte {
 }
 
 func TestIsCanonicalIn(t *testing.T) {
-	// A struct of two words, 5 and 0, of which the last has no place in the canonical bytes; and the canonical bytes.
-	loose, tight := stream(t, 2<<32, 5, 0), stream(t, 1<<32, 5)
+	// A struct of two words, 5 and 0, and a word to which nothing leads; and its canonical bytes.
+	loose, tight := stream(t, 2<<32, 5, 0, 9), stream(t, 1<<32, 5)
 	// Read bare, a table and its segment are a struct of data: the call of C has no form.
 	if is, err := IsCanonical(loose, nil); err != nil || !is {
 		t.Fatal(is, err)

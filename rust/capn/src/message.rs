@@ -137,12 +137,12 @@ pub fn digest(message: &[u8], form: Form, limits: &Limits) -> Result<[u8; 32], E
 /// ```
 /// use capn::{Form, Limits};
 ///
-/// // A struct of two words, 5 and 0: canonical bytes have no word of zeros at its end.
-/// let message = [0u64, 2 << 32, 5, 0].map(u64::to_le_bytes).concat();
-/// let framed = [&[0, 0, 0, 0, 3, 0, 0, 0], &message[8..]].concat();
-/// assert!(!capn::is_canonical_in(&framed, Form::Stream, &Limits::usual())?);
+/// // The table of a segment of three words, and a struct of two, 5 and 0: canonical bytes have no word of zeros at its
+/// // end.
+/// let message = [3u64 << 32, 2 << 32, 5, 0].map(u64::to_le_bytes).concat();
+/// assert!(!capn::is_canonical_in(&message, Form::Stream, &Limits::usual())?);
 ///
-/// let canonical = capn::canonical(&framed, Form::Stream, &Limits::usual())?;
+/// let canonical = capn::canonical(&message, Form::Stream, &Limits::usual())?;
 /// assert!(capn::is_canonical_in(&canonical, Form::Bare, &Limits::usual())?);
 /// # Ok::<(), capn::Error>(())
 /// ```

@@ -11,8 +11,8 @@ fn framed(content: &[u64]) -> Vec<u8> {
     [words(&[(content.len() as u64) << 32]), words(content)].concat()
 }
 
-/// A struct of two words, 5 and 0, of which the last has no place in the canonical bytes.
-const LOOSE: [u64; 3] = [2 << 32, 5, 0];
+/// A struct of two words, 5 and 0, and a word to which nothing leads: the last two have no place in the canonical bytes.
+const LOOSE: [u64; 4] = [2 << 32, 5, 0, 9];
 /// A list of two structs of a pointer each, of which the second leads past the end.
 const OUTSIDE: [u64; 4] = [
     1 | 7 << 32 | 2 << 35,
@@ -198,7 +198,10 @@ fn bytes_of(digits: &str) -> Vec<u8> {
 
 /// The input of a stored explanation: its form, its limits and its bytes.
 fn input_of(call: &str) -> Option<(Form, Limits, Vec<u8>)> {
-    let (_, options) = call.split_once(" explain ")?;
+    let (run, options) = call.split_once(" explain ")?;
+    if !run.starts_with("archive ") {
+        return None;
+    }
     let (mut form, mut limits) = (Form::Stream, USUAL);
     let mut words = options.split(' ');
     loop {
