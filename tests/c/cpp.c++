@@ -77,19 +77,23 @@ static void answers() {
     want("unpack", capn::bytes(capn::unpack(packed)).chars() == one);
     want("packed", capn::canonical(packed, capn::form::packed) == capn::canonical(one));
     want("is canonical", capn::is_canonical(capn::canonical(one)) && !capn::is_canonical(one.substr(8)));
-    /* A frame of one segment whose last word is zero: read bare, with its table, it passes; as a stream it doesn't. */
+    /* A frame of one segment whose last word isn't zero: read bare, with its table, it passes; as a stream it doesn't,
+     * for its struct has a zero word before a slot. */
     using capn::form;
     const capn::limits few(99, 2, 9);
-    const std::string short_one = framed(words({1ull << 32, 5})), capability = framed(words({3 | 7ull << 32}));
-    want("a frame, read bare", capn::is_canonical(one) && capn::is_canonical(one, form::bare));
-    want("a frame", !capn::is_canonical(one, form::stream) && capn::is_canonical(short_one, form::stream));
+    const std::string loose = framed(words({2ull << 32 | 1ull << 48, 5, 0, 1 | 0x22ull << 32, 0x636261}));
+    const std::string tight = framed(words({1ull << 32, 5}));
+    const std::string capability = framed(words({1ull << 48, 3 | 7ull << 32}));
+    want("a frame, read bare", capn::is_canonical(loose) && capn::is_canonical(loose, form::bare));
+    want("a frame", !capn::is_canonical(loose, form::stream) && capn::is_canonical(tight, form::stream));
     want("a packed frame", !capn::is_canonical(packed, form::packed)
-                               && capn::is_canonical(capn::pack(short_one), form::packed));
-    want("two segments", !capn::is_canonical(words({1 | 1ull << 32, 1, 2 | 1ull << 32, 1ull << 32, 5}), form::stream));
-    want("limits without a form", capn::is_canonical(one, {}) && thrown<capn::refusal>([&] {
-                                      capn::is_canonical(one, few);
+                               && capn::is_canonical(capn::pack(tight), form::packed));
+    const std::string far = words({1 | 1ull << 32, 2, 2 | 1ull << 32, 1ull << 32, 5});
+    want("two segments", !capn::is_canonical(far, form::stream));
+    want("limits without a form", capn::is_canonical(loose, {}) && thrown<capn::refusal>([&] {
+                                      capn::is_canonical(loose, few);
                                   }) == "OverBudget at 0:0, paid 0, visits 1");
-    want("limits and a form", thrown<capn::refusal>([&] { capn::is_canonical(one, form::stream, few); })
+    want("limits and a form", thrown<capn::refusal>([&] { capn::is_canonical(loose, form::stream, few); })
                                   == "OverBudget at 0:0, paid 0, visits 1");
     for (const auto written : {form::stream, form::bare}) {
         const std::string message = written == form::bare ? capability.substr(8) : capability;
@@ -128,7 +132,7 @@ static void ways() {
     const auto bits = capn::departure(framed(words({1ull << 48, 1 | 1ull << 32 | 3ull << 35, 0xff})));
     want("a last word", bits && bits->owner == capn::owner::last_word && bits->to == capn::way{0} && bits->byte == 24
                             && bits->word == 0xff && bits->canonical_word == 7);
-    const auto several = capn::departure(words({1 | 1ull << 32, 1, 2 | 1ull << 32, 1ull << 32, 5}));
+    const auto several = capn::departure(words({1 | 1ull << 32, 2, 2 | 1ull << 32, 1ull << 32, 5}));
     want("segments", several && several->why == capn::reason::segments && several->count == 2 && !several->byte);
     const auto capability = capn::departure(framed(words({1ull << 48, 3 | 7ull << 32})));
     want("a capability", capability && capability->why == capn::reason::capability && capability->count == 7

@@ -13,12 +13,14 @@ class Canonical(unittest.TestCase):
     """`is_canonical` reads bare words, and with a form what that says."""
 
     def test_a_frame(self):
-        # One segment, whose last word is zero: with its table, read bare, it is a struct of data.
-        self.assertTrue(capn.is_canonical(SMALL))
-        self.assertTrue(capn.is_canonical(SMALL, form="bare"))
-        self.assertFalse(capn.is_canonical(SMALL, form="stream"))
-        self.assertFalse(capn.is_canonical(SMALL[8:]))
-        self.assertFalse(capn.is_canonical(capn.pack(SMALL), form="packed"))
+        # One segment, whose last word isn't zero: with its table, read bare, it is a struct of data. Its own struct has
+        # a zero word before a slot.
+        loose = stream(bare(("struct", [5, 0], [text("abc")])))
+        self.assertTrue(capn.is_canonical(loose))
+        self.assertTrue(capn.is_canonical(loose, form="bare"))
+        self.assertFalse(capn.is_canonical(loose, form="stream"))
+        self.assertFalse(capn.is_canonical(loose[8:]))
+        self.assertFalse(capn.is_canonical(capn.pack(loose), form="packed"))
         whole = stream(capn.canonical(SMALL))
         self.assertTrue(capn.is_canonical(whole, form="stream"))
         self.assertTrue(capn.is_canonical(capn.pack(whole), form="packed"))
@@ -31,7 +33,7 @@ class Canonical(unittest.TestCase):
 
     def test_a_refusal(self):
         for form in "bare", "stream":
-            words = (3 | 7 << 32).to_bytes(8, "little")
+            words = (1 << 48).to_bytes(8, "little") + (3 | 7 << 32).to_bytes(8, "little")
             with self.assertRaises(capn.Refusal) as caught:
                 capn.is_canonical(words if form == "bare" else stream(words), form=form)
             self.assertEqual((caught.exception.name, caught.exception.at, str(caught.exception)),
