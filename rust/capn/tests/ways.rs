@@ -11,8 +11,8 @@ fn framed(content: &[u64]) -> Vec<u8> {
     [words(&[(content.len() as u64) << 32]), words(content)].concat()
 }
 
-/// A struct of two words, 5 and 0, and a word to which nothing leads: the canonical bytes have neither the zero nor that
-/// word.
+/// A struct of two words, 5 and 0, and a word to which nothing leads. The canonical bytes have neither the zero nor
+/// that word.
 const LOOSE: [u64; 4] = [2 << 32, 5, 0, 9];
 /// A list of two structs of a pointer each, of which the second leads past the end.
 const OUTSIDE: [u64; 4] = [
