@@ -111,7 +111,7 @@ class Schemas(unittest.TestCase):
         message.close()
         message.close()
         self.assertEqual(len(pointers), 3)
-        for wrong in lambda: pointers[0], lambda: root.word(0), lambda: root.slot(0), lambda: root.slot(9):
+        for wrong in lambda: pointers[0], lambda: root.slot(0), lambda: root.slot(9), lambda: message.root:
             self.assertRaises(ValueError, wrong)
 
 
