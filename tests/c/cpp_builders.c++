@@ -103,9 +103,9 @@ void try_null_segment() {
     const kj::ArrayPtr<const capnp::word> all[] = {of(&first, 1), nullptr, of(last, 2)};
     const kj::ArrayPtr<const kj::ArrayPtr<const capnp::word>> segments(all, 3);
     capnp::SegmentArrayMessageReader reader(segments);
-    want("a null segment of an array", capn::check(segments).paid == 2);
+    want("a null segment of an array", capn::check(segments).paid == 3);
     try {
-        want("a null segment of a reader", capn::check(reader).paid == 2);
+        want("a null segment of a reader", capn::check(reader).paid == 3);
     } catch (const capn::refusal &why) {
         want(why.what(), false);
     }
