@@ -122,8 +122,9 @@ class EachCall(unittest.TestCase):
                               lambda file: capn.messages(file, packed, read_ahead=ahead), MESSAGES)
 
     def test_digests(self):
-        data = b"".join(MESSAGES)
-        self.each(data, capn.digests, [capn.digest(message) for message in MESSAGES])
+        # one of no words has no digest, and would end the run
+        messages = [it for it in MESSAGES if it != stream(b"")]
+        self.each(b"".join(messages), capn.digests, [capn.digest(message) for message in messages])
 
     def test_the_last_one(self):
         for packed in False, True:
