@@ -9,6 +9,7 @@ import io
 import os
 import signal
 import socket
+import struct
 import sys
 import tempfile
 import threading
@@ -20,7 +21,7 @@ from messages import stream
 from test_reading import Pieces
 from test_streams import SECONDS, SMALL, Blocking, Peeking
 
-LONG = stream(bytes(range(1, 249)) * 20)
+LONG = stream(struct.pack("<IHH", 0, 600, 0) + bytes(range(1, 241)) * 20)
 # Of one segment and of two, of no words, equal ones beside each other, and one that is longer than a look.
 MESSAGES = [SMALL, SMALL, stream(bytes(8), bytes(16)), stream(b""), SMALL, LONG, SMALL]
 
