@@ -22,6 +22,8 @@ MEMORY = 2
 AT_ONCE = 40
 # How long they may take, on a busy machine too.
 SECONDS = 1200
+# The most lines that are printed of what is wrong with a crate: ten cases.
+MOST_LINES = 40
 
 # What is tried of a crate: a word for it, and a call that returns what is wrong, or nothing, and what was said.
 Job = collections.namedtuple("Job", "crate what run")
@@ -145,7 +147,7 @@ def cases_job(crate, cases):
             wrong = [f"its cases end with status {status}"]
         return "\n".join(wrong), said
 
-    return Job(crate, f"{len(cases)} cases", run)
+    return Job(crate, f"{len(cases):,} cases", run)
 
 
 def workers():
@@ -171,7 +173,9 @@ def run_all(jobs):
             if wrong:
                 faults.append((job, wrong, said))
     for job, wrong, said in faults:
-        print(f"\n{job.crate}, {job.what}:\n{wrong}", file=sys.stderr)
+        lines = wrong.split("\n")
+        rest = [f"and {len(lines) - MOST_LINES} lines more, in the log"] if len(lines) > MOST_LINES else []
+        print(f"\n{job.crate}, {job.what}:", *lines[:MOST_LINES], *rest, sep="\n", file=sys.stderr)
         if job.what.endswith("tests"):
             print("\n".join(said.strip().split("\n")[-20:]), file=sys.stderr)
     if faults:
