@@ -22,7 +22,7 @@ SHELL := bash
 # The pages that are installed, with the program and with the library, in the repository's own folders, so that their
 # links hold: what they link to is among them, and contrib/ but for the scripts that try it in a clone.
 PAGES := README.md LICENSE NOTICE $(wildcard docs/*.md docs/capn.[13] docs/internals/*.md docs/pictures/*.svg) \
-	$(wildcard .ci/*.md .ci/refused bench/*.md release/*.md tests/*.md) \
+	$(wildcard .ci/*.md .ci/refused bench/*.md release/*.md tests/*.md vectors/*) \
 	$(wildcard $(sort $(shell grep -ohs 'crates/[a-z_]*/specs/[A-Za-z/]*\.antt' docs/internals/*.md))) \
 	$(filter-out %/run,$(sort $(shell find contrib -type f ! -path '*/__pycache__/*' 2> /dev/null)))
 # The headers.
