@@ -72,7 +72,7 @@ def tests_job(crate):
     """All tests of a crate."""
 
     def run():
-        status, out, said = try_crate(crate, ["--test"])
+        status, out, said = try_crate(crate, ["--test", "--seconds", str(SECONDS)])
         said = out.decode(errors="replace") + said
         passed = re.search(r"^test result: ok\. \d+ passed; 0 failed", said, re.M)
         return "" if passed and not status else f"its tests end with status {status}", said
