@@ -78,8 +78,12 @@ class Debs:
             os.remove(page)
         overrides = os.path.join(TEMPLATES, f"{package}.lintian-overrides")
         if os.path.exists(overrides):
-            os.makedirs(os.path.join(folder, "usr/share/lintian/overrides"))
-            shutil.copy(overrides, os.path.join(folder, "usr/share/lintian/overrides", package))
+            with open(overrides, encoding="utf-8") as file:
+                text = file.read()
+            if not self.proved:
+                # what is said of a first version is said of that of a release alone
+                text = re.sub(r"#.*\n.*initial-upload.*\n", "", text)
+            write(os.path.join(folder, "usr/share/lintian/overrides", package), text)
         control = os.path.join(folder, "DEBIAN")
         for name in ("triggers", "postinst", "prerm"):
             if os.path.exists(os.path.join(TEMPLATES, f"{package}.{name}")):
