@@ -55,9 +55,9 @@ def all_cases():
     return found
 
 
-def asked(cases):
-    """The input of these cases."""
-    return "".join(f"{case.name}\n{case.call}\n" for case in cases)
+def asked(cases, before=""):
+    """The input of these cases, with a word before each call."""
+    return "".join(f"{case.name}\n{before}{case.call}\n" for case in cases)
 
 
 def answered(cases):

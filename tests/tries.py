@@ -132,7 +132,8 @@ def cases_job(crate, cases):
         with tempfile.TemporaryDirectory() as folder:
             for number, part in enumerate(parts):
                 with open(os.path.join(folder, f"{number:04}"), "w", encoding="utf-8") as file:
-                    file.write(stored.asked(part))
+                    # Of each call only some growths are refused: the gate, which runs what is built, refuses each.
+                    file.write(stored.asked(part, "few "))
             # The interpreter can't run what takes memory from the system.
             status, out, said = try_crate(crate, ["--steps", "1", "--seconds", str(SECONDS), "--cases", folder])
         outs = dict(zip(*[iter(re.split(r"^== (\d{4})\n", out.decode(errors="replace"), flags=re.M)[1:])] * 2))

@@ -19,7 +19,7 @@ mod visits;
 
 use anyhow::{Result, bail};
 use capn_value::Tariff;
-use conformance_cases::{Answers, Heap, answer_each, word_at};
+use conformance_cases::{Answers, Heap, answer_each, growths_and_call, word_at};
 use std::alloc::Global;
 use std::io::BufRead;
 use visits::Asked;
@@ -64,12 +64,13 @@ impl Answers for Calls {
     }
 }
 
-/// What a call answers, as a line. Each of its growths is refused once, and where its message is cut it answers what it
+/// What a call answers, as a line. Growths of it are refused, one each time, and where its message is cut it answers what it
 /// must.
 fn answer_line(alloc: Global, line: &str) -> Result<String> {
     let words: Vec<&str> = line.split(' ').collect(alloc)?;
-    let answer = answer_each(alloc, &Calls, words.as_slice())?;
-    cuts::cut_each(alloc, words.as_slice(), answer.as_str())?;
+    let (growths, call) = growths_and_call(words.as_slice());
+    let answer = answer_each(alloc, &Calls, call, growths)?;
+    cuts::cut_each(alloc, call, answer.as_str())?;
     Ok(answer)
 }
 

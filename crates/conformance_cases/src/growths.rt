@@ -61,12 +61,44 @@ fn refuse<C: Answers>(
     Ok(())
 }
 
-/// What a call answers, as a line, once each of its growths was refused, and answered as it must be.
-pub fn answer_each<C: Answers>(alloc: Global, calls: &C, words: &[&str]) -> Result<String> {
+/// Which growths of a call are refused.
+#[derive(Clone, Copy, PartialEq, Eq)]
+pub enum Growths {
+    /// Each.
+    Each,
+    /// Some 64, one as far from the next as the other, as the word `few` before a call asks: for runs that check each
+    /// step, where the thousands of growths of a large message would take minutes.
+    Few,
+}
+
+/// Which growths of the call of a case are refused, and the words of the call.
+pub fn growths_and_call<'w, 'a>(words: &'w [&'a str]) -> (Growths, &'w [&'a str]) {
+    match words {
+        [first, call @ ..] if *first == "few" => (Growths::Few, call),
+        _ => (Growths::Each, words),
+    }
+}
+
+/// What a call answers, as a line, once these of its growths were refused, and answered as they must be.
+pub fn answer_each<C: Answers>(
+    alloc: Global,
+    calls: &C,
+    words: &[&str],
+    growths: Growths,
+) -> Result<String> {
     let ample = Heap::nth(alloc, 0);
     let want = calls.answer(alloc, &ample, words)?;
-    for number in 1..=ample.count() {
-        refuse(alloc, calls, words, number, want.as_str())?;
+    let count = ample.count();
+    let gap = match growths {
+        Growths::Each => 1,
+        Growths::Few => count / 64,
+    };
+    let mut next = 1;
+    for number in 1..=count {
+        if number >= next {
+            refuse(alloc, calls, words, number, want.as_str())?;
+            next = number.saturating_add(gap);
+        }
     }
     Ok(want)
 }

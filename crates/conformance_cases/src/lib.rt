@@ -8,5 +8,5 @@ mod growths;
 mod words;
 
 pub use forms::form_at;
-pub use growths::{Answers, Heap, MEMORY, answer_each, cut_short};
+pub use growths::{Answers, Growths, Heap, MEMORY, answer_each, cut_short, growths_and_call};
 pub use words::{bytes_at, digits_of, number_at, push_told, word_at};

@@ -9,7 +9,7 @@ mod archives;
 mod runs;
 
 use anyhow::{Result, bail};
-use conformance_cases::{Answers, Heap, answer_each, word_at};
+use conformance_cases::{Answers, Heap, answer_each, growths_and_call, word_at};
 use std::alloc::Global;
 use std::io::BufRead;
 
@@ -33,7 +33,8 @@ impl Answers for RunAnswers {
 /// What a call answers, as a line.
 fn answer_line(alloc: Global, line: &str) -> Result<String> {
     let words: Vec<&str> = line.split(' ').collect(alloc)?;
-    answer_each(alloc, &RunAnswers, words.as_slice())
+    let (growths, call) = growths_and_call(words.as_slice());
+    answer_each(alloc, &RunAnswers, call, growths)
 }
 
 fn main(rt: HostRuntime) -> Result<()> {
