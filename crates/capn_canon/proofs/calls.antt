@@ -5,7 +5,6 @@ pub mod Answered
 pub mod InEachForm
 pub mod Accounted
 pub mod Measured
-pub mod MemoryNeeds
 pub mod OnlySegment
 pub mod ReadInput
 pub mod IntoBuffers

@@ -21,7 +21,7 @@ use Rattle.capn_departure.specs.declared.sought.Sought.TheVariants as sought
 use Rattle.capn_departure.specs.Capability.{IsFirstCapability}
 use Rattle.capn_departure.specs.inner.Search.{capability_there, found_at, first_found}
 use Rattle.capn_departure.specs.inner.Seeks.{Seeks}
-use Rattle.capn_departure.proofs.CapsMet.{caps-at}
+use Rattle.capn_walk.proofs.shared.CapsMet.{caps-at}
 use Rattle.capn_departure.proofs.FoundFirst.{found-append}
 
 -- a capability, as it is found

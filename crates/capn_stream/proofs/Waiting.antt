@@ -16,7 +16,7 @@ use Rattle.capn_stream.specs.declared.fault.FrameFault.TheVariants.{Failed}
 use Rattle.capn_stream.specs.declared.stage.Stage.{Stage}
 use Rattle.capn_stream.specs.declared.stage.Stage.TheVariants as stages
 use Rattle.capn_stream.proofs.shared.FrameLaws.{frames_all}
-use Rattle.capn_stream.proofs.WholeFrames.{ends_are, stands}
+use Rattle.capn_stream.proofs.shared.WholeFrames.{ends_are, stands}
 
 -- the words after the head
 abbrev pub tail : ℕ → List ℕ → List ℕ

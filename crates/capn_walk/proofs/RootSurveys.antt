@@ -23,7 +23,7 @@ use Rattle.capn_walk.proofs.shared.Judge.{judge-pays}
 use Rattle.capn_walk.proofs.shared.Stops.{accepted-within}
 use Rattle.capn_walk.proofs.RootWalks.{from-root}
 use Rattle.capn_walk.proofs.UnderWay.{option_or-none}
-use Rattle.capn_walk.proofs.CapsMet.{caps-at}
+use Rattle.capn_walk.proofs.shared.CapsMet.{caps-at}
 use Rattle.capn_walk.proofs.Exists.{exists-at}
 
 module _ (m : List (List ℕ)) (base : ℕ) where

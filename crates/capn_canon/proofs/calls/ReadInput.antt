@@ -27,7 +27,7 @@ use Rattle.capn_canon.specs.Answered.{IsAnswered, IsRefusedReading}
 use Rattle.capn_canon.specs.inner.Outcomes.{AreCanonicalised, AreSurveyed, IsCanonicalised, IsSurveyed}
 use Rattle.capn_canon.proofs.calls.Accounted.{surveyed_as}
 use Rattle.capn_canon.proofs.calls.InEachForm.{canonicalised_as}
-use Rattle.capn_canon.proofs.calls.MemoryNeeds.{bytes_wanted, packed_wanted}
+use Rattle.capn_canon.proofs.shared.MemoryNeeds.{bytes_wanted, packed_wanted}
 
 -- ---- bytes that are not read
 

@@ -25,7 +25,7 @@ use Rattle.capn_canon.specs.declared.surveyed_bare.SurveyedBare.{SurveyedBare}
 use Rattle.capn_canon.specs.Laws.{IsPageFormOf}
 use Rattle.capn_canon.specs.PageForm.{Met, null, object, WithoutGaps, IsPageForm}
 use Rattle.capn_canon.proofs.places.CanonicalWords.{words-stand, stand-words, bytes-words}
-use Rattle.capn_canon.proofs.theorem.BareCanon.{canon_is_bare}
+use Rattle.capn_canon.proofs.shared.BareCanon.{canon_is_bare}
 use Rattle.capn_canon.proofs.theorem.Headline.{denoted_fits, denoted_has_form}
 use Rattle.capn_canon.proofs.theorem.EqualExactlySame.{canon-trimmed, equal_exactly_same, trimmed_is_same}
 use Rattle.capn_canon.proofs.theorem.CapOfTrimmed.{cap-trimmed}

@@ -11,7 +11,7 @@ use Rattle.capn_value.specs.InRange.{InRange}
 use Rattle.capn_layout.specs.Layout.{size, point, lay, words, canon}
 use Rattle.capn_layout.specs.Sound.{Sound}
 use Rattle.capn_layout.proofs.shared.Room.{length_words}
-use Rattle.capn_canon.proofs.theorem.BareCanon.{words_are_words}
+use Rattle.capn_canon.proofs.shared.BareCanon.{words_are_words}
 use Rattle.capn_canon.specs.inner.WordsOfLayout.{Stand, IsLaidAt}
 use Rattle.capn_canon.proofs.places.Standing.{stand-cons, stand-head, stand-tail}
 

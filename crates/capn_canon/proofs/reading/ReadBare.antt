@@ -21,7 +21,7 @@ use Rattle.capn_layout.proofs.shared.Sound.{sound}
 use Rattle.capn_layout.proofs.shared.Room.{room}
 use Rattle.capn_canon.proofs.reading.Tight.{Pays}
 use Rattle.capn_canon.proofs.reading.ReadBack.{read_back, pays_cost}
-use Rattle.capn_canon.proofs.theorem.BareCanon.{canon_is_bare, words_in_canon}
+use Rattle.capn_canon.proofs.shared.BareCanon.{canon_is_bare, words_in_canon}
 
 -- the root's visits are those of its slot, where a value that may be a root is there
 pub root-alone : (m : List (List ℕ)) (base depth : ℕ) (v : Tree) → is_root v ≡ true → IsAt m root v

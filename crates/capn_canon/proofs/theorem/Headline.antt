@@ -16,7 +16,7 @@ use Rattle.capn_canon.specs.Denotes.{Denotes}
 use Rattle.capn_canon.specs.Laws.{HasCanonicalForm}
 use Rattle.capn_canon.proofs.shared.OneReading.{is_message}
 use Rattle.capn_walk.proofs.shared.InRangeAt.{in_range-at}
-use Rattle.capn_canon.proofs.theorem.BareCanon.{canon_length}
+use Rattle.capn_canon.proofs.shared.BareCanon.{canon_length}
 use Rattle.capn_canon.proofs.theorem.EqualExactlySame.{canon-trimmed, equal_exactly_same, trimmed_is_same}
 use Rattle.capn_canon.proofs.reading.ReadBare.{pays_its_cost, read_bare}
 

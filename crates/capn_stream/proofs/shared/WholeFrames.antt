@@ -9,7 +9,7 @@ use Rattle.capn_stream.specs.Frames.{StandsFirst, contents, entry, padding, tabl
 use Rattle.capn_stream.specs.FrameRefusal.{IsWhole, announced_segments, entries, entry_number, frame_length}
 use Rattle.capn_stream.specs.FrameRefusal.{head_length}
 use Rattle.capn_stream.specs.FrameRefusal.{announced_words}
-use Rattle.capn_few.proofs.Cutting.{length-cut, message-cut, total-cut}
+use Rattle.capn_stream.proofs.shared.Cutting.{length-cut, message-cut, total-cut}
 use Rattle.capn_stream.proofs.shared.Ends.{AreRising-ends_from, contents-cut, length-ends_from, lengths-cut}
 use Rattle.capn_stream.proofs.shared.Entries.{entries_more, entry-entries, entry-entry_number, below-drop, below-take}
 use Rattle.capn_stream.proofs.shared.Entries.{length-entries, sum-entries_more, take_then}
