@@ -8,67 +8,19 @@ ghost use Rattle.capn_canon.specs.Refusal.{IsPaidWithin, IsUnacceptedIn};
 ghost use Rattle.capn_canon.specs.SurveyedBytes.{Surveys};
 ghost use Rattle.capn_canon.specs.declared.refusal.Refusal.TheVariants as refusals;
 ghost use Rattle.capn_answers.specs.Departures.{IsDepartureIn, MayAskForDeparture, MayNeedDeparture, way_of};
-ghost use Rattle.capn_answers.specs.inner.Answered.{IsDepartureSurveyed, IsDepartureTold};
+ghost use Rattle.capn_answers.specs.inner.Answered.{IsDepartureSurveyed};
 
 use crate::input::run_few;
-use capn_canon::{Form, MessageTask, Refusal, run_task, survey};
+use capn_canon::{Form, MessageTask, Refusal, survey};
 use capn_departure::{Departure, departure};
 use capn_walk::{Limits, Surveyed};
 use capn_words::Space;
 use std::alloc::{Allocator, Global};
 
-/// Where a message leaves its canonical bytes.
-#[derive(Clone, Copy)]
-struct Departs;
-
-impl<A: Allocator + Copy> MessageTask<A> for Departs {
-    type Answer = Departure<A>;
-
-    ghost answers = { λ _ m limits r. IsDepartureTold m limits r };
-
-    fn run<S: Space>(
-        &self,
-        alloc: A,
-        message: &S,
-        limits: Limits,
-    ) -> Result<Departure<A>, Refusal> {
-        departure(alloc, message, limits)
-    }
-}
-
-/// Whether the message that bytes are in a form is canonical within the limits, and if not, the first reason: its
-/// segments, its first capability, or the first word that differs from its canonical bytes. A way has at most two
-/// numbers for each level of the depth limit.
-///
-/// It refuses what [`capn_canon::survey_bytes`] refuses, and as that does. `Memory` comes only where a growth was
-/// refused: for the table of two segments or more, for what is unpacked, and, of a message of one segment that is not
-/// canonical, for its canonical bytes and for the way. (Own.)
-pub fn departure_in<A: Allocator + Copy>(
-    alloc: A,
-    form: Form,
-    bytes: &[u8],
-    limits: Limits,
-) -> Result<Departure<A>, Refusal>
-    // What each answer means.
-    ensures found { IfOk result (λ d. IsDepartureIn form bytes.now limits d) }
-    // Bytes that denote a value are answered, unless memory runs out.
-    ensures only { (v : Value) → Denotes form bytes.now limits v
-        → MatchResult result (λ d. ⊤) (λ e. e ≡ refusals.Memory) }
-    // Two numbers for each level of depth are enough for a way.
-    ensures short { IfOk result (λ d. length (way_of d) ≤ 2 * limits.depth) }
-    // What each refusal means.
-    ensures refused { IfErr result (λ e. IsUnacceptedIn form bytes.now limits e) }
-    // Memory is needed only for where two segments or more end, for what a text packs, and for a message of one segment
-    // that is not canonical.
-    ensures memory { IsErrOf result refusals.Memory → MayNeedDeparture form bytes.now limits }
-{
-    run_task(alloc, &Departs, form, bytes, limits)
-}
-
 /// Where a message leaves its canonical bytes, and what its walk pays and visits.
 #[derive(Debug, Drop)]
 pub struct SurveyedDeparture<A: Allocator = Global> {
-    /// What [`departure_in`] answers.
+    /// Whether it is canonical, and if not, the first reason.
     pub departure: Departure<A>,
     /// What [`capn_canon::survey_bytes`] answers.
     pub survey: Surveyed,
@@ -97,10 +49,14 @@ impl<A: Allocator + Copy> MessageTask<A> for SurveyedDeparts {
     }
 }
 
-/// What [`departure_in`] and [`capn_canon::survey_bytes`] answer. The bytes are read once.
+/// Answers whether the message that `bytes` are in `form` is canonical within `limits`, and if not, the first reason:
+/// its segments, its first capability, or the first word that differs from its canonical bytes; and what
+/// [`capn_canon::survey_bytes`] answers of it. A way has at most two numbers for each level of the depth limit. The
+/// bytes are read once.
 ///
-/// `Memory` comes only where a growth was refused: for the table of a frame of more than 64 segments, for what is
-/// unpacked, and, of a message of one segment that is not canonical, for its canonical bytes and for the way. (Own.)
+/// It refuses what [`capn_canon::survey_bytes`] refuses, and as that does. `Memory` comes only where a growth was
+/// refused: for the table of a frame of more than 64 segments, for what is unpacked, and, of a message of one segment
+/// that is not canonical, for its canonical bytes and for the way. (Own.)
 pub fn departure_and_survey_in<A: Allocator + Copy>(
     alloc: A,
     form: Form,

@@ -10,42 +10,20 @@ ghost use Rattle.capn_departure.specs.inner.Made.{HasCanonicalLength};
 
 use crate::canonical_lines::CanonicalLines;
 use crate::message_departure::finding_of;
-use capn_canon::{MeasuredBare, measure};
+use capn_canon::MeasuredBare;
 use capn_layout::surveyed_length;
 use capn_walk::Limits;
 use capn_words::{Memory, Space, total_words};
 use std::alloc::Allocator;
 
-/// The lines of an accepted message that say whether it is canonical, and how long it and its canonical bytes are.
+/// Answers the lines of an accepted message that say whether it is canonical, and how long it and its canonical bytes
+/// are.
 ///
-/// `offset` is the byte of the stream at which the message begins, and `table` how many words its table takes: none of
-/// a bare message. `Memory` comes only for a message of one segment that is not canonical, where a growth was refused.
-/// Memory: that of [`departure`](crate::departure). (Own.)
-pub fn lines_of_accepted<S: Space, A: Allocator + Copy>(
-    alloc: A,
-    space: &S,
-    limits: Limits,
-    offset: u64,
-    table: u32,
-) -> Result<CanonicalLines<A>, Memory>
-    requires accepted { (v : Value) × IsValueOf (S.message space.now) limits v }
-    // All that the lines tell.
-    ensures found { IfOk result (λ lines. AreLinesOf (S.message space.now) limits offset table lines) }
-    // Memory is needed only for a message of one segment that is not canonical.
-    ensures memory { IsErr result → Departs (S.message space.now) limits }
-{
-    match measure(alloc, space, limits) {
-        Ok(measured) => lines_of_measured(alloc, space, limits, measured, offset, table),
-        // A message that is accepted is measured.
-        Err(_) => unreachable!(),
-    }
-}
-
-/// The same lines of a message that was measured.
-///
-/// `measured` is what [`measure`] answers of this message within these limits, so it isn't surveyed again. Canonical
-/// bytes are laid out once, and only of a message of one segment that is not canonical; where it has more segments they
-/// are counted. The rest is as for [`lines_of_accepted`]. (Own.)
+/// `measured` is what [`measure`](capn_canon::measure) answers of this message within `limits`, so it isn't surveyed
+/// again. `offset` is the byte of the stream at which the message begins, and `table` how many words its table takes:
+/// none of a bare message. Canonical bytes are laid out once, and only of a message of one segment that is not
+/// canonical; where it has more segments they are counted. `Memory` comes only for a message of one segment that is not
+/// canonical, where a growth was refused. Memory: that of [`departure`](crate::departure). (Own.)
 pub fn lines_of_measured<S: Space, A: Allocator + Copy>(
     alloc: A,
     space: &S,

@@ -125,13 +125,6 @@ lengths_line (Some lengths) =
     codes "lengths: " ++ (decimal lengths.0 ++ (codes " bytes, canonical " ++ (decimal lengths.1 ++ codes "\n")))
 lengths_line None = codes ""
 
--- all lines
-abbrev pub accepted_lines : MessageHead → ℕ → ℕ → ℕ → CanonicalText → Option (ℕ × ℕ) → List ℕ
-accepted_lines head paid visits depth canonical lengths =
-    head_lines head ++ (codes "accepted: paid " ++ (decimal paid ++ (codes " visits " ++ (decimal visits
-    ++ (codes " depth " ++ (decimal depth ++ (codes "\ncanonical: " ++ (canonical_text canonical ++ (codes "\n"
-    ++ lengths_line lengths)))))))))
-
 -- ---- no message
 
 -- why none is explained

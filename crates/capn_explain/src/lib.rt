@@ -8,11 +8,10 @@
 //! - [`place_byte`] answers the byte of a stream at which a word of a message lies.
 //! - [`examine`] answers what there is to say of the slot at which the walk of a message was refused: the words that
 //!   lead to its content, where that lies, and the limit that the refusal is about.
-//! - [`explain_refusal`] says whether a message is refused, and answers all lines that explain it then;
-//!   [`explain_stop`] answers them where the walk has stopped already.
-//! - [`RefusedLines`], [`FrameLines`] and [`AcceptedLines`] display all lines that explain a message, and [`CountText`]
-//!   the line where there is none to explain. Their parts are [`MessageHead`], [`SegmentsText`], [`SlotLines`],
-//!   [`HolderText`], [`FrameKey`] and [`CanonicalText`].
+//! - [`explain_stop`] answers all lines that explain a message at which the walk has stopped.
+//! - [`RefusedLines`] and [`FrameLines`] display all lines that explain a refused message, and [`CountText`] the line
+//!   where there is none to explain. Their parts are [`MessageHead`], [`SegmentsText`], [`SlotLines`], [`HolderText`]
+//!   and [`FrameKey`]. [`CanonicalText`] displays whether an accepted message is canonical, and if not, why.
 #![tactic(auto)]
 
 mod byte_of_place;
@@ -44,9 +43,9 @@ pub use examined::{Examined, Limit, Pad, RowWords, Stretch};
 pub use examined_text::SlotLines;
 pub use frame_text::FrameKey;
 pub use holder_text::HolderText;
-pub use message_text::{AcceptedLines, FrameLines, MessageHead, RefusedLines};
+pub use message_text::{FrameLines, MessageHead, RefusedLines};
 pub use pointer_text::PointerText;
-pub use refusal::{Told, explain_refusal, explain_stop};
+pub use refusal::{Told, explain_stop};
 pub use segments_text::SegmentsText;
 pub use slot_text::SlotText;
 pub use tag_text::TagText;

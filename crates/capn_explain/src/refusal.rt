@@ -1,8 +1,8 @@
 //! The explanation of a message that its walk refuses.
 
-ghost use Rattle.std.specs.Prelude.{◌≡◌, ℕ, ◌<◌, length, IfOk, IfSome, IfNone};
+ghost use Rattle.std.specs.Prelude.{◌≡◌, ℕ, ◌<◌, length, IfOk};
 ghost use Rattle.capn_words.specs.Message.{segment_at};
-ghost use Rattle.capn_walk.specs.Accepted.{IsAccepted, IsWalkRefused};
+ghost use Rattle.capn_walk.specs.Accepted.{IsWalkRefused};
 ghost use Rattle.capn_walk.specs.Limits.{Bounds};
 ghost use Rattle.capn_way.specs.Ways.{IsRefusedAt, IsWayTo};
 ghost use Rattle.capn_explain.specs.MessageTexts.{refused_lines};
@@ -15,7 +15,7 @@ use crate::holder_text::HolderText;
 use crate::message_text::{MessageHead, RefusedLines};
 use crate::segments_text::SegmentsText;
 use capn_walk::{Limits, Stopped};
-use capn_way::{Refused, holder_of, way_of_refusal, way_of_stop};
+use capn_way::{Refused, holder_of, way_of_stop};
 use capn_words::{Memory, Place, Space};
 use std::alloc::{Allocator, Global};
 
@@ -28,39 +28,12 @@ pub struct Told<A: Allocator = Global> {
     pub text: Vec<u8, A>,
 }
 
-/// Whether the walk of a message is refused within limits, and then the lines that explain it: `None` where it is
-/// accepted.
-///
-/// `index` is how many messages are before it, `offset` the byte of the stream at which its table begins, and `table`
-/// how many words that takes: none of a bare segment. It surveys the message, and where that is refused it makes the
-/// visits up to the refused one again. Memory: the way, which has at most two numbers for each level of the depth
-/// limit, and the text. (Own.)
-pub fn explain_refusal<S: Space, A: Allocator + Copy>(
-    alloc: A,
-    space: &S,
-    index: u64,
-    offset: u64,
-    table: u32,
-    limits: Limits,
-) -> Result<Option<Told<A>>, Memory>
-    ensures refused { IfOk result (λ r. IfSome r (λ told.
-        IsRefusalTold (S.message space.now) limits index offset table told.stopped told.text.items)) }
-    ensures accepted { IfOk result (λ r. IfNone r (IsAccepted (S.message space.now) limits)) }
-{
-    match way_of_refusal(alloc, space, limits)? {
-        Some(refused) => {
-            let told = tell(alloc, space, index, offset, table, limits, &refused)?;
-            Ok(Some(told))
-        }
-        None => Ok(None),
-    }
-}
-
 /// The lines that explain a message, by why and where its walk stopped.
 ///
 /// `stopped` is why and where the walk of this message stops within these limits, as [`survey`](capn_walk::survey)
-/// answers it; the rest is as for [`explain_refusal`]. It makes the visits up to the refused one, and no survey.
-/// Memory: that of [`explain_refusal`]. (Own.)
+/// answers it. `index` is how many messages are before it, `offset` the byte of the stream at which its table begins,
+/// and `table` how many words that takes: none of a bare segment. It makes the visits up to the refused one, and no
+/// survey. Memory: the way, which has at most two numbers for each level of the depth limit, and the text. (Own.)
 pub fn explain_stop<S: Space, A: Allocator + Copy>(
     alloc: A,
     space: &S,

@@ -70,38 +70,8 @@ pub fn surveyed_length_counted<S: Space, L: Ledger>(
 /// answers how many bytes they are. What is after them stays as it was. The value is at most `depth` objects deep and
 /// has no capability.
 ///
-/// It reads the message where it is and tests nothing again. It takes no memory but the stack. (Page:
-/// canonicalization.)
-pub fn surveyed_layout_into<S: Space>(space: &S, depth: u32, out: &mut [u8]) -> usize
-    requires ready { IsReady (HasSlot (S.message space.now)) 0 0 depth 1 }
-    requires fits { (v : Value) → IsAt (S.message space.now) root v → length (canon v) ≤ length out.old }
-    ensures { (v : Value) → IsAt (S.message space.now) root v
-        → (result ≡ length (canon v)) × (out.new ≡ canon v ++ drop (length (canon v)) out.old) }
-{
-    layout_into_with_ledger::<S, Brand>(space, depth, out, Blank::new(1))
-}
-
-/// The same, with a new ledger.
-fn layout_into_with_ledger<S: Space, L: Ledger>(
-    space: &S,
-    depth: u32,
-    out: &mut [u8],
-    blank: Blank,
-) -> usize
-    requires name { blank.name ≡ L.name }
-    requires parts { blank.parts ≡ L.parts }
-    requires one { 0 < blank.parts }
-    requires ready { IsReady (HasSlot (S.message space.now)) 0 0 depth 1 }
-    requires fits { (v : Value) → IsAt (S.message space.now) root v → length (canon v) ≤ length out.old }
-    ensures { (v : Value) → IsAt (S.message space.now) root v
-        → (result ≡ length (canon v)) × (out.new ≡ canon v ++ drop (length (canon v)) out.old) }
-{
-    let (space, mut reads) = count_reads::<S, L>(space, blank);
-    surveyed_layout_into_counted(&space, depth, out, &mut reads)
-}
-
-/// What [`surveyed_layout_into`] writes and answers, by calls that count what they read, as for
-/// [`surveyed_length_counted`] and with its bound. It takes no memory but the stack.
+/// It reads the message where it is and tests nothing again, by calls that count what they read, as for
+/// [`surveyed_length_counted`] and with its bound. It takes no memory but the stack. (Page: canonicalization.)
 pub fn surveyed_layout_into_counted<S: Space, L: Ledger>(
     space: &CountedSpace<'_, S, L>,
     depth: u32,

@@ -2,8 +2,8 @@
 
 use crate::words::bytes_of;
 use capn_canon::{MeasuredBare, SurveyedBare, measure};
-use capn_departure::{lines_of_accepted, lines_of_measured, measure_surveyed};
-use capn_walk::{Limits, survey, survey_depth};
+use capn_departure::{lines_of_measured, measure_surveyed};
+use capn_walk::{Limits, survey_depth};
 use capn_words::Bare;
 use std::alloc::Global;
 use std::test::Fail;
@@ -14,10 +14,12 @@ fn reads(alloc: Global, words: &[u64], table: u32, lines: &str) -> Result<bool, 
     let Ok(bare) = Bare::new(bytes.as_slice()) else {
         return Err(Fail::new("no words"));
     };
-    let Ok(_) = survey(alloc, &bare, Limits::usual()) else {
+    let usual = Limits::usual();
+    let Ok(surveyed) = survey_depth(alloc, &bare, usual) else {
         return Err(Fail::new("refused"));
     };
-    let Ok(found) = lines_of_accepted(alloc, &bare, Limits::usual(), 16, table) else {
+    let measured = measure_surveyed(&bare, usual, surveyed);
+    let Ok(found) = lines_of_measured(alloc, &bare, usual, measured, 16, table) else {
         return Err(Fail::new("out of memory"));
     };
     let text = format!(in alloc; "{found}")?;

@@ -1,7 +1,7 @@
 //! The whole texts of messages that walks refuse.
 
 use crate::words::bytes_of;
-use capn_explain::{explain_refusal, explain_stop};
+use capn_explain::explain_stop;
 use capn_stream::first;
 use capn_walk::{Limits, survey};
 use capn_words::{Bare, MOST_MESSAGE_WORDS};
@@ -208,10 +208,13 @@ fn is_told(
     let Ok(bare) = Bare::new(bytes.as_slice()) else {
         return Ok(false);
     };
+    let Err(stopped) = survey(alloc, &bare, limits) else {
+        return Ok(false);
+    };
     let (index, offset, table) = before;
-    match explain_refusal(alloc, &bare, index, offset, table, limits) {
-        Ok(Some(told)) => Ok(told.text.as_slice() == want.as_bytes()),
-        _ => Ok(false),
+    match explain_stop(alloc, &bare, index, offset, table, limits, stopped) {
+        Ok(told) => Ok(told.stopped == stopped && told.text.as_slice() == want.as_bytes()),
+        Err(_) => Ok(false),
     }
 }
 
@@ -223,33 +226,15 @@ fn bare_segments(rt: HostRuntime) -> Result<(), Fail> {
     Ok(())
 }
 
-/// Whether a stop of a walk is explained so, where the message is the fifth of a stream, behind a table of one word.
-fn is_stop_told(alloc: Global, words: &[u64], want: &str) -> Result<bool, Fail> {
-    let bytes = bytes_of(alloc, words)?;
-    let Ok(bare) = Bare::new(bytes.as_slice()) else {
-        return Ok(false);
-    };
-    let usual = Limits::usual();
-    let Err(stopped) = survey(alloc, &bare, usual) else {
-        return Ok(false);
-    };
-    match explain_stop(alloc, &bare, 4, 1_000, 1, usual, stopped) {
-        Ok(told) => Ok(told.stopped == stopped && told.text.as_slice() == want.as_bytes()),
-        Err(_) => Ok(false),
-    }
-}
-
 #[test]
 fn a_stop_of_a_stream(rt: HostRuntime) -> Result<(), Fail> {
-    assert!(rt; is_stop_told(rt.alloc(), &ROWS, ROWS_TOLD)?);
+    assert!(rt; is_told(rt.alloc(), &ROWS, (4, 1_000, 1), Limits::usual(), ROWS_TOLD)?);
     Ok(())
 }
 
 #[test]
 fn rows_of_a_stream(rt: HostRuntime) -> Result<(), Fail> {
-    let usual = Limits::usual();
-    assert!(rt; is_told(rt.alloc(), &ROWS, (4, 1_000, 1), usual, ROWS_TOLD)?);
-    assert!(rt; is_told(rt.alloc(), &MANY, (1, 16, 1), usual, MANY_TOLD)?);
+    assert!(rt; is_told(rt.alloc(), &MANY, (1, 16, 1), Limits::usual(), MANY_TOLD)?);
     Ok(())
 }
 
@@ -269,21 +254,24 @@ fn two_segments(rt: HostRuntime) -> Result<(), Fail> {
     let Ok((message, _)) = first(rt.alloc(), bytes.as_slice(), MOST_MESSAGE_WORDS) else {
         return Err(Fail::new("no message"));
     };
-    let told = explain_refusal(rt.alloc(), &message, 0, 0, 2, Limits::usual());
-    let Ok(Some(told)) = told else {
+    let usual = Limits::usual();
+    let Err(stopped) = survey(rt.alloc(), &message, usual) else {
         return Err(Fail::new("not refused"));
+    };
+    let Ok(told) = explain_stop(rt.alloc(), &message, 0, 0, 2, usual, stopped) else {
+        return Err(Fail::new("out of memory"));
     };
     assert!(rt; told.text.as_slice() == FAR_TOLD.as_bytes());
     Ok(())
 }
 
+/// An accepted message has no stop to explain.
 #[test]
 fn no_explanation(rt: HostRuntime) -> Result<(), Fail> {
     let bytes = bytes_of(rt.alloc(), &SHARED)?;
     let Ok(bare) = Bare::new(bytes.as_slice()) else {
         return Err(Fail::new("no words"));
     };
-    let told = explain_refusal(rt.alloc(), &bare, 0, 0, 0, Limits::usual());
-    assert!(rt; matches!(told, Ok(None)));
+    assert!(rt; survey(rt.alloc(), &bare, Limits::usual()).is_ok());
     Ok(())
 }
