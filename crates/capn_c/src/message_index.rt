@@ -19,10 +19,10 @@ ghost use Rattle.capn_c.specs.Entries.{IndexedIn, c_index, starts_from};
 ghost use Rattle.capn_reports.specs.StatusCodes.{Reports, answered, is_status};
 
 use crate::entries::{CapnEntry, Offsets, put_starts};
-use crate::frame_need::head_of;
 use capn_answers::read_frame;
 use capn_canon::{Refusal, survey};
 use capn_reports::{CapnReport, DONE, NO_ROOM, answer_of, refuse};
+use capn_stream::table::head_of;
 use capn_stream::{Framed, first};
 use capn_walk::laws::indexes;
 use capn_walk::{Limits, Surveyed, index_into_form};

@@ -7,8 +7,9 @@ ghost use Rattle.capn_stream.specs.FrameRefusal.{IsFrameRefused, IsWhole, announ
 ghost use Rattle.capn_few.specs.Few.{HasMore, most_few};
 
 use crate::few_segments::{FewSegments, MOST_ENDS};
-use crate::table::{Head, ends_of, head_of, read_head};
+use crate::table::ends_of;
 use capn_stream::FrameFault;
+use capn_stream::table::{Head, head_of, read_head};
 use capn_words::Bare;
 
 /// The message of a whole frame whose table announces at most 64 segments, and the number of bytes that it takes.

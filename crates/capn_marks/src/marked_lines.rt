@@ -11,7 +11,8 @@ ghost use Rattle.capn_show.specs.ReadyPlaces.{HasNumbers, NumbersShown};
 ghost use Rattle.capn_show.specs.Outgoing.{Adds, BreaksOff, outgoing};
 
 use crate::marks::{Marks, put_mark};
-use capn_show::{Broken, number_at, number_line, per_word, word_line};
+use capn_show::{Broken, number_at, number_line, word_line};
+use capn_walk::per_word;
 use capn_words::{Place, Space, Watched, Width};
 use std::alloc::Allocator;
 use std::io::Write;

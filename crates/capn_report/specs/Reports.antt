@@ -12,7 +12,8 @@ use Rattle.capn_serve.specs.declared.fault.ServeFault.{ServeFault}
 use Rattle.capn_serve.specs.declared.fault.ServeFault.TheVariants as faults
 use Rattle.capn_explain.specs.Refusal.{IsRefusalTold}
 use Rattle.capn_departure.specs.Departures.{Departs}
-use Rattle.capn_report.specs.Accounts.{IsAccountText, account_text, table_words}
+use Rattle.capn_serve.specs.Table.{table_words}
+use Rattle.capn_report.specs.Accounts.{IsAccountText, account_text}
 use Rattle.capn_report.specs.declared.account.Account.{Account}
 use Rattle.capn_report.specs.declared.explain.Explain.{Explain}
 use Rattle.capn_report.specs.declared.outcome.Outcome.{Outcome}

@@ -6,11 +6,10 @@ ghost use Rattle.capn_report.specs.Accounts as spec;
 ghost use Rattle.capn_report.specs.Accounts.{IsAccount};
 ghost use Rattle.capn_report.specs.inner.Figures.{AreFigures};
 
-use crate::table::table_words;
 use capn_canon::{Form, MeasuredBare};
 use capn_departure::{CanonicalLines, lines_of_measured, measure_surveyed};
 use capn_explain::{MessageHead, SegmentsText};
-use capn_serve::Position;
+use capn_serve::{Position, table_words};
 use capn_walk::{Limits, Measured};
 use capn_words::{Memory, Space};
 use std::alloc::{Allocator, Global};

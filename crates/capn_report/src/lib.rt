@@ -12,7 +12,6 @@ mod explain_run;
 mod fault_lines;
 mod outcome;
 mod reporter;
-mod table;
 mod what_came;
 
 pub use account::Account;

@@ -11,9 +11,8 @@ ghost use Rattle.capn_report.specs.Reports.{IsFirst, IsTold, Puts, PutsAccount, 
 use crate::account::{Account, account_of};
 use crate::explain::Explain;
 use crate::outcome::Outcome;
-use crate::table::table_words;
 use capn_explain::{Told, explain_stop};
-use capn_serve::{Position, ServeFault, Service, flush_long, number_of};
+use capn_serve::{Position, ServeFault, Service, flush_long, number_of, table_words};
 use capn_walk::{Measured, Stopped, survey_depth};
 use capn_words::{Memory, Space, Watched};
 use std::alloc::{Allocator, Global};

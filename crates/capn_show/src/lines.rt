@@ -10,9 +10,9 @@ ghost use Rattle.std.specs.Int.{to_le_bytes, w64};
 ghost use Rattle.hex.specs.Hex.{encode_lower};
 ghost use Rattle.capn_show.specs.Outgoing.{Adds, BreaksOff, outgoing};
 
-use crate::digits::digit;
 use crate::fault::Broken;
 use crate::output::put;
+use capn_walk::digit;
 use capn_words::{Watched, Width};
 use std::alloc::Allocator;
 use std::io::Write;

@@ -11,9 +11,9 @@ ghost use Rattle.capn_walk.specs.View as seen;
 ghost use Rattle.capn_show.specs.ReadyPlaces.{HasNumbers, WordsShown, NumbersShown};
 ghost use Rattle.capn_show.specs.Outgoing.{Adds, BreaksOff, outgoing};
 
-use crate::digits::{digit, per_word};
 use crate::fault::Broken;
 use crate::lines::{number_line, word_line};
+use capn_walk::{digit, per_word};
 use capn_words::{Place, Space, Watched, Width};
 use std::alloc::Allocator;
 use std::io::Write;

@@ -60,3 +60,7 @@ pub use walk_answer::{Stopped, Walked};
 
 // What a pointer names.
 pub use capn_target::{Fault, Shape, Target, resolve};
+
+// What texts and explanations are made of: the numbers in a word, and the price of an object.
+pub use digits::{digit, per_word};
+pub use price::price_of;

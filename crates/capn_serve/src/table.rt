@@ -1,13 +1,13 @@
-//! The table of a message.
+//! The table of a message in an input.
 
 ghost use Rattle.std.specs.Prelude.{◌≡◌, length};
-ghost use Rattle.capn_report.specs.Accounts as spec;
+ghost use Rattle.capn_serve.specs.Table as spec;
 
 use capn_canon::Form;
 use capn_words::Space;
 
-/// The words of a message's table: none of a bare segment.
-pub(crate) fn table_words<S: Space>(form: Form, message: &S) -> u32
+/// Returns how many words the table of `message` takes where it stands in an input of `form`: none of a bare segment.
+pub fn table_words<S: Space>(form: Form, message: &S) -> u32
     ensures { result ≡ spec.table_words form (S.message message.now) }
 {
     match form {
