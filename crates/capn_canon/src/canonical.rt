@@ -106,9 +106,9 @@ pub fn canonical_of<A: Allocator + Copy, M: Asked>(
     space: M,
     limits: Limits,
 ) -> Result<Canonical<A>, Refusal>
-    // All passes ask the message and turn at most 56 times for each word of the budget, and 56 times more: it is done
-    // on any message that allows this, and a reference to a `Space` allows all.
-    requires work { M.allows space (56 * (limits.budget + 1)) }
+    // All passes ask the message and turn their loops at most 56 * (budget + 1) times, and once more where the count is
+    // opened: it is done on any message that allows this, and a reference to a `Space` allows all.
+    requires work { M.allows space (56 * (limits.budget + 1) + 1) }
     // The answer: the canonical bytes of the one value that the message denotes, and what its walk pays.
     ensures found { IfOk result (λ c. AnswersMessage (M.message space) limits c.bytes.items c.paid) }
     // A value without capabilities is answered, unless memory runs out.

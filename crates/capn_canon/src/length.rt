@@ -128,9 +128,9 @@ pub fn canonical_length<M: Asked>(
     space: M,
     limits: Limits,
 ) -> Result<CanonicalLength, MessageRefusal>
-    // Its passes ask the message and turn at most 34 times for each word of the budget, and 34 times more: it is done
-    // on any message that allows this, and a reference to a `Space` allows all.
-    requires work { M.allows space (34 * (limits.budget + 1)) }
+    // All passes ask the message and turn their loops at most 34 * (budget + 1) times, and once more where the count is
+    // opened: it is done on any message that allows this, and a reference to a `Space` allows all.
+    requires work { M.allows space (34 * (limits.budget + 1) + 1) }
     // There is an answer if and only if the message denotes a value without capabilities within the limits:
     ensures answered { IsOk result ↔ HasBytes (M.message space) limits }
     // the length of the canonical bytes of that value, and what the walk of the message pays and visits.

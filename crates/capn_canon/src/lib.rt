@@ -8,7 +8,8 @@
 //! - [`is_canonical`] says whether the bytes of a bare message are its canonical bytes, and makes no copy;
 //!   [`survey_bare`] also reports its price, its visits and its first capability. [`survey_canonical`] is the one pass
 //!   that they make first: it reports on canonical bytes alone. [`measure_canonical`] is the same pass, and also says
-//!   how deep they are.
+//!   how deep they are. [`are_canonical`] and [`survey_bare_of`] do the same without an allocator, the second of a
+//!   message that is asked through a counter alone.
 //! - [`survey_bare_counted`], [`survey_canonical_counted`] and [`measure_canonical_counted`] do the same to a message
 //!   of one segment whose reads are counted: the budget bounds how often they read it.
 //! - [`canonical_of_counted`], [`canonical_into_counted`] and [`canonical_length_counted`] do the same as the calls
@@ -59,7 +60,6 @@ mod length;
 mod message_measure;
 mod message_refusal;
 mod message_survey;
-mod no_memory;
 mod objects;
 mod one_pass;
 mod one_segment;
@@ -71,7 +71,9 @@ mod surveyed_bare;
 mod value_survey;
 mod written_bytes;
 
-pub use bare_verdict::{is_canonical, survey_bare, survey_bare_counted};
+pub use bare_verdict::{
+    are_canonical, is_canonical, survey_bare, survey_bare_counted, survey_bare_of,
+};
 pub use canonical::{Canonical, canonical_of, canonical_of_counted};
 pub use canonical_input::canonicalise;
 pub use canonical_survey::{

@@ -9,15 +9,15 @@ ghost use Rattle.capn_canon.specs.Refusal.{IsUnaccepted, IsPaidWithin};
 ghost use Rattle.capn_canon.specs.declared.refusal.Refusal.TheVariants as refusals;
 
 use crate::refusal::Refusal;
-use capn_walk::{Limits, Surveyed};
+use capn_walk::{Limits, Surveyed, survey_of};
 use capn_words::Space;
 use std::alloc::Allocator;
 
 /// What the walk of a message pays and visits within the limits, and its first capability.
 ///
-/// `Walk`: the message is not accepted. No other refusal comes, and it takes no memory.
+/// `Walk`: the message is not accepted. No other refusal comes. It takes no memory, and doesn't use the allocator.
 pub fn survey<A: Allocator + Copy, S: Space>(
-    alloc: A,
+    _alloc: A,
     space: &S,
     limits: Limits,
 ) -> Result<Surveyed, Refusal>
@@ -34,5 +34,5 @@ pub fn survey<A: Allocator + Copy, S: Space>(
     ensures bounded { MatchResult result (λ s. IsBounded limits.budget s.paid s.visits)
         (λ e. IsPaidWithin limits.budget e) }
 {
-    Ok(capn_walk::survey(alloc, space, limits)?)
+    Ok(survey_of(space, limits)?)
 }

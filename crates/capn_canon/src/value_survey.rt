@@ -6,7 +6,6 @@ ghost use Rattle.capn_walk.specs.Surveyed.{IsSurvey};
 ghost use Rattle.capn_canon.specs.MessageRefusal.{HasNoBytes, IsMessagePaidWithin};
 
 use crate::message_refusal::MessageRefusal;
-use crate::no_memory::NoMemory;
 use capn_target::counted::{CountedSpace, Reads};
 use capn_walk::{Limits, Surveyed, survey_counted};
 use capn_words::Space;
@@ -25,7 +24,7 @@ pub(crate) fn survey_value<S: Space, L: Ledger>(
     ensures reads { IfOk result (λ s. reads.new ≤ reads.old + 14 * s.visits + 1) }
     ensures work { reads.new ≤ reads.old + 14 * (limits.budget + 1) + 1 }
 {
-    match survey_counted(NoMemory, space, limits, reads) {
+    match survey_counted(space, limits, reads) {
         Ok(surveyed) => match surveyed.capability {
             Some(index) => Err(MessageRefusal::Capability(index)),
             None => Ok(surveyed),

@@ -103,9 +103,9 @@ pub fn canonical_into<M: Asked>(
     limits: Limits,
     out: &mut [u8],
 ) -> Result<CanonicalLength, IntoRefusal>
-    // All passes ask the message and turn at most 54 times for each word of the budget, and 54 times more: it is done
-    // on any message that allows this, and a reference to a `Space` allows all.
-    requires work { M.allows space (54 * (limits.budget + 1)) }
+    // All passes ask the message and turn their loops at most 54 * (budget + 1) times, and once more where the count is
+    // opened: it is done on any message that allows this, and a reference to a `Space` allows all.
+    requires work { M.allows space (54 * (limits.budget + 1) + 1) }
     // The theorem. There is an answer if and only if the message denotes a value without capabilities within the
     // limits, and its canonical bytes have room;
     ensures answered { AnsweredInto (M.message space) limits (length out.old) result }

@@ -64,14 +64,14 @@ pub trait Asked {
     /// It may be asked so often.
     ghost allows: { Self → ℕ → Type 0 };
 
-    /// Does a task with a new count, which is opened by one look at the number of segments.
+    /// Does a task with a new count, which is opened by one read of the number of segments: that is the one more.
     fn ask<T: CountedTask>(self, task: T) -> T::Told
-        requires { allows self (T.most task) }
+        requires { allows self (T.most task + 1) }
         ensures { T.tells task (message self) result };
 
     /// The same, with a buffer.
     fn ask_into<T: CountedWriter>(self, task: T, out: &mut [u8]) -> T::Told
-        requires { allows self (T.most task) }
+        requires { allows self (T.most task + 1) }
         ensures { T.tells task (message self) out.old out.new result };
 }
 

@@ -61,7 +61,8 @@ impl<'s, S: Space, L: Ledger> Model for CountedSpace<'s, S, L> {
     ghost invariant = { λ c. IsMessage (S.message c.space.now) };
 }
 
-/// The message of a space, to be read by calls that count, and the count of its reads, which is 0. The ledger is new.
+/// Opens the count of a message's reads: the message, to be read by calls that count, and a count of 1, since the
+/// number of segments is read once here. The ledger is new.
 #[inline(always)]
 pub fn count_reads<'s, S: Space, L: Ledger>(
     space: &'s S,
@@ -71,15 +72,17 @@ pub fn count_reads<'s, S: Space, L: Ledger>(
     requires parts { blank.parts ≡ L.parts }
     requires some { 0 < blank.parts }
     ensures message { result.0 ≡ S.message space.now }
-    ensures none { result.1 ≡ 0 }
+    ensures look { result.1 ≡ 1 }
 {
     let _bounds = space.segments();
     let (book, share) = blank.open::<L>();
+    let mut reads = Reads { book, share };
+    reads.tick();
     let message = CountedSpace {
         space,
         ledger: PhantomData,
     };
-    (message, Reads { book, share })
+    (message, reads)
 }
 
 impl<'s, S: Space, L: Ledger> CountedSpace<'s, S, L> {

@@ -60,7 +60,7 @@ may_be_root (targets.Cap index) = false
 may_be_root _ = true
 
 module _ (message : List (List ℕ)) (base : ℕ) where
-  -- whether the root may be what it is, is tested once its target is known
+  -- if the root's pointer is good but names a capability, the only visit is the fault RootKind
   abbrev pub visits_at_root : Result Target Fault → List Visit → List Visit
   visits_at_root (Ok found) vs = if may_be_root found then vs else fails root faults.RootKind ∷ []
   visits_at_root (Err e) vs = vs

@@ -5,3 +5,4 @@ pub mod IndexRoom
 pub mod Outcomes
 pub mod Verdict
 pub mod OwnReads
+pub mod Told

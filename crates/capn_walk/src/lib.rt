@@ -9,6 +9,8 @@
 //! - [`survey`] answers the same price and refusal and makes no tree, and [`survey_depth`] also the least depth that
 //!   admits the message. [`index`] and [`index_into`] add an entry for each slot that was visited, by which the message
 //!   can be read in place with no further test. [`index_into_form`] writes them in another [`EntryForm`].
+//! - [`survey_of`] and [`survey_depth_of`] answer what [`survey`] and [`survey_depth`] do, without an allocator, of a
+//!   message that is asked through a counter alone: the budget bounds how often.
 //! - [`walk_counted`], [`survey_counted`], [`survey_depth_counted`] and [`index_into_counted`] do the same to a message
 //!   whose reads are counted: the budget bounds how often they read it.
 //! - [`View`] goes from one object to those below it, and pays from a [`Meter`] for each.
@@ -35,6 +37,7 @@ mod message_index;
 mod message_survey;
 mod message_walk;
 mod meter;
+mod no_memory;
 mod price;
 mod sizes;
 mod slots_left;
@@ -51,7 +54,9 @@ pub use entry_form::{EntryForm, Plain};
 pub use kind::Kind;
 pub use limits::Limits;
 pub use message_index::{index, index_into, index_into_counted, index_into_form};
-pub use message_survey::{survey, survey_counted, survey_depth, survey_depth_counted};
+pub use message_survey::{
+    survey, survey_counted, survey_depth, survey_depth_counted, survey_depth_of, survey_of,
+};
 pub use message_walk::{walk, walk_counted};
 pub use meter::Meter;
 pub use survey_answer::{Measured, Surveyed};

@@ -27,12 +27,12 @@ use denote.Triple.Clauses.{Clauses}
 use denote.Triple.Spec.{triple_of}
 use denote.Triple.Table.{entered}
 use denote.Triple.Walked.{Stays, stay_dropped, walk_of, ends_at, walked, Goes-dropped, walk_Meets}
-use Rattle.capn_canon.specs.declared.no_memory.NoMemory.{NoMemory}
-use Rattle.capn_canon.specs.contracts.no_memory.NoMemory as none
-use Rattle.capn_canon.specs.contracts.no_memory.NoMemoryAllocator.deallocate as F
-use Rattle.capn_canon.specs.contracts.no_memory.NoMemoryAllocator.deallocate.Key as key
-use Rattle.capn_canon.proofs.no_memory.NoMemoryAllocator.deallocate.Statement as stated
-use Rattle.capn_canon.proofs.no_memory.NoMemoryAllocator.deallocate.Code as code
+use Rattle.capn_walk.specs.declared.no_memory.NoMemory.{NoMemory}
+use Rattle.capn_walk.specs.contracts.no_memory.NoMemory as none
+use Rattle.capn_walk.specs.contracts.no_memory.NoMemoryAllocator.deallocate as F
+use Rattle.capn_walk.specs.contracts.no_memory.NoMemoryAllocator.deallocate.Key as key
+use Rattle.capn_walk.proofs.no_memory.NoMemoryAllocator.deallocate.Statement as stated
+use Rattle.capn_walk.proofs.no_memory.NoMemoryAllocator.deallocate.Code as code
 
 abbrev self : Slot 1
 self = RefOf (0 ∷ []) tt (plain (λ _. none.the_row)) (λ _. tt)

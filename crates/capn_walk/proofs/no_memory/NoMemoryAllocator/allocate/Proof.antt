@@ -28,12 +28,12 @@ use denote.Triple.Spec.{triple_of}
 use denote.Triple.Table.{entered}
 use denote.Triple.Walked.{Stays, stay_dropped, walk_of, ends_at, walked, Goes-dropped, walk_Meets}
 use Rattle.std.proofs.alloc.Calls.{Answer, answer_val, Answer-typed, Answer-err}
-use Rattle.capn_canon.specs.declared.no_memory.NoMemory.{NoMemory}
-use Rattle.capn_canon.specs.contracts.no_memory.NoMemory as none
-use Rattle.capn_canon.specs.contracts.no_memory.NoMemoryAllocator.allocate as F
-use Rattle.capn_canon.specs.contracts.no_memory.NoMemoryAllocator.allocate.Key as key
-use Rattle.capn_canon.proofs.no_memory.NoMemoryAllocator.allocate.Statement as stated
-use Rattle.capn_canon.proofs.no_memory.NoMemoryAllocator.allocate.Code as code
+use Rattle.capn_walk.specs.declared.no_memory.NoMemory.{NoMemory}
+use Rattle.capn_walk.specs.contracts.no_memory.NoMemory as none
+use Rattle.capn_walk.specs.contracts.no_memory.NoMemoryAllocator.allocate as F
+use Rattle.capn_walk.specs.contracts.no_memory.NoMemoryAllocator.allocate.Key as key
+use Rattle.capn_walk.proofs.no_memory.NoMemoryAllocator.allocate.Statement as stated
+use Rattle.capn_walk.proofs.no_memory.NoMemoryAllocator.allocate.Code as code
 
 abbrev self : Slot 1
 self = RefOf (0 ∷ []) tt (plain (λ _. none.the_row)) (λ _. tt)

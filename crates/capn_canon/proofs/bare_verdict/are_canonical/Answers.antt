@@ -4,7 +4,7 @@ use Rattle.capn_walk.proofs.shared.Unique.{unique}
 use Rattle.capn_canon.specs.declared.form.Form.TheVariants as forms
 use Rattle.capn_layout.specs.Layout.{canon}
 use Rattle.capn_canon.proofs.calls.Answered.{denoted_here}
-use Rattle.capn_canon.proofs.bare_verdict.is_canonical.Goals as goal
+use Rattle.capn_canon.proofs.bare_verdict.are_canonical.Goals as goal
 
 pub returns-in-None-clause-found : goal.returns-in-None-clause-found
 returns-in-None-clause-found g c =
