@@ -7,7 +7,7 @@ ghost use Rattle.capn_stream.specs.FrameRefusal.{entries};
 use crate::few_segments::MOST_ENDS;
 use capn_stream::table::entry_at;
 
-/// Where the segments of the sizes end, counted in words, each in its place.
+/// Returns the ends of the first `count` segments of `sizes`, in words, each in its place.
 pub(crate) fn ends_of(sizes: &[u8], count: usize) -> [u32; MOST_ENDS]
     requires few { count ≤ 63 }
     requires inside { 4 * count ≤ length sizes.now }

@@ -13,7 +13,7 @@ use byteorder::{ByteOrder, LittleEndian};
 use capn_words::MOST_SEGMENTS;
 use std::alloc::{AllocError, Allocator};
 
-/// The words of the longest table of segments and its padding.
+/// The number of words of the longest table of segments and its padding.
 pub const MOST_TABLE_WORDS: u32 = MOST_SEGMENTS / 2 + 1;
 
 /// Returns the number of 4 bytes that begins at byte `4 * index`. (Page: serialization over a stream.)
@@ -39,7 +39,8 @@ pub fn total_of(sizes: &[u8], count: usize) -> u64
     total
 }
 
-/// Where the segments of the sizes end, counted in words. Its one growth is for exactly the sizes, which are there.
+/// Returns the ends of the first `count` segments of `sizes`, in words. Its one growth is for exactly the sizes, which
+/// are there.
 pub(crate) fn ends_of<A: Allocator>(
     alloc: A,
     sizes: &[u8],
@@ -61,7 +62,7 @@ pub(crate) fn ends_of<A: Allocator>(
     Ok(ends)
 }
 
-/// Returns how many bytes the table of `count` segments and its padding take.
+/// Returns the number of bytes that the table of `count` segments and its padding take.
 #[inline(always)]
 pub fn head_of(count: usize) -> usize
     requires { count ≤ most_segments }
@@ -70,16 +71,16 @@ pub fn head_of(count: usize) -> usize
     8 * (count / 2 + 1)
 }
 
-/// What a table announces: how many segments, and how many words in all.
+/// The numbers that a table announces: of segments, and of words in all.
 #[derive(Clone, Copy)]
 pub struct Head {
     /// The number of segments.
     pub segments: usize,
-    /// The words of all segments together.
+    /// The number of words of all segments together.
     pub words: usize,
 }
 
-/// Returns what the table at the front of `bytes` announces, if its frame is whole and has at most `max_words` words.
+/// Reads the table at the front of `bytes`, if its frame is whole and has at most `max_words` words.
 ///
 /// It refuses what [`first`](crate::first) refuses, by the same tests in the same order, but never for memory: it takes
 /// none. (Page: serialization over a stream; the order of the tests is our own.)
