@@ -1,7 +1,6 @@
-//! The targets of a message's pointers.
-//! A target is null, a capability, or content that lies inside its segment.
+//! The targets of a message's pointers. A target is null, a capability, or content that lies inside its segment.
 //!
-//! - [`resolve`] says it for any place, after landing pads if need be, or answers the first fault of that slot.
+//! - [`resolve`] finds the target of any place, after landing pads if need be, or answers the first fault of that slot.
 //! - [`segment_length`], [`place`], [`start_of`], [`pointer_at`] and [`content_words`] are steps of it, for callers
 //!   that take them one by one.
 //!

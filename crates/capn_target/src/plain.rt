@@ -13,7 +13,7 @@ use capn_words::{Place, Pointer, Space, split};
 use std::marker::Brand;
 use std::sync::ledger::{Blank, Ledger};
 
-/// The words of a segment, none where there is no such segment.
+/// Returns the number of words of `segment`; 0, if there is no such segment.
 #[tactic(auto, using(crate::proofs::shared::Segments::length_of_none, crate::proofs::shared::Segments::length_of_some))]
 #[inline(always)]
 pub fn segment_length<S: Space>(space: &S, segment: u32) -> u32
@@ -22,23 +22,22 @@ pub fn segment_length<S: Space>(space: &S, segment: u32) -> u32
     space.words(segment).unwrap_or(0)
 }
 
-/// What the pointer at a place names, or the first fault of that slot.
+/// Finds the target of the pointer at `at`, or the first fault of that slot.
 ///
-/// The place has to be in range. A refusal is one of `Reserved` to `TagOverrun`, as a slot is tested: the
-/// word itself, then its landing pad, then the content's range, then the tag of a composite list. It reads
-/// at most four words and takes no memory. (Page: structs, lists, inter-segment pointers, capabilities;
-/// the order of the tests is our own.)
+/// The place has to be in range. A refusal is one of `Reserved` to `TagOverrun`, as a slot is tested: the word itself,
+/// then its landing pad, then the content's range, then the tag of a composite list. It reads at most four words and
+/// takes no memory. (Page: structs, lists, inter-segment pointers, capabilities; the order of the tests is our own.)
 #[inline(always)]
 pub fn resolve<S: Space>(space: &S, at: Place) -> Result<Target, Fault>
     requires { IsPlace (S.message space.now) at }
     ensures exact { result ≡ spec.target (S.message space.now) at }
-    // Content lies inside its segment, which exists, and rows within what their list's pointer says.
+    // Content lies inside its segment, which exists, and rows within the words that their list's pointer gives.
     ensures inside { IfOk result (λ t. IsInMessage (S.message space.now) t) }
 {
     resolve_with_ledger::<S, Brand>(space, at, Blank::new(1))
 }
 
-/// The pointer at a word.
+/// Reads the pointer at `word` of `segment`.
 #[inline(always)]
 pub fn pointer_at<S: Space>(space: &S, segment: u32, word: u32) -> Pointer
     requires { word < length (segment_at (S.message space.now) segment) }
@@ -47,7 +46,7 @@ pub fn pointer_at<S: Space>(space: &S, segment: u32, word: u32) -> Pointer
     split(space.word(Place { segment, word }))
 }
 
-/// The same, with a new ledger.
+/// Finds the target of the pointer at `at`, or the first fault of that slot, with a count in the new ledger `blank`.
 #[inline(always)]
 fn resolve_with_ledger<S: Space, L: Ledger>(
     space: &S,
@@ -59,7 +58,7 @@ fn resolve_with_ledger<S: Space, L: Ledger>(
     requires one { 0 < blank.parts }
     requires place { IsPlace (S.message space.now) at }
     ensures exact { result ≡ spec.target (S.message space.now) at }
-    // Content lies inside its segment, which exists, and rows within what their list's pointer says.
+    // Content lies inside its segment, which exists, and rows within the words that their list's pointer gives.
     ensures inside { IfOk result (λ t. IsInMessage (S.message space.now) t) }
 {
     let (space, mut reads) = count_reads::<S, L>(space, blank);
