@@ -1,11 +1,10 @@
-//! The reading of a message from its root.
-//! It finds what a pointer names, and what the whole message denotes.
+//! The reading of a message from its root: the target of a pointer, and the value of the whole message.
 //!
-//! - [`resolve`] says what the pointer at a place names: null, a capability, or content that lies inside its
+//! - [`resolve`] finds the target of the pointer at a place: null, a capability, or content that lies inside its
 //!   segment, after landing pads if need be; else the first fault of that slot.
-//! - [`walk`] answers the value that a message denotes within [`Limits`], with what reading it paid, or where
-//!   and why it stopped. Each visit of a slot pays its price before its content is read, so a message that
-//!   leads in circles or shares its objects costs at most the budget.
+//! - [`walk`] answers the value that a message denotes within [`Limits`], with the words that reading it paid, or the
+//!   place and the reason at which it stopped. Each visit of a slot pays its price before its content is read, so a
+//!   message that leads in circles or shares its objects costs at most the budget.
 //! - [`survey`] answers the same price and refusal and makes no tree, and [`survey_depth`] also the least depth that
 //!   admits the message. [`index`] and [`index_into`] add an entry for each slot that was visited, by which the message
 //!   can be read in place with no further test. [`index_into_form`] writes them in another [`EntryForm`].
@@ -63,9 +62,9 @@ pub use survey_answer::{Measured, Surveyed};
 pub use view::View;
 pub use walk_answer::{Stopped, Walked};
 
-// What a pointer names.
+// The targets of pointers.
 pub use capn_target::{Fault, Shape, Target, resolve};
 
-// What texts and explanations are made of: the numbers in a word, and the price of an object.
+// The parts of texts and explanations: the numbers in a word, and the price of an object.
 pub use digits::{digit, per_word};
 pub use price::price_of;

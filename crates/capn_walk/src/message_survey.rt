@@ -44,13 +44,14 @@ impl CountedTask for SurveyTask {
     }
 }
 
-/// Answers what [`survey`] does, of a message that is asked through a counter alone. It has no allocator, and so takes
-/// no memory.
+/// Surveys the message `space` within `limits`, as [`survey`] does, by questions through a counter alone. It has no
+/// allocator, and so takes no memory.
 pub fn survey_of<M: Asked>(space: M, limits: Limits) -> Result<Surveyed, Stopped>
-    // It asks the message and turns its loop at most 14 * (budget + 1) + 1 times, and once more where it opens the
-    // count: it is done on any message that allows this, and a reference to a `Space` allows all.
+    // It asks the message and turns its loop at most 14 * (budget + 1) + 1 times, and once more to open the count: it
+    // is done on any message that allows this, and a reference to a `Space` allows all.
     requires work { M.allows space (14 * (limits.budget + 1) + 1 + 1) }
-    // An answer: the message is accepted, and what its walk pays, its visits, and the first capability of its value.
+    // An answer: the message is accepted, and the words that its walk pays, its visits, and the first capability of its
+    // value.
     ensures found { IfOk result (λ s. told.IsSurvey (M.message space) limits s) }
     // A message that is accepted is answered, or a growth was refused; any other refusal is the first stop.
     ensures only { (v : Tree) → IsValueOf (M.message space) limits v →
@@ -67,7 +68,8 @@ pub fn survey_of<M: Asked>(space: M, limits: Limits) -> Result<Surveyed, Stopped
     space.ask(SurveyTask { limits })
 }
 
-/// What the walk of a message pays and visits within the limits, and its first capability, without its value.
+/// Surveys the message `space` within `limits`: returns the words that its walk pays, the number of its visits and its
+/// first capability, without its value.
 ///
 /// It visits the slots as [`walk`] does and refuses what that refuses, in the same way. It takes no memory, and doesn't
 /// use the allocator.
@@ -76,7 +78,8 @@ pub fn survey<S: Space, A: Allocator + Copy>(
     space: &S,
     limits: Limits,
 ) -> Result<Surveyed, Stopped>
-    // An answer: the message is accepted, and what its walk pays, its visits, and the first capability of its value.
+    // An answer: the message is accepted, and the words that its walk pays, its visits, and the first capability of its
+    // value.
     ensures found { IfOk result (λ s. told.IsSurvey (S.message space.now) limits s) }
     // A message that is accepted is answered, or a growth was refused; any other refusal is the first stop.
     ensures only { (v : Tree) → IsValueOf (S.message space.now) limits v →
@@ -93,8 +96,9 @@ pub fn survey<S: Space, A: Allocator + Copy>(
     survey_of(space, limits)
 }
 
-/// What [`survey`] answers, by calls that count what they read: a word, the length of a segment, or how many segments
-/// there are. It can read the message in no other way. With the reads it counts the turns of its one loop.
+/// Surveys the message `space` within `limits`, as [`survey`] does, by calls that count in `reads` what they read: a
+/// word, the length of a segment, or the number of segments. It can read the message in no other way. With the reads it
+/// counts the turns of its one loop.
 ///
 /// It reads and turns at most fourteen times for each visit that it answers or refuses with, and once more. So the
 /// budget alone bounds its work, whatever the message says. It takes no memory.
@@ -103,7 +107,8 @@ pub fn survey_counted<S: Space, L: Ledger>(
     limits: Limits,
     reads: &mut Reads<L>,
 ) -> Result<Surveyed, Stopped>
-    // An answer: the message is accepted, and what its walk pays, its visits, and the first capability of its value.
+    // An answer: the message is accepted, and the words that its walk pays, its visits, and the first capability of its
+    // value.
     ensures found { IfOk result (λ s. told.IsSurvey space.now limits s) }
     // A message that is accepted is answered, or a growth was refused; any other refusal is the first stop.
     ensures only { (v : Tree) → IsValueOf space.now limits v →
@@ -161,13 +166,14 @@ impl CountedTask for DepthTask {
     }
 }
 
-/// Answers what [`survey_depth`] does, of a message that is asked through a counter alone. It has no allocator, and so
-/// takes no memory.
+/// Surveys the message `space` within `limits`, as [`survey_depth`] does, by questions through a counter alone. It has
+/// no allocator, and so takes no memory.
 pub fn survey_depth_of<M: Asked>(space: M, limits: Limits) -> Result<Measured, Stopped>
-    // It asks the message and turns its loop at most 14 * (budget + 1) + 1 times, and once more where it opens the
-    // count: it is done on any message that allows this, and a reference to a `Space` allows all.
+    // It asks the message and turns its loop at most 14 * (budget + 1) + 1 times, and once more to open the count: it
+    // is done on any message that allows this, and a reference to a `Space` allows all.
     requires work { M.allows space (14 * (limits.budget + 1) + 1 + 1) }
-    // An answer: the message is accepted, and what its walk pays, its visits, and the first capability of its value.
+    // An answer: the message is accepted, and the words that its walk pays, its visits, and the first capability of its
+    // value.
     ensures found { IfOk result (λ m. told.IsSurvey (M.message space) limits m.survey) }
     // Under this depth the message is accepted, and under no lower one.
     ensures depth { IfOk result (λ m. IsDepth (M.message space) limits m.depth) }
@@ -187,8 +193,9 @@ pub fn survey_depth_of<M: Asked>(space: M, limits: Limits) -> Result<Measured, S
     space.ask(DepthTask { limits })
 }
 
-/// What [`survey`] answers, and the least depth under which the message is accepted with the other limits as they are:
-/// 0 if its root is null, else how many objects are one below another at most, the root's among them.
+/// Surveys the message `space` within `limits`, as [`survey`] does, and also finds the least depth under which it is
+/// accepted with the other limits as they are: 0 if its root is null, else the greatest number of objects one below
+/// another, the root's among them.
 ///
 /// It is one walk, as [`survey`] is, and refuses what that refuses, in the same way. It takes no memory, and doesn't
 /// use the allocator.
@@ -197,7 +204,8 @@ pub fn survey_depth<S: Space, A: Allocator + Copy>(
     space: &S,
     limits: Limits,
 ) -> Result<Measured, Stopped>
-    // An answer: the message is accepted, and what its walk pays, its visits, and the first capability of its value.
+    // An answer: the message is accepted, and the words that its walk pays, its visits, and the first capability of its
+    // value.
     ensures found { IfOk result (λ m. told.IsSurvey (S.message space.now) limits m.survey) }
     // Under this depth the message is accepted, and under no lower one.
     ensures depth { IfOk result (λ m. IsDepth (S.message space.now) limits m.depth) }
@@ -217,14 +225,15 @@ pub fn survey_depth<S: Space, A: Allocator + Copy>(
     survey_depth_of(space, limits)
 }
 
-/// What [`survey_depth`] answers, by calls that count what they read, as for [`survey_counted`] and with its bounds. It
-/// takes no memory.
+/// Surveys the message `space` within `limits`, as [`survey_depth`] does, by calls that count in `reads`, as for
+/// [`survey_counted`] and with its bounds. It takes no memory.
 pub fn survey_depth_counted<S: Space, L: Ledger>(
     space: &CountedSpace<'_, S, L>,
     limits: Limits,
     reads: &mut Reads<L>,
 ) -> Result<Measured, Stopped>
-    // An answer: the message is accepted, and what its walk pays, its visits, and the first capability of its value.
+    // An answer: the message is accepted, and the words that its walk pays, its visits, and the first capability of its
+    // value.
     ensures found { IfOk result (λ m. told.IsSurvey space.now limits m.survey) }
     // Under this depth the message is accepted, and under no lower one.
     ensures depth { IfOk result (λ m. IsDepth space.now limits m.depth) }
