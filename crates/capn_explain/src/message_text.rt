@@ -6,14 +6,14 @@ use crate::segments_text::SegmentsText;
 use capn_walk::Stopped;
 use std::fmt;
 
-/// Where a message is, and how large, displayed in lines.
+/// The place and the size of a message, displayed in lines.
 #[derive(Clone, Copy, Debug, PartialEq, Eq)]
 pub struct MessageHead {
-    /// How many messages are before it.
+    /// The number of messages before it.
     pub index: u64,
     /// The byte of the stream at which its table begins.
     pub offset: u64,
-    /// Its segments, where the sizes of all are known.
+    /// Its segments, if the sizes of all are known.
     pub segments: Option<SegmentsText>,
 }
 
@@ -56,11 +56,11 @@ impl fmt::Display for MessageHead {
 /// A message that its walk refuses, displayed in lines.
 #[derive(Clone, Copy, Debug, PartialEq, Eq)]
 pub struct RefusedLines<'a> {
-    /// Where it is, and how large.
+    /// Its place and its size.
     pub head: MessageHead,
-    /// Why, and where its walk stopped.
+    /// The reason, and the place at which its walk stopped.
     pub stopped: Stopped,
-    /// What there is to say of the slot: nothing where there is no root.
+    /// The findings about the slot: `None`, if there is no root.
     pub slot: Option<SlotLines<'a>>,
 }
 
@@ -98,11 +98,11 @@ impl<'a> fmt::Display for RefusedLines<'a> {
 /// A message whose frame, packing or length is refused, displayed in lines.
 #[derive(Clone, Copy, Debug, PartialEq, Eq)]
 pub struct FrameLines<'a> {
-    /// Where it is, and how large.
+    /// Its place and its size.
     pub head: MessageHead,
     /// The text of the fault.
     pub fault: &'a str,
-    /// What came of it.
+    /// The part of it that came.
     pub key: FrameKey,
 }
 

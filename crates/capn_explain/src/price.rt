@@ -1,4 +1,4 @@
-//! What a visit of a slot asks for.
+//! The price that a visit of a slot asks for.
 
 ghost use Rattle.std.specs.Prelude.{◌≡◌};
 ghost use Rattle.capn_words.specs.Message.{IsPlace};
@@ -12,7 +12,7 @@ use capn_value::Tariff;
 use capn_walk::price_of;
 use capn_words::{Place, Space};
 
-/// The words that a step to a target asks for.
+/// Returns the words that a step to `target` asks for.
 fn toll_of(target: Target, base: u32) -> u64
     ensures { result ≡ toll base target }
 {
@@ -27,7 +27,7 @@ fn toll_of(target: Target, base: u32) -> u64
     }
 }
 
-/// The words that a visit of a slot asks for: none where it is a fault.
+/// Returns the words that a visit of the slot at `at` asks for: 0, if it is a fault.
 pub(crate) fn asked<S: Space>(space: &S, tariff: Tariff, at: Place) -> u64
     requires { IsPlace (S.message space.now) at }
     ensures { result ≡ spec.asked (base tariff) (target (S.message space.now) at) }
