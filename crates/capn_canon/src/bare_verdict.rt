@@ -58,14 +58,15 @@ impl CountedTask for BareTask {
     }
 }
 
-/// Answers what [`survey_bare`] does, of a message of one segment that is asked through a counter alone. It has no
-/// allocator, and so takes no memory.
+/// Surveys the message `space` of one segment within `limits`, as [`survey_bare`] does, by questions through a counter
+/// alone. It has no allocator, and so takes no memory.
 pub fn survey_bare_of<M: Asked>(space: M, limits: Limits) -> Result<SurveyedBare, Stopped>
     requires one { length (M.message space) ≡ 1 }
-    // It asks the message and turns its loops at most 24 * (budget + 1) + 1 times, and once more where it opens the
-    // count: it is done on any message that allows this, and a reference to a `Space` allows all.
+    // It asks the message and turns its loops at most 24 * (budget + 1) + 1 times, and once more to open the count: it
+    // is done on any message that allows this, and a reference to a `Space` allows all.
     requires work { M.allows space (24 * (limits.budget + 1) + 1 + 1) }
-    // An answer: the message is accepted, what its walk pays, and whether its bytes are those of its value.
+    // An answer: the message is accepted, with the words that its walk pays, and whether its bytes are those of its
+    // value.
     ensures found { IfOk result (λ c. IsBareSurvey (segment_at (M.message space) 0) limits c) }
     // A message that is accepted is answered, or a growth was refused;
     ensures only { (v : Value) → IsValueOf (M.message space) limits v
@@ -82,9 +83,9 @@ pub fn survey_bare_of<M: Asked>(space: M, limits: Limits) -> Result<SurveyedBare
     space.ask(BareTask { limits })
 }
 
-/// What the walk of a bare message pays and visits within the limits, its first capability, and whether its
-/// bytes are canonical. One pass over the words finds that; the message is surveyed only where it doesn't begin with
-/// canonical bytes.
+/// Surveys the bare message `space` within `limits`: returns the words that its walk pays, the number of its visits,
+/// its first capability, and whether its bytes are canonical. One pass over the words finds that; the message is
+/// surveyed only if it doesn't begin with canonical bytes.
 ///
 /// It refuses what the walk refuses, in the same way. It takes no memory, and doesn't use the allocator.
 pub fn survey_bare<A: Allocator + Copy>(
@@ -92,7 +93,8 @@ pub fn survey_bare<A: Allocator + Copy>(
     space: &Bare<'_>,
     limits: Limits,
 ) -> Result<SurveyedBare, Stopped>
-    // An answer: the message is accepted, what its walk pays, and whether its bytes are those of its value.
+    // An answer: the message is accepted, with the words that its walk pays, and whether its bytes are those of its
+    // value.
     ensures found { IfOk result (λ c. IsBareSurvey space.now limits c) }
     // A message that is accepted is answered, or a growth was refused;
     ensures only { (v : Value) → IsValueOf (space.now ∷ []) limits v
@@ -109,15 +111,16 @@ pub fn survey_bare<A: Allocator + Copy>(
     survey_bare_of(space, limits)
 }
 
-/// What [`survey_bare`] answers of a message of one segment, by calls that count what they read, as for
-/// [`survey_canonical_counted`](crate::survey_canonical_counted) and [`survey_counted`]. It takes no memory.
+/// Surveys the message `space` of one segment within `limits`, as [`survey_bare`] does, by calls that count in `reads`,
+/// as for [`survey_canonical_counted`](crate::survey_canonical_counted) and [`survey_counted`]. It takes no memory.
 pub fn survey_bare_counted<S: Space, L: Ledger>(
     space: &CountedSpace<'_, S, L>,
     limits: Limits,
     reads: &mut Reads<L>,
 ) -> Result<SurveyedBare, Stopped>
     requires one { length space.now ≡ 1 }
-    // An answer: the message is accepted, what its walk pays, and whether its bytes are those of its value.
+    // An answer: the message is accepted, with the words that its walk pays, and whether its bytes are those of its
+    // value.
     ensures found { IfOk result (λ c. IsBareSurvey (segment_at space.now 0) limits c) }
     // A message that is accepted is answered, or a growth was refused;
     ensures only { (v : Value) → IsValueOf space.now limits v
@@ -146,7 +149,7 @@ pub fn survey_bare_counted<S: Space, L: Ledger>(
     })
 }
 
-/// Tells whether bytes, read bare within the limits, are the canonical bytes of the value that they denote. It has no
+/// Tests whether `bytes`, read bare within `limits`, are the canonical bytes of the value that they denote. It has no
 /// allocator, and so takes no memory.
 pub fn are_canonical(bytes: &[u8], limits: Limits) -> Result<bool, Refusal>
     // The answer is on the one value that the bytes denote, which has no capability.
@@ -154,7 +157,7 @@ pub fn are_canonical(bytes: &[u8], limits: Limits) -> Result<bool, Refusal>
     // Bytes that denote such a value are answered, unless memory runs out.
     ensures only { (v : Value) → Denotes forms.Bare bytes.now limits v → first_cap v ≡ None
         → MatchResult result (λ yes. IsTrue yes ↔ (canon v ≡ bytes.now)) (λ e. e ≡ refusals.Memory) }
-    // What each refusal means.
+    // The meaning of each refusal.
     ensures refused { IfErr result (λ e. IsRefused forms.Bare bytes.now limits e) }
     ensures bounded { IfErr result (λ e. IsPaidWithin limits.budget e) }
     // No memory is needed, whatever the depth.
@@ -168,7 +171,8 @@ pub fn are_canonical(bytes: &[u8], limits: Limits) -> Result<bool, Refusal>
     }
 }
 
-/// Answers what [`are_canonical`] does. It doesn't use the allocator.
+/// Tests whether `bytes`, read bare within `limits`, are canonical, as [`are_canonical`] does. It doesn't use the
+/// allocator.
 pub fn is_canonical<A: Allocator + Copy>(
     _alloc: A,
     bytes: &[u8],
@@ -179,7 +183,7 @@ pub fn is_canonical<A: Allocator + Copy>(
     // Bytes that denote such a value are answered, unless memory runs out.
     ensures only { (v : Value) → Denotes forms.Bare bytes.now limits v → first_cap v ≡ None
         → MatchResult result (λ yes. IsTrue yes ↔ (canon v ≡ bytes.now)) (λ e. e ≡ refusals.Memory) }
-    // What each refusal means.
+    // The meaning of each refusal.
     ensures refused { IfErr result (λ e. IsRefused forms.Bare bytes.now limits e) }
     ensures bounded { IfErr result (λ e. IsPaidWithin limits.budget e) }
     // No memory is needed, whatever the depth.

@@ -11,7 +11,8 @@ use capn_walk::{Limits, Surveyed, survey_counted};
 use capn_words::Space;
 use std::sync::ledger::Ledger;
 
-/// What the walk of a message pays and visits, if its value has no capability; else why it has no canonical bytes.
+/// Surveys the message `space` within `limits`, if its value has no capability; else the refusal says why it has no
+/// canonical bytes.
 pub(crate) fn survey_value<S: Space, L: Ledger>(
     space: &CountedSpace<'_, S, L>,
     limits: Limits,

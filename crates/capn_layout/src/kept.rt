@@ -11,8 +11,8 @@ use capn_target::counted::{CountedSpace, Reads};
 use capn_words::{Place, Space};
 use std::sync::ledger::Ledger;
 
-/// How many of `count` words are left when the zeros at their end are cut, but no fewer than `least`. In most cases it
-/// is all of them.
+/// Returns the number of the `count` words from `at` on that are left when the zeros at their end are cut, but no fewer
+/// than `least`. In most cases it is all of them.
 #[inline(always)]
 pub fn kept_above<S: Space, L: Ledger>(
     space: &CountedSpace<'_, S, L>,
@@ -41,7 +41,8 @@ pub fn kept_above<S: Space, L: Ledger>(
     kept_below(space.again(), at, count - 1, least, reads)
 }
 
-/// The same, as a call of its own: a loop, whose numbers would else lie on the stack at each level of depth.
+/// Returns that number by a loop. It is a call of its own, since its numbers would else lie on the stack at each level
+/// of depth.
 #[inline(never)]
 fn kept_below<S: Space, L: Ledger>(
     space: CountedSpace<'_, S, L>,

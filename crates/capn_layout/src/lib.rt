@@ -1,19 +1,19 @@
-//! The canonical layout of values and messages.
-//! It is one segment, its objects in preorder, every struct cut to what it keeps.
+//! The canonical layout of values and messages: one segment, its objects in preorder, every struct cut to what it
+//! keeps.
 //!
 //! - [`layout`] writes the canonical bytes of a tree. A tree with a capability has none, and is refused by the first
 //!   one's index.
 //! - [`surveyed_layout`] writes those of the value of a message that was surveyed, which it reads where it is.
-//! - [`surveyed_length`] says how many they are.
-//! - [`surveyed_layout_counted`] and [`surveyed_length_counted`] do the same to a message whose reads are counted: what
-//!   its value costs bounds how often they read it. [`surveyed_layout_into_counted`] writes the bytes into a buffer.
+//! - [`surveyed_length`] returns their number.
+//! - [`surveyed_layout_counted`] and [`surveyed_length_counted`] do the same to a message whose reads are counted: the
+//!   cost of its value bounds how often they read it. [`surveyed_layout_into_counted`] writes the bytes into a buffer.
 //! - [`Patch`] is a buffer of words and of holes for what is not known yet, as a pointer whose object has no place so
 //!   far. Nothing here writes to it.
-//! - [`list_pointer`], [`tag_word`] and [`bits_of`] say what words a layout has, for whoever compares bytes with it.
+//! - [`list_pointer`], [`tag_word`] and [`bits_of`] give the words of a layout, for whoever compares bytes with it.
 //!
-//! A tree and a message are laid out by one writer, over what they have in common: slots with their values. Their
-//! first pass learns how many bytes there are, their second writes them. The memory for them is asked for in between,
-//! once. Where it is refused the answer is `Memory`.
+//! A tree and a message are laid out by one writer, over what they have in common: slots with their values. Their first
+//! pass counts the bytes, their second writes them. The memory for them is asked for in between, once. If it is refused
+//! the answer is `Memory`.
 #![tactic(auto)]
 
 mod bits;
