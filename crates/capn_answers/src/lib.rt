@@ -1,13 +1,13 @@
-//! What is answered about one message, whichever of the three forms its bytes are in.
+//! Answers about one message, whichever of the three forms its bytes are in.
 //!
-//! - [`walk_in`] answers the survey of the message, or why its walk is refused, and the way to the slot where it
-//!   stopped.
-//! - [`departure_and_survey_in`] says where an accepted message leaves its canonical bytes, and why, and answers its
-//!   survey.
+//! - [`walk_in`] returns the survey of the message, or the reason why its walk is refused, and the way to the slot at
+//!   which it stopped.
+//! - [`departure_and_survey_in`] finds the word at which an accepted message leaves its canonical bytes, and the
+//!   reason, and returns its survey.
 //!
 //! Both read the bytes once, and refuse those that are no message as [`capn_canon::survey_bytes`] does. They do so by
 //! [`run_few`], which runs any task of a message, and takes no memory for a stream of at most 64 segments; of these
-//! [`read_frame`] answers the message.
+//! [`read_frame`] returns the message.
 //!
 //! ```text
 //! match walk_in(alloc, Form::Packed, bytes, limits)? {

@@ -17,7 +17,7 @@ use capn_way::{Refused, way_of_stop};
 use capn_words::Space;
 use std::alloc::Allocator;
 
-/// The walk of a message, with the way to the slot where it stopped.
+/// The task of the walk of a message, with the way to the slot at which it stopped.
 #[derive(Clone, Copy)]
 struct Walk;
 
@@ -37,13 +37,13 @@ impl<A: Allocator + Copy> MessageTask<A> for Walk {
     }
 }
 
-/// Answers how the walk of the message that `bytes` are in `form` ends within `limits`: by its survey, or by why and
-/// where it is refused, with the way to that slot. A way has at most two numbers for each level of the depth limit. The
+/// Walks the message that `bytes` encode in `form` within `limits`: returns its survey, or the place and the reason at
+/// which it is refused, with the way to that slot. A way has at most two numbers for each level of the depth limit. The
 /// bytes are read once.
 ///
 /// A refusal says why the bytes are no message: it is never one of the walk, nor of a capability. `Memory` comes only
-/// where a growth was refused: for the table of a frame of more than 64 segments, for what is unpacked, or for the way.
-/// It walks a message twice at most. (Own.)
+/// if a growth on `alloc` was refused: for the table of a frame of more than 64 segments, for what is unpacked, or for
+/// the way. It walks a message twice at most. (Own.)
 pub fn walk_in<A: Allocator + Copy>(
     alloc: A,
     form: Form,
@@ -57,9 +57,9 @@ pub fn walk_in<A: Allocator + Copy>(
         → MatchResult result (λ w. AnswersAccepted w) (λ e. e ≡ refusals.Memory) }
     // Two numbers for each level of depth are enough.
     ensures short { IfOk result (λ w. length (walked_way w) ≤ 2 * limits.depth) }
-    // What each refusal means.
+    // The meaning of each refusal.
     ensures refused { IfErr result (λ e. IsUnread form bytes.now limits e) }
-    // Memory is needed only for where two segments or more end, for what a text packs, and for the way of a message
+    // Memory is needed only for the ends of two segments or more, for what a text packs, and for the way of a message
     // that is refused by its walk.
     ensures memory { IsErrOf result refusals.Memory → MayNeedItsWay form bytes.now limits }
     // Of those, it is asked for only by a frame of more than 64 segments, by a packed text, and for that way.

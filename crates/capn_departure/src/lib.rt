@@ -1,10 +1,10 @@
 //! The departure of a message from its canonical bytes.
 //!
-//! - [`departure`] says whether a message that its walk accepts is canonical, and if not, the first reason: that it has
-//!   more segments than one, its first capability, or the first word that differs from the same word of its canonical
-//!   bytes.
-//! - [`Whose`] says whose that word is, by the way to a slot.
-//! - [`lines_of_measured`] answers the lines that explain the same of an accepted message that was measured, as
+//! - [`departure`] tests whether a message that its walk accepts is canonical, and if not, finds the first reason: that
+//!   it has more segments than one, its first capability, or the first word that differs from the same word of its
+//!   canonical bytes.
+//! - [`Whose`] is the owner of that word, by the way to a slot.
+//! - [`lines_of_measured`] returns the lines that explain this of an accepted message that was measured, as
 //!   [`CanonicalLines`]; [`measure_surveyed`] measures one that was surveyed.
 //!
 //! ```text
