@@ -7,7 +7,7 @@ ghost use Rattle.capn_c.specs.FrameNeed.{needed};
 
 use capn_stream::table::{entry_at, head_of, total_of};
 
-/// How many bytes a frame of at most `most` words needs that begins with these bytes and is not whole.
+/// Returns the number of bytes that a frame of at most `most` words needs that begins with `bytes` and is not whole.
 pub fn needed_of(bytes: &[u8], most: u32) -> u64
     requires small { most ≤ most_message_words }
     requires unfinished { IsUnfinished bytes.now most }
