@@ -64,8 +64,8 @@ impl Answers for Calls {
     }
 }
 
-/// What a call answers, as a line. Each of its growths is refused once, and where its message is cut it answers what it
-/// must.
+/// Returns the answer of a call, as a line. Each of its growths is refused once, and if its message is cut it answers
+/// what it must.
 fn answer_line(alloc: Global, line: &str) -> Result<String> {
     let words: Vec<&str> = line.split(' ').collect(alloc)?;
     let answer = answer_each(alloc, &Calls, words.as_slice())?;

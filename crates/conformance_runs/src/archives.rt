@@ -43,7 +43,8 @@ fn archive_told(
     Ok(told)
 }
 
-/// The same of a run that packs or unpacks.
+/// Returns the end of a run that packs or unpacks: the status, the bytes that are `written`, and the line on standard
+/// error.
 fn flow_told(alloc: Global, outcome: Result<(), FlowFault>, written: &[u8]) -> Result<String> {
     let digits = digits_of(alloc, written)?;
     match outcome {
@@ -142,7 +143,7 @@ pub(crate) fn make_answer(alloc: Global, heap: &Heap, words: &[&str]) -> Result<
     made_told(alloc, outcome, writer.into_inner().as_slice())
 }
 
-/// How a run over texts ended: the status, what is written, and the line on standard error.
+/// Returns the end of a run over texts: the status, the bytes that are `written`, and the line on standard error.
 fn made_told(alloc: Global, outcome: Result<(), MakeFault>, written: &[u8]) -> Result<String> {
     let digits = digits_of(alloc, written)?;
     match outcome {

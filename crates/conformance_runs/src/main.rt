@@ -30,7 +30,7 @@ impl Answers for RunAnswers {
     }
 }
 
-/// What a call answers, as a line.
+/// Returns the answer of a call, as a line.
 fn answer_line(alloc: Global, line: &str) -> Result<String> {
     let words: Vec<&str> = line.split(' ').collect(alloc)?;
     answer_each(alloc, &RunAnswers, words.as_slice())

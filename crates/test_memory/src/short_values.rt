@@ -21,7 +21,7 @@ pub(crate) fn walk_answer(of: &Subject, short: &Refusing<Global>) -> Answer {
     }
 }
 
-/// What a walk of the chain visits.
+/// Returns the answer of a survey of the chain.
 pub(crate) fn survey_answer(of: &Subject, short: &Refusing<Global>) -> Answer {
     let Ok(bare) = Bare::new(of.chain.as_slice()) else {
         return Answer::Wrong;
@@ -84,7 +84,7 @@ pub(crate) fn items(short: &Refusing<Global>) -> Result<Items<u16, &Refusing<Glo
     Ok(items)
 }
 
-/// How many growths four items take, room for which is asked for at once.
+/// Returns the number of growths that four items take, room for which is asked for at once.
 pub(crate) fn growths_of_four(alloc: Global) -> Result<u64, AllocError> {
     let heap = Refusing::nth(alloc, 0);
     let mut items = Items::with_capacity(&heap, 4)?;

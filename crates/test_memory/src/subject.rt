@@ -11,7 +11,7 @@ use std::test::Fail;
 /// The most words of a message.
 pub(crate) const MOST: u32 = 268_435_456;
 
-/// What a call answered.
+/// The answer of a call.
 #[derive(Clone, Copy)]
 pub(crate) enum Answer {
     Right,
@@ -19,8 +19,8 @@ pub(crate) enum Answer {
     Memory,
 }
 
-/// What the calls are tried on: a message, as a stream and packed, its walk, a chain of 70 structs, and the same with
-/// another offset in its last pointer, which only a survey finds to be accepted.
+/// The subject of the calls: a message, as a stream and packed, its walk, a chain of 70 structs, and that with another
+/// offset in its last pointer, which only a survey finds to be accepted.
 #[derive(Drop)]
 pub(crate) struct Subject<'a> {
     pub alloc: Global,
@@ -81,7 +81,7 @@ fn walked_of<S: Space>(alloc: Global, message: &S) -> Result<Walked, Fail> {
     }
 }
 
-/// What the calls are tried on, of a stream.
+/// Returns the subject of the calls for `stream`.
 pub(crate) fn subject_of(alloc: Global, stream: &[u8]) -> Result<Subject<'_>, Fail> {
     let chain = chain(alloc, 70)?;
     let respelt = chain_to(alloc, 70, 0xffff_fff8)?;

@@ -220,7 +220,7 @@ fn deep_fault(alloc: Global, last: &[u8]) -> Result<Option<TextFault>, Fail> {
     Ok(fault_of(alloc, text.as_slice()))
 }
 
-/// What a text is refused for that goes deeper than 256 levels. What follows the line that does isn't looked at.
+/// The refusal of a text that goes deeper than 256 levels. Nothing after the line that does is looked at.
 const TALL: TextFault = TextFault::Misfit(Misfit::Tall);
 
 /// Lines at level 256 that are refused, and why.

@@ -9,7 +9,7 @@ use std::alloc::{AllocError, Global};
 use std::cell::Cell;
 use std::io::{self, Read, Write};
 
-/// How often the reader and the writer of a run were called, and the reader before the writer was first.
+/// The numbers of calls of the reader and of the writer of a run, and of the reader before the writer was first called.
 #[derive(Drop)]
 struct Calls {
     reads: Cell<u64>,
@@ -71,7 +71,7 @@ impl Write for Sink<'_> {
     }
 }
 
-/// What a run over pieces of `piece` bytes ended with, and what it wrote.
+/// Returns the end of a run over pieces of `piece` bytes, and its output.
 fn ended(
     alloc: Global,
     command: Command,
@@ -114,7 +114,7 @@ fn check_stream() -> Command {
     Command::Check(Form::Stream, Limits::usual())
 }
 
-/// Whether `check` of `count` messages, in pieces of `piece` bytes, writes their lines.
+/// Tests whether `check` of `count` messages, in pieces of `piece` bytes, writes their lines.
 fn is_checked(alloc: Global, count: u32, piece: usize, calls: &Calls) -> bool {
     let Some(lines) = repeated(alloc, LINE, count) else {
         return false;

@@ -8,7 +8,8 @@ use capn_words::Bare;
 use std::alloc::Global;
 use std::test::Fail;
 
-/// Whether the lines of a message that is read bare are these, where a table of `table` words stands before its words.
+/// Tests whether the lines of a message that is read bare are these, where a table of `table` words stands before its
+/// words.
 fn reads(alloc: Global, words: &[u64], table: u32, lines: &str) -> Result<bool, Fail> {
     let bytes = bytes_of(alloc, words)?;
     let Ok(bare) = Bare::new(bytes.as_slice()) else {
@@ -53,7 +54,8 @@ fn lines_of_each_kind(rt: HostRuntime) -> Result<(), Fail> {
     Ok(())
 }
 
-/// Whether the lines of a bare message that is measured are these, where a table of `table` words stands before it.
+/// Tests whether the lines of a bare message that is measured are these, where a table of `table` words stands before
+/// it.
 fn measured_reads(alloc: Global, words: &[u64], table: u32, lines: &str) -> Result<bool, Fail> {
     let bytes = bytes_of(alloc, words)?;
     let Ok(bare) = Bare::new(bytes.as_slice()) else {
@@ -79,8 +81,8 @@ fn lines_of_a_measured_message(rt: HostRuntime) -> Result<(), Fail> {
     Ok(())
 }
 
-/// Whether this is the measure of a bare message that is surveyed: its price, its visits, the first capability of its
-/// value, whether it is canonical, and its depth.
+/// Tests whether this is the measure of a bare message that is surveyed: its price, its visits, the first capability of
+/// its value, whether it is canonical, and its depth.
 fn is_measured(
     alloc: Global,
     words: &[u64],

@@ -20,7 +20,7 @@ const ROWS: [u64; 8] = [
     0x1_0000_0014,
 ];
 
-/// What explains it, as the fifth of a stream.
+/// The lines that explain it, as the fifth of a stream.
 const ROWS_TOLD: &str = "message: 5 at 1000\n\
 segments: 1 of 8 words\n\
 refused: Range at 0:7, paid 9, visits 5\n\
@@ -42,7 +42,7 @@ const MANY: [u64; 9] = [
     3,
 ];
 
-/// What explains it, as the second of a stream.
+/// The lines that explain it, as the second of a stream.
 const MANY_TOLD: &str = "message: 2 at 16\n\
 segments: 1 of 9 words\n\
 refused: TagOverrun at 0:4, paid 6, visits 4\n\
@@ -152,7 +152,7 @@ const SHARED: [u64; 5] = [
     9,
 ];
 
-/// What explains it where ten words may be paid.
+/// The lines that explain it if ten words may be paid.
 const SHARED_TOLD: &str = "message: 1 at 0\n\
 segments: 1 of 5 words\n\
 refused: OverBudget at 0:3, paid 9, visits 5\n\
@@ -164,7 +164,7 @@ limit: asks for 2 of 1 left, --budget 10\n";
 /// A struct whose only slot leads back to it.
 const CIRCLE: [u64; 1] = [0x1_0000_ffff_fffc];
 
-/// What explains it where two objects may be one below another.
+/// The lines that explain it if two objects may be one below another.
 const CIRCLE_TOLD: &str = "message: 1 at 0\n\
 segments: 1 of 1 words\n\
 refused: TooDeep at 0:0, paid 4, visits 3\n\
@@ -185,7 +185,7 @@ const FAR: [u64; 7] = [
     0xa2_0000_0001,
 ];
 
-/// What explains its message.
+/// The lines that explain its message.
 const FAR_TOLD: &str = "message: 1 at 0\n\
 segments: 2 of 5 words: 2, 3\n\
 refused: Range at 0:1, paid 2, visits 2\n\
@@ -196,7 +196,8 @@ pad: byte 40, segment 1 word 1: 1200000001000000: far to segment 1 word 2\n\
 pad: byte 48, segment 1 word 2: 01000000a2000000: list of 20 bytes, offset 0\n\
 content: words 2 to 5 of segment 1, which has 3\n";
 
-/// Whether a segment that `index` messages and `offset` bytes are before, with `table` words, is explained in this way.
+/// Tests whether a segment that `index` messages and `offset` bytes are before, with `table` words, is explained in
+/// this way.
 fn is_told(
     alloc: Global,
     words: &[u64],

@@ -10,7 +10,7 @@ use std::alloc::Global;
 /// A pointer to a struct of one word after it, and that word.
 const STRUCT: [u64; 2] = [0x1_0000_0000, 9];
 
-/// The same by a landing pad of one word.
+/// That struct by a landing pad of one word.
 const BY_PAD: [u64; 3] = [0xa, 0x1_0000_0000, 9];
 
 /// A landing pad that is a far pointer.
@@ -25,7 +25,7 @@ const BYTES: [u64; 2] = [0x42_0000_0001, 9];
 /// A pointer to nine bytes, of which there are eight.
 const TOO_MANY: [u64; 2] = [0x4a_0000_0001, 9];
 
-/// What the first word of a segment names.
+/// Returns the target of the first word of a segment.
 fn root_of(alloc: Global, words: &[u64]) -> Option<Result<Target, Fault>> {
     let bytes = bytes_of(alloc, words).ok()?;
     let bare = Bare::new(bytes.as_slice()).ok()?;

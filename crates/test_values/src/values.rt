@@ -32,7 +32,7 @@ fn expect_sizes(rt: &impl Abort, made: Made, levels: u32, words: u32) {
     }
 }
 
-/// Whether two values are the same, asked both ways.
+/// Tests whether two values are the same, asked both ways.
 fn expect_same(rt: &impl Abort, one: Made, other: Made, want: bool) {
     match (one, other) {
         (Ok(one), Ok(other)) => {
@@ -203,7 +203,7 @@ fn kept_rows(alloc: Global) -> Result<Items<Body>, AllocError> {
     two_bodies(alloc, first, body(alloc, &[1], slots))
 }
 
-/// Whether these rows keep two words and two slots each.
+/// Tests whether these rows keep two words and two slots each.
 fn are_kept(rows: &[Body]) -> bool {
     match rows {
         [_, last] => kept_slots(last.slots.as_slice()) == 2
