@@ -16,6 +16,6 @@ pub record IsStoppedIn (form : Form) (bs : List ℕ) (limits : Bounds) (stopped 
   pub reads : Reads form bs limits.message_words message
   pub at : IsRefusedAt message limits stopped way
 
--- why the bytes are not read; nothing is said of running out of memory
+-- the bytes are not read, for this reason; nothing is said of running out of memory
 abbrev pub IsUnread : Form → List ℕ → Bounds → Refusal → Type 0
 IsUnread form bs limits e = e ≢ refusals.Memory → IsMisread form bs limits.message_words e

@@ -1,4 +1,4 @@
--- Where a message leaves its canonical bytes, as C reads it. (Own.)
+-- The departure of a message from its canonical bytes, as C reads it. (Own.)
 use Rattle.std.specs.Prelude.{◌≡◌, ℕ, ◌*◌, List, length}
 use Rattle.std.specs.declared.alloc.Global.{Global}
 use Rattle.capn_walk.specs.Limits.{Bounds}

@@ -1,4 +1,4 @@
--- What is reported of a message that is read. (Own.)
+-- The figures of a message that is read. (Own.)
 use Rattle.std.specs.Prelude.{◌≡◌, ◌↔◌, ◌≤◌, ℕ, zero, suc, List, length, Option, Some, None}
 use Rattle.capn_words.specs.Message.{bytes, segment_at, total}
 use Rattle.capn_value.specs.Tree.{Tree}

@@ -6,7 +6,7 @@ use Rattle.capn_pack.specs.declared.whole_groups.Next.TheVariants as nexts
 use Rattle.capn_reports.specs.Calls.{IsWritten}
 use Rattle.capn_reports.specs.declared.report.CapnReport.{CapnReport}
 
--- how many whole words a buffer of `room` bytes has room for, as far as 32 bits count them
+-- the number of whole words for which a buffer of `room` bytes has room, as far as 32 bits count them
 abbrev pub words_in : ℕ → ℕ
 words_in room = min (room / 8) (2 ^ 32 - 1)
 

@@ -1,4 +1,4 @@
--- What the check of canonical bytes answers.
+-- The answers of the check of canonical bytes.
 use Rattle.std.specs.Prelude.{◌≡◌, ◌↔◌, ℕ, List, [], ◌∷◌, None, Bool}
 use Rattle.std.specs.Bool.{IsTrue}
 use Rattle.capn_words.specs.Message.{bytes}

@@ -40,7 +40,7 @@ CanonIsForm = (v : Tree) (limits : Bounds) → Fits v → InRange v → cost (ba
 abbrev pub EqualExactlySame : Type 0
 EqualExactlySame = (v w : Tree) → Fits v → InRange v → Fits w → InRange w → (canon v ≡ canon w) ↔ Same v w
 
--- what holds of a value that bytes denote within limits: its fitness, its price and its canonical form
+-- the properties of a value that bytes denote within limits: its fitness, its price and its canonical form
 pub record HasCanonicalForm (form : Form) (bs : List ℕ) (limits : Bounds) (v : Tree)
     (h : Denotes form bs limits v) : Type 0 where
   pub fits : Fits v
@@ -131,7 +131,7 @@ pub record IsFoundOrRefused {A : Type 0} (form : Form) (bs : List ℕ) (limits :
   pub found : IfOk r (λ c. Answers form bs limits c.bytes.items c.paid)
   pub refused : IfErr r (λ e. IsRefused form bs limits e)
 
--- where bytes denote a value without capabilities, and nowhere else, there is an answer, unless it is `Memory`
+-- there is an answer, unless it is `Memory`, if and only if the bytes denote a value without capabilities
 abbrev pub EachIsAnswered : Type 0 → Type 0
 EachIsAnswered A = (form : Form) (bs : List ℕ) (limits : Bounds) (r : Result (Canonical A) Refusal)
     → IsFoundOrRefused form bs limits r → Answered form bs limits r
@@ -151,7 +151,7 @@ abbrev pub WalksAreWithinBudgets : Type 0 → Type 0
 WalksAreWithinBudgets A = (form : Form) (bs : List ℕ) (limits : Bounds) (r : Result (Canonical A) Refusal)
     → IsFoundOrRefused form bs limits r → WithinBudget limits r
 
--- ---- what readers are told
+-- ---- the readers of a message and of its canonical bytes
 
 -- two values that fit and are in range have equal canonical bytes if and only if the getters tell the same of both,
 -- along every path

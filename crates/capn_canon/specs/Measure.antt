@@ -1,4 +1,4 @@
--- What is found of a message that is accepted: its price, its depth, whether it is canonical. (Own.)
+-- The measure of a message that is accepted: its price, its depth, and whether it is canonical. (Own.)
 use Rattle.std.specs.Prelude.{◌≡◌, ◌↔◌, ℕ, List, [], ◌∷◌, None}
 use Rattle.std.specs.Bool.{IsTrue}
 use Rattle.capn_words.specs.Message.{bytes}
@@ -26,7 +26,7 @@ pub record IsChecked (message : List (List ℕ)) (limits : Bounds) (c : Surveyed
   pub capability : c.capability ≡ first_cap value
   pub answer : IsTrue c.is_canonical ↔ IsCanonicalOf message value
 
--- the same, and the least depth under which the message is accepted
+-- the check of the message, and the least depth under which it is accepted
 pub record IsMeasure (message : List (List ℕ)) (limits : Bounds) (m : MeasuredBare) : Type 0 where
   pub checked : IsChecked message limits m.survey
   pub depth : IsDepth message limits m.depth

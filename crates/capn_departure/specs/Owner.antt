@@ -12,7 +12,7 @@ use Rattle.capn_way.specs.Ways.{IsWayTo}
 use Rattle.capn_departure.specs.declared.whose.Whose.{Whose}
 use Rattle.capn_departure.specs.declared.whose.Whose.TheVariants.{Pointer, Tag, LastWord}
 
--- where word w of the only segment is
+-- the place of word w of the only segment
 abbrev pub place : ℕ → Place
 place w = record { segment = 0; word = w }
 

@@ -1,8 +1,8 @@
--- How a run ends: what it says, and its exit status. (Own.)
+-- The end of a run: its text, and its exit status. (Own.)
 use Rattle.std.specs.Prelude.{ℕ, ◌≡◌, List, [], ◌∷◌, ◌++◌, codes, Bool, false, Option, Result, Ok, Err, refl}
 use Rattle.capn_endings.specs.Line.{WritesLine}
 
--- what is said where memory was refused
+-- the text for refused memory
 abbrev pub out_of_memory : List ℕ
 out_of_memory = codes "out of memory"
 

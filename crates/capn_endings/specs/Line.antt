@@ -3,7 +3,8 @@ use Rattle.std.specs.Prelude.{ℕ, ◌≡◌, List, ◌++◌, Bool, true, false,
 use Rattle.std.specs.Io.KnownBytes.{Appends}
 use Rattle.capn_words.specs.Watched.{HasBegun}
 
--- how far a line has come: what is held back of it, what the writer holds, and whether the writer has failed
+-- the progress of a line: the bytes of it that are held back, those that the writer holds, and whether the writer has
+-- failed
 pub record Way : Type 0 where
   pub held : List ℕ
   pub written : Option (List ℕ)

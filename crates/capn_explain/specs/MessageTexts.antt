@@ -47,12 +47,12 @@ segments_of message = record {
       ∷ length (segment_at message 6) ∷ length (segment_at message 7) ∷ [];
 }
 
--- how many segments there are, and how many words in all
+-- the number of segments, and of words in all
 abbrev pub segments_text : SegmentsText → List ℕ
 segments_text s =
     decimal s.count ++ (codes " of " ++ (decimal s.words ++ (codes " words" ++ sizes_text s.count s.first)))
 
--- the same, where all sizes are known
+-- the line of the segments, if all sizes are known
 abbrev pub segments_line : Option SegmentsText → List ℕ
 segments_line (Some segments) = line (codes "segments: ") (segments_text segments)
 segments_line None = codes ""
@@ -77,7 +77,7 @@ refused_lines head stopped slot =
 
 -- ---- a message whose frame, packing or length is refused
 
--- what came of it
+-- the part of a message that came
 abbrev pub key_line : FrameKey → List ℕ
 key_line keys.Nothing = codes ""
 key_line (keys.There came) = codes "there: " ++ (decimal came ++ codes " bytes\n")
@@ -100,7 +100,7 @@ frame_lines head fault key =
 abbrev pub word_says : ℕ → List ℕ
 word_says word = word_text word ++ (codes " (" ++ (pointer_text (pointer_of word) ++ codes ")"))
 
--- whether it is canonical, and why not
+-- yes, if it is canonical, else the reason why not
 abbrev pub canonical_text : CanonicalText → List ℕ
 canonical_text forms.Yes = codes "yes"
 canonical_text (forms.Segments count) = codes "no: " ++ (decimal count ++ codes " segments")
@@ -119,7 +119,7 @@ canonical_text (forms.After byte word) =
     codes "no: at byte " ++ (decimal byte ++ (codes ": " ++ (word_text word
     ++ codes ", canonical nothing, after the value")))
 
--- how long its contents and its canonical bytes are, where these lengths are told
+-- the lengths of its contents and of its canonical bytes, if these are known
 abbrev pub lengths_line : Option (ℕ × ℕ) → List ℕ
 lengths_line (Some lengths) =
     codes "lengths: " ++ (decimal lengths.0 ++ (codes " bytes, canonical " ++ (decimal lengths.1 ++ codes "\n")))
@@ -127,7 +127,7 @@ lengths_line None = codes ""
 
 -- ---- no message
 
--- why none is explained
+-- the reason why none is explained
 abbrev pub count_text : CountText → List ℕ
 count_text (counts.NoneRefused count) = decimal count ++ codes " messages, none refused"
 count_text (counts.Fewer count) = decimal count ++ codes " messages"

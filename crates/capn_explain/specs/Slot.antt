@@ -1,5 +1,5 @@
--- What there is to say of the slot at which the walk of a message was refused. What a slot names, and each fault in its
--- order, is said by `target`. (Own.)
+-- The findings about the slot at which the walk of a message was refused. The target of a slot, and each fault in its
+-- order, is that of `target`. (Own.)
 use Rattle.std.specs.Prelude.{ℕ, ◌+◌, ◌-◌, ◌*◌, ◌==◌, nat_lt, ℤ, pos, negsuc, ◌+ℤ◌, Bool, true, false, List, length}
 use Rattle.std.specs.Prelude.{Option, Some, None, Result, Ok, Err, if◌then◌else◌}
 use Rattle.capn_words.specs.Message.{segment_at, word_at}
@@ -38,12 +38,13 @@ told_near s w (Node o a b) = Some (record { segment = s; from = w + 1; offset = 
 told_near s w (Many o width n) = Some (record { segment = s; from = w + 1; offset = o; form = Many o width n })
 told_near s w _ = None
 
--- where content begins that does not begin before word 0
+-- the word at which content begins that does not begin before word 0
 abbrev pub begins : ℕ → ℤ → Option ℕ
 begins from (pos n) = Some (from + n)
 begins from (negsuc n) = if nat_lt n from then Some (from - (n + 1)) else None
 
--- how many rows a tag counts, how many words each has and all have together, and how many the list's pointer says
+-- the number of rows that a tag counts, of the words of each and of all together, and of those that the list's pointer
+-- gives them
 abbrev pub row_words : ℕ → ℕ → RowWords
 row_words tag span = record {
   count = field 2 30 tag;
@@ -52,7 +53,7 @@ row_words tag span = record {
   span = span;
 }
 
--- what a visit of a slot asks for, where each content costs `each` beside its size: nothing where it is a fault
+-- the words that a visit of a slot asks for, if each content costs `each` beside its size: 0, if it is a fault
 abbrev pub asked : ℕ → Result Target Fault → ℕ
 asked each (Ok found) = toll each found
 asked each (Err e) = 0
@@ -63,11 +64,11 @@ rows_by tag (Many o Rows n) = Some (row_words tag n)
 rows_by tag _ = None
 
 module _ (message : List (List ℕ)) where
-  -- whether n words from a word on are inside a segment
+  -- true if n words from a word on are inside a segment
   abbrev pub has_words : ℕ → ℕ → ℕ → Bool
   has_words s w n = if nat_lt (length (segment_at message s)) (w + n) then false else true
 
-  -- ---- what tells of the content
+  -- ---- the reference of a pointer to content
 
   -- the second word of a pad of two, whose first leads to a segment that exists
   abbrev pub told_there : ℕ → ℕ → Pointer → Option Telling
@@ -92,7 +93,7 @@ module _ (message : List (List ℕ)) where
 
   -- ---- `content`
 
-  -- what is told of
+  -- the words to which a pointer refers
   abbrev pub stretch : Telling → Stretch
   stretch t = record {
     segment = t.segment;
@@ -101,7 +102,7 @@ module _ (message : List (List ℕ)) where
     length = length (segment_at message t.segment);
   }
 
-  -- the same where something is told of
+  -- those words, if a pointer refers to some
   abbrev pub stretch_told : Option Telling → Option Stretch
   stretch_told None = None
   stretch_told (Some t) = Some (stretch t)
@@ -150,7 +151,7 @@ module _ (message : List (List ℕ)) where
   rows_in (Some t) (Some at) = rows_by (word_at message at) t.form
   rows_in t at = None
 
-  -- where its rows have no room
+  -- its rows, if they have no room
   abbrev pub rows_of : Place → Fault → Option RowWords
   rows_of at faults.TagOverrun = rows_in (told at) (tag_at at)
   rows_of at _ = None
@@ -172,7 +173,7 @@ module _ (message : List (List ℕ)) where
     abbrev pub placed : Place → SlotText
     placed at = record { byte = place_byte offset table message at; place = at; word = word_at message at }
 
-    -- the same where there is a place
+    -- the word at a place, if there is one
     abbrev pub placed_some : Option Place → Option SlotText
     placed_some None = None
     placed_some (Some at) = Some (placed at)

@@ -12,7 +12,7 @@ use Rattle.capn_flow.specs.declared.fault.FlowFault.{FlowFault}
 use Rattle.capn_flow.specs.declared.fault.FlowFault.TheVariants as faults
 use Rattle.capn_flow.specs.Flow.{Ending, Flow, Stops}
 
--- how unpacking ends: with more bytes than are taken, within a group that is cut, or after whole groups
+-- the end of unpacking: with more bytes than are taken, within a group that is cut, or after whole groups
 abbrev pub ending_of : Bool → List ℕ → ℕ → Ending
 ending_of true group offset = Err faults.InputTooLong
 ending_of false [] offset = Ok tt
@@ -50,7 +50,7 @@ a_cut_behind_them = refl
 nothing_behind_them : ending_of false [] 6 ≡ Ok tt
 nothing_behind_them = refl
 
--- ---- how far unpacking has come
+-- ---- the progress of unpacking
 
 -- the most words that are held at once
 abbrev pub most_words : ℕ

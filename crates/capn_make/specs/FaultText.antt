@@ -6,7 +6,7 @@ use Rattle.capn_endings.specs.Ending.{out_of_memory}
 use Rattle.capn_make.specs.declared.fault.MakeFault.{MakeFault}
 use Rattle.capn_make.specs.declared.fault.MakeFault.TheVariants as faults
 
--- why a run ended
+-- the reason why a run ended
 abbrev pub fault_text : MakeFault → List ℕ
 fault_text faults.Memory = out_of_memory
 fault_text faults.Io = codes "input or output failed"

@@ -1,4 +1,4 @@
--- What a run of `make` did. (Own.)
+-- A run of `make`. (Own.)
 use Rattle.std.specs.Prelude.{◌≡◌, ◌≢◌, ◌⊎◌, ◌↔◌, ◌≤◌, ◌+◌, ◌*◌, ◌^◌, ℕ, List, [], ◌∷◌, ◌++◌, length, take, Bool, true}
 use Rattle.std.specs.Prelude.{Option, IfSome, Result, Ok, Err}
 use Rattle.std.specs.Io.KnownBytes.{Appends, Consumes}
@@ -47,15 +47,15 @@ abbrev pub IsAhead : (List ℕ → Option (List ℕ) → Option (List ℕ) → T
 IsAhead Written bytes c d = (before : List ℕ) × (piece : List ℕ) × (mid : Option (List ℕ)) × (more : List ℕ)
     × (bytes ≡ before ++ piece) × (length piece ≤ 65536) × Written before c mid × Appends mid d more
 
--- what is made of all of an input was written, and the run ended as that does; or memory was refused, or the reader or
--- the writer failed, or the input is too long
+-- the messages that are made of all of an input were written, and the run ended as that does; or memory was refused, or
+-- the reader or the writer failed, or the input is too long
 abbrev pub EndsAs : Form → Option (List ℕ) → Option (List ℕ) → Result (Unit {0}) MakeFault → List ℕ → Type 0
 EndsAs form c d (Ok u) input = (text : List ℕ) × Makes form input text (Ok u) × Appends c d text
 EndsAs form c d (Err fault) input = (fault ≡ faults.Memory) ⊎ ((fault ≡ faults.Io)
     ⊎ (((fault ≡ faults.InputTooLong) × (2 ^ 64 ≤ length input))
     ⊎ ((text : List ℕ) × Makes form input text (Err fault) × Appends c d text)))
 
--- what a run did, over a reader (from a to b) and a writer (from c to d), and how it ended
+-- a run, over a reader (from a to b) and a writer (from c to d), and its end
 pub record Made (form : Form) (a b c d : Option (List ℕ)) (reader_failed writer_failed : Bool)
     (r : Result (Unit {0}) MakeFault) : Type 0 where
   -- of an input that is known it has written what is made, and ended as that does

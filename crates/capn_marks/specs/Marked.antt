@@ -25,7 +25,7 @@ abbrev pub below : List ℕ → ℕ → List ℕ
 below [] i = decimal i
 below (c ∷ way) i = (c ∷ way) ++ 46 ∷ decimal i
 
--- what a way is called
+-- the name of a way
 abbrev pub way_name : List ℕ → List ℕ
 way_name [] = codes "root"
 way_name (c ∷ way) = c ∷ way
@@ -48,7 +48,7 @@ offset_mark offsets lies = if offsets then decimal lies ++ 9 ∷ [] else []
 abbrev pub way_mark : Bool → List ℕ → List ℕ
 way_mark ways way = if ways then way_name way ++ 9 ∷ [] else []
 
--- what stands before a line about what lies at a byte, at a way
+-- the marks of a line whose subject lies at a byte, at a way
 abbrev pub mark : Marks → ℕ → List ℕ → List ℕ
 mark marks lies way = offset_mark marks.offsets lies ++ way_mark marks.ways way
 
@@ -104,7 +104,8 @@ module _ (m : List (List ℕ)) (marks : Marks) where
   byte_at at = byte_of (first_byte marks) m at
 
   abbrev mutual
-    -- what a pointer names, at a level and a way: of its first line, what stands behind the mark, and all lines below
+    -- the text of the target of a pointer, at a level and a way: of its first line the part behind the mark, and all
+    -- lines below
     pub unmarked : ℕ → List ℕ → Target → Tree → List ℕ
     unmarked level way found nil = line level (codes "null")
     unmarked level way found (node ws ss) =

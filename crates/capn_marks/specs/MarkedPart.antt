@@ -27,7 +27,7 @@ none_line marks =
     (if marks.offsets then 9 ∷ [] else []) ++ ((if marks.ways then 9 ∷ [] else []) ++ line 0 (codes "none"))
 
 module _ (m : List (List ℕ)) where
-  -- what is one step below something, with its value if it has one
+  -- the part one step below another, with its value if it has one
   abbrev pub stepped : There → ℕ → Option Tree → Option There
   stepped there i None = None
   stepped there i (Some t) = Some (record {
@@ -43,7 +43,7 @@ module _ (m : List (List ℕ)) where
   led (i ∷ numbers) None = None
   led (i ∷ numbers) (Some there) = led numbers (stepped there i (step_down there.value i))
 
-  -- what is at the root
+  -- the part at the root
   abbrev pub at_root : Tree → There
   at_root t = record { at = root; found = named_by (target m root); value = t; way = [] }
 

@@ -1,4 +1,4 @@
--- What is known of places whose text is written with marks, and how a text grows by it.
+-- The places whose text is written with marks, and the growth of a text by it.
 use Rattle.std.specs.Prelude.{◌≡◌, ◌≤◌, ℕ, Option, Some, None, ◌+◌, ◌*◌, ◌<◌, List, ◌++◌, length, take, slice_index}
 use Rattle.capn_words.specs.Message.{total}
 use Rattle.capn_words.specs.declared.space.Place.{Place}
@@ -16,7 +16,7 @@ use Rattle.capn_marks.specs.MarkedPart.{at_root, led, marked_at, none_line}
 use Rattle.capn_show.specs.declared.descent.Part.{Part}
 use Rattle.capn_show.specs.ReadyPlaces.{struct_at, AreDataWords, AreSlots, AreRowsAt}
 
--- how many words of a message are before each of its segments
+-- the number of words of a message before each of its segments
 pub record CountsBefore (m : List (List ℕ)) (before : List ℕ) : Type 0 where
   pub count : length before ≡ length m
   pub each : (s : ℕ) → s < length m → slice_index before s ≡ total (take s m)

@@ -10,7 +10,7 @@ use Rattle.capn_pack.specs.declared.whole_groups.Next.TheVariants as nexts
 abbrev pub most_group : ℕ
 most_group = 2050
 
--- what comes next, with room for this many words: nothing; a group that is cut; or one that has more words
+-- these bytes come next, with room for this many words: none; a group that is cut; or one that has more words
 abbrev pub StandsNext : Next → ℕ → List ℕ → Type 0
 StandsNext nexts.End room rest = rest ≡ []
 StandsNext nexts.Cut room rest = IsCut room rest × (length rest < most_group)

@@ -1,4 +1,4 @@
--- What is told of a message that is accepted. (Own.)
+-- The account of a message that is accepted. (Own.)
 use Rattle.std.specs.Prelude.{◌≡◌, ℕ, ◌+◌, List, [], ◌∷◌, ◌++◌, None, Some, codes, refl}
 use Rattle.std.specs.Fmt.{decimal, digits}
 use Rattle.capn_walk.specs.Limits.{Bounds}
@@ -14,12 +14,12 @@ use Rattle.capn_departure.specs.declared.answer.Departure.TheVariants as departu
 use Rattle.capn_departure.specs.declared.canonical_lines.CanonicalLines.{CanonicalLines}
 use Rattle.capn_report.specs.declared.account.Account.{Account}
 
--- where a message is, and its segments
+-- the place of a message, and its segments
 abbrev pub head_of : Position → List (List ℕ) → MessageHead
 head_of at message = record { index = at.index; offset = at.offset; segments = Some (segments_of message) }
 
 module _ {A : Type 0} where
-  -- what is told of a message that was measured, and has these lines
+  -- the account of a message that was measured, and has these lines
   abbrev pub account_by : Position → List (List ℕ) → MeasuredBare → CanonicalLines A → Account A
   account_by at message m lines = record {
     head = head_of at message;

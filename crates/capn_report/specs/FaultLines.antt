@@ -22,7 +22,8 @@ use Rattle.capn_explain.specs.declared.message_text.MessageHead.{MessageHead}
 use Rattle.capn_explain.specs.declared.segments_text.SegmentsText.{SegmentsText}
 use Rattle.capn_report.specs.WhatCame.{group, segments, there}
 
--- what a table announces that is too much, and the most that is allowed; or how much came of a frame that is cut
+-- the number that a table announces and that is too great, and the most that is allowed; or the number of bytes that
+-- came of a frame that is cut
 abbrev pub frame_key : FrameFault → ℕ → List ℕ → FrameKey
 frame_key (frames.TooManySegments count) most_words rest = keys.Announced count most_segments
 frame_key (frames.TooManyWords count) most_words rest = keys.Announced count most_words
@@ -31,7 +32,7 @@ frame_key frames.Memory most_words rest = keys.Nothing
 frame_key frames.Empty most_words rest = keys.Nothing
 frame_key frames.Failed most_words rest = keys.Nothing
 
--- what came of a group that is cut
+-- the part of a group that came, if it is cut
 abbrev pub packed_key : UnpackFault → List ℕ → FrameKey
 packed_key (packings.Cut at) came = group at came
 packed_key packings.Memory came = keys.Nothing
@@ -44,7 +45,7 @@ abbrev pub bare_key : BareFault → FrameKey
 bare_key (bares.NotWhole bytes) = keys.There bytes
 bare_key (bares.TooLong words) = keys.There (min (8 * words) (2 ^ 64 - 1))
 
--- what is told of a refusal beside its name, by what came of the message and of a group
+-- the line of a refusal beside its name, by the parts of the message and of a group that came
 abbrev pub key_of : Refusal → ℕ → List ℕ → List ℕ → FrameKey
 key_of (refusals.Frame fault) most_words rest came = frame_key fault most_words rest
 key_of (refusals.Packed fault) most_words rest came = packed_key fault came
@@ -57,7 +58,7 @@ segments_at (refusals.Frame fault) rest = segments rest
 segments_at (refusals.Packed fault) rest = segments rest
 segments_at _ rest = None
 
--- where a message is, and its segments
+-- the place of a message, and its segments
 abbrev pub head_at : Position → Refusal → List ℕ → MessageHead
 head_at at refusal rest = record { index = at.index; offset = at.offset; segments = segments_at refusal rest }
 

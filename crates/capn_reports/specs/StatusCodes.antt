@@ -1,4 +1,4 @@
--- Which status and which numbers report a refusal. (Own.)
+-- The status and the numbers that report a refusal. (Own.)
 use Rattle.std.specs.Prelude.{◌≡◌, ◌≢◌, ℕ, Bool, ◌||◌, ◌&&◌, nat_eq, nat_lt}
 use Rattle.capn_words.specs.declared.bare.BareFault.{BareFault}
 use Rattle.capn_words.specs.declared.bare.BareFault.TheVariants as bare

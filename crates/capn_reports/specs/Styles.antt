@@ -14,7 +14,7 @@ style_named (suc (suc (suc n))) = styles.JsonText
 abbrev pub IsStyle : ℕ → Type 0
 IsStyle n = n ≤ 3
 
--- what ends the text of a message: the line `end`, but nothing in JSON, where the text is one line
+-- the end of the text of a message: the line `end`, but nothing in JSON, where the text is one line
 abbrev pub end_of : Style → List ℕ
 end_of styles.Lines = codes "end" ++ 10 ∷ []
 end_of styles.Quoted = codes "end" ++ 10 ∷ []

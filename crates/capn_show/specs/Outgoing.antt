@@ -6,7 +6,7 @@ use Rattle.capn_words.specs.Watched.{inner_of, has_failed}
 use Rattle.capn_show.specs.declared.fault.Broken.{Broken}
 use Rattle.capn_show.specs.declared.fault.Broken.TheVariants as broken
 
--- what a writer has taken, the text that is kept for it, and whether a call of the writer has failed
+-- the bytes that a writer has taken, the text that is kept for it, and whether a call of the writer has failed
 pub record Outgoing : Type 0 where
   pub taken : Option (List ℕ)
   pub kept : List ℕ

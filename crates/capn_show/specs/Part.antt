@@ -1,4 +1,4 @@
--- What is at a way of numbers from a value, and its text. (Own.)
+-- The part at a way of numbers from a value, and its text. (Own.)
 use Rattle.std.specs.Prelude.{◌≡◌, ℕ, zero, suc, List, [], ◌∷◌, Option, Some, None, codes, refl}
 use Rattle.capn_value.specs.NumberWidth.{oct}
 use Rattle.capn_value.specs.Tree.{Tree, nil, node, numbers, links, rows, cap, Trees, no_trees, tree, Bodies, no_bodies}
@@ -30,7 +30,7 @@ follow [] found = found
 follow (i ∷ way) None = None
 follow (i ∷ way) (Some t) = follow way (step_down t i)
 
--- what is at a way from a value, if anything is there
+-- the part at a way from a value, if anything is there
 abbrev pub at_way : Tree → List ℕ → Option Tree
 at_way t way = follow way (Some t)
 

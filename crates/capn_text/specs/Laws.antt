@@ -1,4 +1,4 @@
--- What holds of texts.
+-- Laws of texts.
 use Rattle.std.specs.Prelude.{◌≡◌, ◌<◌, ◌≤◌, ℕ, List, [], ◌∷◌, ◌++◌}
 use Rattle.std.specs.List.{AllByRecursion}
 use Rattle.capn_value.specs.Tree.{Tree}

@@ -2,9 +2,9 @@
 use Rattle.std.specs.Prelude.{◌≡◌, ◌≤◌, ℕ, ◌+◌, ◌-◌, List, [], ◌∷◌, ◌++◌, length, ⊤, cond, Bool, true, false}
 use Rattle.capn_text.specs.PlainForm.{plain_after, plain_through, digits_after, digits_through, count_to}
 
--- What was read: the front of the line that is unfinished, the line of the plain form at which it begins, where that
--- form has lines of digits that the text hasn't, how many it has before these, and whether the front of that line was
--- given already, as it is.
+-- The state of an unquoter: the front of the line that is unfinished, the line of the plain form at which it begins,
+-- the lines of digits of that form that the text hasn't, the number of those that it has before these, and whether the
+-- front of that line was given already, as it is.
 pub record Unquoting : Type 0 where
   pub front : List ℕ
   pub line : ℕ

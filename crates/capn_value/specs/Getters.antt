@@ -1,5 +1,5 @@
--- What a reader can ask of a value, whatever its schema: the getters, and what they tell along a path. (Page: structs,
--- lists, capabilities, default values.)
+-- The questions of a reader to a value, whatever its schema: the getters, and their answers along a path. (Page:
+-- structs, lists, capabilities, default values.)
 use Rattle.std.specs.Prelude.{ℕ, zero, suc, List, [], ◌∷◌, slice_index}
 use Rattle.capn_value.specs.NumberWidth.{NumberWidth}
 use Rattle.capn_value.specs.Tree.{Tree, nil, node, voids, numbers, links, rows, cap, Bodies, no_bodies, body, tree_at}
@@ -15,7 +15,7 @@ pub data Kind : Type 0 where
   list_of_structs : Kind
   capability : Kind
 
--- which kind it is of
+-- the kind of a value
 abbrev pub kind : Tree → Kind
 kind nil = null
 kind (node ws ss) = struct
@@ -62,12 +62,12 @@ pub data Step : Type 0 where
   to_pointer : ℕ → Step
   to_element : ℕ → Step
 
--- where a step leads
+-- the value to which a step leads
 abbrev pub next : Tree → Step → Tree
 next t (to_pointer j) = pointer t j
 next t (to_element i) = element t i
 
--- where a path leads, step by step
+-- the value to which a path leads, step by step
 abbrev pub at : Tree → List Step → Tree
 at t [] = t
 at t (s ∷ p) = at (next t s) p
@@ -83,6 +83,6 @@ pub record Answer : Type 0 where
 abbrev pub told : Tree → Answer
 told t = record { kind = kind t; word = word t; elements = elements t; number = number t; index = index t }
 
--- what the getters tell at the end of a path
+-- the answer of the getters at the end of a path
 abbrev pub get : Tree → List Step → Answer
 get t p = told (at t p)

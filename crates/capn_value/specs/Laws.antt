@@ -1,4 +1,4 @@
--- What holds of the definitions, whatever the code does. (Own.)
+-- Laws of the definitions, whatever the code does. (Own.)
 use Rattle.std.specs.Prelude.{◌≡◌, ◌≤◌, ◌↔◌, List, Some}
 use Rattle.capn_value.specs.Tree.{Tree}
 use Rattle.capn_value.specs.Same.{Same}

@@ -45,7 +45,7 @@ abbrev pub number_lines : ℕ → List ℕ → List ℕ
 number_lines level [] = []
 number_lines level (n ∷ ns) = line level (decimal n) ++ number_lines level ns
 
--- what the first line of a list of numbers calls it
+-- the name of a list of numbers in its first line
 abbrev pub numbers_name : NumberWidth → List ℕ
 numbers_name bit = codes "bits"
 numbers_name byte = codes "bytes"

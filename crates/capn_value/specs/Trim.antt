@@ -22,7 +22,7 @@ abbrev pub kept_words_of_rows : Bodies → ℕ
 kept_words_of_rows no_bodies = 0
 kept_words_of_rows (body ws ss bs) = max (kept_words ws) (kept_words_of_rows bs)
 
--- the same for slots
+-- the number of slots that each row of a list keeps: the most that one of them keeps
 abbrev pub kept_slots_of_rows : Bodies → ℕ
 kept_slots_of_rows no_bodies = 0
 kept_slots_of_rows (body ws ss bs) = max (kept_slots ss) (kept_slots_of_rows bs)

@@ -20,7 +20,7 @@ use Rattle.capn_walk.specs.Limits.{Bounds}
 use Rattle.capn_walk.specs.View.{slots_below, kind_of_list}
 use Rattle.capn_target.specs.Shapes.{IsInMessage}
 
--- what an entry says of what a pointer names, with the number of entries that the slot takes
+-- the entry of a slot by its target, with the number of entries that the slot takes
 abbrev pub entry_of : Target → ℕ → Entry
 entry_of targets.Nil n =
     record { start = 0; segment = 0; count = 0; span = n; words = 0; slots = 0; kind = kinds.Nil }
@@ -68,7 +68,7 @@ pub record IsIndexed (message : List (List ℕ)) (limits : Bounds) (old new : Li
   pub counts : t.visits ≡ number_of_visits message limits
   pub each : length (index_of message limits) ≡ number_of_visits message limits
 
--- the same, where a room has each entry in a form
+-- the room has the index, with each entry in a form
 pub record IsIndexedAs {A : Type 0} (form : Entry → A) (message : List (List ℕ)) (limits : Bounds) (old new : List A)
     (t : Indexed) : Type 0 where
   pub accepted : IsAccepted message limits
@@ -77,13 +77,13 @@ pub record IsIndexedAs {A : Type 0} (form : Entry → A) (message : List (List �
   pub counts : t.visits ≡ number_of_visits message limits
   pub each : length (index_of message limits) ≡ number_of_visits message limits
 
--- ---- what a reader of an index needs
+-- ---- the reader of an index
 
 -- a list of elements of one width, from a word on
 abbrev pub elements : Entry → Width → Target
 elements e width = targets.Content e.segment e.start (shapes.Many width e.count) 0
 
--- what an entry says that its slot names, by its kind
+-- the target of a slot by its entry and its kind
 abbrev pub by_kind : Kind → Entry → Target
 by_kind kinds.Nil e = targets.Nil
 by_kind kinds.Cap e = targets.Cap e.count
@@ -101,8 +101,9 @@ by_kind kinds.Links e = elements e Link
 abbrev pub entry_target : Entry → Target
 entry_target e = by_kind e.kind e
 
--- what an entry keeps of a target: all except its landing pads and the length of a composite list. So spare words after
--- the list's last row can't be found through an index; no value has them. (No target is a list of the width of rows.)
+-- the part of a target that an entry keeps: all except its landing pads and the length of a composite list. So spare
+-- words after the list's last row can't be found through an index; no value has them. (No target is a list of the width
+-- of rows.)
 abbrev pub kept : Target → Target
 kept (targets.Content s start (shapes.Rows c a b span) pads) =
     targets.Content s start (shapes.Rows c a b (c * (a + b))) 0
@@ -110,7 +111,7 @@ kept (targets.Content s start (shapes.Many Rows c) pads) = targets.Content s sta
 kept (targets.Content s start shape pads) = targets.Content s start shape 0
 kept found = found
 
--- what an entry keeps of what a slot names, or its fault
+-- the part of the target of a slot, or of its fault, that an entry keeps
 abbrev pub kept_of : Result Target Fault → Result Target Fault
 kept_of (Ok found) = Ok (kept found)
 kept_of (Err e) = Err e
@@ -144,7 +145,7 @@ IndexesAreReadable = (message : List (List ℕ)) (limits : Bounds) → IsAccepte
     → (kept_of (target message root) ≡ Ok (entry_target (entry_at (index_of message limits) 0)))
     × ((i : ℕ) → i < length (index_of message limits) → IsReadable message (index_of message limits) i)
 
--- where a visit was made
+-- the place of a visit
 abbrev pub place_of : Visit → Place
 place_of (pays at n) = at
 place_of (fails at e) = at

@@ -1,4 +1,4 @@
--- Which value an index says with the words of its message: no pointer is read again.
+-- The value that an index and the words of its message give: no pointer is read again.
 use Rattle.std.specs.Prelude.{◌≡◌, ◌↔◌, ℕ, suc, ◌+◌, ◌*◌, ◌<◌, List, length, Ok, ⊤}
 use Rattle.capn_words.specs.Message.{IsPlace}
 use Rattle.capn_words.specs.declared.space.Place.{Place}

@@ -1,4 +1,4 @@
--- What a survey reports of a list of visits beside its verdict.
+-- The report of a survey on a list of visits, beside its verdict.
 use Rattle.std.specs.Prelude.{◌≡◌, ℕ, List, [], ◌∷◌, Result, Ok, Option, Some, None}
 use Rattle.std.specs.Option.{option_or}
 use Rattle.capn_value.specs.Tree.{Tree}

@@ -16,7 +16,7 @@ pub data Visit : Type 0 where
   pays : Place → ℕ → Visit
   fails : Place → Fault → Visit
 
--- what an object costs beside its pads: `base` and its size, where a void counts as a word, and so does a row that has
+-- the cost of an object beside its pads: `base` and its size, where a void counts as a word, and so does a row that has
 -- none
 abbrev pub price : ℕ → Shape → ℕ
 price base (shapes.Node a b) = base + a + b
@@ -34,7 +34,7 @@ abbrev pub row_places : ℕ → ℕ → ℕ → ℕ → ℕ → List Place
 row_places s w a b zero = []
 row_places s w a b (suc n) = places s (w + a) b ++ row_places s (w + a + b) a b n
 
--- where the slots of an object are, in order
+-- the places of the slots of an object, in order
 abbrev pub slots : ℕ → ℕ → Shape → List Place
 slots s start (shapes.Node a b) = places s (start + a) b
 slots s start (shapes.Many Link n) = places s start n

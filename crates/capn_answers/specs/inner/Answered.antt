@@ -1,4 +1,4 @@
--- What private calls answer of a message.
+-- The answers of private calls for a message.
 use Rattle.std.specs.Prelude.{◌≡◌, ℕ, List, Result, IfOk, IfErr}
 use Rattle.std.specs.Prelude.{IsErrOf, MatchResult}
 use Rattle.capn_walk.specs.Accepted.{IsBounded, IsWalkRefused}
@@ -21,7 +21,7 @@ abbrev pub IsWalked : {A : Type 0} → List (List ℕ) → Bounds → Walked A �
 IsWalked message limits (walks.Accepted s) = IsSurvey message limits s
 IsWalked message limits (walks.Refused f) = IsRefusedAt message limits f.stopped f.way.items
 
--- what is answered of the walk of a message; memory ran out only for the way of one that is refused
+-- an answer for the walk of a message; memory ran out only for the way of one that is refused
 pub record IsWalkTold {A : Type 0} (message : List (List ℕ)) (limits : Bounds) (r : Result (Walked A) Refusal)
     : Type 0 where
   pub found : IfOk r (λ w. IsWalked message limits w)
@@ -29,7 +29,8 @@ pub record IsWalkTold {A : Type 0} (message : List (List ℕ)) (limits : Bounds)
   pub memory : IfErr r (λ e. (e ≡ refusals.Memory)
       × ((s : Stopped) × IsWalkRefused message limits s.fault s.place s.paid s.visits))
 
--- what is answered of where a message leaves its canonical bytes, and of its survey, or why it isn't accepted
+-- an answer for the departure of a message from its canonical bytes, and for its survey, or the reason why it isn't
+-- accepted
 pub record IsDepartureSurveyed {A : Type 0} (message : List (List ℕ)) (limits : Bounds)
     (r : Result (SurveyedDeparture A) Refusal) : Type 0 where
   pub found : IfOk r (λ d. IsDeparture message limits d.departure)

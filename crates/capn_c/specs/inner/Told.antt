@@ -1,4 +1,4 @@
--- What private calls answer of a message.
+-- The answers of private calls for a message.
 use Rattle.std.specs.Prelude.{◌≡◌, ◌≤◌, ℕ, List, Result, IfOk, IfErr, IsErrOf, MatchResult}
 use Rattle.sha2.specs.Sha256.{sha256}
 use Rattle.capn_value.specs.Tree.{Tree}

@@ -25,7 +25,7 @@ rows_of start (shapes.Rows n a b span) = record {
   slots = b;
 }
 
--- where a slot of a row is
+-- the place of a slot of a row
 abbrev pub place_in : SlotRows → ℕ → ℕ → Place
 place_in rows row slot = record {
   segment = rows.at.segment;

@@ -1,4 +1,4 @@
--- What slots, numbers and rows of values hold.
+-- The values of slots, numbers and rows of values.
 use Rattle.std.specs.Prelude.{◌≡◌, ℕ, ◌*◌, ◌^◌, ◌<◌, List, [], ◌∷◌, length, map}
 use Rattle.std.specs.Int.{from_bool}
 use Rattle.capn_value.specs.Tree.{Tree, tree_at, Bodies, no_bodies, body}

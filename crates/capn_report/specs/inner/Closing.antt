@@ -1,4 +1,4 @@
--- What is written after the loop over the messages.
+-- The text after the loop over the messages.
 use Rattle.std.specs.Prelude.{◌≡◌, ◌≢◌, ◌⊎◌, ℕ, List, [], Bool, true, false, Option, Some, None}
 use Rattle.std.specs.Prelude.{Result, Ok, Err, ⊤, String, string_bytes}
 use Rattle.std.specs.Io.KnownBytes.{Appends}

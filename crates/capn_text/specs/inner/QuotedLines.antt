@@ -25,7 +25,7 @@ abbrev mutual
   unquoted (c ∷ cs) = cond (c == 34) (closed cs) (cond (c == 92) (unescaped cs)
       (cond (is_printable c) (preceded c (unquoted cs)) None))
 
-  -- the same after a backslash
+  -- the bytes up to the second quote, after a backslash
   pub unescaped : List ℕ → Option (List ℕ)
   unescaped [] = None
   unescaped (c ∷ cs) = cond (c == 48) (last_zero cs) (cond (c == 34 || c == 92) (preceded c (unquoted cs)) None)
@@ -39,7 +39,7 @@ some_of (b ∷ bs) = Some (b ∷ bs)
 abbrev pub text_in : List ℕ → Option (List ℕ)
 text_in text = unquoted text >>= some_of
 
--- the same with their count before that quote
+-- the bytes between quotes, with their count before the first quote
 abbrev pub counted_text : List ℕ → Option (List ℕ)
 counted_text text =
     decimal_at text >>= λ n. strip (codes " \"") n.1 >>= λ rest. text_in rest

@@ -1,5 +1,5 @@
--- What the inner functions of surveys and walks answer, by cases: what they found, with what it pays and its visits, or
--- a refusal.
+-- The answers of the inner functions of surveys and walks, by cases: their finding, with the words that it pays and its
+-- visits, or a refusal.
 use Rattle.std.specs.Prelude.{◌≡◌, ◌≢◌, ℕ, ◌-◌, ◌*◌, ◌<◌, ◌≤◌, List, ◌∷◌, Result, Ok, Err}
 use Rattle.capn_words.specs.declared.space.Place.{Place}
 use Rattle.capn_value.specs.Tree.{count, count_rows}

@@ -1,4 +1,4 @@
--- What surveys report of a message, whether they count or not.
+-- The reports of surveys on a message, whether they count or not.
 use Rattle.std.specs.Prelude.{◌≡◌, ◌≢◌, ◌≤◌, ◌⊎◌, ℕ, List, Result, IfOk, IfErr, MatchResult}
 use Rattle.capn_value.specs.Tree.{Tree}
 use Rattle.capn_value.specs.FirstCap.{first_cap}
@@ -11,7 +11,7 @@ use Rattle.capn_walk.specs.Depth.{IsDepth}
 use Rattle.capn_walk.specs.Limits.{Bounds}
 use Rattle.capn_walk.specs.Surveyed.{IsSurvey}
 
--- what a survey reports: what the walk of an accepted message pays, or the first stop, and never for memory
+-- the report of a survey: the words that the walk of an accepted message pays, or the first stop, and never for memory
 pub record IsSurveyTold (message : List (List ℕ)) (limits : Bounds) (r : Result Surveyed Stopped) : Type 0 where
   pub found : IfOk r (λ s. IsSurvey message limits s)
   pub only : (v : Tree) → IsValueOf message limits v
@@ -21,7 +21,7 @@ pub record IsSurveyTold (message : List (List ℕ)) (limits : Bounds) (r : Resul
   pub bounded : MatchResult r (λ s. IsBounded limits.budget s.paid s.visits)
       (λ s. IsBounded limits.budget s.paid s.visits)
 
--- what a survey reports that learns the least depth, too
+-- the report of a survey that finds the least depth, too
 pub record IsDepthTold (message : List (List ℕ)) (limits : Bounds) (r : Result Measured Stopped) : Type 0 where
   pub found : IfOk r (λ m. IsSurvey message limits m.survey)
   pub depth : IfOk r (λ m. IsDepth message limits m.depth)

@@ -1,4 +1,4 @@
--- What a list of visits comes to, computed: the same as `IsWithin` and `IsStop`, for the walk's inner functions.
+-- The verdict on a list of visits, computed: the same as `IsWithin` and `IsStop`, for the walk's inner functions.
 use Rattle.std.specs.Prelude.{◌≡◌, ◌⊎◌, ℕ, ◌+◌, ◌-◌, ◌≤◌, ◌==◌, nat_lt, List, [], ◌∷◌, length, if◌then◌else◌}
 use Rattle.capn_words.specs.Message.{segment_at}
 use Rattle.capn_words.specs.declared.space.Place.{Place}
@@ -14,7 +14,7 @@ pub data Verdict : Type 0 where
   accepted : ℕ → ℕ → Verdict
   refused : Fault → Place → ℕ → ℕ → Verdict
 
--- the same verdict after k visits that paid p
+-- this verdict after k visits that paid p
 abbrev pub after : ℕ → ℕ → Verdict → Verdict
 after p k (accepted q j) = accepted (p + q) (k + j)
 after p k (refused e at q j) = refused e at (p + q) (k + j)

@@ -59,7 +59,7 @@ pub record IsMet (ms : List Met) (number : ℕ) (way : List ℕ) (place : Place)
   pub is : ms ≡ before ++ (record { way = way; place = place }) ∷ behind
   pub count : length before ≡ number
 
--- what a search for a number among these comes to: the way to it, or all passed and the way as it was
+-- the outcome of a search for a number among these: the way to it, or all passed and the way as it was
 abbrev pub Seeks : List Met → ℕ → List ℕ → List ℕ → Sought → Type 0
 Seeks ms number old new (Found place) = IsMet ms number new place
 Seeks ms number old new (Passed left) = (length ms + left ≡ number) × (new ≡ old)
