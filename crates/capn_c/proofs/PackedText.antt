@@ -1,4 +1,4 @@
--- What is answered of the stream that a text packs is answered of the text.
+-- An answer for the stream that a text packs is one for the text. (For `figures_of_packed`.)
 use Rattle.std.proofs.Common.{◌≡◌, ℕ, ◌+◌, ◌*◌, ◌≤◌, List, length, subst, sym}
 use Rattle.capn_pack.specs.Packed.{Packs}
 use Rattle.capn_stream.specs.Frames.{most_table_words}

@@ -1,4 +1,4 @@
--- What the calls answer or refuse, for a message and for bytes in each form.
+-- The answers and refusals of the calls, for a message and for bytes in each form.
 pub mod AtRoot
 pub mod OfMessages
 pub mod Answered

@@ -1,4 +1,4 @@
--- What is found of a message that has a capability.
+-- The finding of a search in a message that has a capability. (For `first_capability`.)
 use Rattle.std.proofs.Common.{◌≡◌, ℕ, List, [], ◌∷◌, length, Option, Some, None, Ok, Err, Result, refl, ap, ap₂}
 use Rattle.std.proofs.Common.{sym, ◌∙◌}
 use Rattle.std.specs.Option.{option_or}

@@ -1,4 +1,4 @@
--- The value of an accepted message, ready to be laid out.
+-- The value of an accepted message, ready to be laid out. (For `canonical_length` and `from_canonical`.)
 use Rattle.std.proofs.Common.{◌≡◌, ℕ, ◌+◌, ◌*◌, ◌≤◌, List, length, Result, Ok, Err, refl, arith}
 use Rattle.capn_words.specs.Message.{IsBare, IsMessage}
 use Rattle.capn_value.specs.Tree.{Tree}

@@ -1,4 +1,4 @@
--- Frames of one segment.
+-- Frames of one segment. (For `first_bare`.)
 use Rattle.std.proofs.Common.{◌≡◌, ℕ, ◌+◌, ◌-◌, ◌*◌, ◌^◌, ◌≤◌, List, [], ◌∷◌, length, take, drop, sum, refl, ap, arith}
 use Rattle.capn_words.specs.Message.{AreBytes, IsBare}
 use Rattle.capn_stream.specs.Frames.{StandsFirst}

@@ -1,4 +1,4 @@
--- A frame that came in pieces is whole.
+-- A frame that came in pieces is whole. (For `feed`, `finish` and `take`.)
 use Rattle.std.proofs.Common.{◌≡◌, ◌⊎◌, inl, inr, ℕ, ◌*◌, ◌/◌, ◌^◌, ◌<◌, ◌≤◌, List, [], ◌∷◌, ◌++◌}
 use Rattle.std.proofs.Common.{length, take, drop, Bool, false, Some, Result, Ok, Err, IfOk, IfErr, is_err}
 use Rattle.std.proofs.Common.{refl, ap, sym, subst, ◌∙◌, arith, length-drop}

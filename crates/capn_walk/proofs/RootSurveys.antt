@@ -1,4 +1,4 @@
--- A survey of a whole message.
+-- A survey of a whole message. (For `survey_counted`, `survey_depth_counted` and `survey_root`.)
 use Rattle.std.proofs.Common.{◌≡◌, true, ℕ, ◌+◌, ◌-◌, ◌<◌, ◌≤◌, List, [], ◌∷◌, length, Option, Ok}
 use Rattle.std.proofs.Common.{ap, ap₂, sym, ◌∙◌, arith}
 use Rattle.std.specs.Option.{option_or}

@@ -1,4 +1,5 @@
--- What is reported of a message is so of bytes that are read as it, and what is not read is refused.
+-- A report on a message is true of bytes that are read as it, and bytes that can't be read are refused. (For
+-- `canonical_input.rt`, `input.rt` and `survey_input.rt`.)
 use Rattle.std.proofs.Common.{◌≡◌, ℕ, ◌+◌, ◌≤◌, inl, inr, List, refl, sym, subst, Result, Ok, Err, IfOk, IfErr}
 use Rattle.std.proofs.Common.{IsErrAnd, IsErrOf, MatchResult}
 use Rattle.capn_words.specs.Message.{ReadsBare}

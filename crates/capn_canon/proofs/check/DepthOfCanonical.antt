@@ -1,4 +1,4 @@
--- The least depth under which canonical words are accepted is the height of their value.
+-- The least depth under which canonical words are accepted is the height of their value. (For `CanonicalSurvey`.)
 use Rattle.std.proofs.Common.{◌≡◌, ℕ, ◌≤◌, ◌^◌, List, [], ◌∷◌, ap, sym, subst, ◌∙◌, arith}
 use Rattle.capn_words.specs.Message.{IsMessage}
 use Rattle.capn_words.proofs.shared.OneSegment.{bare_only}

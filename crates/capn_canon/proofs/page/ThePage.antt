@@ -1,4 +1,4 @@
--- The rules of the page leave each value one form, its canonical bytes.
+-- The rules of the page leave each value one form, its canonical bytes. (For `page`.)
 use Rattle.std.proofs.Common.{◌≡◌, ◌↔◌, ℕ, ◌+◌, ◌≤◌, Bool, IsTrue, List, [], ◌∷◌, length, None, refl, ap}
 use Rattle.std.proofs.Common.{sym, subst, ◌∙◌, arith}
 use Rattle.capn_words.specs.Message.{IsBare, IsMessage, bytes}

@@ -1,4 +1,5 @@
--- Words are canonical if and only if the value at their root is where its layout has it, and no word is left.
+-- Words are canonical if and only if the value at their root is where its layout has it, and no word is left. (For
+-- `CanonicalSurvey`, `DueRoot` and `ThePage`.)
 use Rattle.std.proofs.Common.{◌≡◌, ◌↔◌, ℕ, ◌+◌, ◌<◌, ◌≤◌, List, ◌∷◌, length}
 use Rattle.std.proofs.Common.{ap, sym, subst, ◌∙◌, arith}
 use Rattle.std.proofs.Math.Seq.{take-length}

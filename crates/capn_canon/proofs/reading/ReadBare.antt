@@ -1,4 +1,5 @@
--- Canonical bytes, read bare, denote the trimmed value, and are paid exactly its cost.
+-- Canonical bytes, read bare, denote the trimmed value, and are paid exactly its cost. (For `CanonicalSurvey`,
+-- `DepthOfCanonical`, `DueRoot` and `Headline`.)
 use Rattle.std.proofs.Common.{◌≡◌, ℕ, ◌^◌, ◌≤◌, List, [], ◌∷◌, length, true, refl, ap, sym, ◌∙◌, arith}
 use Rattle.capn_words.proofs.shared.OneSegment.{bare_only}
 use Rattle.capn_value.specs.Tree.{Tree, nil, node, voids, numbers, links, rows, cap}

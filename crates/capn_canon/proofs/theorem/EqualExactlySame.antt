@@ -1,4 +1,4 @@
--- Canonical bytes of two values are equal if and only if the values are the same.
+-- Canonical bytes of two values are equal if and only if the values are the same. (For `canonicity`.)
 use Rattle.std.proofs.Common.{◌≡◌, ◌↔◌, ℕ, ◌/◌, ◌^◌, ◌≤◌, List, [], ◌∷◌, length, ap, sym, subst, ◌∙◌, arith}
 use Rattle.capn_words.specs.Message.{bytes, words_in}
 use Rattle.capn_value.specs.Tree.{Tree}

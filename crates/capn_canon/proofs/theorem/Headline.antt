@@ -1,4 +1,5 @@
--- The canonical bytes of a value are its canonical form, and so those of a value that bytes denote within limits.
+-- The canonical bytes of a value are its canonical form, and so those of a value that bytes denote within limits. (For
+-- `canonical.rt`, `laws.rt`, `length.rt` and `written_bytes.rt`.)
 use Rattle.std.proofs.Common.{◌≡◌, ℕ, ◌*◌, ◌+◌, ◌^◌, ◌≤◌, List, length, sym, subst, arith}
 use Rattle.capn_words.specs.Message.{IsMessage}
 use Rattle.capn_value.specs.Tree.{Tree}
