@@ -29,7 +29,7 @@ pub use input::run_few;
 pub use walked::Walked;
 pub use way_input::walk_in;
 
-// What the signatures above name.
+// The types in the signatures above.
 pub use capn_canon::{Form, MessageTask, Refusal};
 pub use capn_departure::{Departure, Whose};
 pub use capn_few::FewSegments;

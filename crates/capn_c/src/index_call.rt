@@ -96,7 +96,7 @@ pub extern "C" fn capn_index(
     // The meaning of each refusal; no other status stands for it.
     ensures refused { 5 ≤ result → (e : Refusals) × Reports result report.new e
         × IsUnacceptedIn (form_named form) bytes.now (bounds_of limits.now) e }
-    // Memory is needed only where `capn_check` may need it.
+    // Memory is needed only if `capn_check` may need it.
     ensures memory { result ≡ 8 → MayNeedMemory (form_named form) bytes.now (bounds_of limits.now) }
     // It is asked for only by a stream of more than 64 segments.
     ensures asked { result ≡ 8 → MayAsk (form_named form) bytes.now (bounds_of limits.now) }

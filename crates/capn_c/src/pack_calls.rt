@@ -71,7 +71,7 @@ pub extern "C" fn capn_unpack(
     out: &mut [u8],
     report: &mut CapnReport,
 ) -> u32
-    // What is answered is what the bytes pack, within the maximum: the bytes of words.
+    // The answer is what the bytes pack, within the maximum: the bytes of words.
     ensures found { result ≤ 1 → (words : List ℕ)
         × Packs bytes.now words × (length words ≤ 8 * max_words) × HasWords words
         × Delivers words result report.new.length out.old out.new }

@@ -103,7 +103,7 @@ pub extern "C" fn capn_refusal_way(
         × TellsWay result report.new s numbers way.old way.new }
     // Two numbers for each level of depth are enough.
     ensures short { 64 ≤ result → report.new.length ≤ 8 * limits.now.depth }
-    // Memory is needed only where a check may need it, and for a message that is refused by its walk.
+    // Memory is needed only if a check may need it, and for a message that is refused by its walk.
     ensures memory { result ≡ 8 → MayNeedItsWay (form_named form) bytes.now (bounds_of limits.now) }
     // Of those, it is asked for only by a frame of more than 64 segments, by a packed text, and by such a message.
     ensures asked { result ≡ 8 → MayAskForItsWay (form_named form) bytes.now (bounds_of limits.now) }

@@ -13,12 +13,12 @@ pub record Way : Type 0 where
 abbrev pub way : List ℕ → Option (List ℕ) → Bool → Way
 way held written failed = record { held = held; written = written; failed = failed }
 
--- a line was written, or a beginning of it where the writer has failed
+-- a line was written, or a beginning of it if the writer has failed
 abbrev pub WritesLine : List ℕ → Option (List ℕ) → Option (List ℕ) → Bool → Type 0
 WritesLine line old new true = HasBegun old new line
 WritesLine line old new false = Appends old new line
 
--- a part was written to a writer that had not failed, or a beginning of it where the writer has failed; one that had
+-- a part was written to a writer that had not failed, or a beginning of it if the writer has failed; one that had
 -- failed was left alone
 abbrev pub Goes : List ℕ → Option (List ℕ) → Bool → Option (List ℕ) → Bool → Type 0
 Goes part old false new failed = WritesLine part old new failed

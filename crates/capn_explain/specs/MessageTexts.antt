@@ -31,7 +31,7 @@ abbrev pub listed : List ℕ → List ℕ
 listed [] = codes ""
 listed (n ∷ ns) = decimal n ++ behind_commas ns
 
--- the sizes of segments, where there are two or more: those of the first eight
+-- the sizes of segments, if there are two or more: those of the first eight
 abbrev pub sizes_text : ℕ → List ℕ → List ℕ
 sizes_text count first =
     if nat_lt count 2 then codes ""

@@ -80,7 +80,7 @@ module _ (message : List (List ℕ)) where
   told_two (Far false w s) tag = if is_second_pad message tag then told_there s w tag else None
   told_two _ tag = None
 
-  -- a pointer at word w of segment s, or its landing pad, where the whole pad is inside its segment
+  -- a pointer at word w of segment s, or its landing pad, if the whole pad is inside its segment
   abbrev pub told_by : ℕ → ℕ → Pointer → Option Telling
   told_by s w (Far false v t) = if has_words t v 1 then told_near t v (pointer_in message t v) else None
   told_by s w (Far true v t) =
@@ -112,7 +112,7 @@ module _ (message : List (List ℕ)) where
   words_at s w n =
       record { segment = s; start = pos w; end = pos (w + n); length = length (segment_at message s) }
 
-  -- the landing pad of a far pointer, also where it isn't inside its segment
+  -- the landing pad of a far pointer, also if it isn't inside its segment
   abbrev pub pad_stretch : Pointer → Option Stretch
   pad_stretch (Far false w s) = Some (words_at s w 1)
   pad_stretch (Far true w s) = Some (words_at s w 2)
@@ -127,7 +127,7 @@ module _ (message : List (List ℕ)) where
 
   -- ---- `tag` and `rows`
 
-  -- the place of a tag, where it and n words after it are inside their segment
+  -- the place of a tag, if it and n words after it are inside their segment
   abbrev pub tag_from : ℕ → ℕ → Option ℕ → Option Place
   tag_from s n None = None
   tag_from s n (Some start) = if has_words s start (1 + n) then Some (record { segment = s; word = start }) else None
@@ -182,12 +182,12 @@ module _ (message : List (List ℕ)) where
     abbrev pub tag_of : Place → Option SlotText
     tag_of at = placed_some (tag_at at)
 
-    -- a landing pad of one word, where it is inside its segment
+    -- a landing pad of one word, if it is inside its segment
     abbrev pub pad_of_one : ℕ → ℕ → Pad
     pad_of_one s w =
         if has_words s w 1 then pads.One (placed (record { segment = s; word = w })) else pads.Absent
 
-    -- a landing pad of two words, where both are inside their segment
+    -- a landing pad of two words, if both are inside their segment
     abbrev pub pad_of_two : ℕ → ℕ → Pad
     pad_of_two s w =
         if has_words s w 2

@@ -45,6 +45,6 @@ pub use patch::Patch;
 pub use pointer_words::{list_pointer, tag_word};
 pub use tree_layout::{LayoutFault, layout};
 
-// What the signatures above name.
+// The types in the signatures above.
 pub use capn_value::{Memory, Tree};
 pub use capn_words::{Place, Space, Width};

@@ -6,7 +6,7 @@ use Rattle.std.specs.List.{flat_map, AllByRecursion}
 -- ---- the tag of a word, one bit for each of its eight bytes, and the three kinds of group. A word is its eight bytes,
 -- the least first. (Page: packing.)
 
--- The tag of some bytes: from the least bit on, 1 exactly where the byte isn't zero.
+-- The tag of some bytes: from the least bit on, 1 exactly if the byte isn't zero.
 abbrev pub tag_of : List ℕ → ℕ
 tag_of [] = 0
 tag_of (x ∷ xs) = (if x == 0 then 0 else 1) + 2 * tag_of xs

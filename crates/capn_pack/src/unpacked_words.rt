@@ -61,7 +61,7 @@ pub fn unpack<A: Allocator + Copy>(
     bytes: &[u8],
     max_words: u32,
 ) -> Result<Vec<u8, A>, UnpackFault>
-    // What is answered is what the bytes pack, within the maximum.
+    // The answer is what the bytes pack, within the maximum.
     ensures found { IfOk result (λ v. Packs bytes.now v.items) }
     ensures within { IfOk result (λ v. length v.items ≤ 8 * max_words) }
     // They are the bytes of words.

@@ -67,7 +67,7 @@ pub fn unpack_some<A: Allocator>(
         p.next) }
     // Without memory a beginning of the words within the maximum was appended.
     ensures begun { OnErr result (AppendsSome bytes.now max_words out.old.items out.new.items) }
-    // Memory is asked for only where a whole group within the maximum comes first.
+    // Memory is asked for only if a whole group within the maximum comes first.
     ensures memory { OnErr result (StartsWithin bytes.now max_words) }
 {
     let mut block = [0; BLOCK];

@@ -52,7 +52,7 @@ key_of (refusals.Packed fault) most_words rest came = packed_key fault came
 key_of (refusals.Bare fault) most_words rest came = bare_key fault
 key_of _ most_words rest came = keys.Nothing
 
--- the segments of a message in a frame, where their sizes came
+-- the segments of a message in a frame, if their sizes came
 abbrev pub segments_at : Refusal → List ℕ → Option SegmentsText
 segments_at (refusals.Frame fault) rest = segments rest
 segments_at (refusals.Packed fault) rest = segments rest

@@ -29,7 +29,7 @@ pub use status_codes::{
 };
 pub use styles::{end_of, style_of};
 
-// What the signatures above name.
+// The types in the signatures above.
 pub use capn_canon::{Form, Refusal};
 pub use capn_pack::UnpackFault;
 pub use capn_show::Style;

@@ -37,5 +37,5 @@ pub use next_message::read_message;
 pub use stored::Stored;
 pub use table::MOST_TABLE_WORDS;
 
-// What the signatures above name.
+// The types in the signatures above.
 pub use capn_words::Memory;

@@ -25,12 +25,12 @@ kind (links ts) = list_of_pointers
 kind (rows bs) = list_of_structs
 kind (cap k) = capability
 
--- data word i of a struct, 0 past its end and where there is no struct
+-- data word i of a struct, 0 past its end and if there is no struct
 abbrev pub word : Tree → ℕ → ℕ
 word (node ws ss) i = slice_index ws i
 word _ i = 0
 
--- pointer j of a struct, null past its end and where there is no struct
+-- pointer j of a struct, null past its end and if there is no struct
 abbrev pub pointer : Tree → ℕ → Tree
 pointer (node ws ss) j = tree_at ss j
 pointer _ j = nil

@@ -45,7 +45,7 @@ abbrev pub IsEntered : Result Target Fault → Type 0
 IsEntered (Ok (targets.Content s start shape pads)) = ⊤
 IsEntered _ = ⊥
 
--- the target of the root, where the root may be that
+-- the target of the root, if the root may be that
 abbrev pub rooted : Result Target Fault → Result Target Fault
 rooted (Ok found) = if may_be_root found then Ok found else Err faults.RootKind
 rooted (Err e) = Err e

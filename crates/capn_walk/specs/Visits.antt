@@ -42,7 +42,7 @@ slots s start (shapes.Many width n) = []
 slots s start (shapes.Rows n a b span) = row_places s (start + 1) a b n
 
 module _ (message : List (List ℕ)) (base : ℕ) where
-  -- a visit of a slot, where none may have content
+  -- a visit of a slot, if none may have content
   abbrev pub last_visit : Place → Result Target Fault → List Visit
   last_visit at (Ok (targets.Content s start shape pads)) = fails at faults.TooDeep ∷ []
   last_visit at (Ok found) = pays at 0 ∷ []

@@ -70,7 +70,7 @@ abbrev pub IsNotVisited : List (List ℕ) → Bounds → ℕ → Type 0
 IsNotVisited message limits number =
     (length (segment_at message 0) ≡ 0) ⊎ (number_of_visits message limits ≤ number)
 
--- a message is refused, and the way leads to the slot at which its walk stopped: none where it has no root
+-- a message is refused, and the way leads to the slot at which its walk stopped: none if it has no root
 pub record IsRefusedAt (message : List (List ℕ)) (limits : Bounds) (stopped : Stopped) (way : List ℕ) : Type 0 where
   pub refused : IsWalkRefused message limits stopped.fault stopped.place stopped.paid stopped.visits
   pub leads : 0 < stopped.visits → IsWayTo message limits (stopped.visits - 1) way stopped.place

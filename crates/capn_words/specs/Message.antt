@@ -16,7 +16,7 @@ word_bytes w = little_bytes 8 w
 abbrev pub bytes : List ℕ → List ℕ
 bytes ws = flat_map word_bytes ws
 
--- the words of a segment; none where there is no such segment
+-- the words of a segment; none if there is no such segment
 abbrev pub segment_at : List (List ℕ) → ℕ → List ℕ
 segment_at message s = slice_index_or message s []
 

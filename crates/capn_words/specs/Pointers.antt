@@ -1,4 +1,4 @@
--- The pointer that a word is, and the word of a pointer. `split` ties both where the fields fit. (Page: structs, lists,
+-- The pointer that a word is, and the word of a pointer. `split` ties both if the fields fit. (Page: structs, lists,
 -- inter-segment pointers, capabilities.)
 use Rattle.std.specs.Prelude.{ℕ, suc, ◌-◌, ◌/◌, ◌%◌, ◌^◌, nat_lt, ◌==◌, ℤ, pos, negsuc, [], ◌∷◌, slice_index_or}
 use Rattle.std.specs.Prelude.{if◌then◌else◌, ◌≡◌, ◌+◌, ◌*◌, ◌<◌, ⊤}

@@ -11,7 +11,7 @@ inner_of w = w.inner
 abbrev pub has_failed : {T : Type 0} → Watched T → Bool
 has_failed w = w.failed
 
--- a write fails where it answers an error, or takes no byte of a piece that has some
+-- a write fails if it answers an error, or takes no byte of a piece that has some
 abbrev pub write_fails : {E : Type 0} → Result ℕ E → List ℕ → Bool
 write_fails (Ok n) piece = n == 0 && not (length piece == 0)
 write_fails (Err e) piece = true

@@ -51,7 +51,7 @@ IsDone (stages.Contents start end) bs = length bs ≡ end
 abbrev pub Rests : Stage → List ℕ → Type 0
 Rests stage bs = (length bs < need stage) ⊎ IsDone stage bs
 
--- bytes of a piece were added, no more than are needed, and fewer only where the piece ends
+-- bytes of a piece were added, no more than are needed, and fewer only if the piece ends
 pub record Extends (old piece : List ℕ) (end n : ℕ) (new : List ℕ) : Type 0 where
   pub inside : n ≤ length piece
   pub text : new ≡ old ++ take n piece

@@ -8,12 +8,12 @@ use Rattle.capn_text.specs.inner.Tokens.{◌>>=◌, strip, decimal_at}
 abbrev pub preceded : ℕ → Option (List ℕ) → Option (List ℕ)
 preceded b read = read >>= λ bs. Some (b ∷ bs)
 
--- no byte, where nothing is left
+-- no byte, if nothing is left
 abbrev pub closed : List ℕ → Option (List ℕ)
 closed [] = Some []
 closed (c ∷ cs) = None
 
--- a last zero, where the second quote is left
+-- a last zero, if the second quote is left
 abbrev pub last_zero : List ℕ → Option (List ℕ)
 last_zero [] = None
 last_zero (c ∷ cs) = cond (c == 34) (preceded 0 (closed cs)) None
