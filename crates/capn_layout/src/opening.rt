@@ -14,8 +14,8 @@ use crate::pointer_words::{list_pointer, struct_pointer, tag_word};
 use crate::source::Source;
 use capn_words::Width;
 
-/// The words in front of an object's slots, once they are written: the place of the first row in the layout, the words
-/// and slots of each row that are kept, and the end of all rows.
+/// An object whose own words are written: the place of its first row in the layout, the numbers of words and of slots
+/// of each row that are kept, and the end of all rows.
 #[derive(Clone, Copy)]
 pub struct Opened {
     pub first: usize,

@@ -139,7 +139,7 @@ fn fill_group(text: &[u8], at: usize, block: &mut [u8], fill: usize) -> Option<B
 }
 
 /// Does what [`fill_group`] does, near the end of the text or of the block: returns `None` also for a raw group, and
-/// for zero words that have no room up to `limit`.
+/// for zero words if fewer than [`SLACK`] bytes are left up to `limit`.
 #[inline(always)]
 fn fill_last(text: &[u8], at: usize, block: &mut [u8], fill: usize, limit: usize) -> Option<Block>
     requires far { at + 17 ≤ length text.now }

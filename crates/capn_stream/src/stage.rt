@@ -130,8 +130,8 @@ fn read_table<A: Allocator>(
     })
 }
 
-/// Appends bytes of `piece` to the frame `bytes` until it is whole or `piece` ends, and returns their number. `stage`
-/// and `ends` follow; the message may have at most `most` words.
+/// Appends bytes of `piece` to the frame `bytes` until it is whole or `piece` ends, and returns their number. Brings
+/// `stage` and `ends` up to date. The message may have at most `most` words.
 pub(crate) fn fill<A: Allocator + Copy>(
     alloc: A,
     bytes: &mut Vec<u8, A>,

@@ -169,8 +169,8 @@ pub fn walk_counted<S: Space, A: Allocator + Copy, L: Ledger>(
     })
 }
 
-/// Finds the target of the root pointer of the message `space`: anything but a capability, which is `RootKind`.
-/// `NoRoot`, if segment 0 has no word. It counts in `reads`.
+/// Finds the target of the root pointer of the message `space`, or the first fault: `NoRoot`, if segment 0 has no word;
+/// `RootKind`, if it is a capability. It counts in `reads`.
 #[inline(always)]
 pub fn root_target<S: Space, L: Ledger>(
     space: &CountedSpace<'_, S, L>,

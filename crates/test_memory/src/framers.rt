@@ -14,7 +14,7 @@ fn waiting<'a>(rt: &impl Abort, heap: &'a Refusing<Global>) -> Framer<&'a Refusi
     framer
 }
 
-/// `count` such framers.
+/// Returns `count` framers, to each of which such a message was announced.
 fn waiting_each<'a>(
     rt: &impl Abort,
     alloc: Global,

@@ -49,7 +49,7 @@ impl Write for Counted {
     }
 }
 
-/// Some bytes, so many times.
+/// Returns `count` copies of `bytes`, one after the other.
 fn times(alloc: Global, bytes: &[u8], count: u32) -> Result<Vec<u8>, AllocError> {
     let mut row = Vec::new(alloc);
     for _ in 0..count {
@@ -236,7 +236,7 @@ fn packed_messages_are_picked(rt: HostRuntime) -> Result<(), Fail> {
     Ok(())
 }
 
-/// And so are their lines.
+/// The messages of a packed stream are listed one by one.
 #[test]
 fn packed_messages_are_listed(rt: HostRuntime) -> Result<(), Fail> {
     let took = taken_of_packed(rt.alloc(), Order::Archive(Task::List), 2)?;

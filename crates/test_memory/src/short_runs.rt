@@ -21,7 +21,7 @@ pub(crate) fn canonicalise_answer(of: &Subject, short: &Refusing<Global>) -> Ans
     judged_canonical(of, canonicalise(short, Form::Packed, packed, limits(256)))
 }
 
-/// Right if and only if these are the canonical bytes of the value.
+/// Judges `canonical`: right if and only if it has the canonical bytes of the value.
 pub(crate) fn judged_canonical(
     of: &Subject,
     canonical: Result<Canonical<&Refusing<Global>>, Refusal>,

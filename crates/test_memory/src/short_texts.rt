@@ -7,7 +7,7 @@ use capn_value::{Tree, same, show};
 use std::alloc::{AllocError, Global};
 use test_allocator::Refusing;
 
-/// Right if and only if this is the value of the message.
+/// Judges `read`: right if and only if it is the value of the message.
 fn judged_read(of: &Subject, read: Result<Tree<&Refusing<Global>>, TextFault>) -> Answer {
     match read {
         Ok(tree) => judged_tree(of, Ok(tree)),

@@ -40,8 +40,8 @@ pub(crate) fn limits(depth: u32) -> Limits {
 /// The canonical pointer to an empty struct.
 const EMPTY: u64 = 0xffff_fffc;
 
-/// `levels` structs of two slots, each in the first slot of the one before, with empty structs in the slots that are
-/// left, the last of which has this pointer.
+/// Returns `levels` structs of two slots, each in the first slot of the one before, with empty structs in the slots
+/// that are left, of which the last has the pointer `last`.
 fn chain_to(alloc: Global, levels: u32, last: u64) -> Result<Vec<u8>, AllocError> {
     let mut words = Vec::new(alloc);
     words.push(0x2_0000_0000_0000)?;
@@ -99,7 +99,7 @@ pub(crate) fn subject_of(alloc: Global, stream: &[u8]) -> Result<Subject<'_>, Fa
     })
 }
 
-/// Right if and only if this holds.
+/// Returns `Right` if and only if `is_right`.
 pub(crate) fn judged(is_right: bool) -> Answer {
     if is_right {
         Answer::Right
@@ -108,7 +108,7 @@ pub(crate) fn judged(is_right: bool) -> Answer {
     }
 }
 
-/// Memory ran out, if and only if this holds.
+/// Returns `Memory`, an answer that memory ran out, if and only if `is_right`.
 pub(crate) fn wanting(is_right: bool) -> Answer {
     if is_right {
         Answer::Memory
@@ -117,7 +117,7 @@ pub(crate) fn wanting(is_right: bool) -> Answer {
     }
 }
 
-/// Right if and only if this is the message of the stream.
+/// Judges `message`: right if and only if it is the message of the stream.
 pub(crate) fn judged_message<S: Space>(of: &Subject, message: &S) -> Answer {
     match frame(of.alloc, message) {
         Ok(text) => judged(text.as_slice() == of.stream),

@@ -65,7 +65,7 @@ pub(crate) struct Input<'a> {
 }
 
 impl<'a> Input<'a> {
-    /// These bytes, in pieces of at most so many, and then the end.
+    /// Returns an input of `bytes`, in pieces of at most `most`, and then the end.
     pub(crate) fn whole(bytes: &'a [u8], most: usize) -> Input<'a> {
         Input {
             bytes,

@@ -68,7 +68,7 @@ fn is_made(alloc: Global, words: &[&str], form: Form, quoted: bool) -> bool {
     }
 }
 
-/// The words order nothing, and the exit status is this.
+/// Expects that the `words` order nothing, and that the exit status is `status`.
 pub(crate) fn expect_usage(rt: &impl Abort, alloc: Global, words: &[&str], status: u8) {
     match order_of(alloc, words) {
         Ok(_) => assert!(rt; false, "{words:?}"),

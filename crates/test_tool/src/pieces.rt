@@ -152,7 +152,7 @@ ok paid 100 visits 1\n\
 ok paid 9 visits 9\n\
 ok paid 10 visits 10\n";
 
-/// Appends the frame of a struct of this many words and null slots.
+/// Appends the frame of a struct of so many `words` and null `slots` to `stream`.
 fn add_struct(stream: &mut Vec<u8>, words: u8, slots: u8) -> Result<(), AllocError> {
     let content = u16::from(words) + u16::from(slots);
     let [low, high] = (content + 1).to_le_bytes();
@@ -164,7 +164,7 @@ fn add_struct(stream: &mut Vec<u8>, words: u8, slots: u8) -> Result<(), AllocErr
     Ok(())
 }
 
-/// The stream of these structs.
+/// Returns the stream of structs of these `sizes`.
 fn structs(alloc: Global, sizes: &[(u8, u8)]) -> Result<Vec<u8>, AllocError> {
     let mut stream = Vec::new(alloc);
     for &(words, slots) in sizes {

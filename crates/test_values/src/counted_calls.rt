@@ -19,7 +19,7 @@ struct Asked<'s, S: Space> {
 }
 
 impl<'s, S: Space> Asked<'s, S> {
-    /// Asked so many times more.
+    /// Counts `times` questions more.
     fn add(&self, times: u64) {
         self.times.set(self.times.get().wrapping_add(times));
     }

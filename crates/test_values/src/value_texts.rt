@@ -25,7 +25,7 @@ fn is_made(alloc: Global, tree: &Tree, made: Result<Tree, Memory>, words: u32, w
     }
 }
 
-/// The value, its trimmed form and its copy have this cost and these texts, and are the same.
+/// Expects that the value, its trimmed form and its copy have this cost and these texts, and are the same.
 fn expect_texts(rt: &impl Abort, alloc: Global, made: Made, words: u32, want: &str, cut: &str) {
     match tree(made) {
         Ok(tree) => {
