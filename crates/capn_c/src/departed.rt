@@ -23,7 +23,7 @@ pub struct CapnDeparted {
     pub word: u32,
     /// The number of segments; the index of a capability.
     pub count: u32,
-    /// The number of numbers of the way.
+    /// The length of the way, in numbers.
     pub numbers: u32,
     /// Always 0.
     pub zero: u32,

@@ -110,7 +110,7 @@ impl<A: Allocator> Patch<A> {
         Ok(())
     }
 
-    /// Appends `n` holes, and returns the place of the first, which for no hole is the length.
+    /// Appends `n` holes, and returns the place of the first, which for `n` = 0 is the length.
     ///
     /// Answers `Memory` if a growth was refused, and then nothing has changed.
     #[inline(always)]

@@ -17,7 +17,7 @@ bits_in pair = 16
 bits_in quad = 32
 bits_in oct = 64
 
--- the number of numbers in a word
+-- the most numbers that a word holds
 abbrev pub per_word : NumberWidth → ℕ
 per_word w = 64 / bits_in w
 

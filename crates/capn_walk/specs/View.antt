@@ -148,7 +148,7 @@ number_of message (targets.Content s start (shapes.Many width n) pads) i =
     number_in width (words_from message s start) i
 number_of message _ i = 0
 
--- the number of numbers of a list
+-- the length of a list of numbers
 abbrev pub numbers_in : Target → ℕ
 numbers_in (targets.Content s start (shapes.Many W0 n) pads) = 0
 numbers_in (targets.Content s start (shapes.Many Link n) pads) = 0

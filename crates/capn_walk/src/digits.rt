@@ -5,7 +5,7 @@ ghost use Rattle.capn_walk.specs.View as seen;
 
 use capn_words::Width;
 
-/// Returns the number of numbers of `width` that a word holds.
+/// Returns the most numbers of `width` that a word holds.
 #[inline(always)]
 pub fn per_word(width: Width) -> u32
     ensures value { result ≡ seen.per_word width }

@@ -1,4 +1,4 @@
--- If memory was needed, it may be. (For `ReadInput` and capn_c.)
+-- Memory is refused only if it may be needed. (For `ReadInput` and capn_c.)
 use Rattle.std.proofs.Common.{◌≡◌, ℕ, ◌+◌, ◌*◌, ◌<◌, ◌≤◌, inr, List, [], ◌∷◌, length, arith, ap}
 use Rattle.std.specs.List.{AllByRecursion}
 use Rattle.std.proofs.lemmas.List.{length-append}

@@ -22,8 +22,8 @@ use Rattle.capn_canon.specs.MessageRefusal.{HasNoBytes, IsMessagePaidWithin, IsI
 use Rattle.capn_canon.specs.Theorem.{WrittenInto, RefusedInto}
 use Rattle.capn_canon.specs.MemoryNeed.{MayNeedMemory, MayNeedBytes, MayNeedBytesIn}
 
--- a call reports the answer for a message, or the reason why it has none; memory is needed only if it may be, and no
--- walk pays beyond its budget
+-- a call reports the answer for a message, or the reason why it has none; memory is refused only if it may be needed,
+-- and no walk pays beyond its budget
 pub record IsCanonicalised {T : Type 0} (message : List (List ℕ)) (limits : Bounds) (r : Result T Refusal)
     (bytes : T → List ℕ) (price : T → ℕ) : Type 0 where
   pub found : IfOk r (λ c. AnswersMessage message limits (bytes c) (price c))
@@ -33,8 +33,8 @@ pub record IsCanonicalised {T : Type 0} (message : List (List ℕ)) (limits : Bo
   pub wanted : IsErrOf r refusals.Memory → MayNeedBytes message limits
   pub bounded : MatchResult r (λ c. price c ≤ limits.budget) (λ e. IsPaidWithin limits.budget e)
 
--- a call reports the answer for bytes in a form, or the reason why they have none; memory is needed only if it may be,
--- and no walk pays beyond its budget
+-- a call reports the answer for bytes in a form, or the reason why they have none; memory is refused only if it may be
+-- needed, and no walk pays beyond its budget
 pub record AreCanonicalised {T : Type 0} (form : Form) (bs : List ℕ) (limits : Bounds) (r : Result T Refusal)
     (bytes : T → List ℕ) (price : T → ℕ) : Type 0 where
   pub found : IfOk r (λ c. Answers form bs limits (bytes c) (price c))
@@ -42,8 +42,8 @@ pub record AreCanonicalised {T : Type 0} (form : Form) (bs : List ℕ) (limits :
   pub wanted : IsErrOf r refusals.Memory → MayNeedBytesIn form bs limits
   pub bounded : MatchResult r (λ c. price c ≤ limits.budget) (λ e. IsPaidWithin limits.budget e)
 
--- an answer is a survey of the bytes, a refusal is true of them, memory is needed only if it may be, and no walk pays
--- beyond its budget
+-- an answer is a survey of the bytes, a refusal is true of them, memory is refused only if it may be needed, and no
+-- walk pays beyond its budget
 pub record AreSurveyed (form : Form) (bs : List ℕ) (limits : Bounds) (r : Result Surveyed Refusal) : Type 0 where
   pub found : IfOk r (λ s. Surveys form bs limits s)
   pub refused : IfErr r (λ e. IsUnacceptedIn form bs limits e)
