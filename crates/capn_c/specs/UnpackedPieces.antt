@@ -10,7 +10,7 @@ use Rattle.capn_reports.specs.declared.report.CapnReport.{CapnReport}
 abbrev pub words_in : ℕ → ℕ
 words_in room = min (room / 8) (2 ^ 32 - 1)
 
--- the status of what comes after the groups that were unpacked: nothing, a group that is cut, one that has no room
+-- the status of the bytes after the groups that were unpacked: nothing, a group that is cut, one that has no room
 abbrev pub next_code : Next → ℕ
 next_code nexts.End = 0
 next_code nexts.Cut = 32

@@ -104,7 +104,7 @@ abbrev pub CanonIsThePageForm : Type 0
 CanonIsThePageForm = (v : Tree) (bs : List ℕ) → Fits v → InRange v → first_cap v ≡ None
     → (bs ≡ canon v) ↔ IsPageFormOf bs v
 
--- each answer follows the rules of the page, and denotes what was denoted
+-- each answer follows the rules of the page, and denotes the value that was denoted
 abbrev pub AnswersFollowThePage : Type 0
 AnswersFollowThePage = (form : Form) (bs : List ℕ) (limits : Bounds) (out : List ℕ) (price : ℕ)
     → AreLimits limits.message_words limits.budget limits.depth → Answers form bs limits out price
@@ -124,7 +124,7 @@ SurveyIsOfThePage = (words : List ℕ) (limits : Bounds) (c : SurveyedBare) → 
 
 -- ---- the theorem, of all that is answered and refused as the clauses of `canonicalise` say
 
--- an answer is found under limits, or a refusal means what it says
+-- an answer is found under limits, or a refusal is true
 pub record IsFoundOrRefused {A : Type 0} (form : Form) (bs : List ℕ) (limits : Bounds)
     (r : Result (Canonical A) Refusal) : Type 0 where
   pub are : AreLimits limits.message_words limits.budget limits.depth
@@ -187,7 +187,7 @@ AnswersTellTheSame A = (form : Form) (bs : List ℕ) (limits : Bounds) (r : Resu
 
 -- ---- the theorem of `canonical_into`, of all that is answered and refused as its clauses say
 
--- an answer was written, or a refusal means what it says and left the buffer as it was
+-- an answer was written, or a refusal is true and left the buffer as it was
 pub record IsWrittenOrRefused (message : List (List ℕ)) (limits : Bounds) (old new : List ℕ)
     (r : Result CanonicalLength IntoRefusal) : Type 0 where
   pub written : IfOk r (λ c. WrittenInto message limits old new c)

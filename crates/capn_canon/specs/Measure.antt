@@ -16,8 +16,8 @@ abbrev pub IsCanonicalOf : List (List ℕ) → Tree → Type 0
 IsCanonicalOf message v =
     (words : List ℕ) × (message ≡ words ∷ []) × (first_cap v ≡ None) × (canon v ≡ bytes words)
 
--- the message is accepted: what its walk pays, how many visits it makes, the first capability of its value, and whether
--- the message is canonical
+-- the message is accepted: the words that its walk pays, the number of its visits, the first capability of its value,
+-- and whether the message is canonical
 pub record IsChecked (message : List (List ℕ)) (limits : Bounds) (c : SurveyedBare) : Type 0 where
   pub value : Tree
   pub is : IsValueOf message limits value

@@ -16,12 +16,12 @@ use Rattle.capn_departure.specs.declared.whose.Whose.TheVariants.{Pointer, Tag, 
 use Rattle.capn_departure.specs.declared.canonical_lines.CanonicalLines.{CanonicalLines}
 use Rattle.capn_departure.specs.Departures.{IsDeparture}
 
--- the byte of a stream at which a word of a message's first segment lies: behind what comes before the message, and its
+-- the byte of a stream at which a word of a message's first segment lies: behind the bytes before the message, and its
 -- table
 abbrev pub byte_of : ℕ → ℕ → ℕ → ℕ
 byte_of offset table word = offset + 8 * (table + word)
 
--- a byte, the word at it, and what that word is in the canonical bytes
+-- a byte, the word at it, and the value of that word in the canonical bytes
 abbrev pub differs_text : ℕ → List ℕ → List ℕ → List ℕ
 differs_text byte word canonical =
     codes "no: at byte " ++ (decimal byte ++ (codes ": " ++ (word ++ (codes ", canonical " ++ canonical))))

@@ -24,8 +24,8 @@ abbrev pub Goes : List ℕ → Option (List ℕ) → Bool → Option (List ℕ) 
 Goes part old false new failed = WritesLine part old new failed
 Goes part old true new failed = (new ≡ old) × (failed ≡ true)
 
--- From a writer that held the first bytes, what was said since is its front, which was written, and what is held back;
--- or a beginning was written, and the writer has failed.
+-- From a writer that held the first bytes, the text that was put since is its front, which was written, and the bytes
+-- that are held back; or a beginning was written, and the writer has failed.
 abbrev pub IsOnItsWay : Option (List ℕ) → List ℕ → List ℕ → Option (List ℕ) → Bool → Type 0
 IsOnItsWay start said held now false = (front : List ℕ) × Appends start now front × (said ≡ front ++ held)
 IsOnItsWay start said held now true = HasBegun start now said

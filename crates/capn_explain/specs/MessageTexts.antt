@@ -96,7 +96,7 @@ frame_lines head fault key =
 
 -- ---- a message that is accepted
 
--- a word as its bytes, and what it says as a pointer
+-- a word as its bytes, and as a pointer
 abbrev pub word_says : ℕ → List ℕ
 word_says word = word_text word ++ (codes " (" ++ (pointer_text (pointer_of word) ++ codes ")"))
 

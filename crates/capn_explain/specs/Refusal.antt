@@ -55,7 +55,7 @@ module _ (message : List (List ℕ)) (offset table : ℕ) where
     pub holds : IsHolderOrRoot message way to holder
     pub is : text ≡ with_byte_if holder
 
-  -- the lines of the slot at which a walk stopped: the way to it, the object that holds it, and what is examined
+  -- the lines of the slot at which a walk stopped: the way to it, the object that holds it, and the findings
   pub record AreLinesOf (limits : Bounds) (way : List ℕ) (stopped : Stopped) (lines : SlotLines) : Type 0 where
     pub numbers : lines.way.now ≡ way
     pub holder : IsHolderText way stopped.place lines.holder

@@ -32,7 +32,7 @@ words_told (Node o a b) = a + b
 words_told (Many o width n) = content_words width n
 words_told _ = 0
 
--- a pointer to a struct or list at a word of a segment tells of content
+-- the reference of a pointer to a struct or list at a word of a segment
 abbrev pub told_near : ℕ → ℕ → Pointer → Option Telling
 told_near s w (Node o a b) = Some (record { segment = s; from = w + 1; offset = o; form = Node o a b })
 told_near s w (Many o width n) = Some (record { segment = s; from = w + 1; offset = o; form = Many o width n })
@@ -132,12 +132,12 @@ module _ (message : List (List ℕ)) where
   tag_from s n None = None
   tag_from s n (Some start) = if has_words s start (1 + n) then Some (record { segment = s; word = start }) else None
 
-  -- that of a list of structs
+  -- the place of the tag, if the pointer is to a list of structs
   abbrev pub tag_told : ℕ → ℕ → ℤ → Pointer → Option Place
   tag_told s from offset (Many o Rows n) = tag_from s n (begins from offset)
   tag_told s from offset _ = None
 
-  -- that of what is told of
+  -- the place of the tag of the list of structs to which a pointer refers
   abbrev pub tag_in : Option Telling → Option Place
   tag_in None = None
   tag_in (Some t) = tag_told t.segment t.from t.offset t.form
@@ -146,7 +146,7 @@ module _ (message : List (List ℕ)) where
   abbrev pub tag_at : Place → Option Place
   tag_at at = tag_in (told at)
 
-  -- those of a list whose tag is at a place
+  -- the rows of a list whose tag is at a place
   abbrev pub rows_in : Option Telling → Option Place → Option RowWords
   rows_in (Some t) (Some at) = rows_by (word_at message at) t.form
   rows_in t at = None
@@ -200,6 +200,6 @@ module _ (message : List (List ℕ)) where
     pad_by (Far true w s) = pad_of_two s w
     pad_by _ = pads.Absent
 
-    -- that of the slot at a place
+    -- the landing pad of the slot at a place
     abbrev pub pad_of : Place → Pad
     pad_of at = pad_by (pointer_in message at.segment at.word)

@@ -1,4 +1,4 @@
--- The texts of what there is to say of a slot, and their lines.
+-- The texts of the findings about a slot, and their lines.
 use Rattle.std.specs.Prelude.{◌≡◌, ℕ, pos, negsuc, List, [], ◌++◌, Option, Some, None, codes, refl}
 use Rattle.std.specs.Fmt.{decimal, signed_decimal, digits}
 use Rattle.capn_explain.specs.Texts.{slot_text, tag_text, way_text, word_at_text}

@@ -62,7 +62,7 @@ tag_text word =
 abbrev pub word_text : ℕ → List ℕ
 word_text word = encode_lower (word_bytes word)
 
--- a word at a byte and a place, and what it says
+-- a word at a byte and a place, and its text as a pointer
 abbrev pub word_at_text : ℕ → Place → ℕ → List ℕ → List ℕ
 word_at_text byte at word says =
     codes "byte " ++ (decimal byte ++ (codes ", " ++ (place_text at.segment at.word ++ (codes ": "

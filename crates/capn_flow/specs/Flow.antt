@@ -1,5 +1,4 @@
--- A stream of bytes that comes in through a reader and goes out through a writer: what is written of it, and how it
--- ends. (Own.)
+-- A stream of bytes that comes in through a reader and goes out through a writer: its text, and its end. (Own.)
 use Rattle.std.specs.Prelude.{◌≡◌, ◌⊎◌, ◌↔◌, ℕ, ◌+◌, ◌-◌, ◌^◌, ◌<◌, ◌≤◌, nat_lt, List, length, take, Bool, true, false}
 use Rattle.std.specs.Prelude.{Option, IfSome, Result, Err}
 use Rattle.std.specs.Io.KnownBytes.{Consumes, Appends, IsAtEnd}
@@ -43,7 +42,7 @@ module _ (f : Flow) where
       ⊎ ((r ≡ Err faults.Io)
       ⊎ ((text : List ℕ) × f.gives bytes is_longer text r × Appends c d text))
 
-  -- a run has ended so over what it takes of a whole input
+  -- a run has ended so over the bytes that it takes of a whole input
   abbrev pub EndsAs : Option (List ℕ) → Option (List ℕ) → Ending → List ℕ → Type 0
   EndsAs c d r input = HasEnded (taken_of input) (has_more input) c d r
 
@@ -72,7 +71,7 @@ module _ (f : Flow) where
 
   -- ---- the progress of a run
 
-  -- all bytes that are taken have come, and the run ended: with a fault, or with what they give
+  -- all bytes that are taken have come, and the run ended: with a fault, or with their text
   pub record Ends (bytes : List ℕ) (is_longer : Bool) (c d : Option (List ℕ)) (failed : Bool) (r : Ending) : Type 0
     where
       pub exact : HasEnded bytes is_longer c d r

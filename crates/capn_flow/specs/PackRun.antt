@@ -48,7 +48,7 @@ SettlesMost bytes text = (rest : List ℕ) × Settles bytes text rest × (length
 abbrev pub IsFront : List ℕ → List ℕ → Type 0
 IsFront bytes text = ((rest : List ℕ) × Settles bytes text rest) ⊎ Chosen text (whole_of bytes)
 
--- of bytes the packer's text is written: before more are read what is settled of it, and at the end all
+-- of bytes the packer's text is written: before more are read the settled part of it, and at the end all
 abbrev pub packing : Flow
 packing = record { gives = λ bytes. IsPacked (length bytes) bytes; settles = SettlesMost; begins = IsFront }
 

@@ -1,4 +1,4 @@
--- Unpacking a stream: what its whole groups unpack to, and a group that is cut. (Page: packing; the rest is own.)
+-- Unpacking a stream: the words of its whole groups, and a group that is cut. (Page: packing; the rest is own.)
 use Rattle.std.specs.Prelude.{◌≡◌, ℕ, ◌+◌, ◌<◌, List, [], ◌∷◌, length, drop, replicate, refl, Bool, true, false, Option}
 use Rattle.std.specs.Prelude.{Result, Ok, Err}
 use Rattle.std.specs.Io.KnownBytes.{Appends}

@@ -71,7 +71,7 @@ abbrev pub number : ℕ → List ℕ → ℕ
 number base [] = 0
 number base (x ∷ xs) = x + base * number base xs
 
--- n words, each of `many` elements of `width` bits; what is missing in the last one is 0 (Own.)
+-- n words, each of `many` elements of `width` bits; missing bits of the last one are 0 (Own.)
 abbrev pub packed : ℕ → ℕ → ℕ → List ℕ → List ℕ
 packed many width zero xs = []
 packed many width (suc n) xs = number (2 ^ width) (take many xs) ∷ packed many width n (drop many xs)

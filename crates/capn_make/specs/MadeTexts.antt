@@ -54,17 +54,18 @@ pub record MadeTexts (form : Form) (a b c d : Option (List ℕ)) (reader_failed 
   -- these bytes were read
   pub bytes : List ℕ
   pub read : Consumes a b bytes
-  -- of an input that is known it has written what is made of its plain form, and ended as that does
+  -- of an input that is known it has written the messages that are made of its plain form, and ended as they do
   pub exact : IfSome a (EndsTexts form c d r bytes)
   -- it ended with Io if and only if one of the two has failed
   pub io : (r ≡ Err faults.Io) ↔ ((reader_failed ≡ true) ⊎ (writer_failed ≡ true))
   -- with Memory only if some bytes were read
   pub memory : r ≡ Err faults.Memory → bytes ≢ []
-  -- however it ended, a beginning was written of what is made of the plain form of what was read
+  -- however it ended, a beginning was written of the messages that are made of the plain form of the bytes that were
+  -- read
   pub begun : HasBegunText form (plain bytes) c d
-  -- if the reader failed, what was written is what is made of the texts that are whole in the bytes that it gave
+  -- if the reader failed, the messages of the texts that are whole in the bytes that it gave were written
   pub heard : reader_failed ≡ true → HasServed form (plain bytes) c d
-  -- however it ended, it has read no more than a piece beyond what was served and written
+  -- however it ended, it has read no more than a piece beyond the bytes that were served and written
   pub ahead : IsAhead (OfPlain (HasServed form)) bytes c d
   -- however it ended, little more was read than was needed to know that the input is refused
   pub time : IsInTime form bytes

@@ -30,13 +30,13 @@ pub data Group : Type 0 where
   -- one word written whole, and this many more, copied
   Raw : (word : List ℕ) (count : ℕ) (more : List ℕ) → Group
 
--- The numbers of a group fit: counts are bytes, words have eight bytes, and what no tag names is zero.
+-- The numbers of a group fit: counts are bytes, words have eight bytes, and bytes that no tag names are zero.
 abbrev pub IsGroup : Group → Type 0
 IsGroup (Zeros more) = more < 256
 IsGroup (Named tag word) = (0 < tag) × (tag < 255) × (length word ≡ 8) × IsNamedBy tag word
 IsGroup (Raw word count more) = (length word ≡ 8) × (count < 256) × (length more ≡ 8 * count)
 
--- The text of a group: its tag, then what the tag asks for.
+-- The text of a group: its tag, then the bytes for which the tag asks.
 abbrev pub text : Group → List ℕ
 text (Zeros more) = 0 ∷ more ∷ []
 text (Named tag word) = tag ∷ named_bytes tag word

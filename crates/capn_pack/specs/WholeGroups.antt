@@ -17,7 +17,7 @@ StandsNext nexts.Cut room rest = IsCut room rest × (length rest < most_group)
 StandsNext nexts.TooLong room rest = IsTooLong room rest
 
 -- The first bytes are whole groups of this many words, within the maximum, which were appended; and this comes next,
--- with room for what is left of the maximum.
+-- with room for the rest of the maximum.
 pub record UnpacksSome (bytes : List ℕ) (max : ℕ) (old new : List ℕ) (taken words : ℕ) (next : Next) : Type 0 where
   pub groups : List Group
   pub each : AllByRecursion IsGroup groups

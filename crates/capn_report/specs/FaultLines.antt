@@ -39,8 +39,8 @@ packed_key packings.Memory came = keys.Nothing
 packed_key (packings.TooLong at) came = keys.Nothing
 packed_key packings.Failed came = keys.Nothing
 
--- the bytes that came of a bare input, by what is said of them; counts stop at the greatest number of 64 bits, far
--- above the bytes that such an input may have
+-- the bytes that came of a bare input, by its fault; counts stop at the greatest number of 64 bits, far above the bytes
+-- that such an input may have
 abbrev pub bare_key : BareFault → FrameKey
 bare_key (bares.NotWhole bytes) = keys.There bytes
 bare_key (bares.TooLong words) = keys.There (min (8 * words) (2 ^ 64 - 1))
@@ -62,7 +62,7 @@ segments_at _ rest = None
 abbrev pub head_at : Position → Refusal → List ℕ → MessageHead
 head_at at refusal rest = record { index = at.index; offset = at.offset; segments = segments_at refusal rest }
 
--- all lines, by what came of the message and of a group
+-- all lines, by the parts of the message and of a group that came
 abbrev pub fault_lines : Bounds → Position → Refusal → List ℕ → List ℕ → List ℕ
 fault_lines limits at refusal rest came =
     frame_lines (head_at at refusal rest) (refusal_text refusal) (key_of refusal limits.message_words rest came)

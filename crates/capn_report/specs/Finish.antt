@@ -1,4 +1,4 @@
--- A run over an input that explains one of its messages: the text of its input, how it ends, and what was written
+-- A run over an input that explains one of its messages: the text of its input, its end, and the text that was written
 -- whatever it answers. (Own.)
 use Rattle.std.specs.Prelude.{◌≡◌, ◌≢◌, ◌⊎◌, ◌↔◌, ℕ, List, [], ◌++◌, Bool, true, Option, IfSome, Result, Ok, Err}
 use Rattle.std.specs.Prelude.{IfErr}

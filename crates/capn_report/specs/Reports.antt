@@ -21,7 +21,7 @@ use Rattle.capn_report.specs.declared.outcome.Outcome.TheVariants as outcomes
 
 -- ---- the state
 
--- the lines of the only message, or that memory was refused for what they tell
+-- the lines of the only message, or that memory was refused for them
 abbrev pub First : Type 0
 First = Result (List ℕ) Memory
 
@@ -99,7 +99,7 @@ ServesBy false s at message text t = TellsRefused s at message text t ⊎ TellsA
 abbrev pub serves : Reporting → Position → List ℕ → List (List ℕ) → List ℕ → Reporting → Type 0
 serves s at frame message text t = ServesBy (is_before at s.order.number) s at message text t
 
--- no message ends a run by its refusal: what is refused is told
+-- no message ends a run by its refusal: a message that is refused is explained
 abbrev pub refuses : Reporting → Position → List ℕ → List (List ℕ) → Refusal → Type 0
 refuses s at frame message r = ⊥
 

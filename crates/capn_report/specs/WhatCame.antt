@@ -32,7 +32,7 @@ IsLeastOfGroup came least = 0 < length came → (group : Group) (more : List ℕ
 abbrev pub there : List ℕ → FrameKey
 there rest = keys.AtLeast (length rest) (least_length rest)
 
--- the segments that a table announces; behind the last one it doesn't matter what stands there
+-- the segments that a table announces; behind the last one any number may stand
 abbrev pub announced : List ℕ → SegmentsText
 announced rest = record {
   count = announced_segments rest;

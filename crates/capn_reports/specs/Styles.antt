@@ -1,4 +1,4 @@
--- The styles of text that a caller orders by numbers, and what ends a text in each. (Own.)
+-- The styles of text that a caller orders by numbers, and the end of a text in each. (Own.)
 use Rattle.std.specs.Prelude.{ℕ, zero, suc, ◌≤◌, List, [], ◌∷◌, ◌++◌, codes}
 use Rattle.capn_show.specs.declared.style.Style.{Style}
 use Rattle.capn_show.specs.declared.style.Style.TheVariants as styles

@@ -19,7 +19,7 @@ abbrev pub named_by : Result Target Fault → Target
 named_by (Ok found) = found
 named_by (Err e) = targets.Nil
 
--- one step below what a pointer names: the slot of a number, or where the row begins
+-- one step below the target of a pointer: the slot of a number, or the place at which the row begins
 abbrev pub step_at : Target → ℕ → Place
 step_at (targets.Content s w (shapes.Rows n a b span) pads) i =
     begin (row_of (targets.Content s w (shapes.Rows n a b span) pads) i)

@@ -1,4 +1,4 @@
--- Lists of bytes that are written as texts in JSON. (RFC 3629 for UTF-8, RFC 8259 for what is escaped.)
+-- Lists of bytes that are written as texts in JSON. (RFC 3629 for UTF-8, RFC 8259 for the bytes that are escaped.)
 use Rattle.std.specs.Prelude.{◌≡◌, ℕ, ◌-◌, List, [], ◌∷◌, ◌++◌, length, take, codes, Bool, true, false, not}
 use Rattle.std.specs.Prelude.{◌&&◌, ◌||◌, ◌==◌}
 use Rattle.std.specs.Prelude.{nat_le, if◌then◌else◌, refl}
@@ -52,7 +52,7 @@ json_escapes = escapes_by json_escaped
 abbrev pub text_json : List ℕ → List ℕ
 text_json xs = member (codes "text") (quoted (json_escapes (before_last xs)))
 
--- a list of bytes: a text, or the digits of what is none
+-- a list of bytes: a text, or the digits of bytes that are none
 abbrev pub text_or_digits : List ℕ → List ℕ
 text_or_digits xs = if is_json_text xs then text_json xs else digits_json xs
 

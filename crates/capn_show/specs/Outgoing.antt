@@ -12,7 +12,7 @@ pub record Outgoing : Type 0 where
   pub kept : List ℕ
   pub failed : Bool
 
--- of a writer, by the function that says what it has taken, and of the text that is kept for it
+-- of a writer, by the function that gives the bytes that it has taken, and of the text that is kept for it
 abbrev pub outgoing : {W : Type 0} → (W → Option (List ℕ)) → Watched W → List ℕ → Outgoing
 outgoing contents writer kept = record { taken = contents (inner_of writer); kept = kept; failed = has_failed writer }
 

@@ -34,12 +34,12 @@ follow (i ∷ way) (Some t) = follow way (step_down t i)
 abbrev pub at_way : Tree → List ℕ → Option Tree
 at_way t way = follow way (Some t)
 
--- the text of what is there: one line if nothing is
+-- the text of the part there: one line if nothing is
 abbrev pub part_text : Option Tree → List ℕ
 part_text None = line 0 (codes "none")
 part_text (Some t) = show_text t
 
--- the text of what is at a way from a value
+-- the text of the part at a way from a value
 abbrev pub text_at : List ℕ → Tree → List ℕ
 text_at way t = part_text (at_way t way)
 

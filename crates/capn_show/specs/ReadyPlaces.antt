@@ -181,10 +181,10 @@ module _ (m : List (List ℕ)) where
   BitsShown s w number text Says = (xs : List Bool) → AreNumbers s w W1 (map from_bool xs) → length xs ≡ number
       → Says (text xs)
 
-  -- of that of what a pointer names, in a style
+  -- of that of the target of a pointer, in a style
   abbrev pub IsThereShown : Style → Target → (List ℕ → Type 0) → Type 0
   IsThereShown style found Says = (v : Tree) → Shows m found v → Says (part_in style (Some v))
 
-  -- of that of what is at a way from the root
+  -- of that of the part at a way from the root
   abbrev pub IsPartShown : Style → List ℕ → (List ℕ → Type 0) → Type 0
   IsPartShown style way Says = (v : Tree) → IsAt m root v → Says (styled style way v)

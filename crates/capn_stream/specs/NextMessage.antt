@@ -39,7 +39,7 @@ pub record Received (old new : Option (List ℕ)) (failed : Bool) (most : ℕ)
   pub bounded : length bytes ≤ most_bytes most
   pub answer : ReadAnswers bytes most new failed result
 
--- a reader gave some bytes, and a read answers what they call for
+-- a reader gave some bytes, and a read gives the answer for them
 abbrev pub ReadGives : Option (List ℕ) → Option (List ℕ) → Bool → ℕ → Result (Option (List (List ℕ))) ReadFault → Type 0
 ReadGives old new failed most result = (bytes : List ℕ) × Received old new failed most result bytes
 
@@ -58,13 +58,13 @@ StandsInside bs most new (Err (faults.Frame (frames.TooManyWords n))) = length b
 StandsInside bs most new (Err (faults.Frame frames.Cut)) = IsAtEnd new
 StandsInside bs most new (Err (faults.Frame frames.Failed)) = ⊥
 
--- a reader gave some bytes, a read answers what they call for, and a refusal leaves the reader inside the message
+-- a reader gave some bytes, a read gives the answer for them, and a refusal leaves the reader inside the message
 abbrev pub StopsInside : Option (List ℕ) → Option (List ℕ) → Bool → ℕ → Result (Option (List (List ℕ))) ReadFault
     → Type 0
 StopsInside old new failed most result = (bytes : List ℕ) × Received old new failed most result bytes
     × StandsInside bytes most new result
 
--- bytes that follow what a framer holds were all taken: they make a message whole, or none, or are refused
+-- bytes that follow those that a framer holds were all taken: they make a message whole, or none, or are refused
 abbrev pub TakesIn : Framing → List ℕ → Result (Option (List (List ℕ))) ReadFault → Framing → Type 0
 TakesIn before piece (Ok (Some message)) after = Frames (before.rest ++ piece) message × (total message ≤ before.most)
 TakesIn before piece (Ok None) after =

@@ -16,7 +16,7 @@ pub record Unquoting : Type 0 where
 abbrev pub first_unquoting : Unquoting
 first_unquoting = record { front = []; line = 1; digits = []; passed = 0; through = false }
 
--- the plain form of what comes
+-- the plain form of the bytes that come
 abbrev pub plain_on : Unquoting → List ℕ → List ℕ
 plain_on u more = cond u.through (plain_through more) (plain_after u.front more)
 

@@ -1,4 +1,5 @@
--- Height and cost: how deep a reader goes, and what it pays. (Page: security considerations; the prices are our own.)
+-- Height and cost: the depth to which a reader goes, and the words that it pays. (Page: security considerations; the
+-- prices are our own.)
 use Rattle.std.specs.Prelude.{ℕ, ◌+◌, ◌*◌, ◌^◌, ◌==◌, max, length, cond}
 use Rattle.std.specs.Int.{div_ceil}
 use Rattle.capn_value.specs.declared.tariff.Tariff.{Tariff}

@@ -48,7 +48,7 @@ module _ (message : List (List ℕ)) where
   entries zero at = entries_by (λ p. []) (target message at)
   entries (suc d) at = entries_by (entries d) (target message at)
 
-  -- those of several slots, one after the other
+  -- the entries of several slots, one after the other
   abbrev pub entries_of : ℕ → List Place → List Entry
   entries_of d ps = flat_map (entries d) ps
 

@@ -17,7 +17,7 @@ abbrev pub cap_of : Result Target Fault → Option ℕ
 cap_of (Ok (targets.Cap k)) = Some k
 cap_of _ = None
 
--- that of the first visit of a capability
+-- the index of the first capability that is visited
 abbrev pub first_cap_of : List (List ℕ) → List Visit → Option ℕ
 first_cap_of message [] = None
 first_cap_of message (pays at n ∷ vs) = option_or (cap_of (target message at)) (first_cap_of message vs)

@@ -61,6 +61,6 @@ module _ (message : List (List ℕ)) (base : ℕ) where
 
   -- ---- read to here for the theorem
 
-  -- those of several slots, one after the other
+  -- the visits of several slots, one after the other
   abbrev pub visits_of : ℕ → List Place → List Visit
   visits_of d ps = flat_map (visits d) ps

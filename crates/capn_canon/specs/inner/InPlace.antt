@@ -16,7 +16,7 @@ use Rattle.capn_layout.specs.Layout.{size, sizes, sizes_in_rows, list_to}
 use Rattle.capn_layout.specs.Sound.{Sound, Sounds, SoundRows}
 use Rattle.capn_canon.specs.inner.WordsOfLayout.{IsLaidAt, AreLaidAt, RowsLaidAt}
 
--- visits without a fault: what they pay, and how many they are (Own.)
+-- visits without a fault: the words that they pay, and their number (Own.)
 pub record Pays (vs : List Visit) (price number : ℕ) : Type 0 where
   pub all : AllPay vs
   pub sum : paid_of vs ≡ price
@@ -52,7 +52,7 @@ module _ (all : List ℕ) (base : ℕ) where
         (count_rows bs * b + below)
     pub few : below ≤ price
 
-  -- a pass has come this many words further, and has paid and counted what it met there (Own.)
+  -- a pass has come this many words further, and has paid and counted the objects that it met there (Own.)
   pub record Comes (next left visits size price below : ℕ) (q : Progress) : Type 0 where
     pub next_is : q.next ≡ next + size
     pub left_is : q.left + price ≡ left
@@ -126,7 +126,7 @@ module _ (all : List ℕ) (base : ℕ) where
   Opens p r = (deep : Bool) (least here : ℕ) (q : Progress) (low : ℕ) → IsLeast deep r.depth least here
       → Finds all base deep r here q low → FindsFirst all base deep p least q low
 
-  -- so does what is found at the slots of its rows (Own.)
+  -- a finding at the slots of the rows of a list is one at the first slot in hand, which points to it (Own.)
   abbrev pub OpensRows : Pass → RowPass → Type 0
   OpensRows p r = (deep : Bool) (least here : ℕ) (q : Progress) (low : ℕ) → IsLeast deep r.pass.depth least here
       → FindsInRows all base deep r here q low → FindsFirst all base deep p least q low

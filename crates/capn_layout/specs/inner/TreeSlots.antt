@@ -42,7 +42,7 @@ module _ {B : Type 0} where
   bodies_of (kinds.Body row) = body row.now.words (trees_of row.now.slots) no_bodies
   bodies_of (kinds.Slots slots) = body [] (trees_of slots.now) no_bodies
 
-  -- rows are these, and what is kept of them is short (Own.)
+  -- rows are these, and their kept parts are short (Own.)
   pub record AreBodies (rows : TreeRows B) (bs : Bodies) : Type 0 where
     pub are : bs ≡ bodies_of rows
     pub sound : SoundRows bs

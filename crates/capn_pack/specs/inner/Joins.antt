@@ -1,4 +1,4 @@
--- An unfinished group and the piece that came, and what is held then.
+-- An unfinished group and the piece that came, and the bytes that are held then.
 use Rattle.std.specs.Prelude.{ℕ, ◌≡◌, ◌<◌, ◌≤◌, ◌++◌, List, length, take, Result, Ok, Err}
 use Rattle.capn_pack.specs.Packed.{Group, IsGroup, text, content}
 use Rattle.capn_pack.specs.PackedPieces.{Begins, NoGroupFirst, Splits}

@@ -28,11 +28,11 @@ abbrev pub number_item : Bool → ℕ → List ℕ
 number_item true = number_text
 number_item false = decimal
 
--- an array and the end of its object, by what comes before its first item
+-- an array and the end of its object, by the text before its first item
 abbrev pub items_text : List ℕ → List (List ℕ) → List ℕ
 items_text head xs = head ++ (with_commas xs ++ codes "]}")
 
--- that of numbers
+-- the array of numbers
 abbrev pub values_text : List ℕ → Width → List ℕ → List ℕ
 values_text head width xs = items_text head (map (number_item (is_quoted width)) xs)
 

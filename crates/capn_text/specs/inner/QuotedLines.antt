@@ -50,7 +50,7 @@ abbrev pub counted_or : Option (List ℕ) → List ℕ → Option (List ℕ)
 counted_or (Some rest) text = text_in rest
 counted_or None text = counted_text text
 
--- the levels of a line, by its spaces, and what comes after these
+-- the levels of a line, by its spaces, and the bytes after these
 abbrev pub levels_at : List ℕ → ℕ × List ℕ
 levels_at [] = (0, [])
 levels_at (c ∷ []) = (0, c ∷ [])

@@ -5,7 +5,7 @@ use Rattle.capn_text.specs.Streams.{first_lines, ended_lines, few}
 use Rattle.capn_text.specs.declared.fault.Stop.{Stop}
 use Rattle.capn_text.specs.declared.fault.Stop.TheVariants as stops
 
--- whole lines, none or more: what is added after them doesn't change them
+-- whole lines, none or more: bytes after them don't change them
 abbrev pub AreLines : List ℕ → Type 0
 AreLines x = (n : ℕ) (y : List ℕ) → first_lines (ended_lines x + n) (x ++ y) ≡ x ++ first_lines n y
 

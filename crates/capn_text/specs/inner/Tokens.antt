@@ -1,4 +1,4 @@
--- Reading what is within a line, from left to right: what was read, and the bytes after it. (Own.)
+-- Reading the tokens of a line, from left to right: each is given with the bytes after it. (Own.)
 use Rattle.std.specs.Prelude.{◌≡◌, ℕ, zero, suc, ◌+◌, ◌-◌, ◌*◌, ◌^◌, List, [], ◌∷◌, Option, Some, None, Result, Ok}
 use Rattle.std.specs.Prelude.{Err, Bool}
 use Rattle.std.specs.Prelude.{nat_lt, nat_le, ◌==◌, ◌&&◌, ◌||◌, cond, codes, ⊤}

@@ -1,4 +1,4 @@
--- Reading a tree from its text: what the first line says, then what it holds. (Own.)
+-- Reading a tree from its text: its first line, then the values that it holds. (Own.)
 use Rattle.std.specs.Prelude.{ℕ, zero, suc, ◌+◌, List, [], ◌∷◌, Option, Some, None, nat_le, cond, codes, length, map}
 use Rattle.std.specs.Prelude.{◌==◌, ◌≤◌, ◌<◌, ◌^◌, ⊤}
 use Rattle.std.specs.Int.{from_bool}

@@ -48,7 +48,7 @@ module _ (message : List (List ℕ)) where
   met zero here = here ∷ []
   met (suc d) here = met_by (met d) here (target message here.place)
 
-  -- those of several slots, one after the other
+  -- the visits of several slots, one after the other
   abbrev pub met_of : ℕ → List Met → List Met
   met_of d ms = flat_map (met d) ms
 
