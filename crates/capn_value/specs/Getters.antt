@@ -5,7 +5,8 @@ use Rattle.capn_value.specs.NumberWidth.{NumberWidth}
 use Rattle.capn_value.specs.Tree.{Tree, nil, node, voids, numbers, links, rows, cap, Bodies, no_bodies, body, tree_at}
 use Rattle.capn_value.specs.Fits.{elements}
 
--- the kinds of what a pointer denotes: null, which `has` tells apart, a struct, a list by its elements, a capability
+-- the kinds of values that a pointer denotes: null, which `has` tells apart, a struct, a list by its elements, a
+-- capability
 pub data Kind : Type 0 where
   null : Kind
   struct : Kind
@@ -46,7 +47,7 @@ row_at no_bodies i = nil
 row_at (body ws ss bs) zero = node ws ss
 row_at (body ws ss bs) (suc i) = row_at bs i
 
--- element i of a list of pointers, or of structs: of a struct neither its number of words nor of pointers is told
+-- element i of a list of pointers, or of structs: of a struct neither its number of words nor of pointers is given
 abbrev pub element : Tree → ℕ → Tree
 element (links ts) i = tree_at ts i
 element (rows bs) i = row_at bs i
@@ -72,7 +73,7 @@ abbrev pub at : Tree → List Step → Tree
 at t [] = t
 at t (s ∷ p) = at (next t s) p
 
--- all that is told of one value without a further step
+-- all answers about one value without a further step
 pub record Answer : Type 0 where
   pub kind : Kind
   pub word : ℕ → ℕ

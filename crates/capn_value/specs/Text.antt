@@ -63,7 +63,7 @@ numbers_lines _ level xs = number_lines level xs
 abbrev pub body_line : ℕ → ℕ → ℕ → List ℕ
 body_line level w s = line level (codes "struct " ++ (decimal w ++ 32 ∷ decimal s))
 
--- a first line with kind and size, then what it holds one level deeper
+-- a first line with kind and size, then the values in it, one level deeper
 abbrev mutual
   pub shown : ℕ → Tree → List ℕ
   shown level nil = line level (codes "null")

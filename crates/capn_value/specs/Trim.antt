@@ -3,7 +3,7 @@ use Rattle.std.specs.Prelude.{ℕ, ◌+◌, max, List, [], ◌∷◌, take, Bool
 use Rattle.capn_value.specs.Tree.{Tree, nil, node, voids, numbers, links, rows, cap, Trees}
 use Rattle.capn_value.specs.Tree.{no_trees, tree, Bodies, no_bodies, body, front, is_null}
 
--- one more than what is kept after it, unless this is empty too
+-- one more than the number that is kept after it, unless this is empty too
 abbrev pub kept_behind : Bool → ℕ → ℕ
 kept_behind empty n = cond (empty && (n == 0)) 0 (n + 1)
 

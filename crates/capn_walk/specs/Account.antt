@@ -2,7 +2,7 @@
 use Rattle.std.specs.Prelude.{ℕ, ◌+◌, ◌-◌}
 use Rattle.capn_value.specs.declared.tariff.Tariff.{Tariff}
 
--- the budget, what was paid of it, and the tariff
+-- the budget, the words that were paid of it, and the tariff
 pub record Account : Type 0 where
   pub budget : ℕ
   pub paid : ℕ

@@ -38,7 +38,7 @@ abbrev pub entered : Target → List Entry → List Entry
 entered found below = entry_of found (1 + length below) ∷ below
 
 module _ (message : List (List ℕ)) where
-  -- the entries of a slot by its target, and of what is below it (an accepted message has no slot that names nothing)
+  -- the entries of a slot by its target, and of the slots below it (an accepted message has no slot without a target)
   abbrev pub entries_by : (Place → List Entry) → Result Target Fault → List Entry
   entries_by below (Ok found) = entered found (flat_map below (slots_below found))
   entries_by below (Err e) = entered targets.Nil []
@@ -56,11 +56,12 @@ module _ (message : List (List ℕ)) where
 abbrev pub index_of : List (List ℕ) → Bounds → List Entry
 index_of message limits = entries message limits.depth root
 
--- the room has the first entries, as many as go into it, and after them what it had
+-- the room has the first entries, as many as go into it, and after them its old ones
 abbrev pub filled : {A : Type 0} → List A → List A → List A
 filled es room = take (length room) es ++ drop (length es) room
 
--- the message is accepted, and the room has its index; the answer has what its walk pays and how many slots it visits
+-- the message is accepted, and the room has its index; the answer has the words that its walk pays and the number of
+-- slots that it visits
 pub record IsIndexed (message : List (List ℕ)) (limits : Bounds) (old new : List Entry) (t : Indexed) : Type 0 where
   pub accepted : IsAccepted message limits
   pub entries : new ≡ filled (index_of message limits) old
@@ -130,7 +131,7 @@ beside es i zero = i
 beside es i (suc j) = beside es (i + (entry_at es i).span) j
 
 -- an entry of an index: its content lies inside its segment; the entries of its slots are, from the next entry on, one
--- after the other, each with what that slot names; and its own span ends with the last of them
+-- after the other, each with the target of that slot; and its own span ends with the last of them
 pub record IsReadable (message : List (List ℕ)) (es : List Entry) (i : ℕ) : Type 0 where
   pub inside : IsInMessage message (entry_target (entry_at es i))
   pub below : (j : ℕ) → j < length (slots_at es i) → (beside es (i + 1) j < i + (entry_at es i).span)
@@ -150,7 +151,7 @@ abbrev pub place_of : Visit → Place
 place_of (pays at n) = at
 place_of (fails at e) = at
 
--- the entries of an accepted message are those of its visits, one for one: each says what its visit's place names
+-- the entries of an accepted message are those of its visits, one for one: each has the target of its visit's place
 abbrev pub IndexesFollowVisits : Type 0
 IndexesFollowVisits = (message : List (List ℕ)) (limits : Bounds) → IsAccepted message limits
     → map (λ e. Ok (entry_target e)) (index_of message limits)

@@ -23,8 +23,8 @@ first_cap_of message [] = None
 first_cap_of message (pays at n ∷ vs) = option_or (cap_of (target message at)) (first_cap_of message vs)
 first_cap_of message (fails at e ∷ vs) = first_cap_of message vs
 
--- the message is accepted, and a survey reports what its walk pays, how many visits it makes, and the first capability
--- of its value
+-- the message is accepted, and a survey reports the words that its walk pays, the number of its visits, and the first
+-- capability of its value
 pub record IsSurvey (message : List (List ℕ)) (limits : Bounds) (s : Surveyed) : Type 0 where
   pub value : Tree
   pub is : IsValueOf message limits value

@@ -19,7 +19,7 @@ use Rattle.capn_walk.specs.Visits.{price, slots}
 use Rattle.capn_walk.specs.Accepted.{root, may_be_root}
 use Rattle.capn_walk.specs.ValueAt.{element, words_from}
 
--- a message, what was found in it, and how many objects may be below that
+-- a message, the target that was found in it, and the most objects that may be below that
 pub record Seen : Type 0 where
   pub message : List (List ℕ)
   pub found : Target
@@ -69,7 +69,7 @@ kind_of_list W64 = kinds.Octs
 kind_of_list Link = kinds.Links
 kind_of_list Rows = kinds.Rows
 
--- the kind of what a pointer names
+-- the kind of the target of a pointer
 abbrev pub kind_of : Target → Kind
 kind_of targets.Nil = kinds.Nil
 kind_of (targets.Cap k) = kinds.Cap

@@ -48,7 +48,7 @@ module _ (message : List (List ℕ)) (base : ℕ) where
   last_visit at (Ok found) = pays at 0 ∷ []
   last_visit at (Err e) = fails at e ∷ []
 
-  -- a visit of a slot, and of what is below it
+  -- a visit of a slot, and of the slots below it
   abbrev pub visit : (Place → List Visit) → Place → Result Target Fault → List Visit
   visit below at (Ok (targets.Content s start shape pads)) =
       pays at (price base shape + pads) ∷ flat_map below (slots s start shape)

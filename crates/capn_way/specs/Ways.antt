@@ -23,8 +23,8 @@ AreNumbersOf (targets.Content s start (shapes.Rows n a b span) pads) k numbers =
 AreNumbersOf found k (slot ∷ []) = k ≡ slot
 AreNumbersOf found k numbers = ⊥
 
--- a step from the slot at a place to one of those below what it names, and a way from there on; between are the visit
--- at the place, those of the slots before that one, and those on the way
+-- a step from the slot at a place to one of those below its target, and a way from there on; between are the visit at
+-- the place, those of the slots before that one, and those on the way
 pub record Descends (message : List (List ℕ)) (base depth : ℕ) (leads : Place → List ℕ → Place → ℕ → Type 0)
     (from : Place) (way : List ℕ) (to : Place) (between : ℕ) : Type 0 where
   pub found : Target

@@ -32,7 +32,7 @@ most_segments = 4096
 abbrev pub most_message_words : ℕ
 most_message_words = 2 ^ 28
 
--- the most words that any message has, all segments together: its root pointer, and what one may pay for
+-- the most words that any message has, all segments together: its root pointer, and the words that one may pay for
 abbrev pub most_words : ℕ
 most_words = most_message_words + 1
 

@@ -83,6 +83,6 @@ FitsFields (Far d w s) = (w < 2 ^ 29) × (s < 2 ^ 32)
 FitsFields (Cap i) = i < 2 ^ 32
 FitsFields (Reserved n) = (n < 2 ^ 64) × (n % 4 ≡ 3) × (0 < n / 4 % 2 ^ 30)
 
--- a pointer is what a word says: its fields fit, and the word is their sum
+-- a pointer is that of a word: its fields fit, and the word is their sum
 abbrev pub Fields : ℕ → Pointer → Type 0
 Fields w p = FitsFields p × (w ≡ word_of p)

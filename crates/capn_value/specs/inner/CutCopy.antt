@@ -24,7 +24,7 @@ abbrev pub kept_of_rows : Bool → Bodies → Option (ℕ × ℕ)
 kept_of_rows true bs = Some (kept_words_of_rows bs, kept_slots_of_rows bs)
 kept_of_rows false bs = None
 
--- the words of a body that is cut to what is kept, or whole
+-- the words of a body that is cut to those that are kept, or whole
 abbrev pub words_anew : Option (ℕ × ℕ) → List ℕ → List ℕ
 words_anew (Some kept) ws = take kept.0 ws
 words_anew None ws = ws

@@ -45,7 +45,7 @@ module _ (message : List (List ℕ)) (base depth left : ℕ) where
   Visits at (Ok v) = IsVisit at v
   Visits at (Err e) = IsRefusal at e
 
--- the visits of n slots, with all below them: what they pay, how many they are, and the first capability
+-- the visits of n slots, with all below them: the words that they pay, their number, and the first capability
 abbrev pub SurveysAs : List (List ℕ) → ℕ → ℕ → List Visit → Result Measured Stopped → Type 0
 SurveysAs message left n vs (Ok m) =
     Gives left vs n m.survey.paid m.survey.visits × (first_cap_of message vs ≡ m.survey.capability)

@@ -7,7 +7,7 @@ use Rattle.capn_target.specs.declared.target.Fault.{Fault}
 use Rattle.capn_target.specs.Target.{target}
 use Rattle.capn_walk.specs.View.{slots_below}
 
--- the slots below what a pointer names
+-- the slots below the target of a pointer
 abbrev pub below_of : Result Target Fault → List Place
 below_of (Ok t) = slots_below t
 below_of (Err e) = []
@@ -17,7 +17,7 @@ abbrev pub level : Target → ℕ
 level (targets.Content s start shape pads) = 1
 level _ = 0
 
--- the greatest of what is said of places
+-- the greatest of the numbers of places
 abbrev pub greatest_of : (Place → ℕ) → List Place → ℕ
 greatest_of f [] = 0
 greatest_of f (p ∷ ps) = max (f p) (greatest_of f ps)

@@ -8,7 +8,7 @@ use Rattle.capn_walk.specs.declared.walk_answer.Stopped.{Stopped}
 use Rattle.capn_walk.specs.Visits.{Visit, pays, fails}
 use Rattle.capn_walk.specs.Accepted.{root, root_visits}
 
--- accepted: what was paid, and the number of visits; refused: the fault, the place, what was paid before, and the
+-- accepted: the words paid, and the number of visits; refused: the fault, the place, the words paid before, and the
 -- number of the visit
 pub data Verdict : Type 0 where
   accepted : ℕ → ℕ → Verdict
@@ -33,7 +33,7 @@ verdict message base budget depth =
     then refused faults.NoRoot root 0 0
     else judge budget (root_visits message base depth)
 
--- The visits of n slots, with all below them, are accepted, with what they pay and their number.
+-- The visits of n slots, with all below them, are accepted, with the words that they pay and their number.
 pub record Gives (left : ℕ) (vs : List Visit) (n paid visits : ℕ) : Type 0 where
   pub is : judge left vs ≡ accepted paid visits
   pub within : paid ≤ left

@@ -1,4 +1,4 @@
--- A way that is followed, step by step: the slot that it leads to, and what holds that.
+-- A way that is followed, step by step: the slot to which it leads, and its holder.
 use Rattle.std.specs.Prelude.{ℕ, zero, suc, ◌+◌, nat_lt, List, [], ◌∷◌, Result, Ok, Option, Some, None}
 use Rattle.std.specs.Prelude.{if◌then◌else◌}
 use Rattle.capn_words.specs.declared.space.Place.{Place}

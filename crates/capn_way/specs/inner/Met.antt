@@ -43,7 +43,7 @@ met_by below here (Ok (targets.Content s start shape pads)) =
 met_by below here found = here ∷ []
 
 module _ (message : List (List ℕ)) where
-  -- the visits of a slot, and of what is below it, at most d objects deep
+  -- the visits of a slot, and of the slots below it, at most d objects deep
   unfoldable pub met : ℕ → Met → List Met
   met zero here = here ∷ []
   met (suc d) here = met_by (met d) here (target message here.place)
