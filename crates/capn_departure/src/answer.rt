@@ -3,7 +3,7 @@
 use crate::whose::Whose;
 use std::alloc::{Allocator, Global};
 
-/// A message is canonical, or isn't for this first reason. (Own.)
+/// The answer to the question if a message is canonical: it is, or the first reason why not. (Own.)
 ///
 /// Words are counted from the first of the message's only segment.
 #[derive(Debug, Drop)]

@@ -5,7 +5,8 @@ use crate::way_text::WayText;
 use crate::word_text::WordText;
 use std::fmt;
 
-/// A message is canonical, or isn't for this reason, displayed in one line without its end.
+/// The answer to the question if a message is canonical, displayed in one line without its end: it is, or the reason
+/// why not.
 #[derive(Clone, Copy, Debug, PartialEq, Eq)]
 pub enum CanonicalText<'a> {
     /// It is canonical.

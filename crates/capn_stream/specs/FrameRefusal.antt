@@ -1,5 +1,5 @@
--- The numbers that the beginning of a stream announces, and the reason why it is refused. (Page: serialization over a
--- stream; the order of the tests is our own.)
+-- The numbers that the table of a stream announces, and the reason why the stream is refused. (Page: serialization over
+-- a stream; the order of the tests is our own.)
 use Rattle.std.specs.Prelude.{◌≡◌, ◌⊎◌, ℕ, zero, suc, ◌+◌, ◌*◌, ◌<◌, ◌≤◌, List, [], ◌∷◌, length, drop, sum, ⊤}
 use Rattle.byteorder.specs.Endian.{little_number}
 use Rattle.capn_words.specs.Message.{most_segments}
