@@ -23,7 +23,7 @@ fn framed_again(alloc: Global, bytes: &[u8]) -> Result<Vec<u8>> {
     }
 }
 
-/// Whether canonical bytes are their own canonical bytes.
+/// Tests whether canonical bytes are their own canonical bytes.
 fn is_own(alloc: Global, once: &[u8]) -> Result<bool> {
     let framed = framed_again(alloc, once)?;
     Ok(canonical(alloc, &framed)?.as_slice() == once)
@@ -37,7 +37,7 @@ fn check_canonical(alloc: Global, bytes: &[u8]) -> Result<()> {
     Ok(())
 }
 
-/// Whether unpacking takes back what packing gives.
+/// Tests whether unpacking takes back what packing gives.
 fn is_unpacked(alloc: Global, bytes: &[u8]) -> Result<bool> {
     let text = packed(alloc, bytes)?;
     Ok(unpacked(alloc, &text)?.as_slice() == bytes)

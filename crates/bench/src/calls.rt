@@ -61,7 +61,7 @@ pub(crate) fn longer(alloc: Global, framed: &[u8]) -> Result<Vec<u8>> {
     Ok(bytes)
 }
 
-/// Whether bytes are canonical.
+/// Tests whether bytes are canonical.
 pub(crate) fn test(alloc: Global, bytes: &[u8]) -> Result<bool> {
     is_canonical(alloc, bytes, Limits::usual()).map_err(|_| anyhow!("not read"))
 }
@@ -160,7 +160,7 @@ pub(crate) fn words_of<S: Space>(message: &S) -> u32 {
     words
 }
 
-/// What the program writes for `check` of a stream.
+/// Returns the output of the program for `check` of `stream`.
 pub(crate) fn checked(alloc: Global, stream: &[u8]) -> Result<Vec<u8>> {
     let mut reader = Watched::new(stream);
     let mut writer = Watched::new(Vec::new(alloc));

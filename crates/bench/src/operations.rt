@@ -13,11 +13,11 @@ use std::alloc::Global;
 pub(crate) enum Operation {
     /// A copy of the framed message's bytes, to compare with.
     Copy,
-    /// What the frame says.
+    /// The message of the frame.
     First,
     /// The message out of pieces of 64 KiB.
     Framer,
-    /// What reading the message costs.
+    /// The price of reading the message.
     Survey,
     /// Room for an entry a word, to compare with.
     Room,
@@ -27,9 +27,9 @@ pub(crate) enum Operation {
     Walk,
     /// The canonical bytes of the message.
     Canonical,
-    /// Whether canonical bytes are canonical.
+    /// The test of canonical bytes.
     IsCanonical,
-    /// Whether canonical bytes and a word after them are canonical.
+    /// The test of canonical bytes with a word after them.
     NotCanonical,
     /// The SHA-256 of the message's canonical bytes.
     Hash,
@@ -44,7 +44,7 @@ pub(crate) enum Operation {
 }
 
 impl Operation {
-    /// Those of one message.
+    /// The operations of one message.
     pub(crate) const ALL: [Operation; 14] = [
         Operation::Copy,
         Operation::First,
@@ -62,7 +62,7 @@ impl Operation {
         Operation::Unpack,
     ];
 
-    /// What it is called.
+    /// Returns its name.
     pub(crate) fn name(self) -> &'static str {
         match self {
             Operation::Copy => "copy",
@@ -95,7 +95,7 @@ impl Operation {
     }
 }
 
-/// What an operation takes.
+/// The input of an operation.
 #[derive(Drop)]
 pub(crate) struct Input {
     /// The framed message, its canonical bytes, its packed text, or a stream; nothing beside a tree.
@@ -127,7 +127,7 @@ fn of_tree(alloc: Global, tree: Result<Tree>, size: usize) -> Result<Input> {
     })
 }
 
-/// How many bytes came out.
+/// Returns the number of bytes that came out.
 fn len_of(bytes: Result<Vec<u8>>) -> Result<usize> {
     Ok(bytes?.len())
 }
@@ -138,7 +138,7 @@ fn number_of(number: Result<u32>) -> Result<usize> {
 }
 
 impl Input {
-    /// What an operation takes, for a framed message or a stream.
+    /// Returns the input of `operation`, for a framed message or a stream.
     pub(crate) fn new(alloc: Global, operation: Operation, framed: Vec<u8>) -> Result<Input> {
         let size = framed.len();
         match operation {

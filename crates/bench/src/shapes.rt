@@ -11,7 +11,7 @@ mod small;
 
 use std::alloc::{AllocError, Global};
 
-/// What a message is like.
+/// The shape of a message.
 #[derive(Clone, Copy)]
 pub(crate) enum Shape {
     /// Structs of many data words.
@@ -35,7 +35,7 @@ pub(crate) enum Shape {
 }
 
 impl Shape {
-    /// Those of one message.
+    /// The shapes of one message.
     pub(crate) const MESSAGES: [Shape; 8] = [
         Shape::Wide,
         Shape::Deep,
@@ -47,7 +47,7 @@ impl Shape {
         Shape::Mixed,
     ];
 
-    /// What it is called.
+    /// Returns its name.
     pub(crate) fn name(self) -> &'static str {
         match self {
             Shape::Wide => "wide",

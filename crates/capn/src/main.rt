@@ -1,8 +1,8 @@
 //! The entry point of the program `capn`.
 //!
-//! What it does is said at `capn_tool::program`. This file hands it the words of the command line, standard input,
-//! standard output and standard error, and ends with its status: 0 done, 1 refused, 2 a mistake on the command line, 3
-//! memory refused, an input or output that failed, or an input that is too long.
+//! `capn_tool::program` says what it does. This file hands it the words of the command line, standard input, standard
+//! output and standard error, and ends with its status: 0 done, 1 refused, 2 a mistake on the command line, 3 memory
+//! refused, an input or output that failed, or an input that is too long.
 #![tactic(auto)]
 
 use capn_tool::{ToolFault, end, program};
@@ -14,8 +14,8 @@ use std::process::ExitCode;
 /// The exit status of a mistake on the command line.
 const MISTAKE: u8 = 2;
 
-/// The words of the command line. `collect` would ask for room for all of them first, and go on with less if that is
-/// refused; here each refused growth is answered.
+/// Returns the words of the command line. `collect` would ask for room for all of them first, and go on with less if
+/// that is refused; here each refused growth is answered.
 fn words_of(rt: &HostRuntime) -> io::Result<Vec<String>> {
     let mut words = Vec::new(rt.alloc());
     for word in env::args(rt)? {

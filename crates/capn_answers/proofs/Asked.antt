@@ -1,4 +1,4 @@
--- Memory is asked for by reading, or by the task of the message that was read.
+-- Memory is asked for by reading, or by the task of the message that was read. (For `of_frame` and `run_few`.)
 use Rattle.std.proofs.Common.{◌≡◌, ℕ, inl, inr, List, Result, IsErrOf, subst}
 use Rattle.capn_walk.specs.Limits.{Bounds}
 use Rattle.capn_canon.specs.Answered.{IsAnswered}

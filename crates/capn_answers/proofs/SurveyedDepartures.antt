@@ -1,4 +1,5 @@
--- What is told of a message's departure and survey is so of the bytes that are read as it.
+-- A report on a message's departure and survey is true of the bytes that are read as it. (For
+-- `departure_and_survey_in`.)
 use Rattle.std.proofs.Common.{◌≡◌, ℕ, ◌*◌, ◌≤◌, inl, inr, refl, List, length, subst, Result, Ok, Err, IfOk, IfErr}
 use Rattle.std.proofs.Common.{IsErrOf, MatchResult}
 use Rattle.std.specs.Bool.{⊤}

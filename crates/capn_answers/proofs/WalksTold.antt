@@ -1,4 +1,4 @@
--- What is told of a message's walk is so of the bytes that are read as the message.
+-- A report on a message's walk is true of the bytes that are read as the message. (For `walk_in`.)
 use Rattle.std.proofs.Common.{◌≡◌, ℕ, ◌*◌, ◌≤◌, inl, inr, List, length, subst, arith, Result, Ok, Err}
 use Rattle.std.proofs.Common.{IfOk, IfErr, IsErrOf, MatchResult}
 use Rattle.capn_value.specs.Tree.{Tree}

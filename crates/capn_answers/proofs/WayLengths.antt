@@ -1,4 +1,4 @@
--- A way has at most two numbers for each level of depth.
+-- A way has at most two numbers for each level of depth. (For `SurveyedDepartures` and `WalksTold`.)
 use Rattle.std.proofs.Common.{ℕ, zero, suc, ◌*◌, ◌≤◌, List, [], ◌∷◌, length, ap, arith, inl, inr, eq-zero-or-pos}
 use Rattle.std.proofs.lemmas.List.{length-append}
 use Rattle.capn_words.specs.declared.space.Place.{Place}

@@ -1,4 +1,4 @@
--- Where a message leaves its canonical bytes, which bytes are in a form. (Own.)
+-- The departure of a message from its canonical bytes, for bytes in a form. (Own.)
 use Rattle.std.specs.Prelude.{◌⊎◌, ℕ, List, []}
 use Rattle.capn_walk.specs.Limits.{Bounds}
 use Rattle.capn_canon.specs.MemoryNeed.{MayNeedMemory}

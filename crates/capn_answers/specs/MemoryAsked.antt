@@ -1,4 +1,4 @@
--- Where a call may ask for memory, and so answer that it was refused. (Own.)
+-- The cases in which a call may ask for memory, and so answer that it was refused. (Own.)
 use Rattle.std.specs.Prelude.{◌≡◌, ◌⊎◌, ℕ, ◌+◌, List, [], ◌∷◌, None, Result, Err, ⊤, refl}
 use Rattle.capn_few.specs.Few.{HasMore, most_few}
 use Rattle.capn_stream.specs.FrameRefusal.{announced_segments, entry_number}

@@ -1,4 +1,4 @@
--- How the walk of the message ended which bytes are in a form. (Own.)
+-- The end of the walk of the message that bytes are in a form. (Own.)
 use Rattle.std.specs.Prelude.{◌⊎◌, ℕ, List, [], ⊤}
 use Rattle.capn_walk.specs.Accepted.{IsBounded, IsWalkRefused}
 use Rattle.capn_walk.specs.Limits.{Bounds}
@@ -29,7 +29,7 @@ module _ {A : Type 0} where
   walked_way (Accepted s) = []
   walked_way (Refused f) = f.way.items
 
-  -- what the walk pays is within a budget, and the visits are at most one more
+  -- the walk pays within a budget, and its visits are at most one more than it pays
   abbrev pub IsWalkedWithin : ℕ → Walked A → Type 0
   IsWalkedWithin budget (Accepted s) = IsBounded budget s.paid s.visits
   IsWalkedWithin budget (Refused f) = IsBounded budget f.stopped.paid f.stopped.visits

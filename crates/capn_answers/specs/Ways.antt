@@ -1,10 +1,8 @@
 -- The way to the slot at which the walk of a message stopped, which bytes are in a form. (Own.)
-use Rattle.std.specs.Prelude.{◌≢◌, ◌⊎◌, ℕ, List}
-use Rattle.capn_walk.specs.Accepted.{IsAccepted}
+use Rattle.std.specs.Prelude.{◌≢◌, ℕ, List}
 use Rattle.capn_walk.specs.Limits.{Bounds}
 use Rattle.capn_walk.specs.declared.walk_answer.Stopped.{Stopped}
 use Rattle.capn_way.specs.Ways.{IsRefusedAt}
-use Rattle.capn_canon.specs.MemoryNeed.{MayNeedMemory}
 use Rattle.capn_canon.specs.Reads.{Reads}
 use Rattle.capn_canon.specs.Refusal.{IsMisread}
 use Rattle.capn_canon.specs.declared.form.Form.{Form}
@@ -18,20 +16,6 @@ pub record IsStoppedIn (form : Form) (bs : List ℕ) (limits : Bounds) (stopped 
   pub reads : Reads form bs limits.message_words message
   pub at : IsRefusedAt message limits stopped way
 
--- the bytes are read as a message, which is accepted
-pub record IsAcceptedIn (form : Form) (bs : List ℕ) (limits : Bounds) : Type 0 where
-  pub message : List (List ℕ)
-  pub reads : Reads form bs limits.message_words message
-  pub accepted : IsAccepted message limits
-
--- the bytes are read as a message
-abbrev pub AreRead : Form → List ℕ → Bounds → Type 0
-AreRead form bs limits = (message : List (List ℕ)) × Reads form bs limits.message_words message
-
--- memory may be needed: for reading the bytes, or for the way of a message that they are read as
-abbrev pub MayNeedWay : Form → List ℕ → Bounds → Type 0
-MayNeedWay form bs limits = MayNeedMemory form bs limits ⊎ AreRead form bs limits
-
--- why the bytes are not read; nothing is said of running out of memory
+-- the bytes are not read, for this reason; nothing is said of running out of memory
 abbrev pub IsUnread : Form → List ℕ → Bounds → Refusal → Type 0
 IsUnread form bs limits e = e ≢ refusals.Memory → IsMisread form bs limits.message_words e

@@ -1,4 +1,4 @@
-//! Where a message leaves its canonical bytes, in each form.
+//! The departure of a message from its canonical bytes, in each form.
 
 ghost use Rattle.std.specs.Prelude.{◌≡◌, ◌≤◌, ◌*◌, length, ⊤, IfOk, IfErr, IsErrOf, MatchResult};
 ghost use Rattle.capn_value.specs.Tree.{Tree as Value};
@@ -8,73 +8,25 @@ ghost use Rattle.capn_canon.specs.Refusal.{IsPaidWithin, IsUnacceptedIn};
 ghost use Rattle.capn_canon.specs.SurveyedBytes.{Surveys};
 ghost use Rattle.capn_canon.specs.declared.refusal.Refusal.TheVariants as refusals;
 ghost use Rattle.capn_answers.specs.Departures.{IsDepartureIn, MayAskForDeparture, MayNeedDeparture, way_of};
-ghost use Rattle.capn_answers.specs.inner.Answered.{IsDepartureSurveyed, IsDepartureTold};
+ghost use Rattle.capn_answers.specs.inner.Answered.{IsDepartureSurveyed};
 
 use crate::input::run_few;
-use capn_canon::{Form, MessageTask, Refusal, run_task, survey};
+use capn_canon::{Form, MessageTask, Refusal, survey};
 use capn_departure::{Departure, departure};
 use capn_walk::{Limits, Surveyed};
 use capn_words::Space;
 use std::alloc::{Allocator, Global};
 
-/// Where a message leaves its canonical bytes.
-#[derive(Clone, Copy)]
-struct Departs;
-
-impl<A: Allocator + Copy> MessageTask<A> for Departs {
-    type Answer = Departure<A>;
-
-    ghost answers = { λ _ m limits r. IsDepartureTold m limits r };
-
-    fn run<S: Space>(
-        &self,
-        alloc: A,
-        message: &S,
-        limits: Limits,
-    ) -> Result<Departure<A>, Refusal> {
-        departure(alloc, message, limits)
-    }
-}
-
-/// Whether the message that bytes are in a form is canonical within the limits, and if not, the first reason: its
-/// segments, its first capability, or the first word that differs from its canonical bytes. A way has at most two
-/// numbers for each level of the depth limit.
-///
-/// It refuses what [`capn_canon::survey_bytes`] refuses, and as that does. `Memory` comes only where a growth was
-/// refused: for the table of two segments or more, for what is unpacked, and, of a message of one segment that is not
-/// canonical, for its canonical bytes and for the way. (Own.)
-pub fn departure_in<A: Allocator + Copy>(
-    alloc: A,
-    form: Form,
-    bytes: &[u8],
-    limits: Limits,
-) -> Result<Departure<A>, Refusal>
-    // What each answer means.
-    ensures found { IfOk result (λ d. IsDepartureIn form bytes.now limits d) }
-    // Bytes that denote a value are answered, unless memory runs out.
-    ensures only { (v : Value) → Denotes form bytes.now limits v
-        → MatchResult result (λ d. ⊤) (λ e. e ≡ refusals.Memory) }
-    // Two numbers for each level of depth are enough for a way.
-    ensures short { IfOk result (λ d. length (way_of d) ≤ 2 * limits.depth) }
-    // What each refusal means.
-    ensures refused { IfErr result (λ e. IsUnacceptedIn form bytes.now limits e) }
-    // Memory is needed only for where two segments or more end, for what a text packs, and for a message of one segment
-    // that is not canonical.
-    ensures memory { IsErrOf result refusals.Memory → MayNeedDeparture form bytes.now limits }
-{
-    run_task(alloc, &Departs, form, bytes, limits)
-}
-
-/// Where a message leaves its canonical bytes, and what its walk pays and visits.
+/// The departure of a message from its canonical bytes, and its survey.
 #[derive(Debug, Drop)]
 pub struct SurveyedDeparture<A: Allocator = Global> {
-    /// What [`departure_in`] answers.
+    /// `Canonical`, or the first reason why it isn't.
     pub departure: Departure<A>,
-    /// What [`capn_canon::survey_bytes`] answers.
+    /// The answer of [`capn_canon::survey_bytes`].
     pub survey: Surveyed,
 }
 
-/// Where a message leaves its canonical bytes, and its survey.
+/// The task of the departure of a message from its canonical bytes, and of its survey.
 #[derive(Clone, Copy)]
 struct SurveyedDeparts;
 
@@ -97,17 +49,21 @@ impl<A: Allocator + Copy> MessageTask<A> for SurveyedDeparts {
     }
 }
 
-/// What [`departure_in`] and [`capn_canon::survey_bytes`] answer. The bytes are read once.
+/// Tests whether the message that `bytes` encode in `form` is canonical within `limits`, and if not, finds the first
+/// reason: its segments, its first capability, or the first word that differs from its canonical bytes. Returns it with
+/// the answer of [`capn_canon::survey_bytes`]. A way has at most two numbers for each level of the depth limit. The
+/// bytes are read once.
 ///
-/// `Memory` comes only where a growth was refused: for the table of a frame of more than 64 segments, for what is
-/// unpacked, and, of a message of one segment that is not canonical, for its canonical bytes and for the way. (Own.)
+/// It refuses what [`capn_canon::survey_bytes`] refuses, and as that does. `Memory` comes only if a growth on `alloc`
+/// was refused: for the table of a frame of more than 64 segments, for what is unpacked, and, of a message of one
+/// segment that is not canonical, for its canonical bytes and for the way. (Own.)
 pub fn departure_and_survey_in<A: Allocator + Copy>(
     alloc: A,
     form: Form,
     bytes: &[u8],
     limits: Limits,
 ) -> Result<SurveyedDeparture<A>, Refusal>
-    // What each answer means,
+    // The meaning of each answer,
     ensures found { IfOk result (λ d. IsDepartureIn form bytes.now limits d.departure) }
     // and that the bytes are an accepted message, of which the survey is.
     ensures surveyed { IfOk result (λ d. Surveys form bytes.now limits d.survey) }
@@ -116,10 +72,10 @@ pub fn departure_and_survey_in<A: Allocator + Copy>(
         → MatchResult result (λ d. ⊤) (λ e. e ≡ refusals.Memory) }
     // Two numbers for each level of depth are enough for a way.
     ensures short { IfOk result (λ d. length (way_of d.departure) ≤ 2 * limits.depth) }
-    // What each refusal means.
+    // The meaning of each refusal.
     ensures refused { IfErr result (λ e. IsUnacceptedIn form bytes.now limits e) }
-    // Memory is needed only for where two segments or more end, for what a text packs, and for a message of one segment
-    // that is not canonical.
+    // Memory is needed only for the ends of two segments or more, for what a text packs, and for a message of one
+    // segment that is not canonical.
     ensures memory { IsErrOf result refusals.Memory → MayNeedDeparture form bytes.now limits }
     // Of those, it is asked for only by a frame of more than 64 segments, by a packed text, and by such a message.
     ensures asked { IsErrOf result refusals.Memory → MayAskForDeparture form bytes.now limits }

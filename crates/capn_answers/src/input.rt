@@ -11,7 +11,7 @@ use capn_canon::{Form, MessageTask, Refusal, run_task};
 use capn_walk::Limits;
 use std::alloc::Allocator;
 
-/// Of a frame.
+/// Does the task on a frame.
 fn of_frame<T: MessageTask<A>, A: Allocator + Copy>(
     alloc: A,
     task: &T,
@@ -31,8 +31,9 @@ fn of_frame<T: MessageTask<A>, A: Allocator + Copy>(
     }
 }
 
-/// What [`capn_canon::run_task`] answers, with less memory: reading asks for it only for the table of a frame of more
-/// than 64 segments, and for a packed text. (Own.)
+/// Reads `bytes` in this `form` as a message and returns the answer of `task` to it, as [`capn_canon::run_task`] does,
+/// with less memory: reading asks for it only for the table of a frame of more than 64 segments, and for a packed text.
+/// (Own.)
 pub fn run_few<T: MessageTask<A>, A: Allocator + Copy>(
     alloc: A,
     task: &T,
@@ -40,7 +41,7 @@ pub fn run_few<T: MessageTask<A>, A: Allocator + Copy>(
     bytes: &[u8],
     limits: Limits,
 ) -> Result<T::Answer, Refusal>
-    // The task's answer of the message that the bytes are, or why they are none.
+    // The task's answer to the message that the bytes are, or the reason why they are none.
     ensures answered { IsAnswered form bytes.now limits (T.answers task.now) result }
     // Memory is asked for only by a frame of more than 64 segments, by a packed text, and by the task.
     ensures asked { IsErrOf result refusals.Memory → MayAskForAnswer form bytes.now limits (T.answers task.now) }

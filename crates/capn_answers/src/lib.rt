@@ -1,17 +1,18 @@
-//! What is answered about one message, whichever of the three forms its bytes are in.
+//! Answers about one message, whichever of the three forms its bytes are in.
 //!
-//! - [`way_in`] says whether the walk of the message is refused, why, and the way to the slot where it stopped.
-//! - [`departure_in`] says where an accepted message leaves its canonical bytes, and why.
-//! - [`walk_in`] and [`departure_and_survey_in`] do the same, and also answer the survey of an accepted message.
+//! - [`walk_in`] returns the survey of the message, or the reason why its walk is refused, and the way to the slot at
+//!   which it stopped.
+//! - [`departure_and_survey_in`] finds the word at which an accepted message leaves its canonical bytes, and the
+//!   reason, and returns its survey.
 //!
-//! All read the bytes once, and refuse those that are no message as [`capn_canon::survey_bytes`] does. The last two do
-//! so by [`run_few`], which runs any task of a message, and takes no memory for a stream of at most 64 segments; of
-//! these [`read_frame`] answers the message.
+//! Both read the bytes once, and refuse those that are no message as [`capn_canon::survey_bytes`] does. They do so by
+//! [`run_few`], which runs any task of a message, and takes no memory for a stream of at most 64 segments; of these
+//! [`read_frame`] returns the message.
 //!
 //! ```text
-//! match way_in(alloc, Form::Packed, bytes, limits)? {
-//!     Some(refused) => report(refused.stopped, &refused.way),
-//!     None => tell("accepted"),
+//! match walk_in(alloc, Form::Packed, bytes, limits)? {
+//!     Walked::Accepted(surveyed) => tell(surveyed.paid),
+//!     Walked::Refused(refused) => report(refused.stopped, &refused.way),
 //! }
 //! ```
 #![tactic(auto)]
@@ -22,13 +23,13 @@ mod input;
 mod walked;
 mod way_input;
 
-pub use departure_input::{SurveyedDeparture, departure_and_survey_in, departure_in};
+pub use departure_input::{SurveyedDeparture, departure_and_survey_in};
 pub use few_frame::read_frame;
 pub use input::run_few;
 pub use walked::Walked;
-pub use way_input::{walk_in, way_in};
+pub use way_input::walk_in;
 
-// What the signatures above name.
+// The types in the signatures above.
 pub use capn_canon::{Form, MessageTask, Refusal};
 pub use capn_departure::{Departure, Whose};
 pub use capn_few::FewSegments;

@@ -1,68 +1,23 @@
 //! The way to the slot at which the walk of a message stopped, in each form.
 
-ghost use Rattle.std.specs.Prelude.{◌≡◌, ◌≤◌, ◌*◌, length, IfOk, IfErr, IfSome, IfNone, IsErrOf, MatchResult};
+ghost use Rattle.std.specs.Prelude.{◌≡◌, ◌≤◌, ◌*◌, length, IfOk, IfErr, IsErrOf, MatchResult};
 ghost use Rattle.capn_value.specs.Tree.{Tree as Value};
 ghost use Rattle.capn_canon.specs.Denotes.{Denotes};
 ghost use Rattle.capn_canon.specs.declared.refusal.Refusal.TheVariants as refusals;
-ghost use Rattle.capn_answers.specs.Ways.{IsAcceptedIn, IsStoppedIn, IsUnread, MayNeedWay};
+ghost use Rattle.capn_answers.specs.Ways.{IsUnread};
 ghost use Rattle.capn_answers.specs.Walked.{AnswersAccepted, IsWalkedIn, IsWalkedWithin, MayAskForItsWay};
 ghost use Rattle.capn_answers.specs.Walked.{MayNeedItsWay, walked_way};
-ghost use Rattle.capn_answers.specs.inner.Answered.{IsWalkTold, IsWayTold};
+ghost use Rattle.capn_answers.specs.inner.Answered.{IsWalkTold};
 
 use crate::input::run_few;
 use crate::walked::Walked;
-use capn_canon::{Form, MessageTask, Refusal, run_task};
+use capn_canon::{Form, MessageTask, Refusal};
 use capn_walk::{Limits, survey};
-use capn_way::{Refused, way_of_refusal, way_of_stop};
+use capn_way::{Refused, way_of_stop};
 use capn_words::Space;
 use std::alloc::Allocator;
 
-/// The way to the slot at which a walk stopped.
-#[derive(Clone, Copy)]
-struct Way;
-
-impl<A: Allocator + Copy> MessageTask<A> for Way {
-    type Answer = Option<Refused<A>>;
-
-    ghost answers = { λ _ m limits r. IsWayTold m limits r };
-
-    fn run<S: Space>(
-        &self,
-        alloc: A,
-        message: &S,
-        limits: Limits,
-    ) -> Result<Option<Refused<A>>, Refusal> {
-        Ok(way_of_refusal(alloc, message, limits)?)
-    }
-}
-
-/// Whether the walk of the message that bytes are in a form is refused within the limits, and where: `None` where it is
-/// accepted. A way has at most two numbers for each level of the depth limit.
-///
-/// A refusal says why the bytes are no message: it is never one of the walk, nor of a capability. `Memory` comes only
-/// where a growth was refused: for the table of two segments or more, for what is unpacked, or for the way. It walks a
-/// message twice at most. (Own.)
-pub fn way_in<A: Allocator + Copy>(
-    alloc: A,
-    form: Form,
-    bytes: &[u8],
-    limits: Limits,
-) -> Result<Option<Refused<A>>, Refusal>
-    // The walk of the message that the bytes are stops there, and the way leads to that slot;
-    ensures found { IfOk result (λ r. IfSome r (λ f. IsStoppedIn form bytes.now limits f.stopped f.way.items)) }
-    // or the message is accepted.
-    ensures accepted { IfOk result (λ r. IfNone r (IsAcceptedIn form bytes.now limits)) }
-    // Two numbers for each level of depth are enough.
-    ensures short { IfOk result (λ r. IfSome r (λ f. length f.way.items ≤ 2 * limits.depth)) }
-    // What each refusal means.
-    ensures refused { IfErr result (λ e. IsUnread form bytes.now limits e) }
-    // Memory is needed only for where two segments or more end, for what a text packs, and for a message's way.
-    ensures memory { IsErrOf result refusals.Memory → MayNeedWay form bytes.now limits }
-{
-    run_task(alloc, &Way, form, bytes, limits)
-}
-
-/// The walk of a message, with the way to the slot where it stopped.
+/// The task of the walk of a message, with the way to the slot at which it stopped.
 #[derive(Clone, Copy)]
 struct Walk;
 
@@ -82,11 +37,13 @@ impl<A: Allocator + Copy> MessageTask<A> for Walk {
     }
 }
 
-/// How the walk of the message that bytes are in a form ends: what [`way_in`] answers, and of an accepted message its
-/// survey. The bytes are read once.
+/// Walks the message that `bytes` encode in `form` within `limits`: returns its survey, or the place and the reason at
+/// which it is refused, with the way to that slot. A way has at most two numbers for each level of the depth limit. The
+/// bytes are read once.
 ///
-/// `Memory` comes only where a growth was refused: for the table of a frame of more than 64 segments, for what is
-/// unpacked, or for the way. It walks a message twice at most. (Own.)
+/// A refusal says why the bytes are no message: it is never one of the walk, nor of a capability. `Memory` comes only
+/// if a growth on `alloc` was refused: for the table of a frame of more than 64 segments, for what is unpacked, or for
+/// the way. It walks a message twice at most. (Own.)
 pub fn walk_in<A: Allocator + Copy>(
     alloc: A,
     form: Form,
@@ -100,9 +57,9 @@ pub fn walk_in<A: Allocator + Copy>(
         → MatchResult result (λ w. AnswersAccepted w) (λ e. e ≡ refusals.Memory) }
     // Two numbers for each level of depth are enough.
     ensures short { IfOk result (λ w. length (walked_way w) ≤ 2 * limits.depth) }
-    // What each refusal means.
+    // The meaning of each refusal.
     ensures refused { IfErr result (λ e. IsUnread form bytes.now limits e) }
-    // Memory is needed only for where two segments or more end, for what a text packs, and for the way of a message
+    // Memory is needed only for the ends of two segments or more, for what a text packs, and for the way of a message
     // that is refused by its walk.
     ensures memory { IsErrOf result refusals.Memory → MayNeedItsWay form bytes.now limits }
     // Of those, it is asked for only by a frame of more than 64 segments, by a packed text, and for that way.

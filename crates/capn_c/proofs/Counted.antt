@@ -1,4 +1,4 @@
--- The index of a message has as many entries as its walk makes visits.
+-- The index of a message has as many entries as its walk makes visits. (For `index_in` and `index_message`.)
 use Rattle.std.proofs.Common.{◌≡◌, ℕ, ◌*◌, ◌≤◌, List, length, map, Ok, ap, sym, subst, arith}
 use Rattle.std.proofs.lemmas.List.{length-map, take_all}
 use Rattle.capn_stream.specs.Frames.{Frames, StandsFirst}

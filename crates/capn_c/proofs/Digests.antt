@@ -1,4 +1,4 @@
--- What is told of a message's digest is so of the bytes that are read as it.
+-- A report on a message's digest is true of the bytes that are read as it. (For `digest_in` and `refusal_way`.)
 use Rattle.std.proofs.Common.{◌≡◌, ◌≤◌, inl, inr, ℕ, List, refl, subst, Result, Ok, Err, IfOk, IfErr}
 use Rattle.std.proofs.Common.{IsErrOf, MatchResult}
 use Rattle.sha2.specs.Sha256.{sha256}

@@ -1,4 +1,4 @@
--- What is measured of a message gives its figures.
+-- The measure of a message gives its figures. (For `figures_of`.)
 use Rattle.std.proofs.Common.{◌≡◌, ◌↔◌, ◌≤◌, ℕ, List, length, subst, sym, ◌∙◌}
 use Rattle.std.specs.Bool.{IsTrue}
 use Rattle.capn_words.specs.Message.{total}

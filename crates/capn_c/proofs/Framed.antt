@@ -1,4 +1,4 @@
--- A message that is held in segments, and a frame of the same segments.
+-- A message that is held in segments, and a frame of the same segments. (For `segments`.)
 use Rattle.std.proofs.Common.{◌≡◌, ℕ, suc, [], ◌∷◌, ◌-◌, ◌*◌, ◌^◌, ◌<◌, ◌≤◌, List, length, subst, sym, ◌∙◌, arith}
 use Rattle.std.proofs.Math.Nat.{min-eq_left}
 use Rattle.std.proofs.lemmas.List.Sums.{sum_by-cons}

@@ -1,4 +1,4 @@
--- How many bytes a frame has at least.
+-- The number of bytes that a frame has at least. (For `frame`.)
 use Rattle.std.proofs.Common.{◌≡◌, ◌≢◌, ◌⊎◌, ◌∙◌, refl, inl, inr, ℕ, ◌<◌, ◌≤◌, List, ◌++◌, length, ap}
 use Rattle.std.proofs.Common.{sym, subst, arith}
 use Rattle.std.proofs.lemmas.Bool.Decides.{nat_tests}

@@ -1,4 +1,4 @@
--- Each refusal that comes has a status of the list.
+-- Each refusal has a status of the list. (For `refusal_way`.)
 use Rattle.std.proofs.Common.{◌≡◌, ℕ, List, IsTrue, false, refl}
 use Rattle.capn_pack.specs.declared.fault.UnpackFault.{UnpackFault}
 use Rattle.capn_pack.specs.declared.fault.UnpackFault.TheVariants as packed

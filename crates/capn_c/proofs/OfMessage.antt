@@ -1,4 +1,5 @@
--- What is answered of a message is answered of the bytes that are read as it.
+-- An answer for a message is one for the bytes that are read as it. (For `canonical_fill.rt`,
+-- `canonical_segments_call.rt`, `message_index.rt` and `survey_bytes.rt`.)
 use Rattle.std.proofs.Common.{◌≡◌, ℕ, List, Err, subst}
 use Rattle.capn_value.specs.Tree.{Tree}
 use Rattle.capn_walk.specs.Accepted.{IsValueOf}

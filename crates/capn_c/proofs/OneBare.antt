@@ -1,4 +1,4 @@
--- The words of a segment, and whether a message of one segment is canonical.
+-- The words of a segment, and whether a message of one segment is canonical. (For `words_at`.)
 use Rattle.std.proofs.Common.{◌≡◌, ◌↔◌, ℕ, List, length, ap, sym, ◌∙◌}
 use Rattle.std.proofs.Common.{Option, Some, None}
 use Rattle.std.specs.Option.{unwrap_or}

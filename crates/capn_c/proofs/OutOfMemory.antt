@@ -1,4 +1,5 @@
--- The status 8 says only that memory ran out: no bytes, and no message, are refused with it.
+-- The status 8 says only that memory ran out: no bytes, and no message, are refused with it. (For `canonical_call.rt`,
+-- `canonical_fill.rt`, `canonical_segments_call.rt` and others.)
 use Rattle.std.proofs.Common.{◌≡◌, ◌⊎◌, inl, inr, ℕ, List, refl, arith}
 use Rattle.capn_words.specs.declared.bare.BareFault.{BareFault}
 use Rattle.capn_words.specs.declared.bare.BareFault.TheVariants as bare

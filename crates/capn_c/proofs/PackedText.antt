@@ -1,10 +1,6 @@
--- What is answered of the stream that a text packs is answered of the text.
-use Rattle.std.proofs.Common.{◌≡◌, ℕ, ◌+◌, ◌*◌, ◌<◌, ◌≤◌, List, [], ◌∷◌, length, arith, ap, subst, sym}
-use Rattle.std.specs.List.{AllByRecursion}
-use Rattle.std.proofs.lemmas.List.{length-append}
-use Rattle.capn_pack.specs.Packed.{Group, IsGroup, Packs, content, contents, texts}
-use Rattle.capn_pack.specs.UnpackRefusal.{StartsWithin}
-use Rattle.capn_pack.proofs.shared.GroupLemmas.{length_content}
+-- An answer for the stream that a text packs is one for the text. (For `figures_of_packed`.)
+use Rattle.std.proofs.Common.{◌≡◌, ℕ, ◌+◌, ◌*◌, ◌≤◌, List, length, subst, sym}
+use Rattle.capn_pack.specs.Packed.{Packs}
 use Rattle.capn_stream.specs.Frames.{most_table_words}
 use Rattle.capn_walk.specs.Limits.{Bounds}
 use Rattle.capn_canon.specs.MemoryNeed.{MayNeedMemory}
@@ -13,21 +9,9 @@ use Rattle.capn_canon.specs.Refusal.{IsUnacceptedIn}
 use Rattle.capn_canon.specs.declared.form.Form.TheVariants as forms
 use Rattle.capn_canon.specs.declared.refusal.Refusal.{Refusal}
 use Rattle.capn_canon.specs.declared.refusal.Refusal.TheVariants as refusals
+use Rattle.capn_canon.proofs.shared.MemoryNeeds.{packed_wanted}
 use Rattle.capn_c.specs.Figures.{FiguresIn}
 use Rattle.capn_c.specs.declared.figures.CapnFigures.{CapnFigures}
-
--- a text that packs some bytes begins with a whole group
-starts : (gs : List Group) (b text : List ℕ) (max : ℕ) → AllByRecursion IsGroup gs → b ≡ texts gs → text ≡ contents gs
-    → 0 < length text → length text ≤ 8 * max → StartsWithin b max
-starts [] b text max each is same some fits = absurd (omega (arith, ap length same))
-starts (g ∷ gs) b text max each is same some fits = record {
-  group = g;
-  more = texts gs;
-  is_group = each.0;
-  text = is;
-  fits =
-      omega (arith, length_content g each.0, ap length same, length-append (content g) (contents gs));
-}
 
 -- bytes that pack what has room pack that stream
 pub unpacks : (bs text stream : List ℕ) (most max : ℕ) → Packs bs text → length text ≤ 8 * max
@@ -54,7 +38,4 @@ module _ (bs stream : List ℕ) (limits : Bounds) (u : Unpacks bs limits.message
 
   -- and that memory may be needed
   pub packed_needs : MayNeedMemory forms.Stream stream limits → MayNeedMemory forms.Packed bs limits
-  packed_needs h =
-      starts u.packs.groups bs stream (limits.message_words + most_table_words) u.packs.each u.packs.text
-      u.packs.content
-      (let l = h.0.0.0 in omega arith) u.room
+  packed_needs h = packed_wanted bs stream limits u h

@@ -1,4 +1,4 @@
--- The words from the place of an entry on are in the bytes at its offset.
+-- The words from the place of an entry on are in the bytes at its offset. (For `offsets`.)
 use Rattle.std.proofs.Common.{◌≡◌, ℕ, zero, suc, ◌+◌, ◌*◌, ◌<◌, ◌≤◌, List, [], ◌∷◌, ◌++◌, length, take, drop}
 use Rattle.std.proofs.Common.{get_or, map, refl, ap, sym, subst, ◌∙◌, arith, length-drop}
 use Rattle.std.specs.List.{sum_by}

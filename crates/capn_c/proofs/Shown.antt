@@ -1,4 +1,4 @@
--- Of which bytes a text is, and that they have one text in a style.
+-- Of which bytes a text is, and that they have one text in a style. (For `show_in` and `text_in`.)
 use Rattle.std.proofs.Common.{◌≡◌, ◌∙◌, inl, inr, ℕ, List, ap, subst, Result, Ok, Err, IfOk, IfErr}
 use Rattle.std.proofs.Common.{IsErrOf, MatchResult}
 use Rattle.capn_value.specs.Tree.{Tree}

@@ -1,4 +1,4 @@
--- How many bytes the words have that were unpacked, and that they have room.
+-- The number of bytes of the words that were unpacked, and that they have room. (For `capn_unpack_some`.)
 use Rattle.std.proofs.Common.{◌≡◌, ℕ, ◌*◌, ◌≤◌, List, [], length, ap, arith}
 use Rattle.capn_pack.specs.WholeGroups.{UnpacksSome}
 use Rattle.capn_pack.proofs.shared.GroupLemmas.{length_contents}

@@ -1,4 +1,4 @@
--- Where a walk stopped, and what is reported of it.
+-- The stop of a walk, and the report on it. (For `refusal_way` and `tell_way`.)
 use Rattle.std.proofs.Common.{◌≡◌, ◌<◌, ◌≤◌, ℕ, List, refl, sym, subst, arith}
 use Rattle.capn_pack.specs.declared.fault.UnpackFault.{UnpackFault}
 use Rattle.capn_pack.specs.declared.fault.UnpackFault.TheVariants as packed

@@ -1,4 +1,4 @@
--- Where a message leaves its canonical bytes, as C reads it. (Own.)
+-- The departure of a message from its canonical bytes, as C reads it. (Own.)
 use Rattle.std.specs.Prelude.{◌≡◌, ℕ, ◌*◌, List, length}
 use Rattle.std.specs.declared.alloc.Global.{Global}
 use Rattle.capn_walk.specs.Limits.{Bounds}
@@ -16,7 +16,7 @@ use Rattle.capn_c.specs.declared.departed.CapnDeparted.{CapnDeparted}
 use Rattle.capn_reports.specs.declared.report.CapnReport.{CapnReport}
 
 module _ {A : Type 0} where
-  -- the number of what an owner's word is
+  -- the number of the kind of an owner's word
   abbrev pub owner_number : Whose A → ℕ
   owner_number (Pointer way) = 1
   owner_number (Tag way) = 2
@@ -51,8 +51,8 @@ module _ {A : Type 0} where
   departed_of (After w is) =
       record { is = is; canonical = 0; kind = 4; owner = 0; word = w; count = 0; numbers = 0; zero = 0 }
 
--- the bytes are read as a message, and where it leaves its canonical bytes is told; its way is placed in a room, and
--- reported beside what its walk pays and visits
+-- the bytes are read as a message, and its departure from its canonical bytes is reported; its way is placed in a room,
+-- and reported beside the words that its walk pays, and its visits
 pub record TellsDeparture (form : Form) (bs : List ℕ) (limits : Bounds) (departed : CapnDeparted)
     (report : CapnReport) (old new : List ℕ) : Type 0 where
   pub departure : Departure Global

@@ -26,7 +26,7 @@ kind_number kinds.Links = 8
 kind_number kinds.Rows = 9
 kind_number kinds.Cap = 10
 
--- where each segment starts, in words after the table
+-- the start of each segment, in words after the table
 abbrev pub starts_from : ℕ → List (List ℕ) → List ℕ
 starts_from n [] = []
 starts_from n (ws ∷ message) = n ∷ starts_from (n + length ws) message
@@ -46,7 +46,7 @@ c_entry table starts e = record {
 abbrev pub c_index : ℕ → List (List ℕ) → Bounds → List CapnEntry
 c_index table message limits = map (c_entry table (starts_from 0 message)) (index_of message limits)
 
--- how many bytes of a form come before the words of a message
+-- the number of bytes of a form before the words of a message
 abbrev pub table_length : Form → List (List ℕ) → ℕ
 table_length forms.Stream message = head_length (length message)
 table_length forms.Packed message = 0

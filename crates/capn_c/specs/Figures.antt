@@ -1,4 +1,4 @@
--- What is reported of a message that is read. (Own.)
+-- The figures of a message that is read. (Own.)
 use Rattle.std.specs.Prelude.{◌≡◌, ◌↔◌, ◌≤◌, ℕ, zero, suc, List, length, Option, Some, None}
 use Rattle.capn_words.specs.Message.{bytes, segment_at, total}
 use Rattle.capn_value.specs.Tree.{Tree}
@@ -24,8 +24,9 @@ abbrev pub reported_cap : ℕ → ℕ → Option ℕ
 reported_cap zero k = None
 reported_cap (suc n) k = Some k
 
--- the figures of an accepted message: its words and segments; what its walk pays and visits; the least depth under
--- which it is accepted; 1 and the first capability of its value, or 0 and 0; and 1 if it is canonical, else 0
+-- the figures of an accepted message: its words and segments; the words that its walk pays, and its visits; the least
+-- depth under which it is accepted; 1 and the first capability of its value, or 0 and 0; and 1 if it is canonical, else
+-- 0
 pub record AreFigures (message : List (List ℕ)) (limits : Bounds) (f : CapnFigures) : Type 0 where
   pub value : Tree
   pub is : IsValueOf message limits value

@@ -1,11 +1,11 @@
--- How many bytes a frame has at least. (Own.)
+-- The number of bytes that a frame has at least. (Own.)
 use Rattle.std.specs.Prelude.{ℕ, ◌<◌, ◌≤◌, List, ◌++◌, length, nat_lt, if◌then◌else◌}
 use Rattle.capn_stream.specs.StreamPieces.{IsFrame}
 use Rattle.capn_stream.specs.FrameRefusal.{announced_segments, frame_length, head_length}
 use Rattle.capn_stream.specs.NextMessage.{most_bytes}
 
--- how many bytes a frame that begins so needs, by what of its table is there: without its count the table of one
--- segment, which is the shortest; with the count the whole table; with the table all that it announces
+-- the number of bytes that a frame with this beginning needs, by the part of its table that is there: without its count
+-- the table of one segment, which is the shortest; with the count the whole table; with the table all that it announces
 abbrev pub needed : List ℕ → ℕ
 needed bs =
     if nat_lt (length bs) 4 then head_length 1

@@ -1,4 +1,4 @@
--- What is reported of the frame that begins some bytes. (Own.)
+-- The report on the frame that begins some bytes. (Own.)
 use Rattle.std.specs.Prelude.{◌≡◌, ◌≢◌, ℕ, List}
 use Rattle.capn_stream.specs.declared.fault.FrameFault.{FrameFault}
 use Rattle.capn_stream.specs.declared.fault.FrameFault.TheVariants as frame

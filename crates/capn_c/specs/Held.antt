@@ -1,4 +1,4 @@
--- What is answered of a message that is held in segments. (Own.)
+-- The answers for a message that is held in segments. (Own.)
 use Rattle.std.specs.Prelude.{◌≡◌, ℕ, List, ⊤, Result, Ok, Err}
 use Rattle.capn_segments.specs.Segments.{IsHeld, IsUnheld}
 use Rattle.capn_segments.specs.declared.fault.SegmentsFault.TheVariants as segments
@@ -36,21 +36,21 @@ pub record FiguresHeld (message : List (List ℕ)) (limits : Bounds) (f : CapnFi
   pub held : IsHeld message limits.message_words
   pub are : AreFigures message limits f
 
--- why segments are no message of at most `most` words, by the names that the same has of a frame
+-- segments are no message of at most `most` words, for this fault of a frame, whose name stands for theirs
 abbrev pub IsMisheld : List (List ℕ) → ℕ → FrameFault → Type 0
 IsMisheld message most frame.Empty = IsUnheld message most segments.Empty
 IsMisheld message most (frame.TooManySegments n) = IsUnheld message most (segments.TooManySegments n)
 IsMisheld message most (frame.TooManyWords n) = IsUnheld message most (segments.TooManyWords n)
 IsMisheld message most _ = ⊥
 
--- what segments are read as within limits: their message, or the first reason why they are none
+-- segments are read within limits: as their message, or with the first reason why they are none
 abbrev pub IsHeldOr : List (List ℕ) → Bounds → Result (List (List ℕ)) Refusal → Type 0
 IsHeldOr message limits (Ok read) = (read ≡ message) × IsHeld message limits.message_words
 IsHeldOr message limits (Err (refusals.Frame e)) = IsMisheld message limits.message_words e
 IsHeldOr message limits (Err _) = ⊥
 
--- why they have no canonical bytes: they are no message within the limits, or that message is refused; nothing is said
--- of running out of memory
+-- they have no canonical bytes, for this reason: they are no message within the limits, or that message is refused;
+-- nothing is said of running out of memory
 abbrev pub IsRefusedHeld : List (List ℕ) → Bounds → Refusal → Type 0
 IsRefusedHeld message limits (refusals.Frame e) = IsMisheld message limits.message_words e
 IsRefusedHeld message limits (refusals.Walk s) = IsHeld message limits.message_words
@@ -60,7 +60,7 @@ IsRefusedHeld message limits (refusals.Capability k) = IsHeld message limits.mes
 IsRefusedHeld message limits refusals.Memory = ⊤
 IsRefusedHeld message limits _ = ⊥
 
--- why they are not accepted
+-- they are not accepted, for this reason
 abbrev pub IsUnacceptedHeld : List (List ℕ) → Bounds → Refusal → Type 0
 IsUnacceptedHeld message limits (refusals.Capability k) = ⊥
 IsUnacceptedHeld message limits r = IsRefusedHeld message limits r

@@ -1,4 +1,4 @@
--- What is in the bytes at the offset of an entry. (Own.)
+-- The bytes at the offset of an entry. (Own.)
 use Rattle.std.specs.Prelude.{◌≡◌, ◌≢◌, ℕ, ◌+◌, ◌*◌, ◌<◌, ◌≤◌, List, length, take, drop, get_or, ⊤}
 use Rattle.capn_words.specs.Message.{bytes_at}
 use Rattle.capn_words.specs.declared.space.Place.{Place}
@@ -19,7 +19,7 @@ pub record StandAt (bs : List ℕ) (offset : ℕ) (message : List (List ℕ)) (a
   pub inside : offset + 8 * words ≤ length bs
   pub same : take (8 * words) (drop offset bs) ≡ bytes_at message at (8 * words)
 
--- what a slot names is in these bytes, from an offset on, if it has content
+-- the target of a slot is in these bytes, from an offset on, if it has content
 abbrev pub StandsAt : List ℕ → ℕ → List (List ℕ) → Target → Type 0
 StandsAt bs offset message (targets.Content s start shape pads) =
     StandAt bs offset message (record { segment = s; word = start }) (extent shape)

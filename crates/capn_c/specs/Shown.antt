@@ -14,7 +14,7 @@ use Rattle.capn_canon.specs.Denotes.{Denotes}
 use Rattle.capn_canon.specs.MemoryNeed.{MayNeedMemory}
 use Rattle.capn_canon.specs.declared.form.Form.{Form}
 
--- the text of a message with this value: that of all of it, and what ends it
+-- the text of a message with this value: that of all of it, and its end
 abbrev pub message_text : Style → Tree → List ℕ
 message_text style v = styled style [] v ++ end_of style
 

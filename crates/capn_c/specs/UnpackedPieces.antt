@@ -6,11 +6,11 @@ use Rattle.capn_pack.specs.declared.whole_groups.Next.TheVariants as nexts
 use Rattle.capn_reports.specs.Calls.{IsWritten}
 use Rattle.capn_reports.specs.declared.report.CapnReport.{CapnReport}
 
--- how many whole words a buffer of `room` bytes has room for, as far as 32 bits count them
+-- the number of whole words for which a buffer of `room` bytes has room, as far as 32 bits count them
 abbrev pub words_in : ℕ → ℕ
 words_in room = min (room / 8) (2 ^ 32 - 1)
 
--- the status of what comes after the groups that were unpacked: nothing, a group that is cut, one that has no room
+-- the status of the bytes after the groups that were unpacked: nothing, a group that is cut, one that has no room
 abbrev pub next_code : Next → ℕ
 next_code nexts.End = 0
 next_code nexts.Cut = 32

@@ -1,4 +1,4 @@
--- The numbers of a way in a caller's room, and what is reported beside them. (Own.)
+-- The numbers of a way in a caller's room, and the report beside them. (Own.)
 use Rattle.std.specs.Prelude.{◌≡◌, ◌⊎◌, ℕ, ◌*◌, ◌≤◌, List, length}
 use Rattle.capn_walk.specs.declared.walk_answer.Stopped.{Stopped}
 use Rattle.capn_canon.specs.declared.refusal.Refusal.TheVariants as refusals

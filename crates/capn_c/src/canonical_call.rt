@@ -24,7 +24,7 @@ use capn_reports::{
 use capn_walk::Limits;
 use std::alloc::Global;
 
-/// A length that is enough for the canonical bytes of a message, which are not laid out.
+/// Returns a length that is enough for the canonical bytes of a message, which are not laid out.
 fn survey_length(
     alloc: Global,
     form: Form,
@@ -57,12 +57,12 @@ fn survey_length(
     }
 }
 
-/// The canonical bytes of a message, into a buffer.
+/// Writes the canonical bytes of the message that `bytes` encode in a `form` to `out`.
 ///
-/// 0: the answer is at the start of the buffer. 1: the buffer has no room for it, and is as it was; `length` is
-/// what it needs, exactly; if the buffer has no bytes at all, the message is surveyed and nothing is written, and
-/// `length` is 8 for each word paid and 8 more, which is enough. 2, 3 and 4: the form, a limit or the tariff is out of
-/// its range. 8: memory was refused. Others: the refusal.
+/// 0: the answer is at the start of the buffer. 1: the buffer has no room for it, and is as it was; `length` is what it
+/// needs, exactly; if the buffer has no bytes at all, the message is surveyed and nothing is written, and `length` is 8
+/// for each word paid and 8 more, which is enough. 2, 3 and 4: the form, a limit or the tariff is out of its range. 8:
+/// memory was refused. Others: the refusal.
 ///
 /// Bare words, and a stream of at most 64 segments, take no memory: their canonical bytes are written into the buffer.
 #[unsafe(no_mangle)]
@@ -78,7 +78,7 @@ pub extern "C" fn capn_canonical(
     ensures form { (result ≡ 2) ↔ (IsForm form → ⊥) }
     ensures limits { (result ≡ 3) ↔ (IsForm form × (GiveLimits limits.now → ⊥)) }
     ensures tariff { (result ≡ 4) ↔ (IsForm form × GiveLimits limits.now × (IsTariff limits.now.tariff → ⊥)) }
-    // The answer: the canonical bytes of the one value that the bytes denote, and what the walk pays.
+    // The answer: the canonical bytes of the one value that the bytes denote, and the words that the walk pays.
     ensures found { result ≤ 1 → (text : List ℕ)
         × Answers (form_named form) bytes.now (bounds_of limits.now) text report.new.paid
         × Serves text result report.new out.old out.new }
@@ -90,10 +90,10 @@ pub extern "C" fn capn_canonical(
     ensures rest { result ≤ 1 → report.new ≡ answered report.new.length report.new.paid 0 }
     ensures blank { 2 ≤ result → result ≤ 4 → report.new ≡ at_number 0 }
     ensures listed { IsTrue (is_status result) }
-    // What each refusal means; no other status stands for it.
+    // The meaning of each refusal; no other status stands for it.
     ensures refused { 5 ≤ result → (e : Refusals) × Reports result report.new e
         × IsRefused (form_named form) bytes.now (bounds_of limits.now) e }
-    // Memory is needed only for where two segments or more end, for what a text packs, and, if there is room, for
+    // Memory is needed only for the ends of two segments or more, for what a text packs, and, if there is room, for
     // canonical bytes.
     ensures memory { result ≡ 8 → MayNeedBytesIn (form_named form) bytes.now (bounds_of limits.now) }
     ensures measuring { result ≡ 8 → length out.old ≡ 0
@@ -103,7 +103,7 @@ pub extern "C" fn capn_canonical(
     // No walk reports more paid than its budget.
     ensures bounded { IsBounded limits.now.budget report.new.paid report.new.visits }
     ensures short { result ≤ 1 → report.new.length ≤ 8 * (report.new.paid + 1) }
-    // Where nothing is answered, the buffer is as it was.
+    // If nothing is answered, the buffer is as it was.
     ensures kept { result ≢ 0 → out.new ≡ out.old }
     // Read bare under the same limits, the answer denotes the trimmed value, which is the same value, and pays exactly
     // its cost; its canonical bytes are the answer again; and a second value has these if and only if it is the same.

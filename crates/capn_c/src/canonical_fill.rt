@@ -23,7 +23,7 @@ use capn_walk::Limits;
 use capn_words::Bare;
 use std::alloc::Global;
 
-/// The canonical bytes of a message in any form, which are laid out in memory and copied.
+/// Writes the canonical bytes of a message in any `form` to `out`; they are laid out in memory and copied.
 #[inline(never)]
 fn fill_copied(
     alloc: Global,
@@ -57,7 +57,7 @@ fn fill_copied(
     }
 }
 
-/// The same of bare words, which are written where they are to be.
+/// Writes the canonical bytes of bare words to `out`, in place.
 fn fill_bare(
     alloc: Global,
     bytes: &[u8],
@@ -87,8 +87,8 @@ fn fill_bare(
     }
 }
 
-/// The same of a frame: of at most 64 segments they are written where they are to be. Where these end lies on its
-/// stack, and not on that of the other forms.
+/// Writes the canonical bytes of a frame to `out`: those of at most 64 segments in place. The ends of the segments lie
+/// on its stack, and not on that of the other forms.
 #[inline(never)]
 fn fill_frame(
     alloc: Global,
@@ -123,7 +123,8 @@ fn fill_frame(
     }
 }
 
-/// The canonical bytes of a message, into a buffer.
+/// Writes the canonical bytes of the message that `bytes` encode in this `form` to `out`, with the `report`; returns
+/// the status.
 pub fn fill(
     alloc: Global,
     form: Form,

@@ -19,7 +19,8 @@ use capn_reports::{CapnLimits, CapnReport, NO_ROOM, answer_of, limits_of, refuse
 use capn_walk::Limits;
 use std::alloc::Global;
 
-/// A length that is enough for the canonical bytes of a message that is held in segments, which are not laid out.
+/// Returns a length that is enough for the canonical bytes of a message that is held in `segments`; they are not laid
+/// out.
 fn held_length(
     alloc: Global,
     segments: &[&[[u8; 8]]],
@@ -51,7 +52,7 @@ fn held_length(
     }
 }
 
-/// The canonical bytes of a message that is held in segments, into a buffer.
+/// Writes the canonical bytes of a message that is held in `segments` to `out`.
 fn fill_held(
     alloc: Global,
     segments: &[&[[u8; 8]]],
@@ -82,12 +83,12 @@ fn fill_held(
     }
 }
 
-/// The canonical bytes of a message that is held in segments, each its words of 8 bytes, into a buffer.
+/// Writes the canonical bytes of a message that is held in `segments`, each its words of 8 bytes, to `out`.
 ///
-/// 0: the answer is at the start of the buffer. 1: the buffer has no room for it, and is as it was; `length` is
-/// what it needs, exactly; if the buffer has no bytes at all, the message is surveyed and nothing is written, and
-/// `length` is 8 for each word paid and 8 more, which is enough. 3 and 4: a limit or the tariff is out of its range.
-/// Others: the refusal, as of the frame of the same segments: 48, if there are none. It takes no memory.
+/// 0: the answer is at the start of the buffer. 1: the buffer has no room for it, and is as it was; `length` is what it
+/// needs, exactly; if the buffer has no bytes at all, the message is surveyed and nothing is written, and `length` is 8
+/// for each word paid and 8 more, which is enough. 3 and 4: a limit or the tariff is out of its range. Others: the
+/// refusal, as of the frame of the same segments: 48, if there are none. It takes no memory.
 #[unsafe(no_mangle)]
 pub extern "C" fn capn_canonical_segments(
     alloc: Global,
@@ -99,7 +100,7 @@ pub extern "C" fn capn_canonical_segments(
     // The limits are tested first.
     ensures limits { (result ≡ 3) ↔ (GiveLimits limits.now → ⊥) }
     ensures tariff { (result ≡ 4) ↔ (GiveLimits limits.now × (IsTariff limits.now.tariff → ⊥)) }
-    // The answer: the canonical bytes of the one value that the message denotes, and what the walk pays.
+    // The answer: the canonical bytes of the one value that the message denotes, and the words that the walk pays.
     ensures found { result ≤ 1 → (text : List ℕ)
         × AnswersHeld (message_of segments.now) (bounds_of limits.now) text report.new.paid
         × Serves text result report.new out.old out.new }
@@ -111,7 +112,7 @@ pub extern "C" fn capn_canonical_segments(
     ensures rest { result ≤ 1 → report.new ≡ answered report.new.length report.new.paid 0 }
     ensures blank { 2 ≤ result → result ≤ 4 → report.new ≡ at_number 0 }
     ensures listed { IsTrue (is_status result) }
-    // What each refusal means; no other status stands for it.
+    // The meaning of each refusal; no other status stands for it.
     ensures refused { 5 ≤ result → (e : Refusals) × Reports result report.new e
         × IsRefusedHeld (message_of segments.now) (bounds_of limits.now) e }
     // No memory is needed.
@@ -119,7 +120,7 @@ pub extern "C" fn capn_canonical_segments(
     // No walk reports more paid than its budget.
     ensures bounded { IsBounded limits.now.budget report.new.paid report.new.visits }
     ensures short { result ≤ 1 → report.new.length ≤ 8 * (report.new.paid + 1) }
-    // Where nothing is answered, the buffer is as it was.
+    // If nothing is answered, the buffer is as it was.
     ensures kept { result ≢ 0 → out.new ≡ out.old }
     // Read bare under the same limits, the answer denotes the trimmed value, which is the same value, and pays exactly
     // its cost; its canonical bytes are the answer again; and a second value has these if and only if it is the same.

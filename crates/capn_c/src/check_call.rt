@@ -21,7 +21,7 @@ use capn_reports::{
 use capn_walk::Limits;
 use std::alloc::Global;
 
-/// What the walk of a message pays and visits.
+/// Surveys the message that `bytes` encode in this `form`.
 fn check(alloc: Global, form: Form, bytes: &[u8], limits: Limits, report: &mut CapnReport) -> u32
     ensures possible { (result ≡ 0) ⊎ (8 ≤ result) }
     ensures found { result ≡ 0 → (s : Survey) × Surveys form bytes.now limits s
@@ -43,10 +43,11 @@ fn check(alloc: Global, form: Form, bytes: &[u8], limits: Limits, report: &mut C
     }
 }
 
-/// Whether a message is accepted within limits, and what reading it pays.
+/// Tests whether the message that `bytes` encode in a `form` is accepted within `limits`, and reports the words that
+/// reading it pays.
 ///
 /// 0: it is; `paid` and `visits` are those of its walk. 2, 3 and 4: the form, a limit or the tariff is out of its
-/// range. 8: memory was refused: for where more than 64 segments end, or for what is unpacked. Others: the refusal,
+/// range. 8: memory was refused: for the ends of more than 64 segments, or for what is unpacked. Others: the refusal,
 /// which is never that of a capability.
 #[unsafe(no_mangle)]
 pub extern "C" fn capn_check(
@@ -60,7 +61,8 @@ pub extern "C" fn capn_check(
     ensures form { (result ≡ 2) ↔ (IsForm form → ⊥) }
     ensures limits { (result ≡ 3) ↔ (IsForm form × (GiveLimits limits.now → ⊥)) }
     ensures tariff { (result ≡ 4) ↔ (IsForm form × GiveLimits limits.now × (IsTariff limits.now.tariff → ⊥)) }
-    // The bytes are an accepted message; the report says what its walk pays, how many visits it makes, and no more.
+    // The bytes are an accepted message; the report has the words that its walk pays, the number of its visits, and no
+    // more.
     ensures found { result ≡ 0 → (s : Survey) × Surveys (form_named form) bytes.now (bounds_of limits.now) s
         × (report.new ≡ answered 0 s.paid s.visits) }
     // This is the answer for a message that is accepted, unless memory runs out.
@@ -68,10 +70,10 @@ pub extern "C" fn capn_check(
         → Denotes (form_named form) bytes.now (bounds_of limits.now) v → (result ≡ 0) ⊎ (result ≡ 8) }
     ensures blank { 1 ≤ result → result ≤ 4 → report.new ≡ at_number 0 }
     ensures listed { IsTrue (is_status result) }
-    // What each refusal means; no other status stands for it.
+    // The meaning of each refusal; no other status stands for it.
     ensures refused { 5 ≤ result → (e : Refusals) × Reports result report.new e
         × IsUnacceptedIn (form_named form) bytes.now (bounds_of limits.now) e }
-    // Memory is needed only for where two segments or more end, and for what a text packs.
+    // Memory is needed only for the ends of two segments or more, and for what a text packs.
     ensures memory { result ≡ 8 → MayNeedMemory (form_named form) bytes.now (bounds_of limits.now) }
     // Of those, it is asked for only by a frame of more than 64 segments, and by a packed text.
     ensures asked { result ≡ 8 → MayAsk (form_named form) bytes.now (bounds_of limits.now) }

@@ -15,7 +15,7 @@ use capn_reports::{CapnLimits, CapnReport, DONE, answer_of, limits_of, refuse, r
 use capn_walk::Limits;
 use std::alloc::Global;
 
-/// What the walk of a message that is held in segments pays and visits.
+/// Surveys a message that is held in `segments`.
 fn check_held(
     alloc: Global,
     segments: &[&[[u8; 8]]],
@@ -41,7 +41,8 @@ fn check_held(
     }
 }
 
-/// Whether a message that is held in segments is accepted within limits, and what reading it pays.
+/// Tests whether a message that is held in `segments` is accepted within `limits`, and reports the words that reading
+/// it pays.
 ///
 /// 0: it is; `paid` and `visits` are those of its walk. 3 and 4: a limit or the tariff is out of its range. Others: the
 /// refusal, as of the frame of the same segments: 48, if there are none. It takes no memory.
@@ -55,7 +56,8 @@ pub extern "C" fn capn_check_segments(
     // The limits are tested first.
     ensures limits { (result ≡ 3) ↔ (GiveLimits limits.now → ⊥) }
     ensures tariff { (result ≡ 4) ↔ (GiveLimits limits.now × (IsTariff limits.now.tariff → ⊥)) }
-    // The segments are an accepted message; the report says what its walk pays, how many visits it makes, and no more.
+    // The segments are an accepted message; the report has the words that its walk pays, the number of its visits, and
+    // no more.
     ensures found { result ≡ 0 → (s : Survey) × SurveysHeld (message_of segments.now) (bounds_of limits.now) s
         × (report.new ≡ answered 0 s.paid s.visits) }
     // This is the answer for a message that is accepted.
@@ -63,7 +65,7 @@ pub extern "C" fn capn_check_segments(
         → DenotesHeld (message_of segments.now) (bounds_of limits.now) v → result ≡ 0 }
     ensures blank { 1 ≤ result → result ≤ 4 → report.new ≡ at_number 0 }
     ensures listed { IsTrue (is_status result) }
-    // What each refusal means; no other status stands for it.
+    // The meaning of each refusal; no other status stands for it.
     ensures refused { 5 ≤ result → (e : Refusals) × Reports result report.new e
         × IsUnacceptedHeld (message_of segments.now) (bounds_of limits.now) e }
     // No memory is needed.

@@ -1,4 +1,4 @@
-//! Where a message leaves its canonical bytes, as C reads it.
+//! The departure of a message from its canonical bytes, as C reads it.
 
 ghost use Rattle.std.specs.Prelude.{◌≡◌, ◌≤◌, length};
 ghost use Rattle.capn_answers.specs.Departures as departures;
@@ -11,25 +11,25 @@ use std::alloc::Global;
 #[derive(Clone, Copy)]
 #[repr(C)]
 pub struct CapnDeparted {
-    /// What the word is in the message,
+    /// The value of the word in the message,
     pub is: u64,
-    /// and what in the canonical bytes.
+    /// and in the canonical bytes.
     pub canonical: u64,
     /// The number of the kind.
     pub kind: u32,
-    /// What the word is of its owner.
+    /// The number of the kind of the word in its owner.
     pub owner: u32,
     /// The number of the word.
     pub word: u32,
     /// The number of segments; the index of a capability.
     pub count: u32,
-    /// How many numbers the way has.
+    /// The length of the way, in numbers.
     pub numbers: u32,
     /// Always 0.
     pub zero: u32,
 }
 
-/// The number of what an owner's word is.
+/// Returns the number of the kind of the word in its owner.
 fn number_of_owner(whose: &Whose<Global>) -> u32
     ensures { result ≡ told.owner_number whose.now }
 {
@@ -40,7 +40,7 @@ fn number_of_owner(whose: &Whose<Global>) -> u32
     }
 }
 
-/// The way to an owner's slot.
+/// Returns the way to the slot of an owner.
 fn way_of_owner(whose: &Whose<Global>) -> &[u32]
     ensures { result.now ≡ departures.owner_way whose.now }
 {
@@ -51,7 +51,7 @@ fn way_of_owner(whose: &Whose<Global>) -> &[u32]
     }
 }
 
-/// The way that an answer has, or no numbers.
+/// Returns the way of `departure`, or no numbers.
 pub fn way_of(departure: &Departure<Global>) -> &[u32]
     ensures { result.now ≡ departures.way_of departure.now }
 {
@@ -64,7 +64,7 @@ pub fn way_of(departure: &Departure<Global>) -> &[u32]
     }
 }
 
-/// No departure, with the number of a kind.
+/// Returns a departure of this `kind` and no other number, with a way of so many `numbers`.
 fn of_kind(kind: u32, numbers: u32) -> CapnDeparted
     ensures { result ≡ record {
       is = 0;
@@ -89,7 +89,7 @@ fn of_kind(kind: u32, numbers: u32) -> CapnDeparted
     }
 }
 
-/// The numbers of an answer, whose way has so many.
+/// Returns `departure` as C reads it, with a way of so many `numbers`.
 pub fn departed_of(departure: &Departure<Global>, numbers: u32) -> CapnDeparted
     requires numbers { numbers ≡ length (departures.way_of departure.now) }
     ensures { result ≡ told.departed_of departure.now }

@@ -1,4 +1,4 @@
-//! Where messages leave their canonical bytes.
+//! The departures of messages from their canonical bytes.
 
 ghost use Rattle.std.specs.Prelude.{IsTrue, ◌≡◌, ◌≢◌, ◌⊎◌, ◌↔◌, ◌≤◌, ◌*◌, ℕ, List, length};
 ghost use Rattle.capn_value.specs.Tree.{Tree as Value};
@@ -25,7 +25,7 @@ use capn_reports::{
 use capn_walk::{Limits, Surveyed};
 use std::alloc::Global;
 
-/// Tells where an accepted message leaves its canonical bytes.
+/// Reports the departure `found` of an accepted message, with the way in the room `way`.
 fn tell_departure(
     found: &Departure<Global>,
     surveyed: Surveyed,
@@ -47,7 +47,7 @@ fn tell_departure(
     place_way(numbers, way);
 }
 
-/// Where a message in a form leaves its canonical bytes.
+/// Finds the departure of the message that `bytes` encode in this `form`, and reports it.
 fn depart(
     alloc: Global,
     form: Form,
@@ -80,13 +80,14 @@ fn depart(
     }
 }
 
-/// Whether an accepted message is canonical, and if not, the first reason, with the way to a slot, into a room.
+/// Tests whether an accepted message is canonical, and if not, finds the first reason, `departed`, with the numbers of
+/// the way to a slot, in the room `way`.
 ///
-/// 0: it is told; `length` is 4 bytes for each number of the way, and `paid` and `visits` are those of the walk. The
-/// numbers are at the start of the room if it has room for all of them; else it is as it was. 2, 3 and 4: the form, a
-/// limit or the tariff is out of its range. 8: memory was refused: for the table of more than 64 segments, for what is
-/// unpacked, and, of a message of one segment that is not canonical, for its canonical bytes and for the way. Others:
-/// the refusal, which is never that of a capability.
+/// 0: it is reported; `length` is 4 bytes for each number of the way, and `paid` and `visits` are those of the walk.
+/// The numbers are at the start of the room if it has room for all of them; else it is as it was. 2, 3 and 4: the form,
+/// a limit or the tariff is out of its range. 8: memory was refused: for the table of more than 64 segments, for what
+/// is unpacked, and, of a message of one segment that is not canonical, for its canonical bytes and for the way.
+/// Others: the refusal, which is never that of a capability.
 ///
 /// Two numbers for each level of the depth limit are enough.
 #[unsafe(no_mangle)]
@@ -103,8 +104,8 @@ pub extern "C" fn capn_departure(
     ensures form { (result ≡ 2) ↔ (IsForm form → ⊥) }
     ensures limits { (result ≡ 3) ↔ (IsForm form × (GiveLimits limits.now → ⊥)) }
     ensures tariff { (result ≡ 4) ↔ (IsForm form × GiveLimits limits.now × (IsTariff limits.now.tariff → ⊥)) }
-    // The bytes are an accepted message, and this is where it leaves its canonical bytes; the way is in the room if
-    // that has room for it, and the report says its length, and what the walk pays and visits.
+    // The bytes are an accepted message, and this is its departure from its canonical bytes; the way is in the room if
+    // that has room for it, and the report has its length, the words that the walk pays, and its visits.
     ensures found { result ≡ 0 → TellsDeparture (form_named form) bytes.now (bounds_of limits.now)
         departed.new report.new way.old way.new }
     // A message that is accepted is answered, unless memory runs out.
@@ -114,17 +115,17 @@ pub extern "C" fn capn_departure(
     ensures short { result ≡ 0 → report.new.length ≤ 8 * limits.now.depth }
     ensures blank { 1 ≤ result → result ≤ 4 → report.new ≡ at_number 0 }
     ensures listed { IsTrue (is_status result) }
-    // What each refusal means; no other status stands for it.
+    // The meaning of each refusal; no other status stands for it.
     ensures refused { 5 ≤ result → (e : Refusals) × Reports result report.new e
         × IsUnacceptedIn (form_named form) bytes.now (bounds_of limits.now) e }
-    // Memory is needed only for where two segments or more end, for what a text packs, and for a message of one segment
-    // that is not canonical.
+    // Memory is needed only for the ends of two segments or more, for what a text packs, and for a message of one
+    // segment that is not canonical.
     ensures memory { result ≡ 8 → MayNeedDeparture (form_named form) bytes.now (bounds_of limits.now) }
     // Of those, it is asked for only by a frame of more than 64 segments, by a packed text, and by such a message.
     ensures asked { result ≡ 8 → MayAskForDeparture (form_named form) bytes.now (bounds_of limits.now) }
     // No walk reports more paid than its budget.
     ensures bounded { IsBounded limits.now.budget report.new.paid report.new.visits }
-    // Where nothing is told, the departure and the room are as they were.
+    // If nothing is reported, the departure and the room are as they were.
     ensures kept { result ≢ 0 → (departed.new ≡ departed.old) × (way.new ≡ way.old) }
 {
     *report = report_at(0);

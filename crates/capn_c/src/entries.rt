@@ -7,7 +7,8 @@ ghost use Rattle.capn_c.specs.Entries.{c_entry, kind_number, starts_from};
 use capn_walk::{Entry, EntryForm, Kind};
 use capn_words::Space;
 
-/// What an index has for a slot: what its pointer names, and how many entries it takes with all below it.
+/// An entry of an index for a slot: the target of its pointer, and the number of entries that it takes with all below
+/// it.
 #[derive(Clone, Copy)]
 #[repr(C)]
 pub struct CapnEntry {
@@ -15,7 +16,7 @@ pub struct CapnEntry {
     pub offset: u64,
     /// The number of elements or rows of a list; the index of a capability; else 0.
     pub count: u32,
-    /// How many entries it takes, with those of all slots below it.
+    /// The number of entries that it takes, with those of all slots below it.
     pub span: u32,
     /// The data words of a struct, or of each row; else 0.
     pub words: u16,
@@ -25,7 +26,7 @@ pub struct CapnEntry {
     pub kind: u32,
 }
 
-/// The number of a kind.
+/// Returns the number of `kind`.
 #[inline(always)]
 fn number_of_kind(kind: Kind) -> u32
     ensures { result ≡ kind_number kind }
@@ -45,7 +46,7 @@ fn number_of_kind(kind: Kind) -> u32
     }
 }
 
-/// Where a segment starts.
+/// Returns the word at which `segment` starts.
 #[inline(always)]
 fn start_of(starts: &[u32], segment: u32) -> u32
     ensures { result ≡ get_or starts.now segment 0 }
@@ -58,7 +59,7 @@ fn start_of(starts: &[u32], segment: u32) -> u32
     }
 }
 
-/// An entry as C reads it.
+/// Returns `entry` as C reads it.
 #[inline(always)]
 fn entry_of(entry: Entry, table: u32, starts: &[u32]) -> CapnEntry
     ensures { result ≡ c_entry table starts.now entry }
@@ -77,9 +78,9 @@ fn entry_of(entry: Entry, table: u32, starts: &[u32]) -> CapnEntry
 /// The form in which C reads entries: with offsets in bytes.
 #[derive(Drop)]
 pub struct Offsets<'a> {
-    /// How many bytes come before the words.
+    /// The number of bytes before the words.
     pub table: u32,
-    /// Where each segment starts, in words after the table.
+    /// The start of each segment, in words after the table.
     pub starts: &'a [u32],
 }
 
@@ -105,14 +106,14 @@ impl<'a> EntryForm for Offsets<'a> {
     }
 }
 
-/// The words of a segment.
+/// Returns the number of words of `segment`.
 fn words_at<S: Space>(space: &S, segment: u32) -> u32
     ensures { result ≡ length (segment_at (S.message space.now) segment) }
 {
     space.words(segment).unwrap_or(0)
 }
 
-/// Writes where each segment of a message starts, in words after its table, at the start of a room.
+/// Writes the start of each segment of the message `space`, in words after its table, at the start of `starts`.
 #[tactic(auto, using(std::proofs::lemmas::List::Sums::sum_by_more_le))]
 pub fn put_starts<S: Space>(space: &S, starts: &mut [u32])
     requires { length (S.message space.now) ≤ length starts.old }

@@ -14,7 +14,7 @@ use capn_walk::Limits;
 use capn_words::{Space, total_words};
 use std::alloc::Global;
 
-/// What a survey says of a message.
+/// The figures of a message that a survey finds.
 #[derive(Clone, Copy)]
 #[repr(C)]
 pub struct CapnFigures {
@@ -24,7 +24,7 @@ pub struct CapnFigures {
     pub segments: u32,
     /// The words that the walk pays.
     pub paid: u32,
-    /// How many visits it makes.
+    /// The number of visits that it makes.
     pub visits: u32,
     /// The least depth under which the message is accepted; 0 for a null root.
     pub depth: u32,
@@ -36,7 +36,7 @@ pub struct CapnFigures {
     pub canonical: u32,
 }
 
-/// The figures of a message, by what was measured of it.
+/// Returns the figures of a message that was `measured`.
 fn figures_by<S: Space>(space: &S, measured: MeasuredBare) -> CapnFigures
     ensures words { result.words ≡ total (S.message space.now) }
     ensures segments { result.segments ≡ length (S.message space.now) }
@@ -64,7 +64,7 @@ fn figures_by<S: Space>(space: &S, measured: MeasuredBare) -> CapnFigures
     }
 }
 
-/// The figures of a message, or why it is not accepted.
+/// Returns the figures of the message `space` within `limits`, or the reason why it is not accepted.
 ///
 /// A message whose bytes are canonical is walked once, another of one segment twice at most, and one of more segments
 /// once. It takes no memory.

@@ -18,7 +18,7 @@ use capn_reports::{
 use capn_stream::{FrameFault, first};
 use std::alloc::Global;
 
-/// The report of a refusal.
+/// Returns the report of a refusal.
 fn report_of_frame(fault: FrameFault, bytes: &[u8], most: u32) -> CapnReport
     requires small { most ≤ most_message_words }
     requires refused { IsFrameRefused bytes.now most fault }
@@ -31,7 +31,7 @@ fn report_of_frame(fault: FrameFault, bytes: &[u8], most: u32) -> CapnReport
     }
 }
 
-/// Reports a refusal of bytes: its numbers in the report, and its status.
+/// Reports a refusal of `bytes`: writes its numbers to `report`, and returns its status.
 fn refuse_frame(fault: FrameFault, bytes: &[u8], most: u32, report: &mut CapnReport) -> u32
     requires small { most ≤ most_message_words }
     requires refused { IsFrameRefused bytes.now most fault }
@@ -41,7 +41,7 @@ fn refuse_frame(fault: FrameFault, bytes: &[u8], most: u32, report: &mut CapnRep
     code_of_frame(fault)
 }
 
-/// The length of the frame of at most `most` words that comes first.
+/// Returns the length of the frame of at most `most` words that comes first.
 fn length_of(alloc: Global, bytes: &[u8], most: u32) -> Result<usize, FrameFault>
     requires small { most ≤ most_message_words }
     ensures found { IfOk result (λ taken. (message : List (List ℕ)) × StandsFirst bytes.now most message taken) }
@@ -54,7 +54,7 @@ fn length_of(alloc: Global, bytes: &[u8], most: u32) -> Result<usize, FrameFault
     Ok(taken)
 }
 
-/// The length of the frame of at most `most` words that comes first, or how many bytes it needs.
+/// Reports the length of the frame of at most `most` words that comes first, or the number of bytes that it needs.
 fn frame(alloc: Global, bytes: &[u8], most: u32, report: &mut CapnReport) -> u32
     requires small { most ≤ most_message_words }
     ensures possible { (result ≡ 0) ⊎ (8 ≤ result) }
@@ -77,13 +77,13 @@ fn frame(alloc: Global, bytes: &[u8], most: u32, report: &mut CapnReport) -> u32
     }
 }
 
-/// The length of the first frame in the bytes of a stream, or how many bytes it needs.
+/// Reports the length of the first frame in the `bytes` of a stream, or the number of bytes that it needs.
 ///
 /// 0: `length` bytes are the frame. 3 and 4: a limit or the tariff is out of its range. 8: memory was refused. 48 and
 /// 51: there are no bytes, or the frame is cut; it has at least `length` bytes, counted from its start. 49 and 50: too
 /// many segments or words are announced, `at`.
 ///
-/// It takes memory only for where two segments or more end, once their whole frame is there.
+/// It takes memory only for the ends of two segments or more, once their whole frame is there.
 #[unsafe(no_mangle)]
 pub extern "C" fn capn_first(
     alloc: Global,
@@ -105,7 +105,7 @@ pub extern "C" fn capn_first(
     ensures rest { result ≡ 0 → report.new ≡ answered report.new.length 0 0 }
     ensures blank { 1 ≤ result → result ≤ 4 → report.new ≡ at_number 0 }
     ensures listed { IsTrue (is_status result) }
-    // What each refusal means; no other status stands for it.
+    // The meaning of each refusal; no other status stands for it.
     ensures refused { 5 ≤ result → (e : Faults) × ReportsFrame bytes.now result report.new e
         × IsFrameRefused bytes.now limits.now.message_words e }
     // A frame that is not whole: none that begins like this is shorter than the length reported, which is more than

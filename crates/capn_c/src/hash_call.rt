@@ -22,7 +22,7 @@ use capn_reports::{
 use capn_walk::Limits;
 use std::alloc::Global;
 
-/// The SHA-256 of the canonical bytes of a message in a form.
+/// Reports the SHA-256 of the canonical bytes of the message that `bytes` encode in this `form`.
 fn hash(
     alloc: Global,
     form: Form,
@@ -55,7 +55,7 @@ fn hash(
     }
 }
 
-/// The SHA-256 of the canonical bytes of a message.
+/// Writes the SHA-256 of the canonical bytes of the message that `bytes` encode in a `form` to `digest`.
 ///
 /// 0: the digest is written. 2, 3 and 4: the form, a limit or the tariff is out of its range. 8: memory was refused:
 /// where `capn_check` takes it, or for the canonical bytes of a message that is not canonical. Others: the refusal.
@@ -84,17 +84,17 @@ pub extern "C" fn capn_hash(
     ensures rest { result ≡ 0 → report.new ≡ answered 0 report.new.paid 0 }
     ensures blank { 1 ≤ result → result ≤ 4 → report.new ≡ at_number 0 }
     ensures listed { IsTrue (is_status result) }
-    // What each refusal means; no other status stands for it.
+    // The meaning of each refusal; no other status stands for it.
     ensures refused { 5 ≤ result → (e : Refusals) × Reports result report.new e
         × IsRefused (form_named form) bytes.now (bounds_of limits.now) e }
-    // Memory is needed only for where two segments or more end, for what a text packs, and for canonical bytes.
+    // Memory is needed only for the ends of two segments or more, for what a text packs, and for canonical bytes.
     ensures memory { result ≡ 8 → MayNeedBytesIn (form_named form) bytes.now (bounds_of limits.now) }
     // Of those, it is asked for only by a frame of more than 64 segments, by a packed text, and for the canonical bytes
     // of a message that is not canonical.
     ensures asked { result ≡ 8 → MayAskOrMake (form_named form) bytes.now (bounds_of limits.now) }
     // No walk reports more paid than its budget.
     ensures bounded { IsBounded limits.now.budget report.new.paid report.new.visits }
-    // Where nothing is answered, the buffer is as it was.
+    // If nothing is answered, the buffer is as it was.
     ensures kept { result ≢ 0 → digest.new ≡ digest.old }
 {
     *report = report_at(0);

@@ -19,7 +19,7 @@ use capn_walk::Limits;
 use sha2::{Digest, Sha256};
 use std::alloc::Global;
 
-/// The SHA-256 of the canonical bytes of a message that is held in segments.
+/// Reports the SHA-256 of the canonical bytes of a message that is held in `segments`.
 fn hash_held(
     alloc: Global,
     segments: &[&[[u8; 8]]],
@@ -50,7 +50,8 @@ fn hash_held(
     }
 }
 
-/// The SHA-256 of the canonical bytes of a message that is held in segments, each its words of 8 bytes.
+/// Writes the SHA-256 of the canonical bytes of a message that is held in `segments`, each its words of 8 bytes, to
+/// `digest`.
 ///
 /// 0: the digest is written. 3 and 4: a limit or the tariff is out of its range. 8: memory was refused, for canonical
 /// bytes. Others: the refusal, as of the frame of the same segments: 48, if there are none.
@@ -77,14 +78,14 @@ pub extern "C" fn capn_hash_segments(
     ensures rest { result ≡ 0 → report.new ≡ answered 0 report.new.paid 0 }
     ensures blank { 1 ≤ result → result ≤ 4 → report.new ≡ at_number 0 }
     ensures listed { IsTrue (is_status result) }
-    // What each refusal means; no other status stands for it.
+    // The meaning of each refusal; no other status stands for it.
     ensures refused { 5 ≤ result → (e : Refusals) × Reports result report.new e
         × IsRefusedHeld (message_of segments.now) (bounds_of limits.now) e }
     // Memory is needed only for canonical bytes.
     ensures memory { result ≡ 8 → MayNeedBytes (message_of segments.now) (bounds_of limits.now) }
     // No walk reports more paid than its budget.
     ensures bounded { IsBounded limits.now.budget report.new.paid report.new.visits }
-    // Where nothing is answered, the buffer is as it was.
+    // If nothing is answered, the buffer is as it was.
     ensures kept { result ≢ 0 → digest.new ≡ digest.old }
 {
     *report = report_at(0);

@@ -23,7 +23,8 @@ use capn_walk::{Limits, Surveyed};
 use capn_words::Space;
 use std::alloc::Global;
 
-/// The message that segments hold within limits, or why they hold none, by the fault of a frame of the same segments.
+/// Reads `segments` as a message within `limits`: returns it, or the reason why they hold none, by the fault of a frame
+/// of the same segments.
 pub fn held<'a>(segments: &'a [&'a [[u8; 8]]], limits: Limits) -> Result<Segments<'a>, Refusal>
     ensures exact { IsHeldOr (message_of segments.now) limits result }
     ensures only { IsHeld (message_of segments.now) limits.message_words → result ≡ Ok (message_of segments.now) }
@@ -40,7 +41,7 @@ pub fn held<'a>(segments: &'a [&'a [[u8; 8]]], limits: Limits) -> Result<Segment
     }
 }
 
-/// The canonical bytes of a message that is held in segments.
+/// Writes the canonical bytes of a message that is held in `segments`, within `limits`, to memory of `alloc`.
 pub fn canonical_held(
     alloc: Global,
     segments: &[&[[u8; 8]]],
@@ -60,7 +61,7 @@ pub fn canonical_held(
     canonical_of(alloc, &message, limits)
 }
 
-/// A survey of a message, with a bound of the length of its canonical bytes.
+/// Surveys the message `space` within `limits`, with a bound of the length of its canonical bytes.
 pub fn survey_short<S: Space>(alloc: Global, space: &S, limits: Limits) -> Result<Surveyed, Refusal>
     ensures found { IfOk result (λ s. IsSurvey (S.message space.now) limits s) }
     ensures only { (v : Value) → IsValueOf (S.message space.now) limits v
@@ -72,14 +73,14 @@ pub fn survey_short<S: Space>(alloc: Global, space: &S, limits: Limits) -> Resul
     ensures short { IfOk result (λ s. (v : Value) → IsValueOf (S.message space.now) limits v
         → length (canon v) ≤ 8 * (s.paid + 1)) }
 {
-    // The clause on the length needs what they promise.
+    // The clause on the length needs their promises.
     let _segments = space.segments();
     let _budget = limits.budget();
     let _depth = limits.depth();
     survey(alloc, space, limits)
 }
 
-/// What the walk of a message that is held in segments pays and visits, and its first capability.
+/// Surveys a message that is held in `segments`, within `limits`.
 pub fn survey_held(
     alloc: Global,
     segments: &[&[[u8; 8]]],
@@ -99,7 +100,8 @@ pub fn survey_held(
     survey_short(alloc, &message, limits)
 }
 
-/// The figures of a message that is held in segments, or why they hold none or it is not accepted.
+/// Returns the figures of a message that is held in `segments`, within `limits`, or the reason why they hold none or it
+/// is not accepted.
 pub fn figures_held(
     alloc: Global,
     segments: &[&[[u8; 8]]],

@@ -23,7 +23,7 @@ use capn_walk::Limits;
 use capn_walk::laws::indexes;
 use std::alloc::Global;
 
-/// The index of a message in a form, into a room; a packed text has none.
+/// Writes the index of a message in this `form` to `out`; a packed text has none.
 fn index_in(
     alloc: Global,
     form: Form,
@@ -55,12 +55,12 @@ fn index_in(
     }
 }
 
-/// The index of a message that is a stream or bare, into a room: an entry for each slot that its walk visits, in
-/// preorder.
+/// Writes the index of the message that `bytes` encode in a `form`, a stream or bare words, to `out`: an entry for each
+/// slot that its walk visits, in preorder.
 ///
 /// 0: the entries are at the start of the room. 1: there is no room for them, and the room is as it was. In both
-/// `visits` is how many they are, and `length` is 24 bytes for each. 2, 3 and 4: the form is neither, a limit or the
-/// tariff is out of its range. 8: memory was refused. Others: the refusal, which is never that of a capability.
+/// `visits` is their number, and `length` is 24 bytes for each. 2, 3 and 4: the form is neither, a limit or the tariff
+/// is out of its range. 8: memory was refused. Others: the refusal, which is never that of a capability.
 ///
 /// Bare words, and a stream of at most 64 segments, take no memory: their entries are written into the room. A stream
 /// of more segments takes it for its table.
@@ -77,7 +77,8 @@ pub extern "C" fn capn_index(
     ensures form { (result ≡ 2) ↔ (IsFlat form → ⊥) }
     ensures limits { (result ≡ 3) ↔ (IsFlat form × (GiveLimits limits.now → ⊥)) }
     ensures tariff { (result ≡ 4) ↔ (IsFlat form × GiveLimits limits.now × (IsTariff limits.now.tariff → ⊥)) }
-    // The bytes are an accepted message; the report says how many entries its index has, and what its walk pays.
+    // The bytes are an accepted message; the report has the number of entries of its index, and the words that its walk
+    // pays.
     ensures counted { result ≤ 1 → (s : Survey) × Surveys (form_named form) bytes.now (bounds_of limits.now) s
         × (report.new ≡ answered (24 * s.visits) s.paid s.visits) }
     // That number is the one of all entries of the index, whether they have room or not.
@@ -92,16 +93,16 @@ pub extern "C" fn capn_index(
         → Denotes (form_named form) bytes.now (bounds_of limits.now) v → (result ≤ 1) ⊎ (result ≡ 8) }
     ensures blank { 2 ≤ result → result ≤ 4 → report.new ≡ at_number 0 }
     ensures listed { IsTrue (is_status result) }
-    // What each refusal means; no other status stands for it.
+    // The meaning of each refusal; no other status stands for it.
     ensures refused { 5 ≤ result → (e : Refusals) × Reports result report.new e
         × IsUnacceptedIn (form_named form) bytes.now (bounds_of limits.now) e }
-    // Memory is needed only where `capn_check` may need it.
+    // Memory is needed only if `capn_check` may need it.
     ensures memory { result ≡ 8 → MayNeedMemory (form_named form) bytes.now (bounds_of limits.now) }
     // It is asked for only by a stream of more than 64 segments.
     ensures asked { result ≡ 8 → MayAsk (form_named form) bytes.now (bounds_of limits.now) }
     // No walk reports more paid than its budget.
     ensures bounded { IsBounded limits.now.budget report.new.paid report.new.visits }
-    // Where nothing is written, the room is as it was.
+    // If nothing is written, the room is as it was.
     ensures kept { result ≢ 0 → out.new ≡ out.old }
 {
     *report = report_at(0);

@@ -18,7 +18,7 @@ use capn_reports::{CapnLimits, CapnReport, DONE, NOT_CANONICAL, limits_of, refus
 use capn_walk::Limits;
 use std::alloc::Global;
 
-/// Whether bytes are the canonical bytes of their value.
+/// Tests whether `bytes` are the canonical bytes of their value, and reports it.
 fn test(alloc: Global, bytes: &[u8], limits: Limits, report: &mut CapnReport) -> u32
     ensures possible { (result ≡ 0) ⊎ (result ≡ 5) ⊎ (8 ≤ result) }
     ensures yes { result ≡ 0 → SaysCanonical bytes.now limits true }
@@ -40,10 +40,10 @@ fn test(alloc: Global, bytes: &[u8], limits: Limits, report: &mut CapnReport) ->
     }
 }
 
-/// Whether bytes, read bare within the limits, are the canonical bytes of the value that they denote.
+/// Tests whether `bytes`, read bare within `limits`, are the canonical bytes of the value that they denote.
 ///
-/// 0: they are. 5: they are not. 3 and 4: a limit or the tariff is out of its range. Others: the refusal, never
-/// that memory was refused.
+/// 0: they are. 5: they are not. 3 and 4: a limit or the tariff is out of its range. Others: the refusal, never that
+/// memory was refused.
 #[unsafe(no_mangle)]
 pub extern "C" fn capn_is_canonical(
     alloc: Global,
@@ -64,7 +64,7 @@ pub extern "C" fn capn_is_canonical(
     // The report of an answer is empty.
     ensures blank { result ≤ 5 → report.new ≡ at_number 0 }
     ensures listed { IsTrue (is_status result) }
-    // What each refusal means; no other status stands for it.
+    // The meaning of each refusal; no other status stands for it.
     ensures refused { 6 ≤ result → (e : Refusals) × Reports result report.new e
         × IsRefused forms.Bare bytes.now (bounds_of limits.now) e }
     // No memory is needed, whatever the depth.

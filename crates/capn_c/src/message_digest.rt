@@ -28,7 +28,7 @@ pub struct Digested {
     pub paid: u32,
 }
 
-/// The digest of a message that is canonical, which is hashed where it lies; `None` of any other.
+/// Returns the digest of a message that is canonical, which is hashed in place; `None` of any other.
 fn digest_in_place<S: Space>(space: &S, limits: Limits) -> Option<Digested>
     ensures found { IfSome result (λ d. (text : List ℕ) × AnswersMessage (S.message space.now) limits text d.paid
         × (d.digest ≡ sha256 text)) }
@@ -43,7 +43,7 @@ fn digest_in_place<S: Space>(space: &S, limits: Limits) -> Option<Digested>
     })
 }
 
-/// The digest of the canonical bytes of a message, which are made if it is not canonical.
+/// The task of the digest of the canonical bytes of a message, which are made if it is not canonical.
 #[derive(Clone, Copy)]
 struct Hash;
 
@@ -70,10 +70,11 @@ impl MessageTask<Global> for Hash {
     }
 }
 
-/// The digest of the canonical bytes of the message that bytes are in a form, or why it has none.
+/// Returns the digest of the canonical bytes of the message that `bytes` encode in this `form`, within `limits`, or the
+/// reason why it has none.
 ///
-/// The bytes are read once. Memory is asked for only by a packed text, by a frame of more than 64 segments, and by a
-/// message that is not canonical, of which a copy is made.
+/// The bytes are read once. Memory is asked of `alloc` only by a packed text, by a frame of more than 64 segments, and
+/// by a message that is not canonical, of which a copy is made.
 pub fn digest_in(
     alloc: Global,
     form: Form,

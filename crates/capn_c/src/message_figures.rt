@@ -18,7 +18,7 @@ use capn_walk::Limits;
 use capn_words::Bare;
 use std::alloc::Global;
 
-/// The figures of the message that a stream is. Memory is asked for only by a frame of more than 64 segments.
+/// Returns the figures of a stream of one message. Memory is asked for only by a frame of more than 64 segments.
 fn figures_of_frame(alloc: Global, bytes: &[u8], limits: Limits) -> Result<CapnFigures, Refusal>
     ensures found { IfOk result (λ f. FiguresIn forms.Stream bytes.now limits f) }
     ensures refused { IfErr result (λ e. IsUnacceptedIn forms.Stream bytes.now limits e) }
@@ -37,7 +37,7 @@ fn figures_of_frame(alloc: Global, bytes: &[u8], limits: Limits) -> Result<CapnF
     figures_of(alloc, &message, limits)
 }
 
-/// The figures of the message that a packed stream is.
+/// Returns the figures of a packed stream of one message.
 fn figures_of_packed(alloc: Global, bytes: &[u8], limits: Limits) -> Result<CapnFigures, Refusal>
     ensures found { IfOk result (λ f. FiguresIn forms.Packed bytes.now limits f) }
     ensures refused { IfErr result (λ e. IsUnacceptedIn forms.Packed bytes.now limits e) }
@@ -49,10 +49,11 @@ fn figures_of_packed(alloc: Global, bytes: &[u8], limits: Limits) -> Result<Capn
     figures_of_frame(alloc, stream.as_slice(), limits)
 }
 
-/// The figures of the message that bytes are in a form, or why there is none or it is not accepted.
+/// Returns the figures of the message that `bytes` encode in this `form`, within `limits`, or the reason why there is
+/// none or it is not accepted.
 ///
-/// The form is read once, and the message walked as by [`figures_of`]. Memory is asked for only by a packed text, and
-/// by a frame of more than 64 segments.
+/// The form is read once, and the message walked as by [`figures_of`]. Memory is asked of `alloc` only by a packed
+/// text, and by a frame of more than 64 segments.
 pub fn figures_in(
     alloc: Global,
     form: Form,

@@ -19,18 +19,18 @@ ghost use Rattle.capn_c.specs.Entries.{IndexedIn, c_index, starts_from};
 ghost use Rattle.capn_reports.specs.StatusCodes.{Reports, answered, is_status};
 
 use crate::entries::{CapnEntry, Offsets, put_starts};
-use crate::frame_need::head_of;
 use capn_answers::read_frame;
 use capn_canon::{Refusal, survey};
 use capn_reports::{CapnReport, DONE, NO_ROOM, answer_of, refuse};
+use capn_stream::table::head_of;
 use capn_stream::{Framed, first};
 use capn_walk::laws::indexes;
 use capn_walk::{Limits, Surveyed, index_into_form};
 use capn_words::{Bare, Space};
 use std::alloc::Global;
 
-/// Writes the index of an accepted message, which comes after a table of this number of bytes and has its segments at
-/// these starts, into a room that it fits.
+/// Writes the index of an accepted message, which comes after a table of `table` bytes and has its segments at
+/// `starts`, to `out`, in which it has room.
 fn write_index<S: Space>(
     space: &S,
     limits: Limits,
@@ -50,7 +50,7 @@ fn write_index<S: Space>(
     }
 }
 
-/// The same, once memory is found for where the segments start; false where it is refused.
+/// Writes that index, once memory is found for the starts of the segments; returns `false` if it is refused.
 fn write_many<S: Space>(
     alloc: Global,
     space: &S,
@@ -73,7 +73,7 @@ fn write_many<S: Space>(
     true
 }
 
-/// The same. Memory is asked for only by more than 64 segments.
+/// Writes that index; returns `false` if memory is refused, which is asked for only by more than 64 segments.
 fn write_entries<S: Space>(
     alloc: Global,
     space: &S,
@@ -98,15 +98,15 @@ fn write_entries<S: Space>(
     true
 }
 
-/// The report of an index: 24 bytes for each entry, what the walk pays, and the number of entries.
+/// Returns the report of an index: 24 bytes for each entry, the words that the walk pays, and the number of entries.
 fn report_of_index(surveyed: Surveyed) -> CapnReport
     ensures { result ≡ answered (24 * surveyed.visits) surveyed.paid surveyed.visits }
 {
     answer_of(24 * surveyed.visits as u64, surveyed.paid, surveyed.visits)
 }
 
-/// The index of a message that comes after a table of this number of bytes, into a room. Memory is asked for only by
-/// more than 64 segments.
+/// Writes the index of a message that comes after a table of `table` bytes to `out`. Memory is asked for only by more
+/// than 64 segments.
 fn index_message<S: Space>(
     alloc: Global,
     space: &S,
@@ -146,14 +146,14 @@ fn index_message<S: Space>(
     }
 }
 
-/// How many bytes the table of a message takes in a stream.
+/// Returns the number of bytes that the table of a message takes in a stream.
 fn table_of<S: Space>(space: &S) -> u32
     ensures { result ≡ head_length (length (S.message space.now)) }
 {
     head_of(space.segments() as usize) as u32
 }
 
-/// The message that a stream is, of any number of segments.
+/// Reads a stream of one message, of any number of segments.
 fn read_many<'a>(alloc: Global, bytes: &'a [u8], limits: Limits) -> Result<Framed<'a>, Refusal>
     ensures read { IfOk result (λ m. Reads forms.Stream bytes.now limits.message_words m) }
     ensures refused { IfErr result (λ e. IsUnacceptedIn forms.Stream bytes.now limits e) }
@@ -166,7 +166,7 @@ fn read_many<'a>(alloc: Global, bytes: &'a [u8], limits: Limits) -> Result<Frame
     Ok(message)
 }
 
-/// The index of a stream, into a room.
+/// Writes the index of a stream of one message, of any number of segments, to `out`.
 #[inline(never)]
 fn index_many(
     alloc: Global,
@@ -194,7 +194,8 @@ fn index_many(
     }
 }
 
-/// The same. Memory is asked for only by a frame of more than 64 segments.
+/// Writes the index of the message of which `bytes` are the frame to `out`, within `limits`, with the `report`; returns
+/// the status. Memory is asked of `alloc` only by a frame of more than 64 segments.
 pub fn index_frame(
     alloc: Global,
     bytes: &[u8],
@@ -225,7 +226,7 @@ pub fn index_frame(
     }
 }
 
-/// The index of bare words, into a room.
+/// Writes the index of the bare words `bytes` to `out`, within `limits`, with the `report`; returns the status.
 pub fn index_bare(
     alloc: Global,
     bytes: &[u8],

@@ -15,7 +15,7 @@ use capn_walk::{Limits, Surveyed};
 use capn_words::{Space, Watched};
 use std::alloc::Global;
 
-/// The second text after the first, or `None` where memory was refused.
+/// Joins `second` to `first`, or returns `None` if memory was refused.
 fn joined(mut first: Vec<u8>, second: Vec<u8>) -> Option<Vec<u8>>
     ensures { IfSome result (λ all. all.items ≡ first.items ++ second.items) }
 {
@@ -28,7 +28,7 @@ fn joined(mut first: Vec<u8>, second: Vec<u8>) -> Option<Vec<u8>>
     }
 }
 
-/// The text of a message in a style, or `None` where it is not accepted, or memory was refused.
+/// Returns the text of a message in this `style`, or `None` if it is not accepted, or memory was refused.
 fn text_of<S: Space>(alloc: Global, space: &S, limits: Limits, style: Style) -> Option<Vec<u8>>
     ensures { IfSome result (λ text. ShowsMessage (S.message space.now) limits style text.items) }
 {
@@ -43,7 +43,7 @@ fn text_of<S: Space>(alloc: Global, space: &S, limits: Limits, style: Style) -> 
     }
 }
 
-/// The text of a message, and what its walk pays and visits.
+/// The text of a message, and its survey.
 #[derive(Drop)]
 pub struct ShownText {
     /// The text.
@@ -52,7 +52,7 @@ pub struct ShownText {
     pub survey: Surveyed,
 }
 
-/// The text of a message in this style.
+/// The task of the text of a message in a style.
 #[derive(Clone, Copy)]
 struct Show {
     style: Style,
@@ -77,8 +77,8 @@ impl MessageTask<Global> for Show {
     }
 }
 
-/// The text of the message that bytes are in a form, and what its walk pays and visits, or why there is none or it is
-/// not accepted. The bytes are read once.
+/// Returns the text of the message that `bytes` encode in this `form`, in this `style`, with its survey within
+/// `limits`; or the reason why there is none or it is not accepted. The bytes are read once.
 pub fn text_in(
     alloc: Global,
     form: Form,

@@ -13,10 +13,10 @@ use capn_pack::{PackFault, pack, unpack};
 use capn_reports::{CapnReport, MEMORY, NOT_WHOLE, answer_of, deliver, refuse_packed, report_at};
 use std::alloc::Global;
 
-/// The packed text of whole words, into a buffer.
+/// Writes the packed text of the whole words `bytes` to `out`.
 ///
-/// 0: the text is at the start of the buffer. 1: the buffer has no room for it, and is as it was; `length` is what
-/// it needs. 8: memory was refused. 16: the bytes are not whole words; `at` is how many there are.
+/// 0: the text is at the start of the buffer. 1: the buffer has no room for it, and is as it was; `length` is what it
+/// needs. 8: memory was refused. 16: the bytes are not whole words; `at` is their number.
 #[unsafe(no_mangle)]
 pub extern "C" fn capn_pack(
     alloc: Global,
@@ -59,11 +59,10 @@ pub extern "C" fn capn_pack(
     }
 }
 
-/// The words that a packed text packs, at most `max_words`, into a buffer.
+/// Writes the words that the packed text `bytes` packs, at most `max_words`, to `out`.
 ///
-/// 0: the words are at the start of the buffer. 1: the buffer has no room for them, and is as it was; `length` is
-/// what they need. 8: memory was refused. 32 and 33: the group whose tag is at `at` is cut, or goes over the
-/// maximum.
+/// 0: the words are at the start of the buffer. 1: the buffer has no room for them, and is as it was; `length` is what
+/// they need. 8: memory was refused. 32 and 33: the group whose tag is at `at` is cut, or goes over the maximum.
 #[unsafe(no_mangle)]
 pub extern "C" fn capn_unpack(
     alloc: Global,
@@ -72,7 +71,7 @@ pub extern "C" fn capn_unpack(
     out: &mut [u8],
     report: &mut CapnReport,
 ) -> u32
-    // What is answered is what the bytes pack, within the maximum: the bytes of words.
+    // The answer is what the bytes pack, within the maximum: the bytes of words.
     ensures found { result ≤ 1 → (words : List ℕ)
         × Packs bytes.now words × (length words ≤ 8 * max_words) × HasWords words
         × Delivers words result report.new.length out.old out.new }
@@ -80,7 +79,7 @@ pub extern "C" fn capn_unpack(
     ensures only { (words : List ℕ) → Packs bytes.now words → length words ≤ 8 * max_words
         → (result ≡ 8) ⊎ Delivers words result report.new.length out.old out.new }
     ensures listed { IsTrue (is_status result) }
-    // What each refusal means, and where.
+    // The meaning of each refusal, and its place.
     ensures refused { 2 ≤ result → (e : Faults) × ReportsPacked result report.new e
         × IsUnpackRefused bytes.now max_words e }
     // Memory is needed only if a whole group within the maximum comes first.

@@ -24,7 +24,7 @@ use capn_reports::{
 use capn_walk::Limits;
 use std::alloc::Global;
 
-/// The way to the slot at which the walk of a message in a form stopped.
+/// Finds the way to the slot at which the walk of the message that `bytes` encode in this `form` stopped.
 fn refusal_way(
     alloc: Global,
     form: Form,
@@ -63,8 +63,8 @@ fn refusal_way(
     }
 }
 
-/// Whether a message is accepted within limits, and if its walk is refused, the way to the slot at which that stopped:
-/// the numbers that lead to it from the root, into a room.
+/// Tests whether the message that `bytes` encode in a `form` is accepted within `limits`, and if its walk is refused,
+/// finds the way to the slot at which that stopped: the numbers that lead to it from the root, in the room `way`.
 ///
 /// 0: it is accepted; `paid` and `visits` are those of its walk. 2, 3 and 4: the form, a limit or the tariff is out of
 /// its range. 8: memory was refused: where `capn_check` takes it, or, if the walk is refused, for the way. From 64 on:
@@ -85,7 +85,8 @@ pub extern "C" fn capn_refusal_way(
     ensures form { (result ≡ 2) ↔ (IsForm form → ⊥) }
     ensures limits { (result ≡ 3) ↔ (IsForm form × (GiveLimits limits.now → ⊥)) }
     ensures tariff { (result ≡ 4) ↔ (IsForm form × GiveLimits limits.now × (IsTariff limits.now.tariff → ⊥)) }
-    // The bytes are an accepted message; the report says what its walk pays, how many visits it makes, and no more.
+    // The bytes are an accepted message; the report has the words that its walk pays, the number of its visits, and no
+    // more.
     ensures found { result ≡ 0 → (s : Survey) × Surveys (form_named form) bytes.now (bounds_of limits.now) s
         × (report.new ≡ answered 0 s.paid s.visits) }
     // This is the answer for a message that is accepted, unless memory runs out.
@@ -93,16 +94,16 @@ pub extern "C" fn capn_refusal_way(
         → Denotes (form_named form) bytes.now (bounds_of limits.now) v → (result ≡ 0) ⊎ (result ≡ 8) }
     ensures blank { 1 ≤ result → result ≤ 4 → report.new ≡ at_number 0 }
     ensures listed { IsTrue (is_status result) }
-    // What each refusal means that is none of the walk; no other status stands for it.
+    // The meaning of each refusal that is none of the walk; no other status stands for it.
     ensures refused { 5 ≤ result → result < 64 → (e : Refusals) × Reports result report.new e
         × IsUnacceptedIn (form_named form) bytes.now (bounds_of limits.now) e }
-    // A refusal of the walk: where it stopped, and the way there, in the room if that has room for it.
+    // A refusal of the walk: its place, and the way there, in the room if that has room for it.
     ensures told { 64 ≤ result → (s : Stop) × (numbers : List ℕ)
         × IsStoppedIn (form_named form) bytes.now (bounds_of limits.now) s numbers
         × TellsWay result report.new s numbers way.old way.new }
     // Two numbers for each level of depth are enough.
     ensures short { 64 ≤ result → report.new.length ≤ 8 * limits.now.depth }
-    // Memory is needed only where a check may need it, and for a message that is refused by its walk.
+    // Memory is needed only if a check may need it, and for a message that is refused by its walk.
     ensures memory { result ≡ 8 → MayNeedItsWay (form_named form) bytes.now (bounds_of limits.now) }
     // Of those, it is asked for only by a frame of more than 64 segments, by a packed text, and by such a message.
     ensures asked { result ≡ 8 → MayAskForItsWay (form_named form) bytes.now (bounds_of limits.now) }

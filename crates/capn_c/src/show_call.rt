@@ -23,7 +23,7 @@ use capn_show::Style;
 use capn_walk::Limits;
 use std::alloc::Global;
 
-/// The text of a message, into a buffer.
+/// Writes the text of the message that `bytes` encode in this `form` to `out`.
 fn show_in(
     alloc: Global,
     form: Form,
@@ -57,7 +57,7 @@ fn show_in(
     }
 }
 
-/// The text of a message in the style of a number, into a buffer.
+/// Writes that text in the style whose number is `style`.
 fn show_styled(
     alloc: Global,
     form: Form,
@@ -92,12 +92,12 @@ fn show_styled(
     }
 }
 
-/// The text of a message in a style, into a buffer: lines, lines with texts between quotes, a line of JSON, or such a
-/// line with texts as texts.
+/// Writes the text of the message that `bytes` encode in a `form`, in a `style`, to `out`: lines, lines with texts
+/// between quotes, a line of JSON, or such a line with texts as texts.
 ///
 /// 0: the text is at the start of the buffer. 1: the buffer has no room for it, and is as it was; `length` is what it
 /// needs, exactly. In both, `paid` and `visits` are those of the walk. 2, 3, 4 and 6: the form, a limit, the tariff or
-/// the style is out of its range. 8: memory was refused: for where two segments or more end, for what is unpacked, or
+/// the style is out of its range. 8: memory was refused: for the ends of two segments or more, for what is unpacked, or
 /// for the text. Others: the refusal, which is never that of a capability.
 #[unsafe(no_mangle)]
 pub extern "C" fn capn_show(
@@ -123,20 +123,21 @@ pub extern "C" fn capn_show(
     ensures only { IsForm form → GiveLimits limits.now → IsTariff limits.now.tariff → IsStyle style → (v : Value)
         → Denotes (form_named form) bytes.now (bounds_of limits.now) v
         → (result ≡ 8) ⊎ Delivers (message_text (style_named style) v) result report.new.length out.old out.new }
-    // The report of an answer has its length, and what the walk pays and visits; what no status speaks of is 0.
+    // The report of an answer has its length, the words that the walk pays, and its visits; what no status speaks of is
+    // 0.
     ensures rest { result ≤ 1 → (s : Survey) × Surveys (form_named form) bytes.now (bounds_of limits.now) s
         × (report.new ≡ answered report.new.length s.paid s.visits) }
     ensures blank { 2 ≤ result → result ≤ 6 → report.new ≡ at_number 0 }
     ensures listed { IsTrue (is_status result) }
-    // What each refusal means; no other status stands for it.
+    // The meaning of each refusal; no other status stands for it.
     ensures refused { 5 ≤ result → result ≢ 6 → (e : Refusals) × Reports result report.new e
         × IsUnacceptedIn (form_named form) bytes.now (bounds_of limits.now) e }
-    // Memory is needed only for where two segments or more end, for what a text packs, and for the text of a message
+    // Memory is needed only for the ends of two segments or more, for what a text packs, and for the text of a message
     // that is accepted.
     ensures memory { result ≡ 8 → MayNeedText (form_named form) bytes.now (bounds_of limits.now) }
     // No walk reports more paid than its budget.
     ensures bounded { IsBounded limits.now.budget report.new.paid report.new.visits }
-    // Where nothing is answered, the buffer is as it was.
+    // If nothing is answered, the buffer is as it was.
     ensures kept { result ≢ 0 → out.new ≡ out.old }
 {
     *report = report_at(0);

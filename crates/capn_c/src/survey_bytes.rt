@@ -20,7 +20,7 @@ use capn_canon::{Form, Refusal};
 use capn_walk::{Limits, Surveyed};
 use std::alloc::Global;
 
-/// A survey of the message of which bytes are the frame.
+/// Surveys the message of which `bytes` are the frame.
 fn survey_frame(alloc: Global, bytes: &[u8], limits: Limits) -> Result<Surveyed, Refusal>
     ensures found { IfOk result (λ s. Surveys forms.Stream bytes.now limits s) }
     ensures only { (v : Value) → Denotes forms.Stream bytes.now limits v
@@ -42,8 +42,8 @@ fn survey_frame(alloc: Global, bytes: &[u8], limits: Limits) -> Result<Surveyed,
     }
 }
 
-/// What `capn_canon::survey_bytes` answers. Memory is asked for only by a packed text, and by a frame of more than 64
-/// segments.
+/// Surveys the message that `bytes` encode in this `form`, within `limits`, as `capn_canon::survey_bytes` does. Memory
+/// is asked of `alloc` only by a packed text, and by a frame of more than 64 segments.
 pub fn survey_bytes(
     alloc: Global,
     form: Form,

@@ -21,7 +21,7 @@ use capn_reports::{
 use capn_walk::Limits;
 use std::alloc::Global;
 
-/// The figures of a message in a form.
+/// Reports the figures of the message that `bytes` encode in this `form`.
 fn survey_in(
     alloc: Global,
     form: Form,
@@ -52,8 +52,9 @@ fn survey_in(
     }
 }
 
-/// The figures of a message: its words and segments, what its walk pays and visits, the least depth under which it is
-/// accepted, its first capability, and whether its bytes are canonical.
+/// Writes the figures of the message that `bytes` encode in a `form` to `figures`: its words and segments, the words
+/// that its walk pays, its visits, the least depth under which it is accepted, its first capability, and whether its
+/// bytes are canonical.
 ///
 /// 0: they are there. 2, 3 and 4: the form, a limit or the tariff is out of its range. 8: memory was refused, as of
 /// `capn_check`. Others: the refusal, which is never that of a capability.
@@ -73,7 +74,8 @@ pub extern "C" fn capn_survey(
     ensures form { (result ≡ 2) ↔ (IsForm form → ⊥) }
     ensures limits { (result ≡ 3) ↔ (IsForm form × (GiveLimits limits.now → ⊥)) }
     ensures tariff { (result ≡ 4) ↔ (IsForm form × GiveLimits limits.now × (IsTariff limits.now.tariff → ⊥)) }
-    // The bytes are an accepted message, and these are its figures; the report says what its walk pays and visits.
+    // The bytes are an accepted message, and these are its figures; the report has the words that its walk pays, and
+    // its visits.
     ensures found { result ≡ 0 → FiguresIn (form_named form) bytes.now (bounds_of limits.now) figures.new
         × (report.new ≡ answered 0 figures.new.paid figures.new.visits) }
     // A message that is accepted has them, unless memory runs out.
@@ -81,10 +83,10 @@ pub extern "C" fn capn_survey(
         → Denotes (form_named form) bytes.now (bounds_of limits.now) v → (result ≡ 0) ⊎ (result ≡ 8) }
     ensures blank { 1 ≤ result → result ≤ 4 → report.new ≡ at_number 0 }
     ensures listed { IsTrue (is_status result) }
-    // What each refusal means; no other status stands for it.
+    // The meaning of each refusal; no other status stands for it.
     ensures refused { 5 ≤ result → (e : Refusals) × Reports result report.new e
         × IsUnacceptedIn (form_named form) bytes.now (bounds_of limits.now) e }
-    // Memory is needed only for where two segments or more end, and for what a text packs.
+    // Memory is needed only for the ends of two segments or more, and for what a text packs.
     ensures memory { result ≡ 8 → MayNeedMemory (form_named form) bytes.now (bounds_of limits.now) }
     // Of those, it is asked for only by a frame of more than 64 segments, and by a packed text.
     ensures asked { result ≡ 8 → MayAsk (form_named form) bytes.now (bounds_of limits.now) }

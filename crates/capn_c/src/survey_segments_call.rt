@@ -15,7 +15,7 @@ use capn_reports::{CapnLimits, CapnReport, DONE, answer_of, limits_of, refuse, r
 use capn_walk::Limits;
 use std::alloc::Global;
 
-/// The figures of a message that is held in segments.
+/// Reports the figures of a message that is held in `segments`.
 fn tell_figures(
     alloc: Global,
     segments: &[&[[u8; 8]]],
@@ -44,8 +44,9 @@ fn tell_figures(
     }
 }
 
-/// The figures of a message that is held in segments: its words and segments, what its walk pays and visits, the least
-/// depth under which it is accepted, its first capability, and whether its bytes are canonical.
+/// Writes the figures of a message that is held in `segments` to `figures`: its words and segments, the words that its
+/// walk pays, its visits, the least depth under which it is accepted, its first capability, and whether its bytes are
+/// canonical.
 ///
 /// 0: they are there. 3 and 4: a limit or the tariff is out of its range. Others: the refusal, as of the frame of the
 /// same segments: 48, if there are none. It takes no memory.
@@ -62,7 +63,8 @@ pub extern "C" fn capn_survey_segments(
     // The limits are tested first.
     ensures limits { (result ≡ 3) ↔ (GiveLimits limits.now → ⊥) }
     ensures tariff { (result ≡ 4) ↔ (GiveLimits limits.now × (IsTariff limits.now.tariff → ⊥)) }
-    // The segments are an accepted message, and these are its figures; the report says what its walk pays and visits.
+    // The segments are an accepted message, and these are its figures; the report has the words that its walk pays, and
+    // its visits.
     ensures found { result ≡ 0 → FiguresHeld (message_of segments.now) (bounds_of limits.now) figures.new
         × (report.new ≡ answered 0 figures.new.paid figures.new.visits) }
     // A message that is accepted has them.
@@ -70,7 +72,7 @@ pub extern "C" fn capn_survey_segments(
         → DenotesHeld (message_of segments.now) (bounds_of limits.now) v → result ≡ 0 }
     ensures blank { 1 ≤ result → result ≤ 4 → report.new ≡ at_number 0 }
     ensures listed { IsTrue (is_status result) }
-    // What each refusal means; no other status stands for it.
+    // The meaning of each refusal; no other status stands for it.
     ensures refused { 5 ≤ result → (e : Refusals) × Reports result report.new e
         × IsUnacceptedHeld (message_of segments.now) (bounds_of limits.now) e }
     // No memory is needed.

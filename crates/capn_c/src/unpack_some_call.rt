@@ -10,7 +10,7 @@ use capn_pack::{Next, Progress, unpack_some};
 use capn_reports::{CapnReport, DONE, MEMORY, PACKED_CUT, PACKED_TOO_LONG, report_at};
 use std::alloc::Global;
 
-/// The status of what comes next.
+/// Returns the status of what comes `next`.
 fn code_of_next(next: Next) -> u32
     ensures { result ≡ next_code next }
 {
@@ -21,7 +21,7 @@ fn code_of_next(next: Next) -> u32
     }
 }
 
-/// How far it came, as a report.
+/// Returns `progress` as a report.
 fn report_of_progress(progress: Progress) -> CapnReport
     ensures { result ≡ progressed (8 * progress.words) progress.bytes }
 {
@@ -31,14 +31,14 @@ fn report_of_progress(progress: Progress) -> CapnReport
     }
 }
 
-/// How many words a buffer of `bytes` bytes has room for.
+/// Returns the number of words for which a buffer of `bytes` bytes has room.
 fn room_of(bytes: usize) -> u32
     ensures { result ≡ words_in bytes }
 {
     (bytes / 8).min(u32::MAX as usize) as u32
 }
 
-/// Writes bytes at the start of a buffer.
+/// Writes `bytes` at the start of `out`.
 fn put(bytes: &[u8], out: &mut [u8])
     requires { length bytes.now ≤ length out.old }
     ensures { IsWritten bytes.now out.old out.new }
@@ -46,7 +46,7 @@ fn put(bytes: &[u8], out: &mut [u8])
     out[..bytes.len()].copy_from_slice(bytes);
 }
 
-/// The words of the whole groups that come first in a packed text, as many as have room, into a buffer.
+/// Writes the words of the whole groups that come first in the packed text `bytes`, as many as have room, to `out`.
 ///
 /// 0: the bytes are whole groups, and all of them were taken. 32: a group is cut, 33: one has no room; `at` is the
 /// offset of its tag. In these three `length` bytes were written and `at` were taken. 8: memory was refused.
@@ -59,7 +59,7 @@ pub extern "C" fn capn_unpack_some(
     out: &mut [u8],
     report: &mut CapnReport,
 ) -> u32
-    // What is in the buffer, and how far it came.
+    // The words in the buffer, and the progress.
     ensures some { result ≢ 8 → UnpacksInto bytes.now result report.new out.old out.new }
     // Memory is needed only if a whole group that has room comes first.
     ensures memory { result ≡ 8 → StartsWithin bytes.now (words_in (length out.old)) }

@@ -7,7 +7,7 @@ use capn_canon::Refusal;
 use capn_reports::{CapnReport, refuse, report_at};
 use capn_walk::Stopped;
 
-/// Writes the numbers of a way at the start of a room, if it has room for all of them.
+/// Writes the numbers of `way` at the start of `room`, if it has room for all of them.
 pub fn place_way(way: &[u32], room: &mut [u32])
     ensures { ArePlaced way.now room.old room.new }
 {
@@ -16,7 +16,8 @@ pub fn place_way(way: &[u32], room: &mut [u32])
     }
 }
 
-/// Reports the stop of a walk with the length of the way to it, and places that.
+/// Reports the stop of a walk, `stopped`, with the length of the `way` to it, and writes that to `room`; returns the
+/// status.
 pub fn tell_way(stopped: Stopped, way: &[u32], room: &mut [u32], report: &mut CapnReport) -> u32
     requires few { length way.now ≤ 512 }
     ensures told { TellsWay result report.new stopped way.now room.old room.new }

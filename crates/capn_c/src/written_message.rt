@@ -21,7 +21,7 @@ use capn_walk::Limits;
 use capn_words::Space;
 use std::alloc::Global;
 
-/// Reports that canonical bytes have no room: how many they are, and what the walk pays.
+/// Reports that canonical bytes have no room: their number, and the words that the walk pays.
 fn report_no_room<S: Space>(
     alloc: Global,
     space: &S,
@@ -45,7 +45,8 @@ fn report_no_room<S: Space>(
     }
 }
 
-/// Writes the canonical bytes of a message at the start of a buffer, if it has room for them. It takes no memory.
+/// Writes the canonical bytes of the message `space` at the start of `out`, if it has room for them, with the `report`;
+/// returns the status. It takes no memory.
 pub fn write_message<S: Space>(
     alloc: Global,
     space: &S,

@@ -1,11 +1,10 @@
--- What the calls answer or refuse, for a message and for bytes in each form.
+-- The answers and refusals of the calls, for a message and for bytes in each form.
 pub mod AtRoot
 pub mod OfMessages
 pub mod Answered
 pub mod InEachForm
 pub mod Accounted
 pub mod Measured
-pub mod MemoryNeeds
 pub mod OnlySegment
 pub mod ReadInput
 pub mod IntoBuffers

@@ -1,5 +1,4 @@
 -- Canonical bytes are a canonical form, equal exactly where the values are the same; and worked messages.
-pub mod BareCanon
 pub mod CanonOfTrimmed
 pub mod CapOfTrimmed
 pub mod EqualExactlySame

@@ -1,4 +1,4 @@
--- What is answered of bytes in a form: that of the message that they are, or why they are none.
+-- The answer for bytes in a form: that for the message that they are, or the reason why they are none.
 use Rattle.std.specs.Prelude.{◌≡◌, ◌⊎◌, ℕ, List, Result, Err}
 use Rattle.capn_walk.specs.Limits.{Bounds}
 use Rattle.capn_canon.specs.declared.form.Form.{Form}

@@ -1,4 +1,4 @@
--- What the check of canonical bytes answers.
+-- The answers of the check of canonical bytes.
 use Rattle.std.specs.Prelude.{◌≡◌, ◌↔◌, ℕ, List, [], ◌∷◌, None, Bool}
 use Rattle.std.specs.Bool.{IsTrue}
 use Rattle.capn_words.specs.Message.{bytes}
@@ -18,9 +18,9 @@ pub record SaysCanonical (bs : List ℕ) (limits : Bounds) (yes : Bool) : Type 0
   pub free : first_cap value ≡ None
   pub answer : IsTrue yes ↔ (canon value ≡ bs)
 
--- the words are an accepted message; the check reports what its walk pays, how many visits it makes and the first
--- capability of its value, and says yes if and only if the value has none and the bytes of the words are its canonical
--- bytes
+-- the words are an accepted message; the check reports the words that its walk pays, the number of its visits and the
+-- first capability of its value, and says yes if and only if the value has none and the bytes of the words are its
+-- canonical bytes
 pub record IsBareSurvey (words : List ℕ) (limits : Bounds) (c : SurveyedBare) : Type 0 where
   pub value : Tree
   pub is : IsValueOf (words ∷ []) limits value

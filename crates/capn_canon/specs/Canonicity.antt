@@ -1,4 +1,4 @@
--- What makes bytes the canonical form of a value. (Page: canonicalization; what the page leaves open is our own.)
+-- The canonical form of a value. (Page: canonicalization; what the page leaves open is our own.)
 use Rattle.std.specs.Prelude.{◌≡◌, ◌↔◌, ℕ, List}
 use Rattle.capn_value.specs.Tree.{Tree}
 use Rattle.capn_value.specs.InRange.{InRange}

@@ -1,4 +1,4 @@
--- Which value bytes denote within limits, and what is answered of it: its canonical bytes and a price.
+-- The value that bytes denote within limits, and the answer for it: its canonical bytes and a price.
 use Rattle.std.specs.Prelude.{◌≡◌, ℕ, List, None}
 use Rattle.capn_value.specs.Tree.{Tree}
 use Rattle.capn_value.specs.FirstCap.{first_cap}

@@ -40,7 +40,7 @@ CanonIsForm = (v : Tree) (limits : Bounds) → Fits v → InRange v → cost (ba
 abbrev pub EqualExactlySame : Type 0
 EqualExactlySame = (v w : Tree) → Fits v → InRange v → Fits w → InRange w → (canon v ≡ canon w) ↔ Same v w
 
--- what holds of a value that bytes denote within limits: its fitness, its price and its canonical form
+-- the properties of a value that bytes denote within limits: its fitness, its price and its canonical form
 pub record HasCanonicalForm (form : Form) (bs : List ℕ) (limits : Bounds) (v : Tree)
     (h : Denotes form bs limits v) : Type 0 where
   pub fits : Fits v
@@ -104,7 +104,7 @@ abbrev pub CanonIsThePageForm : Type 0
 CanonIsThePageForm = (v : Tree) (bs : List ℕ) → Fits v → InRange v → first_cap v ≡ None
     → (bs ≡ canon v) ↔ IsPageFormOf bs v
 
--- each answer follows the rules of the page, and denotes what was denoted
+-- each answer follows the rules of the page, and denotes the value that was denoted
 abbrev pub AnswersFollowThePage : Type 0
 AnswersFollowThePage = (form : Form) (bs : List ℕ) (limits : Bounds) (out : List ℕ) (price : ℕ)
     → AreLimits limits.message_words limits.budget limits.depth → Answers form bs limits out price
@@ -124,14 +124,14 @@ SurveyIsOfThePage = (words : List ℕ) (limits : Bounds) (c : SurveyedBare) → 
 
 -- ---- the theorem, of all that is answered and refused as the clauses of `canonicalise` say
 
--- an answer is found under limits, or a refusal means what it says
+-- an answer is found under limits, or a refusal is true
 pub record IsFoundOrRefused {A : Type 0} (form : Form) (bs : List ℕ) (limits : Bounds)
     (r : Result (Canonical A) Refusal) : Type 0 where
   pub are : AreLimits limits.message_words limits.budget limits.depth
   pub found : IfOk r (λ c. Answers form bs limits c.bytes.items c.paid)
   pub refused : IfErr r (λ e. IsRefused form bs limits e)
 
--- where bytes denote a value without capabilities, and nowhere else, there is an answer, unless it is `Memory`
+-- there is an answer, unless it is `Memory`, if and only if the bytes denote a value without capabilities
 abbrev pub EachIsAnswered : Type 0 → Type 0
 EachIsAnswered A = (form : Form) (bs : List ℕ) (limits : Bounds) (r : Result (Canonical A) Refusal)
     → IsFoundOrRefused form bs limits r → Answered form bs limits r
@@ -151,7 +151,7 @@ abbrev pub WalksAreWithinBudgets : Type 0 → Type 0
 WalksAreWithinBudgets A = (form : Form) (bs : List ℕ) (limits : Bounds) (r : Result (Canonical A) Refusal)
     → IsFoundOrRefused form bs limits r → WithinBudget limits r
 
--- ---- what readers are told
+-- ---- the readers of a message and of its canonical bytes
 
 -- two values that fit and are in range have equal canonical bytes if and only if the getters tell the same of both,
 -- along every path
@@ -187,7 +187,7 @@ AnswersTellTheSame A = (form : Form) (bs : List ℕ) (limits : Bounds) (r : Resu
 
 -- ---- the theorem of `canonical_into`, of all that is answered and refused as its clauses say
 
--- an answer was written, or a refusal means what it says and left the buffer as it was
+-- an answer was written, or a refusal is true and left the buffer as it was
 pub record IsWrittenOrRefused (message : List (List ℕ)) (limits : Bounds) (old new : List ℕ)
     (r : Result CanonicalLength IntoRefusal) : Type 0 where
   pub written : IfOk r (λ c. WrittenInto message limits old new c)

@@ -1,4 +1,4 @@
--- What is found of a message that is accepted: its price, its depth, whether it is canonical. (Own.)
+-- The measure of a message that is accepted: its price, its depth, and whether it is canonical. (Own.)
 use Rattle.std.specs.Prelude.{◌≡◌, ◌↔◌, ℕ, List, [], ◌∷◌, None}
 use Rattle.std.specs.Bool.{IsTrue}
 use Rattle.capn_words.specs.Message.{bytes}
@@ -16,8 +16,8 @@ abbrev pub IsCanonicalOf : List (List ℕ) → Tree → Type 0
 IsCanonicalOf message v =
     (words : List ℕ) × (message ≡ words ∷ []) × (first_cap v ≡ None) × (canon v ≡ bytes words)
 
--- the message is accepted: what its walk pays, how many visits it makes, the first capability of its value, and whether
--- the message is canonical
+-- the message is accepted: the words that its walk pays, the number of its visits, the first capability of its value,
+-- and whether the message is canonical
 pub record IsChecked (message : List (List ℕ)) (limits : Bounds) (c : SurveyedBare) : Type 0 where
   pub value : Tree
   pub is : IsValueOf message limits value
@@ -26,7 +26,7 @@ pub record IsChecked (message : List (List ℕ)) (limits : Bounds) (c : Surveyed
   pub capability : c.capability ≡ first_cap value
   pub answer : IsTrue c.is_canonical ↔ IsCanonicalOf message value
 
--- the same, and the least depth under which the message is accepted
+-- the check of the message, and the least depth under which it is accepted
 pub record IsMeasure (message : List (List ℕ)) (limits : Bounds) (m : MeasuredBare) : Type 0 where
   pub checked : IsChecked message limits m.survey
   pub depth : IsDepth message limits m.depth

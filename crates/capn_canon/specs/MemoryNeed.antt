@@ -1,4 +1,4 @@
--- Where memory may be needed to survey a message, and to lay out its value. (Own.)
+-- The cases in which memory may be needed to survey a message, and to lay out its value. (Own.)
 use Rattle.std.specs.Prelude.{◌≡◌, ◌⊎◌, ℕ, ◌+◌, List, None}
 use Rattle.capn_pack.specs.UnpackRefusal.{StartsWithin}
 use Rattle.capn_stream.specs.Frames.{most_table_words}

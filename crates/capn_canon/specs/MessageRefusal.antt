@@ -1,4 +1,4 @@
--- Why a message has no canonical bytes, or they are not written into a buffer. (Own.)
+-- The reasons why a message has no canonical bytes, or they are not written into a buffer. (Own.)
 use Rattle.std.specs.Prelude.{◌≡◌, ℕ, List, Some, ⊤}
 use Rattle.capn_value.specs.Tree.{Tree}
 use Rattle.capn_value.specs.FirstCap.{first_cap}
@@ -14,12 +14,12 @@ abbrev pub HasNoBytes : List (List ℕ) → Bounds → MessageRefusal → Type 0
 HasNoBytes message limits (messages.Walk s) = IsWalkRefused message limits s.fault s.place s.paid s.visits
 HasNoBytes message limits (messages.Capability k) = (v : Tree) × IsValueOf message limits v × (first_cap v ≡ Some k)
 
--- what a refusal reports as paid is within a budget, and the visits are at most one more
+-- a refusal reports as paid a number within a budget, and at most one visit more
 abbrev pub IsMessagePaidWithin : ℕ → MessageRefusal → Type 0
 IsMessagePaidWithin budget (messages.Walk s) = IsBounded budget s.paid s.visits
 IsMessagePaidWithin budget (messages.Capability k) = ⊤
 
--- the same of what is not written
+-- a refusal of a buffer reports as paid a number within a budget, and at most one visit more
 abbrev pub IsIntoPaidWithin : ℕ → IntoRefusal → Type 0
 IsIntoPaidWithin budget (intos.Walk s) = IsBounded budget s.paid s.visits
 IsIntoPaidWithin budget _ = ⊤

@@ -1,4 +1,4 @@
--- Which message bytes are read as, in each form. (Page: messages, serialization over a stream, packing; the limits
+-- The reading of bytes as a message, in each form. (Page: messages, serialization over a stream, packing; the limits
 -- are our own.)
 use Rattle.std.specs.Prelude.{◌≡◌, ℕ, ◌+◌, ◌*◌, ◌<◌, ◌≤◌, List, [], ◌∷◌, length}
 use Rattle.capn_words.specs.Message.{total, IsBare}

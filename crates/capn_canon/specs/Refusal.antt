@@ -1,5 +1,5 @@
--- Why bytes have no canonical bytes, in each form: by their reading, by the walk of the message, by a capability.
--- (Own: the order of the tests.)
+-- The reasons why bytes have no canonical bytes, in each form: by their reading, by the walk of the message, by a
+-- capability. (Own: the order of the tests.)
 use Rattle.std.specs.Prelude.{◌≡◌, ◌≢◌, ℕ, ◌+◌, List, Some, Err, ⊤}
 use Rattle.capn_words.specs.Message.{ReadsBare}
 use Rattle.capn_pack.specs.UnpackRefusal as packs
@@ -52,7 +52,7 @@ IsRefused form bs limits (refusals.Capability k) =
 IsRefused form bs limits refusals.Memory = ⊤
 IsRefused form bs limits r = IsMisread form bs limits.message_words r
 
--- what a refusal reports as paid is within a budget, and the visits are at most one more
+-- a refusal reports as paid a number within a budget, and at most one visit more
 abbrev pub IsPaidWithin : ℕ → Refusal → Type 0
 IsPaidWithin budget (refusals.Walk s) = walks.IsBounded budget s.paid s.visits
 IsPaidWithin budget _ = ⊤

@@ -1,4 +1,4 @@
--- Which refusal a fault is of reading the bytes or of walking the message: that of memory, if and only if memory was
+-- The refusal for a fault of reading the bytes or of walking the message: that of memory, if and only if memory was
 -- refused.
 use Rattle.std.specs.Prelude.{◌≡◌, ◌≢◌, ◌⊎◌}
 use Rattle.capn_pack.specs.declared.fault.UnpackFault.{UnpackFault}

@@ -1,4 +1,4 @@
--- What a survey of bytes reports.
+-- The report of a survey of bytes.
 use Rattle.std.specs.Prelude.{ℕ, List}
 use Rattle.capn_walk.specs.declared.survey_answer.Surveyed.{Surveyed}
 use Rattle.capn_walk.specs.Limits.{Bounds}

@@ -27,7 +27,7 @@ abbrev pub AnsweredInto : List (List ℕ) → Bounds → ℕ → Result Canonica
 AnsweredInto message limits room r =
     IsOk r ↔ ((v : Tree) × IsValueOf message limits v × (first_cap v ≡ None) × (length (canon v) ≤ room))
 
--- What it writes is exactly these bytes, at the beginning of the buffer; what is after them is as it was.
+-- It writes exactly these bytes, at the beginning of the buffer; the bytes after them are as they were.
 pub record WrittenInto (message : List (List ℕ)) (limits : Bounds) (old new : List ℕ) (c : CanonicalLength)
     : Type 0 where
   pub value : Tree

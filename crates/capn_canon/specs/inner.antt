@@ -1,4 +1,5 @@
--- What no public clause cites.
+-- Definitions that no public clause cites.
+pub mod BareTold
 pub mod Due
 pub mod InPlace
 pub mod OneSegment

@@ -18,24 +18,83 @@ use crate::canonical_survey::measure_root;
 use crate::counted_words::CountedWords;
 use crate::refusal::Refusal;
 use crate::surveyed_bare::SurveyedBare;
-use capn_target::counted::{CountedSpace, Reads, count_reads};
+use capn_target::Fault;
+use capn_target::counted::{Asked, CountedSpace, CountedTask, Reads};
 use capn_walk::{Limits, Stopped, survey_counted};
-use capn_words::{Bare, Space};
+use capn_words::{Bare, Place, Space};
 use std::alloc::Allocator;
-use std::marker::Brand;
-use std::sync::ledger::{Blank, Ledger};
+use std::sync::ledger::Ledger;
 
-/// What the walk of a bare message pays and visits within the limits, its first capability, and whether its
-/// bytes are canonical. One pass over the words finds that; the message is surveyed only where it doesn't begin with
-/// canonical bytes.
+/// The survey of a message of one segment, with the test for canonical bytes, within limits.
+#[derive(Drop)]
+struct BareTask {
+    limits: Limits,
+}
+
+impl CountedTask for BareTask {
+    type Told = Result<SurveyedBare, Stopped>;
+
+    ghost use Rattle.std.specs.Prelude.{◌≡◌, ◌+◌, ◌*◌, length};
+    ghost use Rattle.capn_canon.specs.inner.BareTold.{IsBareTold};
+
+    ghost tells = { λ t m r. length m ≡ 1 → IsBareTold m t.limits r };
+
+    ghost most = { λ t. 24 * (t.limits.budget + 1) + 1 };
+
+    fn run<S: Space, L: Ledger>(
+        self,
+        space: &CountedSpace<'_, S, L>,
+        reads: &mut Reads<L>,
+    ) -> Result<SurveyedBare, Stopped> {
+        if space.segments(reads) != 1 {
+            return Err(Stopped {
+                fault: Fault::NoRoot,
+                place: Place::ROOT,
+                paid: 0,
+                visits: 0,
+            });
+        }
+        survey_bare_counted(space, self.limits, reads)
+    }
+}
+
+/// Surveys the message `space` of one segment within `limits`, as [`survey_bare`] does, by questions through a counter
+/// alone. It has no allocator, and so takes no memory.
+pub fn survey_bare_of<M: Asked>(space: M, limits: Limits) -> Result<SurveyedBare, Stopped>
+    requires one { length (M.message space) ≡ 1 }
+    // It asks the message and turns its loops at most 24 * (budget + 1) + 1 times, and once more to open the count: it
+    // is done on any message that allows this, and a reference to a `Space` allows all.
+    requires work { M.allows space (24 * (limits.budget + 1) + 1 + 1) }
+    // An answer: the message is accepted, with the words that its walk pays, and whether its bytes are those of its
+    // value.
+    ensures found { IfOk result (λ c. IsBareSurvey (segment_at (M.message space) 0) limits c) }
+    // A message that is accepted is answered, or a growth was refused;
+    ensures only { (v : Value) → IsValueOf (M.message space) limits v
+        → MatchResult result (λ c. c.capability ≡ first_cap v) (λ s. s.fault ≡ faults.Memory) }
+    // any other refusal is the first stop.
+    ensures refused { IfErr result (λ s. (s.fault ≡ faults.Memory)
+        ⊎ IsStopped (M.message space) limits s.fault s.place s.paid s.visits) }
+    // No growth is needed, whatever the depth.
+    ensures no_memory { IfErr result (λ s. s.fault ≢ faults.Memory) }
+    // No walk pays beyond its budget.
+    ensures bounded { MatchResult result (λ c. IsBounded limits.budget c.paid c.visits)
+        (λ s. IsBounded limits.budget s.paid s.visits) }
+{
+    space.ask(BareTask { limits })
+}
+
+/// Surveys the bare message `space` within `limits`: returns the words that its walk pays, the number of its visits,
+/// its first capability, and whether its bytes are canonical. One pass over the words finds that; the message is
+/// surveyed only if it doesn't begin with canonical bytes.
 ///
-/// It refuses what the walk refuses, in the same way. It takes no memory.
+/// It refuses what the walk refuses, in the same way. It takes no memory, and doesn't use the allocator.
 pub fn survey_bare<A: Allocator + Copy>(
-    alloc: A,
+    _alloc: A,
     space: &Bare<'_>,
     limits: Limits,
 ) -> Result<SurveyedBare, Stopped>
-    // An answer: the message is accepted, what its walk pays, and whether its bytes are those of its value.
+    // An answer: the message is accepted, with the words that its walk pays, and whether its bytes are those of its
+    // value.
     ensures found { IfOk result (λ c. IsBareSurvey space.now limits c) }
     // A message that is accepted is answered, or a growth was refused;
     ensures only { (v : Value) → IsValueOf (space.now ∷ []) limits v
@@ -49,47 +108,19 @@ pub fn survey_bare<A: Allocator + Copy>(
     ensures bounded { MatchResult result (λ c. IsBounded limits.budget c.paid c.visits)
         (λ s. IsBounded limits.budget s.paid s.visits) }
 {
-    survey_with_ledger::<A, Brand>(alloc, space, limits, Blank::new(1))
+    survey_bare_of(space, limits)
 }
 
-/// The same, with a new ledger.
-fn survey_with_ledger<A: Allocator + Copy, L: Ledger>(
-    alloc: A,
-    space: &Bare<'_>,
-    limits: Limits,
-    blank: Blank,
-) -> Result<SurveyedBare, Stopped>
-    requires name { blank.name ≡ L.name }
-    requires parts { blank.parts ≡ L.parts }
-    requires one { 0 < blank.parts }
-    // An answer: the message is accepted, what its walk pays, and whether its bytes are those of its value.
-    ensures found { IfOk result (λ c. IsBareSurvey space.now limits c) }
-    // A message that is accepted is answered, or a growth was refused;
-    ensures only { (v : Value) → IsValueOf (space.now ∷ []) limits v
-        → MatchResult result (λ c. c.capability ≡ first_cap v) (λ s. s.fault ≡ faults.Memory) }
-    // any other refusal is the first stop.
-    ensures refused { IfErr result (λ s. (s.fault ≡ faults.Memory)
-        ⊎ IsStopped (space.now ∷ []) limits s.fault s.place s.paid s.visits) }
-    // No growth is needed, whatever the depth.
-    ensures no_memory { IfErr result (λ s. s.fault ≢ faults.Memory) }
-    // No walk pays beyond its budget.
-    ensures bounded { MatchResult result (λ c. IsBounded limits.budget c.paid c.visits)
-        (λ s. IsBounded limits.budget s.paid s.visits) }
-{
-    let (space, mut reads) = count_reads::<Bare<'_>, L>(space, blank);
-    survey_bare_counted(alloc, &space, limits, &mut reads)
-}
-
-/// What [`survey_bare`] answers of a message of one segment, by calls that count what they read, as for
-/// [`survey_canonical_counted`](crate::survey_canonical_counted) and [`survey_counted`]. It takes no memory.
-pub fn survey_bare_counted<S: Space, A: Allocator + Copy, L: Ledger>(
-    alloc: A,
+/// Surveys the message `space` of one segment within `limits`, as [`survey_bare`] does, by calls that count in `reads`,
+/// as for [`survey_canonical_counted`](crate::survey_canonical_counted) and [`survey_counted`]. It takes no memory.
+pub fn survey_bare_counted<S: Space, L: Ledger>(
     space: &CountedSpace<'_, S, L>,
     limits: Limits,
     reads: &mut Reads<L>,
 ) -> Result<SurveyedBare, Stopped>
     requires one { length space.now ≡ 1 }
-    // An answer: the message is accepted, what its walk pays, and whether its bytes are those of its value.
+    // An answer: the message is accepted, with the words that its walk pays, and whether its bytes are those of its
+    // value.
     ensures found { IfOk result (λ c. IsBareSurvey (segment_at space.now 0) limits c) }
     // A message that is accepted is answered, or a growth was refused;
     ensures only { (v : Value) → IsValueOf space.now limits v
@@ -109,7 +140,7 @@ pub fn survey_bare_counted<S: Space, A: Allocator + Copy, L: Ledger>(
     if let Some(measured) = measure_root::<S, L, false>(&words, limits, reads) {
         return Ok(measured.survey);
     }
-    let told = survey_counted(alloc, space, limits, reads)?;
+    let told = survey_counted(space, limits, reads)?;
     Ok(SurveyedBare {
         paid: told.paid,
         visits: told.visits,
@@ -118,9 +149,32 @@ pub fn survey_bare_counted<S: Space, A: Allocator + Copy, L: Ledger>(
     })
 }
 
-/// Whether bytes, read bare within the limits, are the canonical bytes of the value that they denote.
+/// Tests whether `bytes`, read bare within `limits`, are the canonical bytes of the value that they denote. It has no
+/// allocator, and so takes no memory.
+pub fn are_canonical(bytes: &[u8], limits: Limits) -> Result<bool, Refusal>
+    // The answer is on the one value that the bytes denote, which has no capability.
+    ensures found { IfOk result (λ yes. SaysCanonical bytes.now limits yes) }
+    // Bytes that denote such a value are answered, unless memory runs out.
+    ensures only { (v : Value) → Denotes forms.Bare bytes.now limits v → first_cap v ≡ None
+        → MatchResult result (λ yes. IsTrue yes ↔ (canon v ≡ bytes.now)) (λ e. e ≡ refusals.Memory) }
+    // The meaning of each refusal.
+    ensures refused { IfErr result (λ e. IsRefused forms.Bare bytes.now limits e) }
+    ensures bounded { IfErr result (λ e. IsPaidWithin limits.budget e) }
+    // No memory is needed, whatever the depth.
+    ensures no_memory { IfErr result (λ e. e ≢ refusals.Memory) }
+{
+    let space = Bare::new(bytes)?;
+    let checked = survey_bare_of(&space, limits)?;
+    match checked.capability {
+        Some(index) => Err(Refusal::Capability(index)),
+        None => Ok(checked.is_canonical),
+    }
+}
+
+/// Tests whether `bytes`, read bare within `limits`, are canonical, as [`are_canonical`] does. It doesn't use the
+/// allocator.
 pub fn is_canonical<A: Allocator + Copy>(
-    alloc: A,
+    _alloc: A,
     bytes: &[u8],
     limits: Limits,
 ) -> Result<bool, Refusal>
@@ -129,16 +183,11 @@ pub fn is_canonical<A: Allocator + Copy>(
     // Bytes that denote such a value are answered, unless memory runs out.
     ensures only { (v : Value) → Denotes forms.Bare bytes.now limits v → first_cap v ≡ None
         → MatchResult result (λ yes. IsTrue yes ↔ (canon v ≡ bytes.now)) (λ e. e ≡ refusals.Memory) }
-    // What each refusal means.
+    // The meaning of each refusal.
     ensures refused { IfErr result (λ e. IsRefused forms.Bare bytes.now limits e) }
     ensures bounded { IfErr result (λ e. IsPaidWithin limits.budget e) }
     // No memory is needed, whatever the depth.
     ensures no_memory { IfErr result (λ e. e ≢ refusals.Memory) }
 {
-    let space = Bare::new(bytes)?;
-    let checked = survey_bare(alloc, &space, limits)?;
-    match checked.capability {
-        Some(index) => Err(Refusal::Capability(index)),
-        None => Ok(checked.is_canonical),
-    }
+    are_canonical(bytes, limits)
 }

@@ -30,7 +30,7 @@ pub struct Canonical<A: Allocator = Global> {
     pub paid: u32,
 }
 
-/// The canonical bytes of a message, read by calls that count.
+/// Writes the canonical bytes of the message `space`, read by calls that count.
 fn canonical_of_inner<A: Allocator + Copy, S: Space, L: Ledger>(
     alloc: A,
     space: &CountedSpace<'_, S, L>,
@@ -52,7 +52,8 @@ fn canonical_of_inner<A: Allocator + Copy, S: Space, L: Ledger>(
     })
 }
 
-/// The same. If the message has one segment, it is read as its words alone, which is faster.
+/// Writes the canonical bytes of the message `space`. If it has one segment, it is read as its words alone, which is
+/// faster.
 fn canonical_by_segments<A: Allocator + Copy, S: Space, L: Ledger>(
     alloc: A,
     space: &CountedSpace<'_, S, L>,
@@ -69,7 +70,7 @@ fn canonical_by_segments<A: Allocator + Copy, S: Space, L: Ledger>(
     }
 }
 
-/// The canonical bytes of a message within the limits.
+/// The task of the canonical bytes of a message within limits.
 #[derive(Drop)]
 struct BytesTask<A: Allocator + Copy> {
     alloc: A,
@@ -97,24 +98,25 @@ impl<A: Allocator + Copy> CountedTask for BytesTask<A> {
     }
 }
 
-/// The canonical bytes of the value that a message denotes within the limits.
+/// Writes the canonical bytes of the value that the message `space` denotes within `limits`; returns them with the
+/// words that its walk paid.
 ///
-/// `Walk`: the message is not accepted. `Capability`: its value has capabilities; the index is that of the
-/// first in preorder. `Memory` comes only where a growth was refused; no other refusal comes.
+/// `Walk`: the message is not accepted. `Capability`: its value has capabilities; the index is that of the first in
+/// preorder. `Memory` comes only if a growth on `alloc` was refused; no other refusal comes.
 pub fn canonical_of<A: Allocator + Copy, M: Asked>(
     alloc: A,
     space: M,
     limits: Limits,
 ) -> Result<Canonical<A>, Refusal>
-    // All passes ask the message and turn at most 56 times for each word of the budget, and 56 times more: it is done
-    // on any message that allows this, and a reference to a `Space` allows all.
-    requires work { M.allows space (56 * (limits.budget + 1)) }
-    // The answer: the canonical bytes of the one value that the message denotes, and what its walk pays.
+    // All passes ask the message and turn their loops at most 56 * (budget + 1) times, and once more to open the count:
+    // it is done on any message that allows this, and a reference to a `Space` allows all.
+    requires work { M.allows space (56 * (limits.budget + 1) + 1) }
+    // The answer: the canonical bytes of the one value that the message denotes, and the words that its walk pays.
     ensures found { IfOk result (λ c. AnswersMessage (M.message space) limits c.bytes.items c.paid) }
     // A value without capabilities is answered, unless memory runs out.
     ensures only { (v : Value) → IsValueOf (M.message space) limits v → first_cap v ≡ None
         → MatchResult result (λ c. c.bytes.items ≡ canon v) (λ e. e ≡ refusals.Memory) }
-    // What each refusal means.
+    // The meaning of each refusal.
     ensures refused { IfErr result (λ e. IsRefusedMessage (M.message space) limits e) }
     // Memory is needed only for canonical bytes.
     ensures memory { IsErrOf result refusals.Memory → MayNeedBytes (M.message space) limits }
@@ -140,25 +142,25 @@ pub fn canonical_of<A: Allocator + Copy, M: Asked>(
     space.ask(BytesTask { alloc, limits })
 }
 
-/// What [`canonical_of`] answers, by calls that count what they read, as for
-/// [`canonical_length_counted`](crate::canonical_length_counted). With the reads it counts the turns of its loops.
+/// Writes the canonical bytes of the value that the message `space` denotes within `limits`, as [`canonical_of`] does,
+/// by calls that count in `reads`, as for [`canonical_length_counted`](crate::canonical_length_counted). With the reads
+/// it counts the turns of its loops.
 ///
-/// It reads and turns at most 56 times for each word that it pays, and 56 times more: 14 times in the walk, twice where
-/// it asks how long the segments are, 20 times where it measures, if it does, and 20 times where it writes. It does so
-/// at most that often for the whole budget where it refuses. So the budget alone bounds its work, whatever the message
-/// says.
+/// It reads and turns at most 56 times for each word that it pays, and 56 times more: 14 times in the walk, twice to
+/// ask for the lengths of the segments, 20 times to measure, if it does, and 20 times to write. If it refuses, it does
+/// so at most that often for the whole budget. So the budget alone bounds its work, whatever the message says.
 pub fn canonical_of_counted<A: Allocator + Copy, S: Space, L: Ledger>(
     alloc: A,
     space: &CountedSpace<'_, S, L>,
     limits: Limits,
     reads: &mut Reads<L>,
 ) -> Result<Canonical<A>, Refusal>
-    // The answer: the canonical bytes of the one value that the message denotes, and what its walk pays.
+    // The answer: the canonical bytes of the one value that the message denotes, and the words that its walk pays.
     ensures found { IfOk result (λ c. AnswersMessage space.now limits c.bytes.items c.paid) }
     // A value without capabilities is answered, unless memory runs out.
     ensures only { (v : Value) → IsValueOf space.now limits v → first_cap v ≡ None
         → MatchResult result (λ c. c.bytes.items ≡ canon v) (λ e. e ≡ refusals.Memory) }
-    // What each refusal means.
+    // The meaning of each refusal.
     ensures refused { IfErr result (λ e. IsRefusedMessage space.now limits e) }
     // Memory is needed only for canonical bytes.
     ensures memory { IsErrOf result refusals.Memory → MayNeedBytes space.now limits }

@@ -20,7 +20,7 @@ use capn_walk::Limits;
 use capn_words::Space;
 use std::alloc::Allocator;
 
-/// The canonical bytes of a message.
+/// The task of the canonical bytes of a message.
 #[derive(Clone, Copy)]
 struct CanonicalBytes;
 
@@ -39,26 +39,27 @@ impl<A: Allocator + Copy> MessageTask<A> for CanonicalBytes {
     }
 }
 
-/// The canonical bytes of the value that bytes denote in a form, within the limits.
+/// Writes the canonical bytes of the value that `bytes` denote in this `form`, within `limits`; returns them with the
+/// words that the walk paid.
 ///
-/// The refusals are tested in this order. The bytes are read: `Bare` for the form `Bare`; `Packed`, where at most the
-/// message words and those of the longest table are unpacked; then `Frame` and, where bytes follow the message,
+/// The refusals are tested in this order. The bytes are read: `Bare` for the form `Bare`; `Packed`, of which at most
+/// the message words and those of the longest table are unpacked; then `Frame` and, if bytes follow the message,
 /// `Trailing`. The message is walked: `Walk`, never because memory ran out. Its value is laid out: `Capability`, with
-/// the index of the first in preorder. `Memory` comes only where a growth was refused, which no clause can say.
+/// the index of the first in preorder. `Memory` comes only if a growth on `alloc` was refused, which no clause can say.
 pub fn canonicalise<A: Allocator + Copy>(
     alloc: A,
     form: Form,
     bytes: &[u8],
     limits: Limits,
 ) -> Result<Canonical<A>, Refusal>
-    // The answer: the canonical bytes of the one value that the bytes denote, and what the walk pays.
+    // The answer: the canonical bytes of the one value that the bytes denote, and the words that the walk pays.
     ensures found { IfOk result (λ c. Answers form bytes.now limits c.bytes.items c.paid) }
     // A value without capabilities is answered, or `Memory` is.
     ensures only { (v : Value) → Denotes form bytes.now limits v → first_cap v ≡ None
         → MatchResult result (λ c. c.bytes.items ≡ canon v) (λ e. e ≡ refusals.Memory) }
-    // What each refusal means.
+    // The meaning of each refusal.
     ensures refused { IfErr result (λ e. IsRefused form bytes.now limits e) }
-    // Memory is needed only where a survey of the bytes may need it, and for canonical bytes.
+    // Memory is needed only if a survey of the bytes may need it, and for canonical bytes.
     ensures memory { IsErrOf result refusals.Memory → MayNeedBytesIn form bytes.now limits }
     // No walk reports more paid than its budget.
     ensures bounded { MatchResult result (λ c. c.paid ≤ limits.budget) (λ e. IsPaidWithin limits.budget e) }

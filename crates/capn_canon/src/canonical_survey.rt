@@ -19,10 +19,10 @@ use capn_words::{Bare, Space};
 use std::marker::Brand;
 use std::sync::ledger::{Blank, Ledger};
 
-/// What the walk of a bare message pays and visits within the limits, if it is accepted, its value has no capability
-/// and its bytes are canonical; otherwise nothing. (Own.)
+/// Surveys the bare message `space` within `limits`, if it is accepted, its value has no capability and its bytes are
+/// canonical; otherwise `None`. (Own.)
 ///
-/// It takes no memory. Where it answers nothing, [`survey_bare`](crate::survey_bare) says why.
+/// It takes no memory. If it answers nothing, [`survey_bare`](crate::survey_bare) says why.
 pub fn survey_canonical(space: &Bare<'_>, limits: Limits) -> Option<SurveyedBare>
     requires { IsMessage (space.now ∷ []) }
     ensures found { IfSome result (λ c. IsBareSurvey space.now limits c) }
@@ -33,7 +33,7 @@ pub fn survey_canonical(space: &Bare<'_>, limits: Limits) -> Option<SurveyedBare
     survey_with_ledger::<Brand>(space, limits, Blank::new(1))
 }
 
-/// The same, with a new ledger.
+/// Does what [`survey_canonical`] does, with a count in the new ledger `blank`.
 fn survey_with_ledger<L: Ledger>(
     space: &Bare<'_>,
     limits: Limits,
@@ -51,12 +51,11 @@ fn survey_with_ledger<L: Ledger>(
     survey_canonical_counted(&space, limits, &mut reads)
 }
 
-/// What [`survey_canonical`] answers of a message of one segment, by calls that count what they read, as for
-/// [`survey_counted`](capn_walk::survey_counted). With the reads it counts the turns of its loops.
+/// Surveys the message `space` of one segment within `limits`, as [`survey_canonical`] does, by calls that count in
+/// `reads`, as for [`survey_counted`](capn_walk::survey_counted). With the reads it counts the turns of its loops.
 ///
-/// It reads and turns at most ten times for each word that it pays, and eight times more; at most so often for the
-/// whole budget where it answers nothing. So the budget alone bounds its work, whatever the words are. It takes no
-/// memory.
+/// It reads and turns at most ten times for each word that it pays, and eight times more; if it answers nothing, at
+/// most so often for the whole budget. So the budget alone bounds its work, whatever the words are. It takes no memory.
 pub fn survey_canonical_counted<S: Space, L: Ledger>(
     space: &CountedSpace<'_, S, L>,
     limits: Limits,
@@ -84,10 +83,11 @@ pub fn survey_canonical_counted<S: Space, L: Ledger>(
     }
 }
 
-/// What [`survey_canonical`] answers, and the least depth under which the message is accepted with the other limits as
-/// they are: how many objects are one below another at most, the root's among them. (Own.)
+/// Surveys the bare message `space` within `limits`, as [`survey_canonical`] does, and also finds the least depth under
+/// which it is accepted with the other limits as they are: the greatest number of objects one below another, the root's
+/// among them. (Own.)
 ///
-/// It takes no memory. Where it answers nothing, [`survey_bare`](crate::survey_bare) and
+/// It takes no memory. If it answers nothing, [`survey_bare`](crate::survey_bare) and
 /// [`survey_depth`](capn_walk::survey_depth) report more.
 pub fn measure_canonical(space: &Bare<'_>, limits: Limits) -> Option<MeasuredBare>
     requires { IsMessage (space.now ∷ []) }
@@ -102,7 +102,7 @@ pub fn measure_canonical(space: &Bare<'_>, limits: Limits) -> Option<MeasuredBar
     measure_with_ledger::<Brand>(space, limits, Blank::new(1))
 }
 
-/// The same, with a new ledger.
+/// Does what [`measure_canonical`] does, with a count in the new ledger `blank`.
 fn measure_with_ledger<L: Ledger>(
     space: &Bare<'_>,
     limits: Limits,
@@ -123,8 +123,8 @@ fn measure_with_ledger<L: Ledger>(
     measure_canonical_counted(&space, limits, &mut reads)
 }
 
-/// What [`measure_canonical`] answers of a message of one segment, by calls that count what they read, as for
-/// [`survey_canonical_counted`] and with its bounds. It takes no memory.
+/// Surveys the message `space` of one segment within `limits`, as [`measure_canonical`] does, by calls that count in
+/// `reads`, as for [`survey_canonical_counted`] and with its bounds. It takes no memory.
 pub fn measure_canonical_counted<S: Space, L: Ledger>(
     space: &CountedSpace<'_, S, L>,
     limits: Limits,
@@ -155,8 +155,9 @@ pub fn measure_canonical_counted<S: Space, L: Ledger>(
     }
 }
 
-/// What the one pass finds: canonical bytes, or such bytes with words after them, which are not canonical and cost the
-/// same. Where `DEEP`, it learns how deep the objects are: it keeps the least depth that was left below one of them.
+/// Makes the one pass over the words of `space` within `limits`: it finds canonical bytes, or such bytes with words
+/// after them, which are not canonical and cost the same. If `DEEP`, it also finds how deep the objects are: it keeps
+/// the least depth that was left below one of them. It counts in `reads`.
 #[inline(always)]
 pub fn measure_root<S: Space, L: Ledger, const DEEP: bool>(
     space: &CountedWords<'_, S, L>,

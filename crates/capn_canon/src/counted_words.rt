@@ -27,7 +27,7 @@ impl<'s, S: Space, L: Ledger> Model for CountedWords<'s, S, L> {
 }
 
 impl<'s, S: Space, L: Ledger> CountedWords<'s, S, L> {
-    /// The words of a message of one segment.
+    /// Returns the words of the message `space` of one segment.
     #[inline(always)]
     pub fn of(space: &CountedSpace<'s, S, L>) -> CountedWords<'s, S, L>
         requires one { length space.now ≡ 1 }
@@ -41,7 +41,8 @@ impl<'s, S: Space, L: Ledger> CountedWords<'s, S, L> {
         }
     }
 
-    /// The same words, for a function that takes them by value: a reference to them would be one to a reference.
+    /// Returns the words again, for a function that takes them by value: a reference to them would be one to a
+    /// reference.
     #[inline(always)]
     pub fn again(&self) -> CountedWords<'s, S, L>
         ensures { result ≡ self.now }
@@ -52,7 +53,7 @@ impl<'s, S: Space, L: Ledger> CountedWords<'s, S, L> {
     }
 }
 
-/// The number of words. It counts as one read.
+/// Returns the number of `words`. It counts in `reads` as one read.
 #[inline(always)]
 pub fn words_of<S: Space, L: Ledger>(words: &CountedWords<'_, S, L>, reads: &mut Reads<L>) -> u32
     ensures words { result ≡ length words.now }
@@ -61,7 +62,7 @@ pub fn words_of<S: Space, L: Ledger>(words: &CountedWords<'_, S, L>, reads: &mut
     words.space.words(0, reads).unwrap_or(0)
 }
 
-/// The word at a place. It counts as one read.
+/// Returns the word at index `word` of `words`. It counts in `reads` as one read.
 #[inline(always)]
 pub fn word_at<S: Space, L: Ledger>(
     words: &CountedWords<'_, S, L>,

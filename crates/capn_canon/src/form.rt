@@ -1,6 +1,6 @@
 //! The forms of a message's bytes.
 
-/// How the bytes of one message are written.
+/// A form in which the bytes of one message are written.
 #[derive(Clone, Copy, Debug, PartialEq, Eq)]
 pub enum Form {
     /// A frame: the table of segments, then the segments. (Page: serialization over a stream.)

@@ -14,20 +14,20 @@ use capn_walk::Limits;
 use capn_words::{Bare, Space};
 use std::alloc::Allocator;
 
-/// What is done with the message that bytes hold, whichever of the three forms they are in. (Own.)
+/// A task on the message that bytes hold, whichever of the three forms they are in. (Own.)
 pub trait MessageTask<A: Allocator + Copy> {
-    /// What is answered.
+    /// The answer.
     type Answer;
 
-    /// Of a message this is answered or refused, within limits.
+    /// The answer or the refusal that the task gives of a message within limits.
     ghost answers: { Self → List (List ℕ) → Bounds → Result Self.Answer Refusals → Type 0 };
 
-    /// What is answered of this message, or why it is refused.
+    /// Does the task on `message` within `limits`: returns the answer, or the refusal.
     fn run<S: Space>(&self, alloc: A, message: &S, limits: Limits) -> Result<Self::Answer, Refusal>
         ensures { answers self.now (S.message message.now) limits result };
 }
 
-/// Of the words of one segment.
+/// Does the task on the words of one segment.
 fn of_bare<T: MessageTask<A>, A: Allocator + Copy>(
     alloc: A,
     task: &T,
@@ -40,7 +40,7 @@ fn of_bare<T: MessageTask<A>, A: Allocator + Copy>(
     task.run(alloc, &space, limits)
 }
 
-/// Of a frame.
+/// Does the task on a frame.
 fn of_frame<T: MessageTask<A>, A: Allocator + Copy>(
     alloc: A,
     task: &T,
@@ -56,7 +56,7 @@ fn of_frame<T: MessageTask<A>, A: Allocator + Copy>(
     task.run(alloc, &message, limits)
 }
 
-/// Of the packed text of a frame.
+/// Does the task on the packed text of a frame.
 fn of_packed<T: MessageTask<A>, A: Allocator + Copy>(
     alloc: A,
     task: &T,
@@ -69,10 +69,10 @@ fn of_packed<T: MessageTask<A>, A: Allocator + Copy>(
     of_frame(alloc, task, text.as_slice(), limits)
 }
 
-/// Reads bytes in a form as a message, once, and answers what the task does of it.
+/// Reads `bytes` in this `form` as a message, once, and returns the answer of `task` to it, within `limits`.
 ///
 /// It refuses what the task refuses, and bytes that are no message of the form: these before the task is run. Reading
-/// asks for memory only for the table of two segments or more, and for what is unpacked. (Own.)
+/// asks `alloc` for memory only for the table of two segments or more, and for what is unpacked. (Own.)
 pub fn run_task<T: MessageTask<A>, A: Allocator + Copy>(
     alloc: A,
     task: &T,

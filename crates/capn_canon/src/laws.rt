@@ -11,8 +11,8 @@ ghost use Rattle.capn_canon.specs.Laws.{AnswersTellTheSame};
 
 use std::alloc::Allocator;
 
-/// The theorem of the README: each of its sentences holds of all that is answered and refused as the clauses `found`
-/// and `refused` of `canonicalise` say.
+/// States the theorem of the README: each of its sentences holds of all that is answered and refused as the clauses
+/// `found` and `refused` of `canonicalise` say.
 pub fn theorem<A: Allocator>()
     ensures answered { EachIsAnswered A }
     ensures equal { AnswersAreEqualExactly A }
@@ -20,21 +20,21 @@ pub fn theorem<A: Allocator>()
     ensures within { WalksAreWithinBudgets A }
 {}
 
-/// The message, the limits and the buffer decide what `canonical_into` gives: its clauses `written`, `refused` and
-/// `unchanged` leave one result, and one buffer after it.
+/// States: the message, the limits and the buffer decide what `canonical_into` gives: its clauses `written`, `refused`
+/// and `unchanged` leave one result, and one buffer after it.
 pub fn decision()
     ensures { IntoIsDecided }
 {}
 
-/// Canonical bytes read back the trimmed value, are their own form, and are equal exactly for values that
-/// are the same.
+/// States: canonical bytes read back the trimmed value, are their own form, and are equal exactly for values that are
+/// the same.
 pub fn canonicity()
     ensures form { CanonIsForm }
     ensures exactly { EqualExactlySame }
 {}
 
-/// Bytes denote one value at most, which fits, costs at most what its walk pays, and is not refused where it has no
-/// capability. Bytes are refused for one reason, unless memory runs out.
+/// States: bytes denote one value at most, which fits, costs at most what its walk pays, and is not refused if it has
+/// no capability. Bytes are refused for one reason, unless memory runs out.
 pub fn denotation()
     ensures form { DenotedHaveForms }
     ensures one { DenoteOne }
@@ -42,14 +42,14 @@ pub fn denotation()
     ensures refused { RefusedForOneReason }
 {}
 
-/// A word has the same 8 bytes in a message that is read and in one that is packed.
+/// States: a word has the same 8 bytes in a message that is read and in one that is packed.
 pub fn spelling()
     ensures { WordsHaveTheSameBytes }
 {}
 
-/// Words are the canonical bytes of the value that they denote if and only if they follow the rules of the encoding
-/// page. Words that follow these denote a value without capabilities, and each such value has one form that does. So
-/// each answer follows them, and the check says yes if and only if they are followed.
+/// States: words are the canonical bytes of the value that they denote if and only if they follow the rules of the
+/// encoding page. Words that follow these denote a value without capabilities, and each such value has one form that
+/// does. So each answer follows them, and the check says yes if and only if they are followed.
 pub fn page()
     ensures exactly { CanonicalExactlyByPage }
     ensures denoted { PageFormsDenote }
@@ -59,8 +59,8 @@ pub fn page()
     ensures survey { SurveyIsOfThePage }
 {}
 
-/// Two answers, and any two words that follow the rules of the encoding page, are equal if and only if the getters tell
-/// the same of the values denoted, along every path. Each answer reads as its message does.
+/// States: two answers, and any two words that follow the rules of the encoding page, are equal if and only if the
+/// getters give the same of the values denoted, along every path. Each answer reads as its message does.
 pub fn readers<A: Allocator>()
     ensures canon { CanonIsWhatIsTold }
     ensures page { PageFormsAreWhatIsTold }

@@ -17,7 +17,7 @@ use capn_walk::Limits;
 use capn_words::Space;
 use std::sync::ledger::Ledger;
 
-/// The length of the canonical bytes of a message, and what its walk pays and visits.
+/// The length of the canonical bytes of a message, with the words that its walk pays and the number of its visits.
 #[derive(Clone, Copy, Debug, PartialEq, Eq)]
 pub struct CanonicalLength {
     /// The number of canonical bytes: at most 8 for each word paid, and 8 more.
@@ -28,8 +28,8 @@ pub struct CanonicalLength {
     pub visits: u32,
 }
 
-/// The length of the canonical bytes of a message that was surveyed, if it is above `room`. They are counted only if
-/// `room` is less than was paid for.
+/// Returns the length of the canonical bytes of `space`, a message that was surveyed, if it is above `room`. They are
+/// counted only if `room` is less than was `paid` for.
 pub(crate) fn length_beyond<S: Space, L: Ledger>(
     space: &CountedSpace<'_, S, L>,
     limits: Limits,
@@ -55,7 +55,7 @@ pub(crate) fn length_beyond<S: Space, L: Ledger>(
     Some(length)
 }
 
-/// The length of the canonical bytes of a message, read by calls that count.
+/// Returns the length of the canonical bytes of the message `space`, read by calls that count.
 fn length_of<S: Space, L: Ledger>(
     space: &CountedSpace<'_, S, L>,
     limits: Limits,
@@ -77,7 +77,8 @@ fn length_of<S: Space, L: Ledger>(
     })
 }
 
-/// The same. If the message has one segment, it is read as its words alone, which is faster.
+/// Returns the length of the canonical bytes of the message `space`. If it has one segment, it is read as its words
+/// alone, which is faster.
 fn length_by_segments<S: Space, L: Ledger>(
     space: &CountedSpace<'_, S, L>,
     limits: Limits,
@@ -93,7 +94,7 @@ fn length_by_segments<S: Space, L: Ledger>(
     }
 }
 
-/// The length of the canonical bytes of a message within the limits.
+/// The task of the length of the canonical bytes of a message within limits.
 #[derive(Drop)]
 struct LengthTask {
     limits: Limits,
@@ -120,7 +121,7 @@ impl CountedTask for LengthTask {
     }
 }
 
-/// The length of the canonical bytes of the value that a message denotes within the limits.
+/// Returns the length of the canonical bytes of the value that the message `space` denotes within `limits`.
 ///
 /// The message is walked, and refused by `Walk` if it is not accepted, by `Capability` if its value has capabilities.
 /// No other refusal comes. It reads the message twice and takes no memory but the stack, whatever the depth. (Own.)
@@ -128,14 +129,14 @@ pub fn canonical_length<M: Asked>(
     space: M,
     limits: Limits,
 ) -> Result<CanonicalLength, MessageRefusal>
-    // Its passes ask the message and turn at most 34 times for each word of the budget, and 34 times more: it is done
-    // on any message that allows this, and a reference to a `Space` allows all.
-    requires work { M.allows space (34 * (limits.budget + 1)) }
+    // All passes ask the message and turn their loops at most 34 * (budget + 1) times, and once more to open the count:
+    // it is done on any message that allows this, and a reference to a `Space` allows all.
+    requires work { M.allows space (34 * (limits.budget + 1) + 1) }
     // There is an answer if and only if the message denotes a value without capabilities within the limits:
     ensures answered { IsOk result ↔ HasBytes (M.message space) limits }
-    // the length of the canonical bytes of that value, and what the walk of the message pays and visits.
+    // the length of the canonical bytes of that value, the words that the walk of the message pays, and its visits.
     ensures found { IfOk result (λ c. (v : Value) × IsCanonicalLength (M.message space) limits v c) }
-    // What each refusal means.
+    // The meaning of each refusal.
     ensures refused { IfErr result (λ e. HasNoBytes (M.message space) limits e) }
     // No walk pays beyond its budget.
     ensures bounded { MatchResult result (λ c. IsBounded limits.budget c.paid c.visits)
@@ -148,12 +149,12 @@ pub fn canonical_length<M: Asked>(
     space.ask(LengthTask { limits })
 }
 
-/// What [`canonical_length`] answers, by calls that count what they read, as for
-/// [`survey_counted`](capn_walk::survey_counted). With the reads it counts the turns of its loops.
+/// Returns what [`canonical_length`] does of the message `space` within `limits`, by calls that count in `reads`, as
+/// for [`survey_counted`](capn_walk::survey_counted). With the reads it counts the turns of its loops.
 ///
-/// It reads and turns at most 34 times for each word that it pays, and 34 times more: 14 times in the walk, 20 times
-/// where it measures. It does so at most that often for the whole budget where it refuses. So the budget alone bounds
-/// its work, whatever the message says. It takes no memory but the stack.
+/// It reads and turns at most 34 times for each word that it pays, and 34 times more: 14 times in the walk, 20 times to
+/// measure. If it refuses, it does so at most that often for the whole budget. So the budget alone bounds its work,
+/// whatever the message says. It takes no memory but the stack.
 pub fn canonical_length_counted<S: Space, L: Ledger>(
     space: &CountedSpace<'_, S, L>,
     limits: Limits,
@@ -161,9 +162,9 @@ pub fn canonical_length_counted<S: Space, L: Ledger>(
 ) -> Result<CanonicalLength, MessageRefusal>
     // There is an answer if and only if the message denotes a value without capabilities within the limits:
     ensures answered { IsOk result ↔ HasBytes space.now limits }
-    // the length of the canonical bytes of that value, and what the walk of the message pays and visits.
+    // the length of the canonical bytes of that value, the words that the walk of the message pays, and its visits.
     ensures found { IfOk result (λ c. (v : Value) × IsCanonicalLength space.now limits v c) }
-    // What each refusal means.
+    // The meaning of each refusal.
     ensures refused { IfErr result (λ e. HasNoBytes space.now limits e) }
     // No walk pays beyond its budget.
     ensures bounded { MatchResult result (λ c. IsBounded limits.budget c.paid c.visits)

@@ -1,24 +1,27 @@
-//! Canonical bytes: one spelling for each value.
-//! So equal values have equal bytes.
+//! Canonical bytes: one spelling for each value, so that equal values have equal bytes.
 //!
-//! - [`canonicalise`] answers the canonical bytes of the value that bytes denote, whichever of the three
-//!   forms they are in, and what its walk paid. [`canonical_of`] does so for any message that is a `Space`.
-//! - [`canonical_into`] writes them into a buffer that is there, and [`canonical_length`] says how many they are. Both
+//! - [`canonicalise`] writes the canonical bytes of the value that bytes denote, whichever of the three forms they are
+//!   in, and returns them with the words that its walk paid. [`canonical_of`] does so for any message that is a
+//!   `Space`.
+//! - [`canonical_into`] writes them into a buffer that is there, and [`canonical_length`] returns their number. Both
 //!   take no memory, and no allocator.
-//! - [`is_canonical`] says whether the bytes of a bare message are its canonical bytes, and makes no copy;
+//! - [`is_canonical`] tests whether the bytes of a bare message are its canonical bytes, and makes no copy;
 //!   [`survey_bare`] also reports its price, its visits and its first capability. [`survey_canonical`] is the one pass
-//!   that they make first: it reports on canonical bytes alone. [`measure_canonical`] is the same pass, and also says
-//!   how deep they are.
+//!   that they make first: it reports on canonical bytes alone. [`measure_canonical`] is the same pass, and also finds
+//!   their depth. [`are_canonical`] and [`survey_bare_of`] do the same without an allocator, the second of a message
+//!   that is asked through a counter alone.
 //! - [`survey_bare_counted`], [`survey_canonical_counted`] and [`measure_canonical_counted`] do the same to a message
 //!   of one segment whose reads are counted: the budget bounds how often they read it.
 //! - [`canonical_of_counted`], [`canonical_into_counted`] and [`canonical_length_counted`] do the same as the calls
-//!   without this word to a message whose reads are counted: what they pay bounds how often all their passes read it.
-//! - [`own_canonical`] answers the bytes of a message where they are its canonical bytes already, so that nothing is
-//!   copied; [`measure`] reports what its walk pays and visits, how deep it is, and whether it is canonical.
-//! - [`run_task`] reads bytes in a form as a message, and answers what a [`MessageTask`] does of it.
-//! - [`survey_bytes`] and [`survey`] report what the walk of a message pays and visits, and write nothing.
-//! - [`layout`] writes the canonical bytes of a tree: one segment, its objects in preorder, every struct
-//!   cut to what it keeps. A tree with a capability has none, and is refused by the first one's index.
+//!   without this word to a message whose reads are counted: the words that they pay bound how often all their passes
+//!   read it.
+//! - [`own_canonical`] returns the bytes of a message if they are its canonical bytes already, so that nothing is
+//!   copied; [`measure`] reports the words that its walk pays, its visits, its depth, and whether it is canonical.
+//! - [`run_task`] reads bytes in a form as a message, and returns the answer of a [`MessageTask`] to it.
+//! - [`survey_bytes`] and [`survey`] report the words that the walk of a message pays, and its visits, and write
+//!   nothing.
+//! - [`layout`] writes the canonical bytes of a tree: one segment, its objects in preorder, every struct cut to what it
+//!   keeps. A tree with a capability has none, and is refused by the first one's index.
 //! - [`Patch`] is a buffer of words and of holes for what is not known yet, as a pointer whose object has no place so
 //!   far. Nothing here writes to it.
 //!
@@ -37,7 +40,7 @@
 //!
 //! A tree and a message are laid out by one writer, over what they have in common: slots with their values.
 //!
-//! `layout` takes memory for the bytes that it answers. Where a growth is refused the answer is `Memory`.
+//! `layout` takes memory for the bytes that it answers. If a growth is refused the answer is `Memory`.
 //!
 //! ```rust
 //! let input = [0, 0, 0, 0, 2, 0, 0, 0, 5, 0, 0, 0, 0, 0, 0, 0, 0, 0, 0, 0, 0, 0, 0, 0];
@@ -59,7 +62,6 @@ mod length;
 mod message_measure;
 mod message_refusal;
 mod message_survey;
-mod no_memory;
 mod objects;
 mod one_pass;
 mod one_segment;
@@ -71,7 +73,9 @@ mod surveyed_bare;
 mod value_survey;
 mod written_bytes;
 
-pub use bare_verdict::{is_canonical, survey_bare, survey_bare_counted};
+pub use bare_verdict::{
+    are_canonical, is_canonical, survey_bare, survey_bare_counted, survey_bare_of,
+};
 pub use canonical::{Canonical, canonical_of, canonical_of_counted};
 pub use canonical_input::canonicalise;
 pub use canonical_survey::{
@@ -92,7 +96,7 @@ pub use written_bytes::{canonical_into, canonical_into_counted};
 // The layout of trees.
 pub use capn_layout::{LayoutFault, Patch, layout};
 
-// What the signatures above name.
+// The types in the signatures above.
 pub use capn_pack::UnpackFault;
 pub use capn_stream::FrameFault;
 pub use capn_value::{Memory, Tariff, Tree};

@@ -13,7 +13,7 @@ use capn_walk::{Limits, Stopped, survey_depth};
 use capn_words::{Bare, Space};
 use std::alloc::Allocator;
 
-/// What a survey finds of a message that is not canonical.
+/// Surveys the message `space`, which is not canonical, within `limits`.
 fn measure_other<S: Space, A: Allocator + Copy>(
     alloc: A,
     space: &S,
@@ -39,7 +39,8 @@ fn measure_other<S: Space, A: Allocator + Copy>(
     })
 }
 
-/// What is found of a message of one segment: by one pass if its bytes are canonical, else by a survey.
+/// Surveys the message `space` of one segment within `limits`: by one pass if its bytes are canonical, else by a
+/// survey.
 fn measure_bare<A: Allocator + Copy>(
     alloc: A,
     space: &Bare<'_>,
@@ -59,8 +60,9 @@ fn measure_bare<A: Allocator + Copy>(
     }
 }
 
-/// What the walk of a message pays and visits, its first capability, the least depth under which it is accepted with
-/// the other limits as they are, and whether it has one segment whose bytes are its canonical bytes. (Own.)
+/// Surveys the message `space` within `limits`: returns the words that its walk pays, the number of its visits, its
+/// first capability, the least depth under which it is accepted with the other limits as they are, and whether it has
+/// one segment whose bytes are its canonical bytes. (Own.)
 ///
 /// A message that is canonical is walked once, another of one segment twice at most, and one of more segments once. It
 /// refuses what the walk refuses, in the same way. It takes no memory.
@@ -69,7 +71,7 @@ pub fn measure<S: Space, A: Allocator + Copy>(
     space: &S,
     limits: Limits,
 ) -> Result<MeasuredBare, Stopped>
-    // An answer: the message is accepted, and this is what is found of it.
+    // An answer: the message is accepted, and these are its numbers.
     ensures found { IfOk result (λ m. IsMeasure (S.message space.now) limits m) }
     // A message that is accepted is answered.
     ensures only { (v : Value) → IsValueOf (S.message space.now) limits v → IsOk result }

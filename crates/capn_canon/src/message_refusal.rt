@@ -5,22 +5,22 @@ use capn_walk::Stopped;
 use std::error::Error;
 use std::fmt;
 
-/// Why a message has no canonical bytes within the limits, in the order in which the tests are made. (Own.)
+/// The reason why a message has no canonical bytes within the limits, in the order in which the tests are made. (Own.)
 ///
 /// There is no variant for memory, since none is taken. The fault of a walk has one, for walks that make a tree: no
 /// clause lets it come here.
 #[derive(Clone, Copy, Debug, PartialEq, Eq)]
 pub enum MessageRefusal {
-    /// The message is not accepted: where and why its walk stopped. The fault is never `Memory`.
+    /// The message is not accepted: the place and the reason at which its walk stopped. The fault is never `Memory`.
     Walk(Stopped),
     /// The value has capabilities, which have no canonical form: the index of the first in preorder.
     Capability(u32),
 }
 
-/// Why canonical bytes are not written into a buffer, in the order in which the tests are made. (Own.)
+/// The reason why canonical bytes are not written into a buffer, in the order in which the tests are made. (Own.)
 #[derive(Clone, Copy, Debug, PartialEq, Eq)]
 pub enum IntoRefusal {
-    /// The message is not accepted: where and why its walk stopped. The fault is never `Memory`.
+    /// The message is not accepted: the place and the reason at which its walk stopped. The fault is never `Memory`.
     Walk(Stopped),
     /// The value has capabilities, which have no canonical form: the index of the first in preorder.
     Capability(u32),

@@ -17,8 +17,8 @@ use capn_target::counted::Reads;
 use capn_words::{Space, Width};
 use std::sync::ledger::Ledger;
 
-/// The slots of the struct at the next free word to which the first slot in hand points, if all of its words and slots
-/// are kept.
+/// Opens the struct at the next free word to which the first slot in hand, `word`, points: returns its slots, if all of
+/// its words and slots are kept.
 #[inline(always)]
 pub fn open_struct<S: Space, L: Ledger>(
     space: &CountedWords<'_, S, L>,
@@ -60,7 +60,8 @@ pub fn open_struct<S: Space, L: Ledger>(
     }
 }
 
-/// How far the pass has come after the list of numbers at the next free word to which the first slot in hand points.
+/// Tests the list of `count` numbers at the next free word to which the first slot in hand points: returns the progress
+/// of the `pass` after it.
 #[inline(always)]
 pub fn check_numbers<S: Space, L: Ledger>(
     space: &CountedWords<'_, S, L>,
@@ -88,7 +89,8 @@ pub fn check_numbers<S: Space, L: Ledger>(
     pass.paid(base as u64 + words + without_size as u64, end as u32, 0)
 }
 
-/// The elements of the list of pointers at the next free word to which the first slot in hand points.
+/// Opens the list of `count` pointers at the next free word to which the first slot in hand points: returns its
+/// elements.
 #[inline(always)]
 pub fn open_pointers<S: Space, L: Ledger>(
     space: &CountedWords<'_, S, L>,
@@ -121,8 +123,8 @@ pub fn open_pointers<S: Space, L: Ledger>(
     }
 }
 
-/// The rows of the list of structs at the next free word to which the first slot in hand points, if all of their words
-/// and slots are kept.
+/// Opens the list of structs of `span` words at the next free word to which the first slot in hand points: returns its
+/// rows, if all of their words and slots are kept.
 #[inline(never)]
 pub fn open_composite<S: Space, L: Ledger>(
     space: CountedWords<'_, S, L>,

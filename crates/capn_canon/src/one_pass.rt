@@ -1,12 +1,11 @@
-//! The one-pass test for a canonical layout.
-//! It counts what the walk of the words pays.
+//! The one-pass test for a canonical layout, with the words that the walk of it pays.
 //!
-//! Every object of a layout is at the next free word, so where each pointer is the one to that word, nothing is out
-//! of range and nothing is read twice: the pass follows the words in order, and needs no survey before it.
+//! Every object of a layout is at the next free word, so if each pointer is the one to that word, nothing is out of
+//! range and nothing is read twice: the pass follows the words in order, and needs no survey before it.
 //!
-//! A slot costs at most seven reads and turns: its turn, its word, and five to test the object that it names. What else
-//! a list of structs costs is paid with its rows: at most two for each word of theirs, to see that all are kept, and a
-//! turn for each row with slots.
+//! A slot costs at most seven reads and turns: its turn, its word, and five to test the object that it names. The
+//! further cost of a list of structs is paid with its rows: at most two for each word of theirs, to see that all are
+//! kept, and a turn for each row with slots.
 
 ghost use Rattle.std.specs.Prelude.{◌≡◌, ◌+◌, ◌-◌, ◌*◌, ◌%◌, ◌^◌, ◌<◌, ◌≤◌, [], ◌∷◌, slice_index, IfSome, IsSome};
 ghost use Rattle.capn_words.specs.Message.{IsMessage};
@@ -24,8 +23,8 @@ use capn_target::counted::Reads;
 use capn_words::{Pointer, Space, Width, split};
 use std::sync::ledger::Ledger;
 
-/// How far the pass has come once all is checked that is below the slots of an object; none where a word isn't in
-/// place, where a capability is, or where the depth or what may be paid is passed.
+/// Tests all that is below the slots of an object: returns the progress of the `pass` after it; `None` if a word isn't
+/// in place, at a capability, or if the depth or what may be paid is passed.
 ///
 /// Each level of depth takes one frame of the stack: that of this function, or of [`check_rows`].
 #[cycle(pass)]
@@ -47,7 +46,7 @@ pub fn check_object<S: Space, L: Ledger, const DEEP: bool>(
     check_slots::<S, L, DEEP>(&space, base, pass, least, reads)
 }
 
-/// The same below the slots in hand.
+/// Tests all that is below the slots in hand.
 #[cycle(pass)]
 #[inline(always)]
 fn check_slots<S: Space, L: Ledger, const DEEP: bool>(
@@ -75,7 +74,8 @@ fn check_slots<S: Space, L: Ledger, const DEEP: bool>(
     Some(left.here())
 }
 
-/// What is left of a pass after the first slot in hand; after the last one, the slots of the struct that it names.
+/// Tests the first slot in hand with all below it: returns what is left of the `pass` after it; after the last one, the
+/// slots of the struct that it names.
 #[cycle(pass)]
 #[inline(always)]
 fn check_slot<S: Space, L: Ledger, const DEEP: bool>(
@@ -119,7 +119,7 @@ fn check_slot<S: Space, L: Ledger, const DEEP: bool>(
     None
 }
 
-/// The same where the first slot in hand is the pointer to a struct at the next free word.
+/// Tests the first slot in hand, `word`, which is the pointer to a struct at the next free word, with all below it.
 #[cycle(pass)]
 #[inline(always)]
 fn check_struct<S: Space, L: Ledger, const DEEP: bool>(
@@ -146,7 +146,7 @@ fn check_struct<S: Space, L: Ledger, const DEEP: bool>(
     }
 }
 
-/// The same once the slots of the object are known to which the first slot in hand points.
+/// Tests all below the first slot in hand, once the slots of its object, `below`, are known.
 #[cycle(pass)]
 #[inline(always)]
 fn check_below<S: Space, L: Ledger, const DEEP: bool>(
@@ -179,8 +179,8 @@ fn check_below<S: Space, L: Ledger, const DEEP: bool>(
     }
 }
 
-/// How far the pass has come after all that is below an object after which more slots are in hand. They are copied for
-/// the call here, so that nothing is written to the stack where no call is made.
+/// Tests all `below` an object after which more slots are in hand. They are copied for the call here, so that nothing
+/// is written to the stack if no call is made.
 #[cycle(pass)]
 #[inline(always)]
 fn check_first<S: Space, L: Ledger, const DEEP: bool>(
@@ -211,7 +211,7 @@ fn check_first<S: Space, L: Ledger, const DEEP: bool>(
     check_object::<S, L, DEEP>(space.again(), base, object, least, reads)
 }
 
-/// The same where the first slot in hand is the pointer to a list at the next free word.
+/// Tests the first slot in hand, `word`, which is the pointer to a list at the next free word, with all below it.
 #[cycle(pass)]
 #[inline(always)]
 fn check_list<S: Space, L: Ledger, const DEEP: bool>(
@@ -259,8 +259,8 @@ fn check_list<S: Space, L: Ledger, const DEEP: bool>(
     }
 }
 
-/// How far the pass has come after the list of structs at the next free word to which the first slot in hand points,
-/// and after all below it.
+/// Tests the list of structs at the next free word to which the first slot in hand points, with all below it: returns
+/// the progress of the `pass` after it.
 #[cycle(pass)]
 #[inline(always)]
 fn check_composite<S: Space, L: Ledger, const DEEP: bool>(
@@ -301,7 +301,8 @@ fn check_composite<S: Space, L: Ledger, const DEEP: bool>(
     }
 }
 
-/// How far the pass has come after all that is below the slots of `count` rows, which are the words in hand.
+/// Tests all that is below the slots of `count` rows, which are the words in hand: returns the progress of the `pass`
+/// after it.
 #[cycle(pass)]
 #[inline(never)]
 fn check_rows<S: Space, L: Ledger, const DEEP: bool>(

@@ -22,7 +22,7 @@ pub struct OwnCanonical<'a> {
     pub paid: u32,
 }
 
-/// The bytes of the only segment of a message, or `None` if it has more than one.
+/// Returns the bytes of the only segment of the message `space`, or `None` if it has more than one.
 fn only_bytes<S: Space>(space: &S) -> Option<&[u8]>
     ensures one { IfSome result (λ bytes. IsOnlySegment (S.message space.now) bytes.now) }
     ensures other { IfNone result (length (S.message space.now) ≢ 1) }
@@ -34,7 +34,7 @@ fn only_bytes<S: Space>(space: &S) -> Option<&[u8]>
     Some(space.bytes(Place::ROOT, 8 * words as usize))
 }
 
-/// A message of one segment as its bytes alone, which are faster to read; `None` if it has more.
+/// Returns the message `space` of one segment as its bytes alone, which are faster to read; `None` if it has more.
 pub(crate) fn alone<S: Space>(space: &S) -> Option<Bare<'_>>
     ensures one { IfSome result (λ words. S.message space.now ≡ words ∷ []) }
     ensures other { IfNone result (length (S.message space.now) ≢ 1) }
@@ -48,7 +48,7 @@ pub(crate) fn alone<S: Space>(space: &S) -> Option<Bare<'_>>
     }
 }
 
-/// These bytes, if they are a message of one segment and its canonical bytes. One pass over them finds it out.
+/// Returns `bytes`, if they are a message of one segment and its canonical bytes. One pass over them finds it out.
 fn own_words(bytes: &[u8], limits: Limits) -> Option<OwnCanonical<'_>>
     ensures own { IfSome result (λ own. (words : List ℕ) → IsBare bytes.now words
         → AnswersMessage (words ∷ []) limits own.bytes.now own.paid) }
@@ -76,7 +76,8 @@ fn own_words(bytes: &[u8], limits: Limits) -> Option<OwnCanonical<'_>>
     }
 }
 
-/// The bytes of a message of one segment, if they are its canonical bytes, and what its walk pays. (Own.)
+/// Returns the bytes of the message `space` of one segment, if they are its canonical bytes, and the words that its
+/// walk pays, within `limits`. (Own.)
 ///
 /// One pass finds it out, which is [`survey_canonical`]'s. It takes no memory and copies nothing.
 pub fn own_canonical<S: Space>(space: &S, limits: Limits) -> Option<OwnCanonical<'_>>

@@ -18,7 +18,7 @@ use capn_target::counted::Reads;
 use capn_words::{Space, Width};
 use std::sync::ledger::Ledger;
 
-/// Whether `count` words from a place on are all kept: the last of them, if any, is not zero.
+/// Returns `true` if the `count` words from word `at` on are all kept: the last of them, if any, is not zero.
 #[inline(always)]
 pub fn is_kept<S: Space, L: Ledger>(
     space: &CountedWords<'_, S, L>,
@@ -37,7 +37,8 @@ pub fn is_kept<S: Space, L: Ledger>(
 /// The pointer to a struct of no words and no slots: its offset is -1. (Page: canonicalization.)
 pub const EMPTY: u64 = 0xffff_fffc;
 
-/// Whether the pointer to a list is the one to the next free word, and there is room for its `words` words.
+/// Returns `true` if the pointer at word `from` is the one to a list at the next free word, and there is room for its
+/// `words` words.
 fn is_list_at<S: Space, L: Ledger>(
     space: &CountedWords<'_, S, L>,
     width: Width,
@@ -61,7 +62,7 @@ fn is_list_at<S: Space, L: Ledger>(
     word_at(space, from, reads) == word && next + words <= words_of(space, reads)
 }
 
-/// Whether the bits past the first of the words from a place on are 0, up to a whole word.
+/// Returns `true` if the bits past the first `bits` of the words from word `next` on are 0, up to a whole word.
 pub fn are_bits_at<S: Space, L: Ledger>(
     space: &CountedWords<'_, S, L>,
     bits: u64,
@@ -82,7 +83,7 @@ pub fn are_bits_at<S: Space, L: Ledger>(
     last == last % (1 << rest)
 }
 
-/// How many rows a list of structs has, and how many words and slots each of them.
+/// The number of rows of a list of structs, and the numbers of words and slots of each.
 #[derive(Clone, Copy)]
 pub struct Tag {
     pub count: u32,
@@ -90,7 +91,7 @@ pub struct Tag {
     pub slots: u16,
 }
 
-/// What a tag word says.
+/// Reads `word` as a tag.
 #[inline(always)]
 pub fn tag_of(word: u64) -> Tag
     ensures { result ≡ record { count = field 2 30 word; words = field 32 16 word; slots = field 48 16 word } }
@@ -102,8 +103,8 @@ pub fn tag_of(word: u64) -> Tag
     }
 }
 
-/// Whether some row keeps all `size` words of a part of it: the last of them isn't zero. There are `count` rows, one
-/// every `step` words from a place on, and the part begins `inset` words into its row.
+/// Returns `true` if some row keeps all `size` words of a part of it: the last of them isn't zero. There are `count`
+/// rows, one every `step` words from word `start` on, and the part begins `inset` words into its row.
 fn is_part_kept<S: Space, L: Ledger>(
     space: &CountedWords<'_, S, L>,
     start: u32,
@@ -134,8 +135,8 @@ fn is_part_kept<S: Space, L: Ledger>(
     false
 }
 
-/// Whether each row keeps all of its words and slots, the tag says so, the pointer is the one to the next free word,
-/// and there is room for the rows.
+/// Returns `true` if each row keeps all of its words and slots, the `tag` says so, the pointer at word `from` is the
+/// one to the next free word, and there is room for the rows.
 pub fn are_rows_at<S: Space, L: Ledger>(
     space: &CountedWords<'_, S, L>,
     tag: Tag,

@@ -4,7 +4,7 @@ ghost use Rattle.std.specs.Prelude.{◌≡◌, ◌+◌, ◌-◌, ◌^◌, ◌<�
 
 use crate::own_words_test::Tag;
 
-/// How far a pass has come.
+/// The progress of a pass.
 #[derive(Clone, Copy)]
 pub struct Progress {
     /// The next free word.
@@ -15,16 +15,16 @@ pub struct Progress {
     pub visits: u32,
 }
 
-/// Slots of one object that are still to be checked, and how far the pass has come that checks them.
+/// Slots of one object that are still to be checked, and the progress of the pass that checks them.
 #[derive(Clone, Copy)]
 pub struct Pass {
     /// The first slot.
     pub from: u32,
     /// The word after the last slot.
     pub end: u32,
-    /// How many objects may be one below another, from each of these on.
+    /// The most objects that may be one below another, from each of these on.
     pub depth: u32,
-    /// The next free word, at which what is below them has to begin.
+    /// The next free word, at which the objects below them have to begin.
     pub next: u32,
     /// The words that may still be paid.
     pub left: u32,
@@ -35,13 +35,13 @@ pub struct Pass {
 /// Rows of equal sizes whose slots are still to be checked.
 #[derive(Clone, Copy)]
 pub struct RowPass {
-    /// How many rows there are, and how many words and slots each of them has.
+    /// The number of rows, and the numbers of words and slots of each.
     pub tag: Tag,
-    /// The words of the rows, and how far the pass has come that checks their slots.
+    /// The words of the rows, and the progress of the pass that checks their slots.
     pub pass: Pass,
 }
 
-/// Lowers the least depth that was left to that below an object, where it is asked for.
+/// Lowers `least`, the least depth that was left, to the `depth` below an object, if depths are asked for (`DEEP`).
 #[inline(always)]
 pub fn lower<const DEEP: bool>(least: &mut u32, depth: u32)
     ensures { IsTrue DEEP → least.new ≡ min least.old depth }
@@ -52,7 +52,7 @@ pub fn lower<const DEEP: bool>(least: &mut u32, depth: u32)
 }
 
 impl Pass {
-    /// How far it has come.
+    /// Returns its progress.
     #[inline(always)]
     pub fn here(self) -> Progress
         ensures { result ≡ record { next = self.next; left = self.left; visits = self.visits } }
@@ -64,7 +64,7 @@ impl Pass {
         }
     }
 
-    /// The slots after the first, once all below that is checked.
+    /// Returns the slots after the first, with the `progress` once all below that is checked.
     #[inline(always)]
     pub fn behind(self, progress: Progress) -> Pass
         requires { self.from < 2 ^ 29 }
@@ -87,8 +87,8 @@ impl Pass {
         }
     }
 
-    /// How far it has come once an object is paid that ends at a word and has this many slots; none if it costs more
-    /// than is left.
+    /// Returns the progress once an object is paid that ends at word `end` and has this number of `slots`; `None` if
+    /// its `price` is more than is left.
     #[inline(always)]
     pub fn paid(self, price: u64, end: u32, slots: u32) -> Option<Progress>
         requires { self.visits + slots < 2 ^ 32 }

@@ -8,7 +8,7 @@ use capn_words::BareFault;
 use std::error::Error;
 use std::fmt;
 
-/// Why no canonical bytes are answered, in the order in which the tests are made: the bytes are read in
+/// The reason why no canonical bytes are answered, in the order in which the tests are made: the bytes are read in
 /// their form, the message is walked, and its value is looked through for a capability. (Own.)
 #[derive(Clone, Copy, Debug, PartialEq, Eq)]
 pub enum Refusal {
@@ -19,7 +19,7 @@ pub enum Refusal {
     Packed(UnpackFault),
     /// The bytes, or what they unpack to, are no frame within the limit on message words.
     Frame(FrameFault),
-    /// Bytes follow the frame: the offset of the first, in what was unpacked where the form is `Packed`.
+    /// Bytes follow the frame: the offset of the first, for the form `Packed` in the bytes that were unpacked.
     Trailing(u64),
     /// The message is not accepted within the limits.
     Walk(Stopped),

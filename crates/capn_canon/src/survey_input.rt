@@ -20,7 +20,7 @@ use capn_walk::{Limits, Surveyed};
 use capn_words::Space;
 use std::alloc::Allocator;
 
-/// A survey of a message.
+/// The task of a survey of a message.
 #[derive(Clone, Copy)]
 struct Survey;
 
@@ -34,10 +34,11 @@ impl<A: Allocator + Copy> MessageTask<A> for Survey {
     }
 }
 
-/// What the walk of the message pays and visits that bytes are in a form, and its first capability, within the limits.
+/// Surveys the message that `bytes` encode in this `form`, within `limits`: returns the words that its walk pays, the
+/// number of its visits and its first capability.
 ///
-/// It refuses as [`crate::canonicalise`] does, but never for a capability. `Memory` comes only where a growth was
-/// refused: for the table of segments, or for what is unpacked.
+/// It refuses as [`crate::canonicalise`] does, but never for a capability. `Memory` comes only if a growth on `alloc`
+/// was refused: for the table of segments, or for what is unpacked.
 pub fn survey_bytes<A: Allocator + Copy>(
     alloc: A,
     form: Form,
@@ -49,9 +50,9 @@ pub fn survey_bytes<A: Allocator + Copy>(
     // Bytes that denote a value are answered, unless memory runs out.
     ensures only { (v : Value) → Denotes form bytes.now limits v
         → MatchResult result (λ s. s.capability ≡ first_cap v) (λ e. e ≡ refusals.Memory) }
-    // What each refusal means.
+    // The meaning of each refusal.
     ensures refused { IfErr result (λ e. IsUnacceptedIn form bytes.now limits e) }
-    // Memory is needed only for where two segments or more end, and for what a text packs.
+    // Memory is needed only for the ends of two segments or more, and for what a text packs.
     ensures memory { IsErrOf result refusals.Memory → MayNeedMemory form bytes.now limits }
     // No walk pays beyond its budget.
     ensures bounded { MatchResult result (λ s. IsBounded limits.budget s.paid s.visits)

@@ -6,13 +6,13 @@ ghost use Rattle.capn_walk.specs.Surveyed.{IsSurvey};
 ghost use Rattle.capn_canon.specs.MessageRefusal.{HasNoBytes, IsMessagePaidWithin};
 
 use crate::message_refusal::MessageRefusal;
-use crate::no_memory::NoMemory;
 use capn_target::counted::{CountedSpace, Reads};
 use capn_walk::{Limits, Surveyed, survey_counted};
 use capn_words::Space;
 use std::sync::ledger::Ledger;
 
-/// What the walk of a message pays and visits, if its value has no capability; else why it has no canonical bytes.
+/// Surveys the message `space` within `limits`, if its value has no capability; else the refusal says why it has no
+/// canonical bytes.
 pub(crate) fn survey_value<S: Space, L: Ledger>(
     space: &CountedSpace<'_, S, L>,
     limits: Limits,
@@ -25,7 +25,7 @@ pub(crate) fn survey_value<S: Space, L: Ledger>(
     ensures reads { IfOk result (λ s. reads.new ≤ reads.old + 14 * s.visits + 1) }
     ensures work { reads.new ≤ reads.old + 14 * (limits.budget + 1) + 1 }
 {
-    match survey_counted(NoMemory, space, limits, reads) {
+    match survey_counted(space, limits, reads) {
         Ok(surveyed) => match surveyed.capability {
             Some(index) => Err(MessageRefusal::Capability(index)),
             None => Ok(surveyed),

@@ -18,7 +18,7 @@ use capn_walk::Limits;
 use capn_words::Space;
 use std::sync::ledger::Ledger;
 
-/// Writes the canonical bytes of a message, read by calls that count.
+/// Writes the canonical bytes of the message `space`, read by calls that count, to `out`.
 fn write_message<S: Space, L: Ledger>(
     space: &CountedSpace<'_, S, L>,
     limits: Limits,
@@ -44,7 +44,8 @@ fn write_message<S: Space, L: Ledger>(
     })
 }
 
-/// The same. If the message has one segment, it is read as its words alone, which is faster.
+/// Writes the canonical bytes of the message `space`. If it has one segment, it is read as its words alone, which is
+/// faster.
 fn write_by_segments<S: Space, L: Ledger>(
     space: &CountedSpace<'_, S, L>,
     limits: Limits,
@@ -61,7 +62,7 @@ fn write_by_segments<S: Space, L: Ledger>(
     }
 }
 
-/// The canonical bytes of a message within the limits, for a buffer.
+/// The task of the canonical bytes of a message within limits, for a buffer.
 #[derive(Drop)]
 struct IntoTask {
     limits: Limits,
@@ -89,23 +90,23 @@ impl CountedWriter for IntoTask {
     }
 }
 
-/// Writes the canonical bytes of the value that a message denotes within the limits to the beginning of `out`, and
-/// answers how many they are. What is after them stays as it was.
+/// Writes the canonical bytes of the value that the message `space` denotes within `limits` to the beginning of `out`,
+/// and returns their number, the words that the walk pays, and its visits. The bytes after them stay as they were.
 ///
 /// The refusals are tested in this order, and after each `out` is as it was. The message is walked: `Walk` if it is not
 /// accepted. Its value is laid out: `Capability`, with the index of the first in preorder. `NoRoom`, with the length of
 /// the canonical bytes, if that is more than `out` has.
 ///
-/// It takes no memory but the stack, whatever the depth. `8 * (paid + 1)` bytes are always enough, and so are
-/// `8 * (budget + 1)`; the bytes are counted before they are written only if there are fewer. (Own.)
+/// It takes no memory but the stack, whatever the depth. `8 * (paid + 1)` bytes are always enough, and so are `8 *
+/// (budget + 1)`; the bytes are counted before they are written only if there are fewer. (Own.)
 pub fn canonical_into<M: Asked>(
     space: M,
     limits: Limits,
     out: &mut [u8],
 ) -> Result<CanonicalLength, IntoRefusal>
-    // All passes ask the message and turn at most 54 times for each word of the budget, and 54 times more: it is done
-    // on any message that allows this, and a reference to a `Space` allows all.
-    requires work { M.allows space (54 * (limits.budget + 1)) }
+    // All passes ask the message and turn their loops at most 54 * (budget + 1) times, and once more to open the count:
+    // it is done on any message that allows this, and a reference to a `Space` allows all.
+    requires work { M.allows space (54 * (limits.budget + 1) + 1) }
     // The theorem. There is an answer if and only if the message denotes a value without capabilities within the
     // limits, and its canonical bytes have room;
     ensures answered { AnsweredInto (M.message space) limits (length out.old) result }
@@ -118,7 +119,7 @@ pub fn canonical_into<M: Asked>(
     // No walk pays beyond its budget.
     ensures bounded { MatchResult result (λ c. IsBounded limits.budget c.paid c.visits)
         (λ e. IsIntoPaidWithin limits.budget e) }
-    // What is written, as the other calls answer it.
+    // The bytes that are written, as the other calls answer them.
     ensures found { IfOk result (λ c. AnswersMessage (M.message space) limits (take c.length out.new) c.paid) }
     ensures past { IfOk result (λ c. drop c.length out.new ≡ drop c.length out.old) }
     ensures inside { IfOk result (λ c. c.length ≤ length out.new) }
@@ -142,12 +143,13 @@ pub fn canonical_into<M: Asked>(
     space.ask_into(IntoTask { limits }, out)
 }
 
-/// What [`canonical_into`] writes and answers, by calls that count what they read, as for
-/// [`canonical_length_counted`](crate::canonical_length_counted). With the reads it counts the turns of its loops.
+/// Writes and returns what [`canonical_into`] does of the message `space` within `limits` to `out`, by calls that count
+/// in `reads`, as for [`canonical_length_counted`](crate::canonical_length_counted). With the reads it counts the turns
+/// of its loops.
 ///
-/// It reads and turns at most 54 times for each word that it pays, and 54 times more: 14 times in the walk, 20 times
-/// where it measures, if it does, and 20 times where it writes. It does so at most that often for the whole budget
-/// where it refuses. So the budget alone bounds its work, whatever the message says. It takes no memory but the stack.
+/// It reads and turns at most 54 times for each word that it pays, and 54 times more: 14 times in the walk, 20 times to
+/// measure, if it does, and 20 times to write. If it refuses, it does so at most that often for the whole budget. So
+/// the budget alone bounds its work, whatever the message says. It takes no memory but the stack.
 pub fn canonical_into_counted<S: Space, L: Ledger>(
     space: &CountedSpace<'_, S, L>,
     limits: Limits,
@@ -166,7 +168,7 @@ pub fn canonical_into_counted<S: Space, L: Ledger>(
     // No walk pays beyond its budget.
     ensures bounded { MatchResult result (λ c. IsBounded limits.budget c.paid c.visits)
         (λ e. IsIntoPaidWithin limits.budget e) }
-    // What is written, as the other calls answer it.
+    // The bytes that are written, as the other calls answer them.
     ensures found { IfOk result (λ c. AnswersMessage space.now limits (take c.length out.new) c.paid) }
     ensures past { IfOk result (λ c. drop c.length out.new ≡ drop c.length out.old) }
     ensures inside { IfOk result (λ c. c.length ≤ length out.new) }

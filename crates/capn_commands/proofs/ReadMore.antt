@@ -1,6 +1,6 @@
 -- One more read.
-use Rattle.std.proofs.Common.{◌≡◌, ℕ, ◌+◌, ◌≤◌, ◌<◌, ◌^◌, List, ◌++◌, length, take, refl, ap, ◌∙◌}
-use Rattle.std.proofs.Common.{arith, length-append, length-take-le, append-nil, Option, None, Some, IfSome, Bool, true}
+use Rattle.std.proofs.Common.{◌≡◌, ℕ, ◌+◌, ◌<◌, ◌^◌, List, ◌++◌, length, refl, ap, ◌∙◌}
+use Rattle.std.proofs.Common.{arith, length-append, append-nil, Option, None, Some, IfSome, Bool, true}
 use Rattle.std.proofs.Common.{false, nat_lt, ◌||◌}
 use Rattle.std.proofs.lemmas.List.{take-append-le}
 use Rattle.std.proofs.lemmas.Bool.Decides.{nat_tests}
@@ -9,13 +9,6 @@ use Rattle.capn_commands.specs.inner.ReadInput.{Kept}
 
 is_below : (a b : ℕ) → a < b → nat_lt a b ≡ true
 is_below a b h = grind (arith, nat_tests)
-
--- how many there are then
-pub size_kept : (xs part new : List ℕ) (k : ℕ) → new ≡ xs ++ take k part → k ≤ length part
-    → length new ≡ length xs + k
-size_kept xs part new k is within =
-    let size = ap (λ (l : List ℕ). length l) is in
-    omega (arith, size, length-append xs (take k part), length-take-le k part within)
 
 -- a reader that answered an error has failed, and one that gave bytes has not
 pub has_broken : (old new : Bool) → new ≡ (old || true) → new ≡ true

@@ -1,14 +1,11 @@
 //! The service of `show`, `check` and `hash`, message by message.
 
-ghost use Rattle.std.specs.Prelude.{◌≡◌, ◌≢◌, ◌⊎◌, List, ℕ, false};
+ghost use Rattle.std.specs.Prelude.{◌≡◌, List, ℕ, false};
 ghost use Rattle.capn_words.specs.Watched.{inner_of, has_failed};
 ghost use Rattle.capn_show.specs.Outgoing.{outgoing};
 ghost use Rattle.capn_serve.specs.Outgoing as sent;
 ghost use Rattle.capn_serve.specs.Service.{DoesService, PutsMessage};
 ghost use Rattle.capn_serve.specs.declared.position.Position.{Position};
-ghost use Rattle.capn_serve.specs.declared.fault.ServeFault.TheVariants as serve_faults;
-ghost use Rattle.capn_canon.specs.declared.refusal.Refusal.TheVariants as refusals;
-ghost use Rattle.capn_target.specs.declared.target.Fault.TheVariants as walk_faults;
 ghost use Rattle.capn_commands.specs.MessageText.{PutsMessageText};
 ghost use Rattle.capn_commands.specs.inner.MessageTexts as spec;
 ghost use Rattle.capn_commands.specs.declared.message_texts.MessageTexts.{MessageTexts};
@@ -16,10 +13,9 @@ ghost use Rattle.capn_commands.specs.declared.message_texts.MessageTexts.{Messag
 use crate::fault::ToolFault;
 use crate::message_text::{put_digest, put_price};
 use crate::plan::MessageText;
-use capn_canon::Refusal;
-use capn_serve::{Position, Run, ServeFault, Service, flush_long};
+use capn_serve::{Position, Run, ServeFault, Service, fault_of_stop, flush_long};
 use capn_show::{ShowFault, show_message};
-use capn_walk::{Fault, Limits, Stopped};
+use capn_walk::Limits;
 use capn_words::{Space, Watched};
 use std::alloc::Allocator;
 use std::io::Write;
@@ -38,17 +34,6 @@ pub(crate) fn first_run(piece: MessageText, limits: Limits) -> Run<MessageTexts>
     ensures { result ≡ spec.first_run piece limits }
 {
     Run::new(MessageTexts { piece, limits })
-}
-
-/// How a message ends whose survey has stopped.
-fn stop_of(stopped: Stopped) -> ServeFault
-    ensures { ((stopped.fault ≡ walk_faults.Memory) × (result ≡ serve_faults.Memory))
-        ⊎ ((stopped.fault ≢ walk_faults.Memory) × (result ≡ serve_faults.Refused (refusals.Walk stopped))) }
-{
-    match stopped.fault {
-        Fault::Memory => ServeFault::Memory,
-        _ => ServeFault::Refused(Refusal::Walk(stopped)),
-    }
 }
 
 /// Adds a line to the text, or nothing if memory is refused, and writes what is long.
@@ -81,7 +66,7 @@ fn add_shown<S: Space, W: Write, A: Allocator + Copy>(
 {
     match show_message(alloc, text, writer, message, limits) {
         Ok(()) => add_line(b"end\n", text, writer),
-        Err(ShowFault::Stopped(stopped)) => Err(stop_of(stopped)),
+        Err(ShowFault::Stopped(stopped)) => Err(fault_of_stop(stopped)),
         Err(ShowFault::Io) => Err(ServeFault::Io),
         Err(ShowFault::Memory) => Err(ServeFault::Memory),
     }

@@ -1,4 +1,4 @@
--- Whose a word of canonical bytes is, where the message is the same before it.
+-- Whose a word of canonical bytes is, where the message is the same before it. (For `Leaving`.)
 use Rattle.std.proofs.Common.{◌≡◌, ◌⊎◌, inl, inr, ℕ, suc, ◌+◌, ◌-◌, ◌*◌, ◌^◌, ◌<◌, ◌≤◌}
 use Rattle.std.proofs.Common.{List, [], ◌∷◌, ◌++◌, length, slice_index}
 use Rattle.std.proofs.Common.{refl, ap, sym, subst, ◌∙◌, arith}

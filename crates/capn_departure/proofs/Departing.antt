@@ -1,4 +1,4 @@
--- What an answer says, and what it doesn't.
+-- An answer excludes the others. (For `finding_of`, `is_canonical` and `lengths_of`.)
 use Rattle.std.proofs.Common.{◌≡◌, ◌≢◌, ◌↔◌, ℕ, List, length, Bool, false, Result, IfOk, ap, sym, subst}
 use Rattle.std.proofs.Common.{◌∙◌, arith}
 use Rattle.std.proofs.lemmas.Result.{IfOk-weaker}

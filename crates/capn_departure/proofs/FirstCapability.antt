@@ -1,4 +1,4 @@
--- What is found of a message that has a capability.
+-- The finding of a search in a message that has a capability. (For `first_capability`.)
 use Rattle.std.proofs.Common.{◌≡◌, ℕ, List, [], ◌∷◌, length, Option, Some, None, Ok, Err, Result, refl, ap, ap₂}
 use Rattle.std.proofs.Common.{sym, ◌∙◌}
 use Rattle.std.specs.Option.{option_or}
@@ -21,7 +21,7 @@ use Rattle.capn_departure.specs.declared.sought.Sought.TheVariants as sought
 use Rattle.capn_departure.specs.Capability.{IsFirstCapability}
 use Rattle.capn_departure.specs.inner.Search.{capability_there, found_at, first_found}
 use Rattle.capn_departure.specs.inner.Seeks.{Seeks}
-use Rattle.capn_departure.proofs.CapsMet.{caps-at}
+use Rattle.capn_walk.proofs.shared.CapsMet.{caps-at}
 use Rattle.capn_departure.proofs.FoundFirst.{found-append}
 
 -- a capability, as it is found

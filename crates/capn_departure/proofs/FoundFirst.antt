@@ -1,4 +1,4 @@
--- What is found first among visits.
+-- The first find among visits. (For `FirstCapability`, `Owned` and `Searches`.)
 use Rattle.std.proofs.Common.{◌≡◌, ℕ, zero, suc, List, [], ◌∷◌, ◌++◌, Option, Some, None, Ok, Err, Result, refl, ap}
 use Rattle.std.proofs.Common.{◌∙◌, arith}
 use Rattle.std.specs.Option.{option_or}

@@ -1,4 +1,4 @@
--- Whether the only segment of a message is in canonical form.
+-- The test of the only segment of a message for canonical form. (For `is_canonical`.)
 use Rattle.std.proofs.Common.{◌≡◌, ◌↔◌, ℕ, List, [], ◌∷◌, length, Option, Some, None, IsSome, ap, sym, subst}
 use Rattle.std.proofs.Common.{◌∙◌}
 use Rattle.std.specs.Bool.{IsTrue}

@@ -1,4 +1,4 @@
--- What holds of the first word at which a message leaves its canonical words.
+-- The first word at which a message leaves its canonical words. (For `apart`.)
 use Rattle.std.proofs.Common.{◌≡◌, ◌⊎◌, inl, inr, ℕ, ◌^◌, ◌<◌, ◌≤◌, List, [], ◌∷◌, length, take, slice_index}
 use Rattle.std.proofs.Common.{ap, sym, subst, ◌∙◌, arith}
 use Rattle.std.proofs.lemmas.List.{take_all, get_or-take}
@@ -21,7 +21,7 @@ use Rattle.capn_departure.specs.Difference.{Differ, GoesOn}
 use Rattle.capn_departure.specs.inner.Owned.{HasOwner}
 use Rattle.capn_departure.proofs.Told.{Told}
 use Rattle.capn_departure.proofs.Belonging.{root-told}
-use Rattle.capn_departure.proofs.CanonicalWords.{words_are_words}
+use Rattle.capn_canon.proofs.shared.BareCanon.{words_are_words}
 
 module _ (m : List (List ℕ)) (limits : Bounds) (ws cs : List ℕ) (message : IsMessage m)
     (cheap : limits.budget ≤ most_cost) (shallow : limits.depth ≤ most_height) (c : Compares m limits ws cs) where

@@ -2,7 +2,6 @@ mod Steps
 mod FoundFirst
 mod Searches
 mod Reaching
-mod CapsMet
 mod FirstCapability
 mod Owning
 mod Pointed
@@ -13,7 +12,6 @@ mod StructsTold
 mod RowsTold
 mod NumbersTold
 mod Belonging
-mod CanonicalWords
 mod Ready
 mod Leaving
 mod Departing

@@ -1,4 +1,4 @@
--- Words that lie somewhere in others.
+-- Words that lie somewhere in others. (For `Belonging`, `NumbersTold`, `RowsTold` and others.)
 use Rattle.std.proofs.Common.{◌≡◌, ℕ, ◌+◌, ◌<◌}
 use Rattle.std.proofs.Common.{List, ◌++◌, length, slice_index}
 use Rattle.std.proofs.Common.{ap, subst, ◌∙◌, arith, length-append}

@@ -1,4 +1,4 @@
--- What is told of a word of a list of numbers.
+-- The owner of a word of a list of numbers. (For `Belonging`.)
 use Rattle.std.proofs.Common.{◌≡◌, ◌⊎◌, inl, inr, ℕ, ◌+◌, ◌-◌, ◌*◌, ◌/◌, ◌%◌, ◌^◌, ◌<◌, ◌≤◌, ◌==◌}
 use Rattle.std.proofs.Common.{◌&&◌, nat_lt, true, List, [], ◌∷◌, length, take, drop, slice_index}
 use Rattle.std.proofs.Common.{Some, Ok, ap, ap₂, sym, subst, ◌∙◌, arith, length-append}

@@ -1,4 +1,4 @@
--- Visits of which one is of the slot whose a word is.
+-- Visits, one of which is of the slot that owns a word. (For `Belonging`, `NumbersTold`, `RowsTold` and `Told`.)
 use Rattle.std.proofs.Common.{◌≡◌, ℕ, suc, ◌+◌, ◌-◌, ◌<◌, ◌≤◌, ◌==◌}
 use Rattle.std.proofs.Common.{◌&&◌, List, [], ◌∷◌, ◌++◌, Option}
 use Rattle.std.proofs.Common.{Some, None, Result, ap, sym, subst, ◌∙◌, arith}

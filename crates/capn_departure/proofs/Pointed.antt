@@ -1,4 +1,5 @@
--- What the pointers of a layout name in words of one segment.
+-- The targets of the pointers of a layout in words of one segment. (For `Belonging`, `NumbersTold`, `Owned` and
+-- others.)
 use Rattle.std.proofs.Common.{◌≡◌, ℕ, zero, suc, ◌+◌, ◌-◌, ◌*◌, ◌^◌, ◌<◌, ◌≤◌, ◌==◌, ◌&&◌, nat_lt, List, [], ◌∷◌}
 use Rattle.std.proofs.Common.{length, slice_index, Ok, Err, Result, pos, refl, ap, ◌∙◌, arith}
 use Rattle.std.proofs.lemmas.Bool.{le-ltb, ltb-false}

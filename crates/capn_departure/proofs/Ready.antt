@@ -1,4 +1,4 @@
--- The value of an accepted message, ready to be laid out.
+-- The value of an accepted message, ready to be laid out. (For `canonical_length` and `from_canonical`.)
 use Rattle.std.proofs.Common.{◌≡◌, ℕ, ◌+◌, ◌*◌, ◌≤◌, List, length, Result, Ok, Err, refl, arith}
 use Rattle.capn_words.specs.Message.{IsBare, IsMessage}
 use Rattle.capn_value.specs.Tree.{Tree}
@@ -14,7 +14,7 @@ use Rattle.capn_layout.specs.MessageSlots.{HasSlot}
 use Rattle.capn_layout.specs.Ready.{IsReady}
 use Rattle.capn_layout.proofs.shared.Room.{room, length-canon}
 use Rattle.capn_layout.proofs.shared.Sound.{sound}
-use Rattle.capn_departure.proofs.CanonicalWords.{words_are_words}
+use Rattle.capn_canon.proofs.shared.BareCanon.{words_are_words}
 
 module _ (m : List (List ℕ)) (limits : Bounds) (message : IsMessage m) (cheap : limits.budget ≤ most_cost)
     (shallow : limits.depth ≤ most_height) where

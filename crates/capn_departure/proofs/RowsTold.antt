@@ -1,4 +1,4 @@
--- What is told of a word of a list of structs, and of what is below.
+-- The owner of a word of a list of structs, or of a word below it. (For `Belonging`.)
 use Rattle.std.proofs.Common.{◌≡◌, ◌⊎◌, inl, inr, ℕ, suc, ◌+◌, ◌-◌, ◌*◌, ◌^◌, ◌<◌, ◌≤◌, ◌==◌}
 use Rattle.std.proofs.Common.{◌&&◌, List, [], ◌∷◌, ◌++◌, length, slice_index}
 use Rattle.std.proofs.Common.{Some, Ok, Result, pos, refl, ap, ap₂, sym, subst, ◌∙◌, arith}

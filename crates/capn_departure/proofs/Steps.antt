@@ -1,4 +1,4 @@
--- Numbers that lead from a slot to one of those below it, and on from there.
+-- Numbers that lead from a slot to one of those below it, and on from there. (For `Reaching` and `Searches`.)
 use Rattle.std.proofs.Common.{◌≡◌, ℕ, zero, suc, ◌+◌, ◌*◌, ◌<◌, List, [], ◌∷◌, length, refl, ap, arith, length-append}
 use Rattle.capn_words.specs.declared.space.Place.{Place}
 use Rattle.capn_walk.specs.Visits.{places, row_places}

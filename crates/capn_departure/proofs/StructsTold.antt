@@ -1,4 +1,4 @@
--- What is told of a word of a struct or of a list of pointers, and of what is below.
+-- The owner of a word of a struct or of a list of pointers, or of a word below it. (For `Belonging` and `NumbersTold`.)
 use Rattle.std.proofs.Common.{◌≡◌, ◌⊎◌, inl, inr, ℕ, ◌+◌, ◌-◌, ◌^◌, ◌<◌, ◌≤◌}
 use Rattle.std.proofs.Common.{Bool, true, false, List, [], ◌∷◌, ◌++◌, length, take, slice_index}
 use Rattle.std.proofs.Common.{Ok, refl, ap, ap₂, sym, subst, ◌∙◌, arith}

@@ -1,4 +1,5 @@
--- What is told of a word: it is the same, or one of some visits is of the slot whose it is.
+-- A word is the same, or one of some visits is of the slot that owns it. (For `Belonging`, `Leaving`, `NumbersTold` and
+-- others.)
 use Rattle.std.proofs.Common.{◌≡◌, ◌⊎◌, inl, inr, ℕ, suc, ◌+◌, ◌-◌, ◌*◌, ◌<◌, ◌≤◌}
 use Rattle.std.proofs.Common.{List, [], ◌∷◌, ◌++◌, length, drop, slice_index}
 use Rattle.std.proofs.Common.{Ok, ap, ap₂, sym, ◌∙◌, arith}

@@ -16,18 +16,18 @@ use Rattle.capn_departure.specs.declared.whose.Whose.TheVariants.{Pointer, Tag, 
 use Rattle.capn_departure.specs.declared.canonical_lines.CanonicalLines.{CanonicalLines}
 use Rattle.capn_departure.specs.Departures.{IsDeparture}
 
--- the byte of a stream at which a word of a message's first segment lies: behind what comes before the message, and its
+-- the byte of a stream at which a word of a message's first segment lies: behind the bytes before the message, and its
 -- table
 abbrev pub byte_of : ℕ → ℕ → ℕ → ℕ
 byte_of offset table word = offset + 8 * (table + word)
 
--- a byte, the word at it, and what that word is in the canonical bytes
+-- a byte, the word at it, and the value of that word in the canonical bytes
 abbrev pub differs_text : ℕ → List ℕ → List ℕ → List ℕ
 differs_text byte word canonical =
     codes "no: at byte " ++ (decimal byte ++ (codes ": " ++ (word ++ (codes ", canonical " ++ canonical))))
 
 module _ {A : Type 0} where
-  -- whether a message is canonical, and if not, why
+  -- yes, if a message is canonical, else the reason why not
   abbrev pub departure_text : ℕ → ℕ → Departure A → List ℕ
   departure_text offset table Canonical = codes "yes"
   departure_text offset table (Segments count) = codes "no: " ++ (decimal count ++ codes " segments")
@@ -51,7 +51,7 @@ module _ {A : Type 0} where
       codes "canonical: " ++ (departure_text lines.offset lines.table lines.departure ++ (codes "\n"
       ++ lengths_line lines.lengths))
 
--- how many bytes the contents of a message have, and its canonical bytes: told where it isn't canonical, has no
+-- the number of bytes of the contents of a message, and of its canonical bytes: there if it isn't canonical, has no
 -- capability, and the two differ
 abbrev pub AreLengths : List (List ℕ) → Tree → Option (ℕ × ℕ) → Type 0
 AreLengths message v (Some lengths) =
@@ -59,7 +59,7 @@ AreLengths message v (Some lengths) =
     × (lengths.1 ≡ length (canon v)) × (lengths.0 ≢ lengths.1)
 AreLengths message v None = IsCanonicalOf message v ⊎ (first_cap v ≢ None) ⊎ (8 * total message ≡ length (canon v))
 
--- what the lines of an accepted message tell, whose table begins at byte `offset` and has `table` words
+-- these are the lines of an accepted message whose table begins at byte `offset` and has `table` words
 pub record AreLinesOf {A : Type 0} (message : List (List ℕ)) (limits : Bounds) (offset table : ℕ)
     (lines : CanonicalLines A) : Type 0 where
   pub value : Tree

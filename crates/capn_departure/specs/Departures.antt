@@ -1,4 +1,4 @@
--- Whether a message is canonical, and if not, the first reason. (Own.)
+-- A message is canonical, or isn't for a first reason. (Own.)
 use Rattle.std.specs.Prelude.{◌≡◌, ℕ, ◌<◌, List, [], ◌∷◌, length, Some, None, ⊤}
 use Rattle.capn_words.specs.Message.{IsBare}
 use Rattle.capn_value.specs.Tree.{Tree}
@@ -23,13 +23,13 @@ pub record Compares (message : List (List ℕ)) (limits : Bounds) (words canonic
   pub one : message ≡ words ∷ []
   pub bare : IsBare (canon value) canonical
 
--- the same where two lists of words go apart
+-- the words of such a message and of its canonical bytes differ in this way
 abbrev pub Compared : List (List ℕ) → Bounds → (List ℕ → List ℕ → Type 0) → Type 0
 Compared message limits Apart =
     (words : List ℕ) × (canonical : List ℕ) × Compares message limits words canonical × Apart words canonical
 
 module _ {A : Type 0} where
-  -- what an answer says of a message, which is accepted
+  -- an answer is true of a message, which is accepted
   abbrev pub IsDeparture : List (List ℕ) → Bounds → Departure A → Type 0
   IsDeparture message limits Canonical = (v : Tree) × IsValueOf message limits v × IsCanonicalOf message v
   IsDeparture message limits (Segments n) =
@@ -59,6 +59,6 @@ pub record Departs (message : List (List ℕ)) (limits : Bounds) : Type 0 where
   pub one : length message ≡ 1
   pub not : IsCanonicalOf message value → ⊥
 
--- the same, and its value has no capability
+-- the message departs from its canonical bytes, and its value has no capability
 abbrev pub HasCanonicalBytes : List (List ℕ) → Bounds → Type 0
 HasCanonicalBytes message limits = (d : Departs message limits) × (first_cap d.value ≡ None)

@@ -1,4 +1,4 @@
--- Where two lists of words go apart. (Own.)
+-- The difference of two lists of words. (Own.)
 use Rattle.std.specs.Prelude.{◌≡◌, ◌≢◌, ℕ, ◌<◌, List, length, take, slice_index}
 
 -- two lists are the same before word k, which is x in the one and y in the other, and these are not the same

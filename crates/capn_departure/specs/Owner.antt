@@ -12,7 +12,7 @@ use Rattle.capn_way.specs.Ways.{IsWayTo}
 use Rattle.capn_departure.specs.declared.whose.Whose.{Whose}
 use Rattle.capn_departure.specs.declared.whose.Whose.TheVariants.{Pointer, Tag, LastWord}
 
--- where word w of the only segment is
+-- the place of word w of the only segment
 abbrev pub place : ℕ → Place
 place w = record { segment = 0; word = w }
 
@@ -45,7 +45,8 @@ pub record LeadsTo (message : List (List ℕ)) (limits : Bounds) (way : List ℕ
   pub is : Is found
 
 module _ {A : Type 0} where
-  -- whose a word of a message of one segment is: the pointer of a slot, the tag or the last word of what a slot names
+  -- the owner of a word of a message of one segment: the word is the pointer of a slot, or the tag or the last word of
+  -- its target
   abbrev pub IsOwner : List ℕ → Bounds → ℕ → Whose A → Type 0
   IsOwner words limits word (Pointer way) =
       (number : ℕ) × IsWayTo (words ∷ []) limits number way.items (place word)

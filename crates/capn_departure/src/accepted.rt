@@ -10,42 +10,20 @@ ghost use Rattle.capn_departure.specs.inner.Made.{HasCanonicalLength};
 
 use crate::canonical_lines::CanonicalLines;
 use crate::message_departure::finding_of;
-use capn_canon::{MeasuredBare, measure};
+use capn_canon::MeasuredBare;
 use capn_layout::surveyed_length;
 use capn_walk::Limits;
 use capn_words::{Memory, Space, total_words};
 use std::alloc::Allocator;
 
-/// The lines of an accepted message that say whether it is canonical, and how long it and its canonical bytes are.
+/// Returns the lines of the accepted message `space` about its canonical form: whether it is canonical, and the lengths
+/// of it and of its canonical bytes.
 ///
-/// `offset` is the byte of the stream at which the message begins, and `table` how many words its table takes: none of
-/// a bare message. `Memory` comes only for a message of one segment that is not canonical, where a growth was refused.
-/// Memory: that of [`departure`](crate::departure). (Own.)
-pub fn lines_of_accepted<S: Space, A: Allocator + Copy>(
-    alloc: A,
-    space: &S,
-    limits: Limits,
-    offset: u64,
-    table: u32,
-) -> Result<CanonicalLines<A>, Memory>
-    requires accepted { (v : Value) × IsValueOf (S.message space.now) limits v }
-    // All that the lines tell.
-    ensures found { IfOk result (λ lines. AreLinesOf (S.message space.now) limits offset table lines) }
-    // Memory is needed only for a message of one segment that is not canonical.
-    ensures memory { IsErr result → Departs (S.message space.now) limits }
-{
-    match measure(alloc, space, limits) {
-        Ok(measured) => lines_of_measured(alloc, space, limits, measured, offset, table),
-        // A message that is accepted is measured.
-        Err(_) => unreachable!(),
-    }
-}
-
-/// The same lines of a message that was measured.
-///
-/// `measured` is what [`measure`] answers of this message within these limits, so it isn't surveyed again. Canonical
-/// bytes are laid out once, and only of a message of one segment that is not canonical; where it has more segments they
-/// are counted. The rest is as for [`lines_of_accepted`]. (Own.)
+/// `measured` is the answer of [`measure`](capn_canon::measure) to this message within `limits`, so it isn't surveyed
+/// again. `offset` is the byte of the stream at which the message begins, and `table` the number of words of its table:
+/// 0 for a bare message. Canonical bytes are laid out once, and only of a message of one segment that is not canonical;
+/// if it has more segments they are counted. `Memory` comes only for a message of one segment that is not canonical, if
+/// a growth on `alloc` was refused. Memory: that of [`departure`](crate::departure). (Own.)
 pub fn lines_of_measured<S: Space, A: Allocator + Copy>(
     alloc: A,
     space: &S,
@@ -55,7 +33,7 @@ pub fn lines_of_measured<S: Space, A: Allocator + Copy>(
     table: u32,
 ) -> Result<CanonicalLines<A>, Memory>
     requires measured { IsMeasure (S.message space.now) limits measured }
-    // All that the lines tell.
+    // All that the lines say.
     ensures found { IfOk result (λ lines. AreLinesOf (S.message space.now) limits offset table lines) }
     // Memory is needed only for a message of one segment that is not canonical.
     ensures memory { IsErr result → Departs (S.message space.now) limits }
@@ -70,8 +48,8 @@ pub fn lines_of_measured<S: Space, A: Allocator + Copy>(
     })
 }
 
-/// The bytes of the contents of a message and its canonical bytes, where they are told. `made` are the canonical bytes
-/// that were made already.
+/// Returns the bytes of the contents of a message and those of its canonical bytes, if the lines have them. `made` is
+/// the number of canonical bytes that were made already.
 fn lengths_of<S: Space>(
     space: &S,
     limits: Limits,
@@ -97,13 +75,13 @@ fn lengths_of<S: Space>(
     Some((contents, canonical))
 }
 
-/// How many canonical bytes a message has: as many as were made, or else they are counted.
+/// Returns the number of canonical bytes of a message: as many as were `made`, or else they are counted.
 fn canonical_length<S: Space>(space: &S, limits: Limits, made: Option<u64>) -> u64
     requires accepted { (v : Value) × IsValueOf (S.message space.now) limits v }
     requires made { IfSome made (HasCanonicalLength (S.message space.now) limits) }
     ensures { HasCanonicalLength (S.message space.now) limits result }
 {
-    // The count needs what they promise of a message and of limits.
+    // The count needs the promises of a message and of limits.
     let _segments = space.segments();
     let _budget = limits.budget();
     match made {

@@ -3,14 +3,14 @@
 use crate::whose::Whose;
 use std::alloc::{Allocator, Global};
 
-/// Whether a message is canonical, and if not, the first reason. (Own.)
+/// The answer to the question if a message is canonical: it is, or the first reason why not. (Own.)
 ///
 /// Words are counted from the first of the message's only segment.
 #[derive(Debug, Drop)]
 pub enum Departure<A: Allocator = Global> {
-    /// It is: it has one segment, whose bytes are its canonical bytes.
+    /// It is canonical: it has one segment, whose bytes are its canonical bytes.
     Canonical,
-    /// It has more segments than one: how many.
+    /// It has more segments than one: their number.
     Segments(u32),
     /// Its value has a capability: the index of the first in preorder, and the way to its slot.
     Capability(u32, Vec<u32, A>),
@@ -18,18 +18,18 @@ pub enum Departure<A: Allocator = Global> {
     Word {
         /// The number of the word.
         word: u32,
-        /// What it is.
+        /// Its value in the message.
         is: u64,
-        /// What it is in the canonical bytes.
+        /// Its value in the canonical bytes.
         canonical: u64,
-        /// Whose it is there.
+        /// Its owner there.
         whose: Whose<A>,
     },
     /// A word follows where the canonical bytes have ended.
     After {
         /// The number of the word.
         word: u32,
-        /// What it is.
+        /// Its value in the message.
         is: u64,
     },
 }

@@ -10,21 +10,21 @@ use capn_explain::CanonicalText;
 use std::alloc::{Allocator, Global};
 use std::fmt;
 
-/// Whether an accepted message is canonical, and why not, and how long it and its canonical bytes are, displayed in the
-/// lines `canonical` and, where the lengths are told, `lengths`. (Own.)
+/// The lines about the canonical form of an accepted message: `canonical` says that it is canonical, or why not, and
+/// `lengths`, if they are known, how long it and its canonical bytes are. (Own.)
 #[derive(Debug, Drop)]
 pub struct CanonicalLines<A: Allocator = Global> {
-    /// Whether it is canonical, and if not, the first reason.
+    /// `Canonical`, or the first reason why it isn't.
     pub departure: Departure<A>,
     /// The byte of the stream at which its table begins.
     pub offset: u64,
-    /// The words of its table: none of a bare message.
+    /// The number of words of its table: 0 for a bare message.
     pub table: u32,
-    /// The bytes of its contents and its canonical bytes, where it isn't canonical, has no capability, and they differ.
+    /// The bytes of its contents and its canonical bytes, if it isn't canonical, has no capability, and they differ.
     pub lengths: Option<(u64, u64)>,
 }
 
-/// The byte at which a word of the first segment lies.
+/// Returns the byte at which `word` of the first segment lies.
 fn byte_of(offset: u64, table: u32, word: u32) -> u128
     ensures { result ≡ spec.byte_of offset table word }
 {
@@ -32,7 +32,7 @@ fn byte_of(offset: u64, table: u32, word: u32) -> u128
 }
 
 impl<A: Allocator> CanonicalLines<A> {
-    /// Whether the message is canonical, and why not.
+    /// Returns the text of the line `canonical`.
     pub fn canonical(&self) -> CanonicalText<'_>
         ensures { canonical_text result ≡ spec.departure_text self.now.offset self.now.table self.now.departure }
     {

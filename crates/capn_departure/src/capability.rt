@@ -12,7 +12,7 @@ use capn_walk::Limits;
 use capn_words::{Memory, Place, Space};
 use std::alloc::Allocator;
 
-/// The first capability of a message whose value has one: its index, and the way to its slot.
+/// Finds the first capability of the message `space`, whose value has one: returns its index, and the way to its slot.
 pub fn first_capability<S: Space, A: Allocator + Copy>(
     alloc: A,
     space: &S,

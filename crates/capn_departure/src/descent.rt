@@ -11,7 +11,7 @@ use capn_target::{Shape, Target, resolve};
 use capn_words::{Memory, Place, Space};
 use std::alloc::Allocator;
 
-/// Goes down from a slot to the one whose a word is: what the word is there.
+/// Goes down from the slot at `at` to the slot that owns `word`: returns the kind of that word there.
 ///
 /// Of an object it goes on to its likely slot, and to no other, so it reads few words. `None` says only that these lead
 /// to no such slot. `way` has the numbers that lead to the slot, and if something is found, those to its slot; if not,
@@ -58,7 +58,7 @@ pub fn descend<S: Space, A: Allocator>(
     }
 }
 
-/// The same from an object on.
+/// Goes down from the object of this `shape` whose content starts at `start`.
 #[cycle(descent)]
 fn descend_below<S: Space, A: Allocator>(
     space: &S,
@@ -81,7 +81,7 @@ fn descend_below<S: Space, A: Allocator>(
     Ok(found)
 }
 
-/// Appends the numbers that say which of an object's slots is meant.
+/// Appends the numbers of one of an object's slots to `way`.
 fn put_numbers<A: Allocator>(
     shape: Shape,
     row: u32,
@@ -102,7 +102,7 @@ fn put_numbers<A: Allocator>(
     }
 }
 
-/// Appends a number.
+/// Appends `number` to `way`.
 fn put_number<A: Allocator>(number: u32, way: &mut Vec<u32, A>) -> Result<(), Memory>
     ensures { IfOk result (λ r. way.new.items ≡ way.old.items ++ number ∷ []) }
 {

@@ -7,37 +7,37 @@ ghost use Rattle.capn_departure.specs.inner.Difference.{IsDifference};
 use capn_target::segment_length;
 use capn_words::{Bare, Place, Space};
 
-/// How the words of a message and other words go apart.
+/// The first difference of the words of a message and other words.
 #[derive(Clone, Copy, Debug, PartialEq, Eq)]
 pub enum Difference {
-    /// They don't.
+    /// They are equal.
     None,
     /// A word differs.
     Word {
         /// Its number.
         word: u32,
-        /// What it is in the message.
+        /// Its value in the message.
         is: u64,
-        /// What it is in the other words.
+        /// Its value in the other words.
         other: u64,
     },
     /// The other words have ended.
     After {
         /// The number of the word.
         word: u32,
-        /// What it is in the message.
+        /// Its value in the message.
         is: u64,
     },
     /// The words of the message have ended.
     Short {
         /// The number of the word.
         word: u32,
-        /// What it is in the other words.
+        /// Its value in the other words.
         other: u64,
     },
 }
 
-/// How the words of a message's first segment and other words go apart.
+/// Finds the first difference of the words of the first segment of the message `space` and those of `other`.
 pub fn first_difference<S: Space>(space: &S, other: &Bare<'_>) -> Difference
     requires message { IsMessage (S.message space.now) }
     requires other { IsMessage (other.now ∷ []) }

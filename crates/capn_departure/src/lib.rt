@@ -1,12 +1,11 @@
 //! The departure of a message from its canonical bytes.
 //!
-//! - [`departure`] says whether a message that its walk accepts is canonical, and if not, the first reason: that it has
-//!   more segments than one, its first capability, or the first word that differs from the same word of its canonical
-//!   bytes.
-//! - [`Whose`] says whose that word is, by the way to a slot.
-//! - [`lines_of_accepted`] answers the lines that explain the same of an accepted message, as [`CanonicalLines`];
-//!   [`lines_of_measured`] does so where the message was measured already, and [`measure_surveyed`] measures one that
-//!   was surveyed.
+//! - [`departure`] tests whether a message that its walk accepts is canonical, and if not, finds the first reason: that
+//!   it has more segments than one, its first capability, or the first word that differs from the same word of its
+//!   canonical bytes.
+//! - [`Whose`] is the owner of that word, by the way to a slot.
+//! - [`lines_of_measured`] returns the lines that explain this of an accepted message that was measured, as
+//!   [`CanonicalLines`]; [`measure_surveyed`] measures one that was surveyed.
 //!
 //! ```text
 //! match departure(alloc, &message, limits)? {
@@ -34,7 +33,7 @@ mod sought;
 mod surveyed;
 mod whose;
 
-pub use accepted::{lines_of_accepted, lines_of_measured};
+pub use accepted::lines_of_measured;
 pub use answer::Departure;
 pub use canonical_lines::CanonicalLines;
 pub use message_departure::departure;

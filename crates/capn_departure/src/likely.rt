@@ -16,15 +16,15 @@ pub struct Step {
     pub row: u32,
     /// Its number in the row.
     pub slot: u32,
-    /// Where it is.
+    /// Its place.
     pub at: Place,
 }
 
-/// The slot of an object by which a word is to be looked for.
+/// Returns the slot of an object by which `word` is to be looked for.
 ///
-/// Of a word of the object's own that is the slot at the word. Of one behind them it is the slot of the last object
-/// that begins at or before the word, which is where canonical bytes have it; no contract says that, since what is
-/// found there is tested.
+/// If the word is one of the object's own, that is the slot at the word. If it is behind them, it is the slot of the
+/// last object that begins at or before the word, which is where canonical bytes have it; no contract says that, since
+/// what is found there is tested.
 pub fn likely_step<S: Space>(space: &S, start: Place, shape: Shape, word: Place) -> Option<Step>
     requires content { IsContent (S.message space.now) start (extent shape) }
     requires rows { RowsFit shape }
@@ -37,7 +37,7 @@ pub fn likely_step<S: Space>(space: &S, start: Place, shape: Shape, word: Place)
     step_among(space, slot_rows(start, shape), word)
 }
 
-/// The same, of the slots of an object.
+/// Returns that slot of the `rows` of an object.
 fn step_among<S: Space>(space: &S, rows: SlotRows, word: Place) -> Option<Step>
     requires within { AreWithin (S.message space.now) rows }
     ensures row { IfSome result (λ step. step.row < rows.count) }
@@ -53,7 +53,7 @@ fn step_among<S: Space>(space: &S, rows: SlotRows, word: Place) -> Option<Step>
     Some(Step { row, slot, at })
 }
 
-/// The row of that slot, and its number there.
+/// Returns the row of that slot, and its number there.
 fn likely_slot<S: Space>(space: &S, rows: SlotRows, word: Place) -> Option<(u32, u32)>
     requires within { AreWithin (S.message space.now) rows }
     ensures { IfSome result (λ x. (x.0 < rows.count) × (x.1 < rows.slots)) }
@@ -77,7 +77,7 @@ fn likely_slot<S: Space>(space: &S, rows: SlotRows, word: Place) -> Option<(u32,
     Some((number / rows.slots, number % rows.slots))
 }
 
-/// The number of the last slot whose object begins at or before a word, where the objects begin in order.
+/// Returns the number of the last slot whose object begins at or before `word`, if the objects begin in order.
 fn last_before<S: Space>(space: &S, rows: SlotRows, word: Place) -> Option<u32>
     requires within { AreWithin (S.message space.now) rows }
     requires some { 0 < rows.slots }
@@ -102,7 +102,8 @@ fn last_before<S: Space>(space: &S, rows: SlotRows, word: Place) -> Option<u32>
     low.checked_sub(1)
 }
 
-/// The first of some slots that names an object of any words: its number, and where the object begins.
+/// Finds the first of the slots `from` to `to` whose object has any words: returns its number, and the word at which
+/// the object begins.
 fn next_start<S: Space>(space: &S, rows: SlotRows, from: u32, to: u32) -> Option<(u32, u32)>
     requires within { AreWithin (S.message space.now) rows }
     requires some { 0 < rows.slots }
@@ -120,7 +121,7 @@ fn next_start<S: Space>(space: &S, rows: SlotRows, from: u32, to: u32) -> Option
     None
 }
 
-/// Where the object that a slot names begins, if it has words.
+/// Returns the word at which the object of the slot at `at` begins, if it has words.
 fn start_at<S: Space>(space: &S, at: Place) -> Option<u32>
     requires place { IsPlace (S.message space.now) at }
 {
@@ -144,7 +145,7 @@ fn start_at<S: Space>(space: &S, at: Place) -> Option<u32>
     }
 }
 
-/// Whether an object takes any words.
+/// Returns `true` if an object of this `shape` takes any words.
 fn has_words(shape: Shape) -> bool {
     match shape {
         Shape::Node { words, slots } => words > 0 || slots > 0,

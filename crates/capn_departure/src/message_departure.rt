@@ -24,18 +24,18 @@ use capn_walk::Limits;
 use capn_words::{Bare, Memory, Space};
 use std::alloc::Allocator;
 
-/// Whether a message is canonical, and if not, the first reason: its segments, its first capability, or the first word
-/// that differs from its canonical bytes.
+/// Tests whether the message `space` is canonical within `limits`, and if not, finds the first reason: its segments,
+/// its first capability, or the first word that differs from its canonical bytes.
 ///
 /// `Walk`: the message is not accepted within the limits. `Memory` comes only for a message of one segment that is not
-/// canonical, where a growth was refused; no other refusal comes. Memory: the canonical bytes while it looks for the
-/// word, and the way, which has at most two numbers for each level of the depth limit. (Own.)
+/// canonical, if a growth on `alloc` was refused; no other refusal comes. Memory: the canonical bytes while it looks
+/// for the word, and the way, which has at most two numbers for each level of the depth limit. (Own.)
 pub fn departure<S: Space, A: Allocator + Copy>(
     alloc: A,
     space: &S,
     limits: Limits,
 ) -> Result<Departure<A>, Refusal>
-    // What each answer means.
+    // The meaning of each answer.
     ensures found { IfOk result (λ d. IsDeparture (S.message space.now) limits d) }
     // It says that a message is canonical if and only if it is,
     ensures canonical { IfOk result (λ d. (v : Value) → IsValueOf (S.message space.now) limits v
@@ -45,7 +45,7 @@ pub fn departure<S: Space, A: Allocator + Copy>(
     // An accepted message is answered, unless memory runs out.
     ensures only { (v : Value) → IsValueOf (S.message space.now) limits v
         → MatchResult result (λ d. ⊤) (λ e. e ≡ refusals.Memory) }
-    // What each refusal means.
+    // The meaning of each refusal.
     ensures refused { IfErr result (λ e. IsUnaccepted (S.message space.now) limits e) }
     // Memory is needed only for a message of one segment that is not canonical.
     ensures memory { IsErrOf result refusals.Memory → Departs (S.message space.now) limits }
@@ -55,7 +55,7 @@ pub fn departure<S: Space, A: Allocator + Copy>(
     Ok(finding.departure)
 }
 
-/// The same of a message that was measured within these limits.
+/// Finds the departure of the message `space`, which was `measured` within these `limits`.
 pub fn finding_of<S: Space, A: Allocator + Copy>(
     alloc: A,
     space: &S,
@@ -86,7 +86,8 @@ pub fn finding_of<S: Space, A: Allocator + Copy>(
     }
 }
 
-/// The same of a message of one segment that is not canonical and has canonical bytes, which is read as that alone.
+/// Finds the departure of a message of one segment that is not canonical and has canonical bytes, which is read as that
+/// segment alone.
 fn from_only_segment<S: Space, A: Allocator + Copy>(
     alloc: A,
     space: &S,
@@ -102,7 +103,7 @@ fn from_only_segment<S: Space, A: Allocator + Copy>(
     from_canonical(alloc, &bare, limits, paid)
 }
 
-/// The same, by the canonical bytes, which are laid out without another survey.
+/// Finds the departure by the canonical bytes, which are laid out without another survey.
 fn from_canonical<S: Space, A: Allocator + Copy>(
     alloc: A,
     space: &S,
@@ -114,7 +115,7 @@ fn from_canonical<S: Space, A: Allocator + Copy>(
     ensures found { IfOk result (λ f. IsDeparture (S.message space.now) limits f.departure) }
     ensures made { IfOk result (λ f. IfSome f.length (HasCanonicalLength (S.message space.now) limits)) }
 {
-    // The layout needs what they promise of a message and of limits.
+    // The layout needs the promises of a message and of limits.
     let _segments = space.segments();
     let _budget = limits.budget();
     let bytes = surveyed_layout(alloc, space, limits.depth(), paid)?;
@@ -128,7 +129,7 @@ fn from_canonical<S: Space, A: Allocator + Copy>(
     }
 }
 
-/// The same, once the canonical bytes are there.
+/// Finds the departure once the `canonical` bytes are there.
 fn apart<S: Space, A: Allocator + Copy>(
     alloc: A,
     space: &S,
@@ -139,7 +140,7 @@ fn apart<S: Space, A: Allocator + Copy>(
     requires differs { segment_at (S.message space.now) 0 ≢ canonical.now }
     ensures { IfOk result (λ d. IsDeparture (S.message space.now) limits d) }
 {
-    // The clauses need what they promise of a message and of limits.
+    // The clauses need the promises of a message and of limits.
     let _segments = space.segments();
     let _other = canonical.segments();
     let _budget = limits.budget();

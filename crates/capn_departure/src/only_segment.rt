@@ -5,7 +5,7 @@ ghost use Rattle.std.specs.Prelude.{◌≡◌, [], ◌∷◌, length};
 use capn_target::segment_length;
 use capn_words::{Bare, Place, Space};
 
-/// A message of one segment as the bytes of that alone, which are faster to read.
+/// Returns the message `space` of one segment as the bytes of that alone, which are faster to read.
 pub fn only_segment<S: Space>(space: &S) -> Bare<'_>
     requires one { length (S.message space.now) ≡ 1 }
     ensures { S.message space.now ≡ result ∷ [] }

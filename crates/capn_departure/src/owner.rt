@@ -15,7 +15,8 @@ use capn_walk::Limits;
 use capn_words::{Bare, Memory, Place};
 use std::alloc::Allocator;
 
-/// Whose a word is of canonical bytes, in which it is a pointer, a tag or the last word of a list of small numbers.
+/// Finds the owner of `word` of `canonical` bytes, in which it is a pointer, a tag or the last word of a list of small
+/// numbers.
 pub fn owner<A: Allocator + Copy>(
     alloc: A,
     canonical: &Bare<'_>,
@@ -35,8 +36,8 @@ pub fn owner<A: Allocator + Copy>(
     }
 }
 
-/// What the word is at the slot whose it is, and the way there: by the descent, or where it finds nothing by a search
-/// among all visits, of which the proof knows that it finds something.
+/// Finds the slot that owns `word`: returns the kind of the word there, and the way to the slot. Tries the direct
+/// descent first; the full search that follows always succeeds.
 fn slot_of<A: Allocator + Copy>(
     alloc: A,
     canonical: &Bare<'_>,

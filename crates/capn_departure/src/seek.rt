@@ -11,9 +11,9 @@ use capn_target::{Shape, Target, resolve};
 use capn_words::{Memory, Place, Space, Width};
 use std::alloc::Allocator;
 
-/// Looks for the first visit at which something is found, from the visit of a slot on, where objects are visited at
-/// most `depth` deep: what it is. `way` has the numbers that lead to the slot, and if something is found, those to its
-/// slot.
+/// Looks for the first visit at which the `sought` is found, from the visit of the slot at `at` on, where objects are
+/// visited at most `depth` deep: returns what was found. `way` has the numbers that lead to that slot, and if something
+/// is found, those to its slot.
 #[cycle(seek)]
 pub fn seek_slot<S: Space, A: Allocator>(
     space: &S,
@@ -56,7 +56,7 @@ pub fn seek_slot<S: Space, A: Allocator>(
     }
 }
 
-/// The same among the visits of an object's slots.
+/// Looks for it among the visits of the slots of an object of this `shape`, whose content starts at `start`.
 #[cycle(seek)]
 fn seek_object<S: Space, A: Allocator>(
     space: &S,
@@ -103,7 +103,7 @@ fn seek_object<S: Space, A: Allocator>(
     }
 }
 
-/// The same among the visits of slots that lie one after the other, numbered from 0.
+/// Looks for it among the visits of `count` slots that lie one after the other from `first` on, numbered from 0.
 #[cycle(seek)]
 fn seek_slots<S: Space, A: Allocator>(
     space: &S,
@@ -135,7 +135,8 @@ fn seek_slots<S: Space, A: Allocator>(
     Ok(None)
 }
 
-/// The same among the visits of the slots of rows that lie one after the other, numbered from 0.
+/// Looks for it among the visits of the slots of `count` rows that lie one after the other from `first` on, numbered
+/// from 0.
 #[cycle(seek)]
 fn seek_rows<S: Space, A: Allocator>(
     space: &S,

@@ -9,9 +9,9 @@ use capn_words::{Place, Width};
 /// The slots of an object, in rows that lie one after the other.
 #[derive(Clone, Copy)]
 pub struct SlotRows {
-    /// Where the first row begins.
+    /// The place at which the first row begins.
     pub at: Place,
-    /// How many rows there are; a struct and a list of pointers are one row.
+    /// The number of rows; a struct and a list of pointers are one row.
     pub count: u32,
     /// The data words of a row, which are before its slots.
     pub words: u32,
@@ -20,7 +20,7 @@ pub struct SlotRows {
 }
 
 impl SlotRows {
-    /// Where a slot of a row is.
+    /// Returns the place of `slot` of `row`.
     pub fn place(self, row: u32, slot: u32) -> Place
         requires row { row < self.count }
         requires slot { slot < self.slots }
@@ -35,7 +35,7 @@ impl SlotRows {
     }
 }
 
-/// The slots of an object that begins at a place.
+/// Returns the slots of an object of this `shape` whose content starts at `start`.
 pub fn slot_rows(start: Place, shape: Shape) -> SlotRows
     requires room { start.word + 1 < 2 ^ 32 }
     ensures { result ≡ spec.rows_of start shape }

@@ -6,7 +6,7 @@ ghost use Rattle.capn_departure.specs.inner.Search as search;
 use capn_target::{Fault, Shape, Target, content_words};
 use capn_words::{Place, Width};
 
-/// What a search looks for.
+/// The aim of a search.
 #[derive(Clone, Copy)]
 pub enum Sought {
     /// A capability.
@@ -15,7 +15,7 @@ pub enum Sought {
     Word(Place),
 }
 
-/// What is found at a slot.
+/// The find at a slot.
 #[derive(Clone, Copy)]
 pub enum Found {
     /// It is a capability with this index.
@@ -28,7 +28,7 @@ pub enum Found {
     LastWord,
 }
 
-/// What is found at a slot that names this.
+/// Returns the find at the slot at `at` with the target `named`, if it is the one that is `sought`.
 pub fn finds(sought: Sought, at: Place, named: Result<Target, Fault>) -> Option<Found>
     ensures { result ≡ search.finds sought at named }
 {
@@ -49,7 +49,7 @@ pub fn finds(sought: Sought, at: Place, named: Result<Target, Fault>) -> Option<
     }
 }
 
-/// The capability that a slot names, if it names one.
+/// Returns the capability that a slot names, if it names one.
 fn capability_in(target: Target) -> Option<Found>
     ensures { result ≡ search.capability_in target }
 {
@@ -60,7 +60,7 @@ fn capability_in(target: Target) -> Option<Found>
     }
 }
 
-/// What a word is of the object that a slot names: its tag, or its last word.
+/// Returns the kind of `word` in the object that a slot names: its tag, or its last word.
 fn found_in(word: Place, target: Target) -> Option<Found>
     ensures { result ≡ search.found_in word target }
 {
@@ -90,14 +90,14 @@ fn found_in(word: Place, target: Target) -> Option<Found>
     }
 }
 
-/// Whether a word of a segment is at a place.
+/// Returns `true` if `word` of `segment` is at `place`.
 fn is_at(segment: u32, word: u32, place: Place) -> bool
     ensures { result ≡ search.is_at segment word place }
 {
     segment == place.segment && word == place.word
 }
 
-/// Whether the last of some words from a word of a segment on is at a place.
+/// Returns `true` if the last of `words` words from word `start` of `segment` on is at `place`.
 fn ends_at(segment: u32, start: u32, words: u64, place: Place) -> bool
     requires few { words < 2 ^ 40 }
     ensures { result ≡ search.ends_at segment start words place }
@@ -105,7 +105,7 @@ fn ends_at(segment: u32, start: u32, words: u64, place: Place) -> bool
     segment == place.segment && words > 0 && start as u64 + words == place.word as u64 + 1
 }
 
-/// Whether several elements of this width share a word.
+/// Returns `true` if several elements of this `width` share a word.
 fn is_small(width: Width) -> bool
     ensures { result ≡ search.is_small width }
 {

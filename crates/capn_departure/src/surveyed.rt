@@ -13,12 +13,11 @@ use capn_canon::{MeasuredBare, SurveyedBare, survey_canonical};
 use capn_walk::{Limits, Measured};
 use capn_words::Space;
 
-/// What [`measure`](capn_canon::measure) answers of an accepted message, by what a survey found of it: the same, and
-/// whether it is canonical.
+/// Measures the accepted message `space` by its survey: returns what [`measure`](capn_canon::measure) does.
 ///
-/// `surveyed` is what [`survey_depth`](capn_walk::survey_depth) answers of this message within these limits. A message
-/// of one segment is read once more, by the one pass up to where it leaves the canonical form. It takes no memory.
-/// (Own.)
+/// `surveyed` is the answer of [`survey_depth`](capn_walk::survey_depth) to this message within these `limits`. A
+/// message of one segment is read once more, by the one pass up to the word at which it leaves the canonical form. It
+/// takes no memory. (Own.)
 pub fn measure_surveyed<S: Space>(space: &S, limits: Limits, surveyed: Measured) -> MeasuredBare
     requires survey { IsSurvey (S.message space.now) limits surveyed.survey }
     requires depth { IsDepth (S.message space.now) limits surveyed.depth }
@@ -37,7 +36,7 @@ pub fn measure_surveyed<S: Space>(space: &S, limits: Limits, surveyed: Measured)
     }
 }
 
-/// Whether an accepted message is canonical, by one pass over its only segment.
+/// Tests whether the accepted message `space` is canonical, by one pass over its only segment.
 fn is_canonical<S: Space>(space: &S, limits: Limits) -> bool
     ensures { (v : Value) → IsValueOf (S.message space.now) limits v
         → IsTrue result ↔ IsCanonicalOf (S.message space.now) v }

@@ -2,9 +2,9 @@
 
 use std::alloc::{Allocator, Global};
 
-/// Whose a word of canonical bytes is, by the way from the root to a slot. (Own.)
+/// The owner of a word of canonical bytes, by the way from the root to a slot. (Own.)
 ///
-/// A way is as [`way_of_visit`](capn_way::way_of_visit) has it: of the root's slot it has no numbers.
+/// A way is as [`way_of_visit`](capn_way::way_of_visit) has it: that of the root's slot has no numbers.
 #[derive(Debug, Drop)]
 pub enum Whose<A: Allocator = Global> {
     /// The pointer of the slot to which the way leads.

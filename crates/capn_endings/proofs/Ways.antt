@@ -1,4 +1,4 @@
--- A line on its way, step by step.
+-- A line on its way, step by step. (For `put`, `send` and `tell`.)
 use Rattle.std.proofs.Common.{◌≡◌, ◌∙◌, ℕ, zero, suc, ◌+◌, List, [], ◌∷◌, ◌++◌, length, take, Bool, true, false, Option}
 use Rattle.std.proofs.Common.{Some, None, refl, ap, sym, subst, append_assoc, append-nil}
 use Rattle.std.proofs.Math.Seq.{take-append-add}

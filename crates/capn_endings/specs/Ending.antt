@@ -1,8 +1,8 @@
--- How a run ends: what it says, and its exit status. (Own.)
+-- The end of a run: its text, and its exit status. (Own.)
 use Rattle.std.specs.Prelude.{ℕ, ◌≡◌, List, [], ◌∷◌, ◌++◌, codes, Bool, false, Option, Result, Ok, Err, refl}
 use Rattle.capn_endings.specs.Line.{WritesLine}
 
--- what is said where memory was refused
+-- the text for refused memory
 abbrev pub out_of_memory : List ℕ
 out_of_memory = codes "out of memory"
 
@@ -13,7 +13,7 @@ fault_text_line text = codes "capn: " ++ text ++ 10 ∷ []
 memory : fault_text_line out_of_memory ≡ codes "capn: out of memory\n"
 memory = refl
 
--- the line of this text was written, or a beginning of it where the writer has failed
+-- the line of this text was written, or a beginning of it if the writer has failed
 abbrev pub WritesFault : List ℕ → Option (List ℕ) → Option (List ℕ) → Bool → Type 0
 WritesFault text old new failed = WritesLine (fault_text_line text) old new failed
 

@@ -3,7 +3,8 @@ use Rattle.std.specs.Prelude.{ℕ, ◌≡◌, List, ◌++◌, Bool, true, false,
 use Rattle.std.specs.Io.KnownBytes.{Appends}
 use Rattle.capn_words.specs.Watched.{HasBegun}
 
--- how far a line has come: what is held back of it, what the writer holds, and whether the writer has failed
+-- the progress of a line: the bytes of it that are held back, those that the writer holds, and whether the writer has
+-- failed
 pub record Way : Type 0 where
   pub held : List ℕ
   pub written : Option (List ℕ)
@@ -12,19 +13,19 @@ pub record Way : Type 0 where
 abbrev pub way : List ℕ → Option (List ℕ) → Bool → Way
 way held written failed = record { held = held; written = written; failed = failed }
 
--- a line was written, or a beginning of it where the writer has failed
+-- a line was written, or a beginning of it if the writer has failed
 abbrev pub WritesLine : List ℕ → Option (List ℕ) → Option (List ℕ) → Bool → Type 0
 WritesLine line old new true = HasBegun old new line
 WritesLine line old new false = Appends old new line
 
--- a part was written to a writer that had not failed, or a beginning of it where the writer has failed; one that had
+-- a part was written to a writer that had not failed, or a beginning of it if the writer has failed; one that had
 -- failed was left alone
 abbrev pub Goes : List ℕ → Option (List ℕ) → Bool → Option (List ℕ) → Bool → Type 0
 Goes part old false new failed = WritesLine part old new failed
 Goes part old true new failed = (new ≡ old) × (failed ≡ true)
 
--- From a writer that held the first bytes, what was said since is its front, which was written, and what is held back;
--- or a beginning was written, and the writer has failed.
+-- From a writer that held the first bytes, the text that was put since is its front, which was written, and the bytes
+-- that are held back; or a beginning was written, and the writer has failed.
 abbrev pub IsOnItsWay : Option (List ℕ) → List ℕ → List ℕ → Option (List ℕ) → Bool → Type 0
 IsOnItsWay start said held now false = (front : List ℕ) × Appends start now front × (said ≡ front ++ held)
 IsOnItsWay start said held now true = HasBegun start now said

@@ -19,17 +19,17 @@ pub trait Ending {
     /// The exit status of a run that the fault ends.
     ghost exit: { Self → ℕ };
 
-    /// Says the text.
+    /// Puts the text of the fault on `line`, which goes to `errors`.
     fn say<E: Write>(&self, line: &mut Line, errors: &mut Watched<E>)
         ensures { Says (text self.now) (way line.old (E.contents (inner_of errors.old)) (has_failed errors.old))
             (way line.new (E.contents (inner_of errors.new)) (has_failed errors.new)) };
 
-    /// The exit status: 1 where the input is refused, 3 where the run could not be carried out.
+    /// Returns the exit status: 1 if the input is refused, 3 if the run could not be carried out.
     fn exit_status(&self) -> u8
         ensures { result ≡ exit self.now };
 }
 
-/// Writes the line of a fault.
+/// Writes the line of `fault` to `errors`.
 fn tell<F: Ending, E: Write>(fault: &F, errors: &mut Watched<E>)
     requires { has_failed errors.old ≡ false }
     ensures { WritesFault (F.text fault.now) (E.contents (inner_of errors.old)) (E.contents (inner_of errors.new))
@@ -42,7 +42,7 @@ fn tell<F: Ending, E: Write>(fault: &F, errors: &mut Watched<E>)
     line.send(errors);
 }
 
-/// The exit status of a run: 0 if it is done, and else that of its fault.
+/// Returns the exit status of a run with this `outcome`: 0 if it is done, and else that of its fault.
 pub fn status<F: Ending>(outcome: &Result<(), F>) -> u8
     ensures { result ≡ status_of_ending F.exit outcome.now }
 {
@@ -52,7 +52,7 @@ pub fn status<F: Ending>(outcome: &Result<(), F>) -> u8
     }
 }
 
-/// Writes the line that says why a run ended, if it is not done, and answers its exit status.
+/// Writes the line that says why a run ended to `errors`, unless `outcome` is done, and returns its exit status.
 ///
 /// The line is `capn: `, the text of the fault and a newline. It is written whole, by one write if it has at most 256
 /// bytes and the errors take them at once; or a beginning of it is, if the errors fail. No memory is asked for.

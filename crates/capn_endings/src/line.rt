@@ -10,10 +10,10 @@ use capn_words::Watched;
 use std::io::Write;
 use std::marker::Model;
 
-/// The most bytes that are held back.
+/// The most bytes of a line that are held back.
 const ROOM: usize = 256;
 
-/// What is held back of a line: its last bytes, at most 256, in a block of its own. It takes no memory.
+/// The end of a line that is still held back: at most 256 bytes, in a block of its own. It takes no memory.
 #[derive(Drop)]
 pub struct Line {
     bytes: [u8; ROOM],
@@ -30,7 +30,7 @@ impl Model for Line {
     ghost invariant = { λ line. line.filled ≤ 256 };
 }
 
-/// Writes all of a part, if no call of the writer has failed.
+/// Writes all of `part` to `errors`, if no call of it has failed.
 fn write_part<E: Write>(part: &[u8], errors: &mut Watched<E>)
     ensures { Goes part.now (E.contents (inner_of errors.old)) (has_failed errors.old)
         (E.contents (inner_of errors.new)) (has_failed errors.new) }
@@ -41,7 +41,7 @@ fn write_part<E: Write>(part: &[u8], errors: &mut Watched<E>)
 }
 
 impl Line {
-    /// A line of which nothing is said yet.
+    /// Returns an empty line.
     pub fn new() -> Line
         ensures { result ≡ [] }
     {
@@ -51,7 +51,7 @@ impl Line {
         }
     }
 
-    /// Holds a part back, behind what is held.
+    /// Appends `part` to the bytes that are held back.
     fn hold(&mut self, part: &[u8])
         requires { length self.old + length part.now ≤ 256 }
         ensures { self.new ≡ self.old ++ part.now }
@@ -61,7 +61,7 @@ impl Line {
         self.filled = filled;
     }
 
-    /// Writes what is held back, and nothing if the errors have failed.
+    /// Writes the bytes that are held back to `errors`; nothing, if a call of it has failed.
     pub fn send<E: Write>(&mut self, errors: &mut Watched<E>)
         ensures empty { self.new ≡ [] }
         ensures sent { Says [] (way self.old (E.contents (inner_of errors.old)) (has_failed errors.old))
@@ -71,7 +71,7 @@ impl Line {
         self.filled = 0;
     }
 
-    /// Says a part of the line. It is held back if there is room for it, and else all goes to the errors.
+    /// Appends `part` to the line. It is held back if there is room for it; else all goes to `errors`.
     pub fn put<E: Write>(&mut self, part: &[u8], errors: &mut Watched<E>)
         ensures { Says part.now (way self.old (E.contents (inner_of errors.old)) (has_failed errors.old))
             (way self.new (E.contents (inner_of errors.new)) (has_failed errors.new)) }
@@ -84,7 +84,7 @@ impl Line {
         }
     }
 
-    /// Says that memory was refused.
+    /// Appends the text for refused memory.
     pub fn put_memory<E: Write>(&mut self, errors: &mut Watched<E>)
         ensures { Says out_of_memory (way self.old (E.contents (inner_of errors.old)) (has_failed errors.old))
             (way self.new (E.contents (inner_of errors.new)) (has_failed errors.new)) }
@@ -92,7 +92,7 @@ impl Line {
         self.put(b"out of memory", errors);
     }
 
-    /// Says a number of the line, in decimal digits.
+    /// Appends `n`, in decimal digits.
     pub fn put_number<E: Write>(&mut self, n: u64, errors: &mut Watched<E>)
         ensures { Says (decimal n) (way self.old (E.contents (inner_of errors.old)) (has_failed errors.old))
             (way self.new (E.contents (inner_of errors.new)) (has_failed errors.new)) }
@@ -101,7 +101,7 @@ impl Line {
         self.put(digits.format(n).as_bytes(), errors);
     }
 
-    /// Says a name and a number.
+    /// Appends `name`, then `n` in decimal digits.
     pub fn put_named<E: Write>(&mut self, name: &[u8], n: u64, errors: &mut Watched<E>)
         ensures { Says (name.now ++ decimal n)
             (way self.old (E.contents (inner_of errors.old)) (has_failed errors.old))
@@ -111,7 +111,7 @@ impl Line {
         self.put_number(n, errors);
     }
 
-    /// Says a number between two parts.
+    /// Appends `before`, `n` in decimal digits, and `after`.
     pub fn put_between<E: Write>(
         &mut self,
         before: &[u8],

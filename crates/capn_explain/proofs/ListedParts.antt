@@ -1,4 +1,4 @@
--- The text of a list of numbers, number by number.
+-- The text of a list of numbers, number by number. (For `fmt`.)
 use Rattle.std.proofs.Common.{◌≡◌, ℕ, ◌+◌, ◌<◌, ◌≤◌, List, [], ◌∷◌, ◌++◌, length, drop, get_or, codes, refl}
 use Rattle.std.proofs.Common.{sym, ◌∙◌, arith, append_assoc, append-nil, length-drop, add-one, drop-cons}
 use Rattle.std.proofs.lemmas.List.{nil_from_length}

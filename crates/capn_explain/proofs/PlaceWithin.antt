@@ -1,4 +1,4 @@
--- A place in range is before the end of its message.
+-- A place in range is before the end of its message. (For `long_place_byte`.)
 use Rattle.std.proofs.Common.{◌≡◌, ℕ, ◌+◌, ◌<◌, ◌≤◌, nat_lt, Bool, true, false, List, [], length, take, arith, ap, refl}
 use Rattle.std.specs.List.{sum_by}
 use Rattle.std.proofs.lemmas.Bool.Decides.{nat_tests}

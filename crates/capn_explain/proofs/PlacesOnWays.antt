@@ -1,4 +1,4 @@
--- A way leads to places in range, and what holds the slot there begins at one.
+-- A way leads to places in range, and what holds the slot there begins at one. (For `slot_lines` and `text_of_holder`.)
 use Rattle.std.proofs.Common.{◌≡◌, inl, inr, ℕ, zero, suc, ◌+◌, ◌*◌, ◌<◌, ◌≤◌, List, [], ◌∷◌, ◌++◌, length}
 use Rattle.std.proofs.Common.{◌-◌, Ok, refl, ap, sym, subst, arith, length-append}
 use Rattle.std.proofs.lemmas.Nat.{row_fits, row_below_turned, div-mul-add}

@@ -1,4 +1,4 @@
--- The digits of a word's bytes.
+-- The digits of a word's bytes. (For `fmt`.)
 use Rattle.std.proofs.Common.{◌≡◌, ℕ, ◌<◌, nat_lt, ◌&&◌, Bool, true, List, [], ◌∷◌, w64, refl, arith}
 use Rattle.std.proofs.lemmas.Bool.{and_parts}
 use Rattle.std.proofs.lemmas.Bool.Decides.{nat_tests}

@@ -31,7 +31,7 @@ abbrev pub listed : List ℕ → List ℕ
 listed [] = codes ""
 listed (n ∷ ns) = decimal n ++ behind_commas ns
 
--- the sizes of segments, where there are two or more: those of the first eight
+-- the sizes of segments, if there are two or more: those of the first eight
 abbrev pub sizes_text : ℕ → List ℕ → List ℕ
 sizes_text count first =
     if nat_lt count 2 then codes ""
@@ -47,12 +47,12 @@ segments_of message = record {
       ∷ length (segment_at message 6) ∷ length (segment_at message 7) ∷ [];
 }
 
--- how many segments there are, and how many words in all
+-- the number of segments, and of words in all
 abbrev pub segments_text : SegmentsText → List ℕ
 segments_text s =
     decimal s.count ++ (codes " of " ++ (decimal s.words ++ (codes " words" ++ sizes_text s.count s.first)))
 
--- the same, where all sizes are known
+-- the line of the segments, if all sizes are known
 abbrev pub segments_line : Option SegmentsText → List ℕ
 segments_line (Some segments) = line (codes "segments: ") (segments_text segments)
 segments_line None = codes ""
@@ -77,7 +77,7 @@ refused_lines head stopped slot =
 
 -- ---- a message whose frame, packing or length is refused
 
--- what came of it
+-- the part of a message that came
 abbrev pub key_line : FrameKey → List ℕ
 key_line keys.Nothing = codes ""
 key_line (keys.There came) = codes "there: " ++ (decimal came ++ codes " bytes\n")
@@ -96,11 +96,11 @@ frame_lines head fault key =
 
 -- ---- a message that is accepted
 
--- a word as its bytes, and what it says as a pointer
+-- a word as its bytes, and as a pointer
 abbrev pub word_says : ℕ → List ℕ
 word_says word = word_text word ++ (codes " (" ++ (pointer_text (pointer_of word) ++ codes ")"))
 
--- whether it is canonical, and why not
+-- yes, if it is canonical, else the reason why not
 abbrev pub canonical_text : CanonicalText → List ℕ
 canonical_text forms.Yes = codes "yes"
 canonical_text (forms.Segments count) = codes "no: " ++ (decimal count ++ codes " segments")
@@ -119,22 +119,15 @@ canonical_text (forms.After byte word) =
     codes "no: at byte " ++ (decimal byte ++ (codes ": " ++ (word_text word
     ++ codes ", canonical nothing, after the value")))
 
--- how long its contents and its canonical bytes are, where these lengths are told
+-- the lengths of its contents and of its canonical bytes, if these are known
 abbrev pub lengths_line : Option (ℕ × ℕ) → List ℕ
 lengths_line (Some lengths) =
     codes "lengths: " ++ (decimal lengths.0 ++ (codes " bytes, canonical " ++ (decimal lengths.1 ++ codes "\n")))
 lengths_line None = codes ""
 
--- all lines
-abbrev pub accepted_lines : MessageHead → ℕ → ℕ → ℕ → CanonicalText → Option (ℕ × ℕ) → List ℕ
-accepted_lines head paid visits depth canonical lengths =
-    head_lines head ++ (codes "accepted: paid " ++ (decimal paid ++ (codes " visits " ++ (decimal visits
-    ++ (codes " depth " ++ (decimal depth ++ (codes "\ncanonical: " ++ (canonical_text canonical ++ (codes "\n"
-    ++ lengths_line lengths)))))))))
-
 -- ---- no message
 
--- why none is explained
+-- the reason why none is explained
 abbrev pub count_text : CountText → List ℕ
 count_text (counts.NoneRefused count) = decimal count ++ codes " messages, none refused"
 count_text (counts.Fewer count) = decimal count ++ codes " messages"

@@ -20,7 +20,7 @@ use Rattle.capn_explain.specs.declared.holder_text.HolderText.{HolderText}
 use Rattle.capn_explain.specs.declared.holder_text.HolderText.TheVariants as texts
 use Rattle.capn_explain.specs.declared.message_text.MessageHead.{MessageHead}
 
--- where the words of a struct, the elements of a list of pointers, or a row begin
+-- the place at which the words of a struct, the elements of a list of pointers, or a row begin
 abbrev pub beginning : Holder → Place
 beginning (holders.Struct words slots at) = at
 beginning (holders.Pointers count at) = at
@@ -33,12 +33,12 @@ module _ (message : List (List ℕ)) (offset table : ℕ) where
   with_byte (holders.Pointers count at) = texts.Pointers count (place_byte offset table message at)
   with_byte (holders.Row row count at) = texts.Row row count (place_byte offset table message at)
 
-  -- the same, if there is one
+  -- the holder with its byte, if there is one
   abbrev pub with_byte_if : Option Holder → Option HolderText
   with_byte_if (Some holder) = Some (with_byte holder)
   with_byte_if None = None
 
-  -- what is examined of the slot at which a walk stopped
+  -- the findings about the slot at which a walk stopped
   abbrev pub examined_at : Bounds → Stopped → Examined
   examined_at limits stopped = record {
     slot = slots.placed message offset table stopped.place;
@@ -55,19 +55,19 @@ module _ (message : List (List ℕ)) (offset table : ℕ) where
     pub holds : IsHolderOrRoot message way to holder
     pub is : text ≡ with_byte_if holder
 
-  -- the lines of the slot at which a walk stopped: the way to it, the object that holds it, and what is examined
+  -- the lines of the slot at which a walk stopped: the way to it, the object that holds it, and the findings
   pub record AreLinesOf (limits : Bounds) (way : List ℕ) (stopped : Stopped) (lines : SlotLines) : Type 0 where
     pub numbers : lines.way.now ≡ way
     pub holder : IsHolderText way stopped.place lines.holder
     pub examined : lines.examined ≡ examined_at limits stopped
 
-  -- the same where the message has a root; where it has none, no lines
+  -- these are those lines, if the message has a root; if it has none, there are no lines
   abbrev pub AreLinesIf : Bounds → List ℕ → Stopped → Option SlotLines → Type 0
   AreLinesIf limits way stopped (Some lines) =
       (0 < length (segment_at message 0)) × AreLinesOf limits way stopped lines
   AreLinesIf limits way stopped None = length (segment_at message 0) ≡ 0
 
--- how many messages are before one, where its table begins, and its segments
+-- the number of messages before one, the byte at which its table begins, and its segments
 abbrev pub head : List (List ℕ) → ℕ → ℕ → MessageHead
 head message index offset = record { index = index; offset = offset; segments = Some (segments_of message) }
 

@@ -1,5 +1,5 @@
--- What there is to say of the slot at which the walk of a message was refused. What a slot names, and each fault in its
--- order, is said by `target`. (Own.)
+-- The findings about the slot at which the walk of a message was refused. The target of a slot, and each fault in its
+-- order, is that of `target`. (Own.)
 use Rattle.std.specs.Prelude.{ℕ, ◌+◌, ◌-◌, ◌*◌, ◌==◌, nat_lt, ℤ, pos, negsuc, ◌+ℤ◌, Bool, true, false, List, length}
 use Rattle.std.specs.Prelude.{Option, Some, None, Result, Ok, Err, if◌then◌else◌}
 use Rattle.capn_words.specs.Message.{segment_at, word_at}
@@ -32,18 +32,19 @@ words_told (Node o a b) = a + b
 words_told (Many o width n) = content_words width n
 words_told _ = 0
 
--- a pointer to a struct or list at a word of a segment tells of content
+-- the reference of a pointer to a struct or list at a word of a segment
 abbrev pub told_near : ℕ → ℕ → Pointer → Option Telling
 told_near s w (Node o a b) = Some (record { segment = s; from = w + 1; offset = o; form = Node o a b })
 told_near s w (Many o width n) = Some (record { segment = s; from = w + 1; offset = o; form = Many o width n })
 told_near s w _ = None
 
--- where content begins that does not begin before word 0
+-- the word at which content begins that does not begin before word 0
 abbrev pub begins : ℕ → ℤ → Option ℕ
 begins from (pos n) = Some (from + n)
 begins from (negsuc n) = if nat_lt n from then Some (from - (n + 1)) else None
 
--- how many rows a tag counts, how many words each has and all have together, and how many the list's pointer says
+-- the number of rows that a tag counts, of the words of each and of all together, and of those that the list's pointer
+-- gives them
 abbrev pub row_words : ℕ → ℕ → RowWords
 row_words tag span = record {
   count = field 2 30 tag;
@@ -52,7 +53,7 @@ row_words tag span = record {
   span = span;
 }
 
--- what a visit of a slot asks for, where each content costs `each` beside its size: nothing where it is a fault
+-- the words that a visit of a slot asks for, if each content costs `each` beside its size: 0, if it is a fault
 abbrev pub asked : ℕ → Result Target Fault → ℕ
 asked each (Ok found) = toll each found
 asked each (Err e) = 0
@@ -63,11 +64,11 @@ rows_by tag (Many o Rows n) = Some (row_words tag n)
 rows_by tag _ = None
 
 module _ (message : List (List ℕ)) where
-  -- whether n words from a word on are inside a segment
+  -- true if n words from a word on are inside a segment
   abbrev pub has_words : ℕ → ℕ → ℕ → Bool
   has_words s w n = if nat_lt (length (segment_at message s)) (w + n) then false else true
 
-  -- ---- what tells of the content
+  -- ---- the reference of a pointer to content
 
   -- the second word of a pad of two, whose first leads to a segment that exists
   abbrev pub told_there : ℕ → ℕ → Pointer → Option Telling
@@ -79,7 +80,7 @@ module _ (message : List (List ℕ)) where
   told_two (Far false w s) tag = if is_second_pad message tag then told_there s w tag else None
   told_two _ tag = None
 
-  -- a pointer at word w of segment s, or its landing pad, where the whole pad is inside its segment
+  -- a pointer at word w of segment s, or its landing pad, if the whole pad is inside its segment
   abbrev pub told_by : ℕ → ℕ → Pointer → Option Telling
   told_by s w (Far false v t) = if has_words t v 1 then told_near t v (pointer_in message t v) else None
   told_by s w (Far true v t) =
@@ -92,7 +93,7 @@ module _ (message : List (List ℕ)) where
 
   -- ---- `content`
 
-  -- what is told of
+  -- the words to which a pointer refers
   abbrev pub stretch : Telling → Stretch
   stretch t = record {
     segment = t.segment;
@@ -101,7 +102,7 @@ module _ (message : List (List ℕ)) where
     length = length (segment_at message t.segment);
   }
 
-  -- the same where something is told of
+  -- those words, if a pointer refers to some
   abbrev pub stretch_told : Option Telling → Option Stretch
   stretch_told None = None
   stretch_told (Some t) = Some (stretch t)
@@ -111,7 +112,7 @@ module _ (message : List (List ℕ)) where
   words_at s w n =
       record { segment = s; start = pos w; end = pos (w + n); length = length (segment_at message s) }
 
-  -- the landing pad of a far pointer, also where it isn't inside its segment
+  -- the landing pad of a far pointer, also if it isn't inside its segment
   abbrev pub pad_stretch : Pointer → Option Stretch
   pad_stretch (Far false w s) = Some (words_at s w 1)
   pad_stretch (Far true w s) = Some (words_at s w 2)
@@ -126,17 +127,17 @@ module _ (message : List (List ℕ)) where
 
   -- ---- `tag` and `rows`
 
-  -- the place of a tag, where it and n words after it are inside their segment
+  -- the place of a tag, if it and n words after it are inside their segment
   abbrev pub tag_from : ℕ → ℕ → Option ℕ → Option Place
   tag_from s n None = None
   tag_from s n (Some start) = if has_words s start (1 + n) then Some (record { segment = s; word = start }) else None
 
-  -- that of a list of structs
+  -- the place of the tag, if the pointer is to a list of structs
   abbrev pub tag_told : ℕ → ℕ → ℤ → Pointer → Option Place
   tag_told s from offset (Many o Rows n) = tag_from s n (begins from offset)
   tag_told s from offset _ = None
 
-  -- that of what is told of
+  -- the place of the tag of the list of structs to which a pointer refers
   abbrev pub tag_in : Option Telling → Option Place
   tag_in None = None
   tag_in (Some t) = tag_told t.segment t.from t.offset t.form
@@ -145,12 +146,12 @@ module _ (message : List (List ℕ)) where
   abbrev pub tag_at : Place → Option Place
   tag_at at = tag_in (told at)
 
-  -- those of a list whose tag is at a place
+  -- the rows of a list whose tag is at a place
   abbrev pub rows_in : Option Telling → Option Place → Option RowWords
   rows_in (Some t) (Some at) = rows_by (word_at message at) t.form
   rows_in t at = None
 
-  -- where its rows have no room
+  -- its rows, if they have no room
   abbrev pub rows_of : Place → Fault → Option RowWords
   rows_of at faults.TagOverrun = rows_in (told at) (tag_at at)
   rows_of at _ = None
@@ -172,7 +173,7 @@ module _ (message : List (List ℕ)) where
     abbrev pub placed : Place → SlotText
     placed at = record { byte = place_byte offset table message at; place = at; word = word_at message at }
 
-    -- the same where there is a place
+    -- the word at a place, if there is one
     abbrev pub placed_some : Option Place → Option SlotText
     placed_some None = None
     placed_some (Some at) = Some (placed at)
@@ -181,12 +182,12 @@ module _ (message : List (List ℕ)) where
     abbrev pub tag_of : Place → Option SlotText
     tag_of at = placed_some (tag_at at)
 
-    -- a landing pad of one word, where it is inside its segment
+    -- a landing pad of one word, if it is inside its segment
     abbrev pub pad_of_one : ℕ → ℕ → Pad
     pad_of_one s w =
         if has_words s w 1 then pads.One (placed (record { segment = s; word = w })) else pads.Absent
 
-    -- a landing pad of two words, where both are inside their segment
+    -- a landing pad of two words, if both are inside their segment
     abbrev pub pad_of_two : ℕ → ℕ → Pad
     pad_of_two s w =
         if has_words s w 2
@@ -199,6 +200,6 @@ module _ (message : List (List ℕ)) where
     pad_by (Far true w s) = pad_of_two s w
     pad_by _ = pads.Absent
 
-    -- that of the slot at a place
+    -- the landing pad of the slot at a place
     abbrev pub pad_of : Place → Pad
     pad_of at = pad_by (pointer_in message at.segment at.word)

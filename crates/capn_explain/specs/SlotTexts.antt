@@ -1,4 +1,4 @@
--- The texts of what there is to say of a slot, and their lines.
+-- The texts of the findings about a slot, and their lines.
 use Rattle.std.specs.Prelude.{◌≡◌, ℕ, pos, negsuc, List, [], ◌++◌, Option, Some, None, codes, refl}
 use Rattle.std.specs.Fmt.{decimal, signed_decimal, digits}
 use Rattle.capn_explain.specs.Texts.{slot_text, tag_text, way_text, word_at_text}
@@ -15,7 +15,7 @@ use Rattle.capn_explain.specs.declared.holder_text.HolderText.TheVariants as hol
 
 -- ---- texts
 
--- where words lie
+-- the place of words
 abbrev pub stretch_text : Stretch → List ℕ
 stretch_text s =
     codes "words " ++ (signed_decimal s.start ++ (codes " to " ++ (signed_decimal s.end ++ (codes " of segment "
@@ -76,7 +76,7 @@ abbrev pub tag_line : Option SlotText → List ℕ
 tag_line (Some word) = line (codes "tag: ") (word_as_tag word)
 tag_line None = codes ""
 
--- where the content or the pad lies
+-- the place of the content or of the pad
 abbrev pub content_line : Option Stretch → List ℕ
 content_line (Some s) = line (codes "content: ") (stretch_text s)
 content_line None = codes ""
@@ -91,7 +91,7 @@ abbrev pub limit_line : Option Limit → List ℕ
 limit_line (Some limit) = line (codes "limit: ") (limit_text limit)
 limit_line None = codes ""
 
--- what was examined, with the way to the slot and the object that holds it
+-- the findings, with the way to the slot and the object that holds it
 abbrev pub slot_lines : List ℕ → Option HolderText → Examined → List ℕ
 slot_lines way holder e =
     line (codes "way: ") (way_text way) ++ (line (codes "slot: ") (word_as_pointer e.slot) ++ (holder_line holder

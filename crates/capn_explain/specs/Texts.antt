@@ -11,7 +11,7 @@ use Rattle.capn_words.specs.declared.pointer.Pointer.TheVariants.{Nil, Node, Man
 use Rattle.capn_words.specs.declared.pointer.Width.{Width}
 use Rattle.capn_words.specs.declared.pointer.Width.TheVariants.{W0, W1, W8, W16, W32, W64, Link, Rows}
 
--- ---- what a word says as a pointer
+-- ---- the text of a word as a pointer
 
 -- the elements of a list
 abbrev pub elements_text : Width → List ℕ
@@ -32,7 +32,7 @@ sizes_text words slots = decimal words ++ (codes " words and " ++ (decimal slots
 abbrev pub place_text : ℕ → ℕ → List ℕ
 place_text segment word = codes "segment " ++ (decimal segment ++ (codes " word " ++ decimal word))
 
--- what a pointer says
+-- the text of a pointer
 abbrev pub pointer_text : Pointer → List ℕ
 pointer_text Nil = codes "null"
 pointer_text (Node offset words slots) =
@@ -48,7 +48,7 @@ pointer_text (Far true word segment) = codes "double far to " ++ place_text segm
 pointer_text (Cap index) = codes "capability " ++ decimal index
 pointer_text (Reserved word) = codes "reserved"
 
--- what a word says as the tag of a list of structs, if it has the kind of a struct; else as a pointer
+-- the text of a word as the tag of a list of structs, if it has the kind of a struct; else as a pointer
 abbrev pub tag_text : ℕ → List ℕ
 tag_text word =
     if field 0 2 word == 0
@@ -62,7 +62,7 @@ tag_text word =
 abbrev pub word_text : ℕ → List ℕ
 word_text word = encode_lower (word_bytes word)
 
--- a word at a byte and a place, and what it says
+-- a word at a byte and a place, and its text as a pointer
 abbrev pub word_at_text : ℕ → Place → ℕ → List ℕ → List ℕ
 word_at_text byte at word says =
     codes "byte " ++ (decimal byte ++ (codes ", " ++ (place_text at.segment at.word ++ (codes ": "

@@ -6,9 +6,9 @@ ghost use Rattle.capn_explain.specs.PlaceByte as spec;
 
 use capn_words::{Place, Space};
 
-/// The byte of a stream at which a word of a message lies.
+/// Returns the byte of a stream at which the word at `at` of the message `space` lies.
 ///
-/// `offset` is that of the message, in bytes, and `table` how many words its table takes: none of a bare segment. It
+/// `offset` is that of the message, in bytes, and `table` the number of words of its table: 0 for a bare segment. It
 /// asks for the length of each segment before that of the word.
 #[tactic(auto, using(std::proofs::lemmas::List::Sums::sum_by_more_le, std::proofs::lemmas::List::Sums::fold_more))]
 pub fn place_byte<S: Space>(space: &S, offset: u64, table: u32, at: Place) -> u64
@@ -26,7 +26,7 @@ pub fn place_byte<S: Space>(space: &S, offset: u64, table: u32, at: Place) -> u6
     offset + 8 * (table as u64 + before as u64 + at.word as u64)
 }
 
-/// The same of a place in range, also where it passes 64 bits.
+/// Returns that byte for a place in range, also if it passes 64 bits.
 #[tactic(auto, using(crate::proofs::PlaceWithin::before_end, crate::proofs::PlaceWithin::has_segment))]
 pub(crate) fn long_place_byte<S: Space>(space: &S, offset: u64, table: u32, at: Place) -> u128
     requires { IsPlace (S.message space.now) at }

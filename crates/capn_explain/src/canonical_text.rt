@@ -1,16 +1,17 @@
-//! The text that says whether a message is canonical.
+//! The answer to the question if a message is canonical, as a text.
 
 use crate::pointer_text::PointerText;
 use crate::way_text::WayText;
 use crate::word_text::WordText;
 use std::fmt;
 
-/// Whether a message is canonical, and why not, displayed in one line without its end.
+/// The answer to the question if a message is canonical, displayed in one line without its end: it is, or the reason
+/// why not.
 #[derive(Clone, Copy, Debug, PartialEq, Eq)]
 pub enum CanonicalText<'a> {
-    /// It is.
+    /// It is canonical.
     Yes,
-    /// It has more than one segment: how many.
+    /// It has more than one segment: their number.
     Segments(u32),
     /// It has a capability: its index, and the way to it.
     Capability(u32, &'a [u32]),
@@ -26,7 +27,7 @@ pub enum CanonicalText<'a> {
     After(u128, u64),
 }
 
-/// A word, displayed as its bytes and as what it says as a pointer.
+/// A word, displayed as its bytes and as the pointer that it is.
 #[derive(Drop)]
 struct WordSays(u64);
 

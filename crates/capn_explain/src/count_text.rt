@@ -1,13 +1,13 @@
-//! The line that stands where no message is explained.
+//! The line of a run that explains no message.
 
 use std::fmt;
 
-/// Why no message is explained, displayed in one line without its end.
+/// The reason why no message is explained, displayed in one line without its end.
 #[derive(Clone, Copy, Debug, PartialEq, Eq)]
 pub enum CountText {
-    /// None of the messages is refused: how many there are.
+    /// None of the messages is refused: their number.
     NoneRefused(u64),
-    /// There is no message of the number that was asked for: how many there are.
+    /// There is no message of the number that was asked for: the number of those that are there.
     Fewer(u64),
 }
 

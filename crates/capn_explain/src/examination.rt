@@ -15,7 +15,7 @@ use capn_target::{Fault, pointer_at, segment_length};
 use capn_walk::{Limits, Stopped};
 use capn_words::{Place, Pointer, Space};
 
-/// Where an offset leads from a word.
+/// Returns the word to which `offset` leads from the word `from`.
 fn led(from: u64, offset: i32) -> i64
     requires { from < 2 ^ 42 }
     ensures { result ≡ (pos from +ℤ offset) }
@@ -23,7 +23,7 @@ fn led(from: u64, offset: i32) -> i64
     from as i64 + offset as i64
 }
 
-/// What is told of.
+/// Returns the words to which a pointer refers.
 fn stretch_of<S: Space>(space: &S, told: Telling) -> Stretch
     requires { told.from ≤ 2 ^ 32 }
     ensures { result ≡ spec.stretch (S.message space.now) told }
@@ -37,7 +37,7 @@ fn stretch_of<S: Space>(space: &S, told: Telling) -> Stretch
     }
 }
 
-/// What is told of, if something is.
+/// Returns the words to which a pointer refers, if it refers to some.
 fn stretch_told<S: Space>(space: &S, told: Option<Telling>) -> Option<Stretch>
     requires { IfSome told (λ t. t.from ≤ 2 ^ 32) }
     ensures { result ≡ spec.stretch_told (S.message space.now) told }
@@ -48,7 +48,8 @@ fn stretch_told<S: Space>(space: &S, told: Option<Telling>) -> Option<Stretch>
     }
 }
 
-/// The content that isn't inside its segment or has no room for its rows, or such a landing pad.
+/// Returns the content that isn't inside its segment or has no room for its rows, or such a landing pad, by the
+/// `fault`.
 fn content_of<S: Space>(
     space: &S,
     at: Place,
@@ -69,7 +70,7 @@ fn content_of<S: Space>(
     }
 }
 
-/// The limit that a refusal is about.
+/// Returns the limit that a refusal is about.
 fn limit_of<S: Space>(space: &S, limits: Limits, stopped: Stopped) -> Option<Limit>
     requires { IsPlace (S.message space.now) stopped.place }
     ensures { result ≡ spec.limit_of (S.message space.now) limits stopped.place stopped.paid stopped.fault }
@@ -86,7 +87,7 @@ fn limit_of<S: Space>(space: &S, limits: Limits, stopped: Stopped) -> Option<Lim
     }
 }
 
-/// A word with its byte, if there is a place.
+/// Returns the word at `at` with its byte, if there is a place.
 fn placed_some<S: Space>(space: &S, offset: u64, table: u32, at: Option<Place>) -> Option<SlotText>
     requires { IfSome at (λ at. IsPlace (S.message space.now) at) }
     ensures { result ≡ spec.placed_some (S.message space.now) offset table at }
@@ -97,11 +98,11 @@ fn placed_some<S: Space>(space: &S, offset: u64, table: u32, at: Option<Place>) 
     }
 }
 
-/// What there is to say of the slot at which the walk of a message was refused within limits.
+/// Examines the slot at which the walk of the message `space` was refused within `limits`.
 ///
-/// `offset` is where the message's table begins in its stream, in bytes, and `table` how many words that takes: none of
-/// a bare segment. The slot has to be a place of the message, as it is after each refusal but `NoRoot`. It reads at
-/// most twelve words, asks for the length of each segment a few times, and takes no memory.
+/// `offset` is the byte of its stream at which the message's table begins, and `table` the number of words that it
+/// takes: 0 for a bare segment. The slot of `stopped` has to be a place of the message, as it is after each refusal but
+/// `NoRoot`. It reads at most twelve words, asks for the length of each segment a few times, and takes no memory.
 pub fn examine<S: Space>(
     space: &S,
     offset: u64,

@@ -1,4 +1,4 @@
-//! The texts of what there is to say of a slot.
+//! The texts of the findings about a slot.
 
 use crate::examined::{Examined, Limit, Pad, RowWords, Stretch};
 use crate::holder_text::HolderText;
@@ -196,14 +196,14 @@ impl fmt::Display for LimitLine {
     }
 }
 
-/// What there is to say of the slot at which the walk of a message was refused, displayed in lines.
+/// The findings about the slot at which the walk of a message was refused, displayed in lines.
 #[derive(Clone, Copy, Debug, PartialEq, Eq)]
 pub struct SlotLines<'a> {
     /// The numbers that lead to it from the root.
     pub way: &'a [u32],
-    /// The object that holds it: none where it is the root's.
+    /// The object that holds it: `None` for the root's.
     pub holder: Option<HolderText>,
-    /// What was examined.
+    /// The findings.
     pub examined: Examined,
 }
 

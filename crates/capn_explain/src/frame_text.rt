@@ -5,7 +5,8 @@ ghost use Rattle.hex.specs.Hex.{encode_lower};
 
 use std::{fmt, str};
 
-/// What came of a message whose frame, packing or length is refused, displayed in a line with its end; or in no bytes.
+/// The part that came of a message whose frame, packing or length is refused, displayed in a line with its end; or in
+/// no bytes.
 #[derive(Clone, Copy, Debug, PartialEq, Eq)]
 pub enum FrameKey {
     /// The fault has no such line.
@@ -21,7 +22,7 @@ pub enum FrameKey {
     Group(u64, u8, u64, u64),
 }
 
-/// The digits of a byte.
+/// Returns the two hexadecimal digits of `byte`.
 fn digits_of(byte: u8) -> [u8; 2]
     ensures { result ≡ encode_lower (byte ∷ []) }
 {

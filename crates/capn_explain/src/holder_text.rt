@@ -14,18 +14,18 @@ use std::fmt;
 pub enum HolderText {
     /// A struct: its words, its slots, and the byte at which it begins.
     Struct(u16, u16, u128),
-    /// A list of pointers: how many there are, and the byte at which the first is.
+    /// A list of pointers: their number, and the byte at which the first is.
     Pointers(u32, u128),
-    /// A row of a list of structs: its number, counted from 0, how many rows there are, and the byte at which it
-    /// begins.
+    /// A row of a list of structs: its number, counted from 0, the number of rows, and the byte at which it begins.
     Row(u32, u32, u128),
 }
 
 impl HolderText {
-    /// That of an object that holds a slot of a message, which has to begin at a place in range.
+    /// Returns the text of `holder`, an object that holds a slot of the message `space`; it has to begin at a place in
+    /// range.
     ///
-    /// `offset` is where the message's table begins in its stream, in bytes, and `table` how many words that takes:
-    /// none of a bare segment.
+    /// `offset` is the byte of its stream at which the message's table begins, and `table` the number of words that it
+    /// takes: 0 for a bare segment.
     pub fn of<S: Space>(space: &S, offset: u64, table: u32, holder: Holder) -> HolderText
         requires { IsPlace (S.message space.now) (spec.beginning holder) }
         ensures { result ≡ spec.with_byte (S.message space.now) offset table holder }

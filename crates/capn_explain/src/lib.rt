@@ -1,18 +1,16 @@
 //! The texts in which a message is explained.
 //!
-//! - [`PointerText`] displays what a word says as a pointer, and [`TagText`] what it says as the tag of a list of
-//!   structs.
+//! - [`PointerText`] displays a word as a pointer, and [`TagText`] as the tag of a list of structs.
 //! - [`WordText`] displays the bytes of a word, in the order in which they lie.
-//! - [`SlotText`] displays a slot: the byte and the place of its word, its bytes, and what they say.
+//! - [`SlotText`] displays a slot: the byte and the place of its word, its bytes, and the pointer that they are.
 //! - [`WayText`] displays the way from the root to a slot.
 //! - [`place_byte`] answers the byte of a stream at which a word of a message lies.
-//! - [`examine`] answers what there is to say of the slot at which the walk of a message was refused: the words that
-//!   lead to its content, where that lies, and the limit that the refusal is about.
-//! - [`explain_refusal`] says whether a message is refused, and answers all lines that explain it then;
-//!   [`explain_stop`] answers them where the walk has stopped already.
-//! - [`RefusedLines`], [`FrameLines`] and [`AcceptedLines`] display all lines that explain a message, and [`CountText`]
-//!   the line where there is none to explain. Their parts are [`MessageHead`], [`SegmentsText`], [`SlotLines`],
-//!   [`HolderText`], [`FrameKey`] and [`CanonicalText`].
+//! - [`examine`] examines the slot at which the walk of a message was refused: the words that lead to its content, the
+//!   place of that, and the limit that the refusal is about.
+//! - [`explain_stop`] answers all lines that explain a message at which the walk has stopped.
+//! - [`RefusedLines`] and [`FrameLines`] display all lines that explain a refused message, and [`CountText`] the line
+//!   if there is none to explain. Their parts are [`MessageHead`], [`SegmentsText`], [`SlotLines`], [`HolderText`] and
+//!   [`FrameKey`]. [`CanonicalText`] says of an accepted message that it is canonical, or why it isn't.
 #![tactic(auto)]
 
 mod byte_of_place;
@@ -44,9 +42,9 @@ pub use examined::{Examined, Limit, Pad, RowWords, Stretch};
 pub use examined_text::SlotLines;
 pub use frame_text::FrameKey;
 pub use holder_text::HolderText;
-pub use message_text::{AcceptedLines, FrameLines, MessageHead, RefusedLines};
+pub use message_text::{FrameLines, MessageHead, RefusedLines};
 pub use pointer_text::PointerText;
-pub use refusal::{Told, explain_refusal, explain_stop};
+pub use refusal::{Told, explain_stop};
 pub use segments_text::SegmentsText;
 pub use slot_text::SlotText;
 pub use tag_text::TagText;

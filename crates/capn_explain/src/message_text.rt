@@ -1,20 +1,19 @@
 //! The lines of a message that is explained.
 
-use crate::canonical_text::CanonicalText;
 use crate::examined_text::SlotLines;
 use crate::frame_text::FrameKey;
 use crate::segments_text::SegmentsText;
 use capn_walk::Stopped;
 use std::fmt;
 
-/// Where a message is, and how large, displayed in lines.
+/// The place and the size of a message, displayed in lines.
 #[derive(Clone, Copy, Debug, PartialEq, Eq)]
 pub struct MessageHead {
-    /// How many messages are before it.
+    /// The number of messages before it.
     pub index: u64,
     /// The byte of the stream at which its table begins.
     pub offset: u64,
-    /// Its segments, where the sizes of all are known.
+    /// Its segments, if the sizes of all are known.
     pub segments: Option<SegmentsText>,
 }
 
@@ -57,11 +56,11 @@ impl fmt::Display for MessageHead {
 /// A message that its walk refuses, displayed in lines.
 #[derive(Clone, Copy, Debug, PartialEq, Eq)]
 pub struct RefusedLines<'a> {
-    /// Where it is, and how large.
+    /// Its place and its size.
     pub head: MessageHead,
-    /// Why, and where its walk stopped.
+    /// The reason, and the place at which its walk stopped.
     pub stopped: Stopped,
-    /// What there is to say of the slot: nothing where there is no root.
+    /// The findings about the slot: `None`, if there is no root.
     pub slot: Option<SlotLines<'a>>,
 }
 
@@ -99,11 +98,11 @@ impl<'a> fmt::Display for RefusedLines<'a> {
 /// A message whose frame, packing or length is refused, displayed in lines.
 #[derive(Clone, Copy, Debug, PartialEq, Eq)]
 pub struct FrameLines<'a> {
-    /// Where it is, and how large.
+    /// Its place and its size.
     pub head: MessageHead,
     /// The text of the fault.
     pub fault: &'a str,
-    /// What came of it.
+    /// The part of it that came.
     pub key: FrameKey,
 }
 
@@ -118,63 +117,5 @@ impl<'a> fmt::Display for FrameLines<'a> {
         let fault = self.fault;
         let key = self.key;
         write!(f, "{head}refused: {fault}\n{key}")
-    }
-}
-
-/// A message that is accepted, displayed in lines.
-#[derive(Clone, Copy, Debug, PartialEq, Eq)]
-pub struct AcceptedLines<'a> {
-    /// Where it is, and how large.
-    pub head: MessageHead,
-    /// The words that its walk pays.
-    pub paid: u32,
-    /// The visits that its walk makes.
-    pub visits: u32,
-    /// The least depth that admits it.
-    pub depth: u32,
-    /// Whether it is canonical, and why not.
-    pub canonical: CanonicalText<'a>,
-    /// How many bytes its contents and its canonical bytes have, where that is told.
-    pub lengths: Option<(u64, u64)>,
-}
-
-/// The line of two lengths.
-#[derive(Drop)]
-struct LengthsLine(Option<(u64, u64)>);
-
-impl fmt::Display for LengthsLine {
-    ghost use Rattle.std.specs.Prelude.{Some};
-    ghost use Rattle.capn_explain.specs.MessageTexts.{lengths_line};
-
-    ghost output = { λ line. Some (lengths_line line.0) };
-
-    fn fmt<W: fmt::Write>(&self, f: &mut fmt::Formatter<W>) -> fmt::Result {
-        match self.0 {
-            Some((contents, canonical)) => {
-                write!(f, "lengths: {contents} bytes, canonical {canonical}\n")
-            }
-            None => write!(f, ""),
-        }
-    }
-}
-
-impl<'a> fmt::Display for AcceptedLines<'a> {
-    ghost use Rattle.std.specs.Prelude.{Some};
-    ghost use Rattle.capn_explain.specs.MessageTexts.{accepted_lines};
-
-    ghost output = { λ lines. Some (accepted_lines lines.head lines.paid lines.visits lines.depth lines.canonical
-        lines.lengths) };
-
-    fn fmt<W: fmt::Write>(&self, f: &mut fmt::Formatter<W>) -> fmt::Result {
-        let head = self.head;
-        let paid = self.paid;
-        let visits = self.visits;
-        let depth = self.depth;
-        let canonical = self.canonical;
-        write!(
-            f,
-            "{head}accepted: paid {paid} visits {visits} depth {depth}\ncanonical: {canonical}\n{}",
-            LengthsLine(self.lengths)
-        )
     }
 }

@@ -9,7 +9,7 @@ use crate::telling::has_words;
 use capn_target::segment_length;
 use capn_words::{Place, Pointer, Space};
 
-/// Words from a word of a segment on.
+/// Returns the `count` words from `word` of `segment` on.
 fn words_at<S: Space>(space: &S, segment: u32, word: u32, count: u32) -> Stretch
     ensures { result ≡ spec.words_at (S.message space.now) segment word count }
 {
@@ -21,7 +21,7 @@ fn words_at<S: Space>(space: &S, segment: u32, word: u32, count: u32) -> Stretch
     }
 }
 
-/// The landing pad of a pointer, also where it isn't inside its segment.
+/// Returns the landing pad of `pointer`, also if it isn't inside its segment; `None`, if it is no far pointer.
 pub(crate) fn pad_stretch<S: Space>(space: &S, pointer: Pointer) -> Option<Stretch>
     ensures { result ≡ spec.pad_stretch (S.message space.now) pointer }
 {
@@ -41,7 +41,7 @@ pub(crate) fn pad_stretch<S: Space>(space: &S, pointer: Pointer) -> Option<Stret
     }
 }
 
-/// The landing pad of a pointer, where it is inside its segment.
+/// Returns the landing pad of `pointer`, if it is inside its segment.
 pub(crate) fn pad_by<S: Space>(space: &S, offset: u64, table: u32, pointer: Pointer) -> Pad
     ensures { result ≡ spec.pad_by (S.message space.now) offset table pointer }
 {
@@ -61,7 +61,7 @@ pub(crate) fn pad_by<S: Space>(space: &S, offset: u64, table: u32, pointer: Poin
     }
 }
 
-/// A landing pad of one word, where it is inside its segment.
+/// Returns the landing pad of one word at `word` of `segment`, if it is inside that.
 fn one_word<S: Space>(space: &S, offset: u64, table: u32, segment: u32, word: u32) -> Pad
     ensures { result ≡ spec.pad_of_one (S.message space.now) offset table segment word }
 {
@@ -72,7 +72,7 @@ fn one_word<S: Space>(space: &S, offset: u64, table: u32, segment: u32, word: u3
     }
 }
 
-/// A landing pad of two words, where both are inside their segment.
+/// Returns the landing pad of two words at `word` of `segment`, if both are inside that.
 fn two_words<S: Space>(space: &S, offset: u64, table: u32, segment: u32, word: u32) -> Pad
     ensures { result ≡ spec.pad_of_two (S.message space.now) offset table segment word }
 {

@@ -6,12 +6,12 @@ ghost use Rattle.capn_words.specs.Pointers.{pointer_of};
 use capn_words::{Pointer, Width, split};
 use std::fmt;
 
-/// What a word says as a pointer, displayed in one line without its end.
+/// A word read as a pointer, displayed in one line without its end.
 #[derive(Clone, Copy, Debug, PartialEq, Eq)]
 pub struct PointerText(pub Pointer);
 
 impl PointerText {
-    /// What a word says.
+    /// Reads `word` as a pointer.
     pub fn of(word: u64) -> PointerText
         ensures { result ≡ record { 0 = pointer_of word } }
     {
@@ -19,7 +19,7 @@ impl PointerText {
     }
 }
 
-/// What the elements of a list are.
+/// The kind of the elements of a list.
 #[derive(Drop)]
 struct Elements(Width);
 
@@ -43,7 +43,7 @@ impl fmt::Display for Elements {
     }
 }
 
-/// What a pointer to a list says.
+/// The fields of a pointer to a list.
 #[derive(Drop)]
 struct List {
     offset: i32,

@@ -1,8 +1,8 @@
 //! The explanation of a message that its walk refuses.
 
-ghost use Rattle.std.specs.Prelude.{◌≡◌, ℕ, ◌<◌, length, IfOk, IfSome, IfNone};
+ghost use Rattle.std.specs.Prelude.{◌≡◌, ℕ, ◌<◌, length, IfOk};
 ghost use Rattle.capn_words.specs.Message.{segment_at};
-ghost use Rattle.capn_walk.specs.Accepted.{IsAccepted, IsWalkRefused};
+ghost use Rattle.capn_walk.specs.Accepted.{IsWalkRefused};
 ghost use Rattle.capn_walk.specs.Limits.{Bounds};
 ghost use Rattle.capn_way.specs.Ways.{IsRefusedAt, IsWayTo};
 ghost use Rattle.capn_explain.specs.MessageTexts.{refused_lines};
@@ -15,52 +15,26 @@ use crate::holder_text::HolderText;
 use crate::message_text::{MessageHead, RefusedLines};
 use crate::segments_text::SegmentsText;
 use capn_walk::{Limits, Stopped};
-use capn_way::{Refused, holder_of, way_of_refusal, way_of_stop};
+use capn_way::{Refused, holder_of, way_of_stop};
 use capn_words::{Memory, Place, Space};
 use std::alloc::{Allocator, Global};
 
 /// A message that its walk refuses, explained.
 #[derive(Debug, Drop)]
 pub struct Told<A: Allocator = Global> {
-    /// Why, and where its walk stopped.
+    /// The reason, and the place at which its walk stopped.
     pub stopped: Stopped,
     /// The lines that explain it, as [`RefusedLines`] displays them.
     pub text: Vec<u8, A>,
 }
 
-/// Whether the walk of a message is refused within limits, and then the lines that explain it: `None` where it is
-/// accepted.
+/// Explains the message `space`, whose walk `stopped`: returns the lines.
 ///
-/// `index` is how many messages are before it, `offset` the byte of the stream at which its table begins, and `table`
-/// how many words that takes: none of a bare segment. It surveys the message, and where that is refused it makes the
-/// visits up to the refused one again. Memory: the way, which has at most two numbers for each level of the depth
-/// limit, and the text. (Own.)
-pub fn explain_refusal<S: Space, A: Allocator + Copy>(
-    alloc: A,
-    space: &S,
-    index: u64,
-    offset: u64,
-    table: u32,
-    limits: Limits,
-) -> Result<Option<Told<A>>, Memory>
-    ensures refused { IfOk result (λ r. IfSome r (λ told.
-        IsRefusalTold (S.message space.now) limits index offset table told.stopped told.text.items)) }
-    ensures accepted { IfOk result (λ r. IfNone r (IsAccepted (S.message space.now) limits)) }
-{
-    match way_of_refusal(alloc, space, limits)? {
-        Some(refused) => {
-            let told = tell(alloc, space, index, offset, table, limits, &refused)?;
-            Ok(Some(told))
-        }
-        None => Ok(None),
-    }
-}
-
-/// The lines that explain a message, by why and where its walk stopped.
-///
-/// `stopped` is why and where the walk of this message stops within these limits, as [`survey`](capn_walk::survey)
-/// answers it; the rest is as for [`explain_refusal`]. It makes the visits up to the refused one, and no survey.
-/// Memory: that of [`explain_refusal`]. (Own.)
+/// `stopped` is the stop of the walk of this message within these `limits`, as [`survey`](capn_walk::survey) answers
+/// it. `index` is the number of messages before it, `offset` the byte of the stream at which its table begins, and
+/// `table` the number of words that it takes: 0 for a bare segment. It makes the visits up to the refused one, and no
+/// survey. Memory on `alloc`: the way, which has at most two numbers for each level of the depth limit, and the text.
+/// (Own.)
 pub fn explain_stop<S: Space, A: Allocator + Copy>(
     alloc: A,
     space: &S,
@@ -81,7 +55,7 @@ pub fn explain_stop<S: Space, A: Allocator + Copy>(
     tell(alloc, space, index, offset, table, limits, &refused)
 }
 
-/// The explanation of a message whose walk is refused, with the way to the slot where it stopped.
+/// Explains a message whose walk is `refused`, with the way to the slot at which it stopped.
 fn tell<S: Space, A: Allocator + Copy>(
     alloc: A,
     space: &S,
@@ -106,7 +80,7 @@ fn tell<S: Space, A: Allocator + Copy>(
     Ok(Told { stopped, text })
 }
 
-/// The bytes of all lines.
+/// Writes all `lines` to memory.
 fn text_of<'w, A: Allocator>(alloc: A, lines: RefusedLines<'w>) -> Result<Vec<u8, A>, Memory>
     ensures { IfOk result (λ text. text.items ≡ refused_lines lines.entry.head lines.entry.stopped
         lines.entry.slot) }
@@ -115,7 +89,7 @@ fn text_of<'w, A: Allocator>(alloc: A, lines: RefusedLines<'w>) -> Result<Vec<u8
     Ok(text.into_bytes())
 }
 
-/// Where a message is, and how large.
+/// Returns the place and the size of the message `space`.
 fn head_of<S: Space>(space: &S, index: u64, offset: u64) -> MessageHead
     ensures { result ≡ spec.head (S.message space.now) index offset }
 {
@@ -126,7 +100,8 @@ fn head_of<S: Space>(space: &S, index: u64, offset: u64) -> MessageHead
     }
 }
 
-/// What there is to say of the slot at which the walk of a message stopped: nothing where there is no root.
+/// Examines the slot at which the walk of the message `space` stopped, with the `way` to it: `None`, if there is no
+/// root.
 fn slot_lines<'w, S: Space>(
     space: &S,
     offset: u64,
@@ -148,7 +123,7 @@ fn slot_lines<'w, S: Space>(
     })
 }
 
-/// The text of the object that holds the slot to which a way leads: of the root's there is none.
+/// Returns the text of the object that holds the slot to which `way` leads: the root's has none.
 fn text_of_holder<S: Space>(space: &S, offset: u64, table: u32, way: &[u32]) -> Option<HolderText>
     requires root { 0 < length (segment_at (S.message space.now) 0) }
     ensures { (limits : Bounds) (number : ℕ) (to : Place) → IsWayTo (S.message space.now) limits number way.now to

@@ -30,15 +30,15 @@ impl<'a> fmt::Display for Listed<'a> {
     }
 }
 
-/// The segments of a message, displayed in one line without its end: how many there are, the words of all, and from two
+/// The segments of a message, displayed in one line without its end: their number, the words of all, and from two
 /// segments on the words of each of the first eight.
 #[derive(Clone, Copy, Debug, PartialEq, Eq)]
 pub struct SegmentsText {
-    /// How many segments there are.
+    /// The number of segments.
     pub count: u32,
     /// The words of all.
     pub words: u64,
-    /// The words of each of the first eight; behind the last segment it doesn't matter what stands here.
+    /// The words of each of the first eight; behind the last segment any number may stand.
     pub first: [u32; 8],
 }
 
@@ -81,7 +81,7 @@ impl fmt::Display for SegmentsText {
 }
 
 impl SegmentsText {
-    /// Those of a message. It asks for the length of each segment.
+    /// Returns the text of the segments of the message `space`. It asks for the length of each segment.
     pub fn of<S: Space>(space: &S) -> SegmentsText
         ensures { result ≡ segments_of (S.message space.now) }
     {

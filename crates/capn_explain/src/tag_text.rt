@@ -3,8 +3,8 @@
 use crate::pointer_text::PointerText;
 use std::fmt;
 
-/// What a word says as the tag of a list of structs, displayed in one line without its end: how many structs there are,
-/// and how large; or what it says as a pointer where it hasn't the kind of a struct.
+/// A word read as the tag of a list of structs, displayed in one line without its end: the number of structs, and their
+/// size; or, if it hasn't the kind of a struct, the pointer that it is.
 #[derive(Clone, Copy, Debug, PartialEq, Eq)]
 pub struct TagText(pub u64);
 

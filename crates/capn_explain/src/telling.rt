@@ -1,4 +1,4 @@
-//! What tells of the content to which a slot leads.
+//! A pointer's reference to content.
 
 ghost use Rattle.std.specs.Prelude.{◌≡◌, ◌<◌, ◌≤◌, ◌+◌, ◌^◌, IsTrue, Some, None, IfSome, if◌then◌else◌};
 ghost use Rattle.capn_target.specs.Target.{pointer_in};
@@ -7,8 +7,8 @@ ghost use Rattle.capn_explain.specs.Slot as spec;
 use capn_target::{content_words, pointer_at, segment_length};
 use capn_words::{Place, Pointer, Space};
 
-/// What tells of content: the segment in which it lies, the word from which an offset leads to it, the offset, and the
-/// pointer that says its form.
+/// A pointer's reference to content: the segment in which that lies, the word from which an offset leads to it, the
+/// offset, and the pointer that has its form.
 #[derive(Clone, Copy)]
 pub(crate) struct Telling {
     /// The segment.
@@ -17,11 +17,11 @@ pub(crate) struct Telling {
     pub from: u64,
     /// The offset.
     pub offset: i32,
-    /// The pointer that says the form.
+    /// The pointer that has the form.
     pub form: Pointer,
 }
 
-/// The words that a pointer says its content takes.
+/// Returns the number of words that the content of the pointer `form` takes.
 pub(crate) fn words_told(form: Pointer) -> u64
     ensures value { result ≡ spec.words_told form }
     ensures small { result < 2 ^ 40 }
@@ -41,7 +41,7 @@ pub(crate) fn words_told(form: Pointer) -> u64
     }
 }
 
-/// What a pointer to a struct or list tells that is at a word of a segment.
+/// Returns the reference of a `pointer` to a struct or list at `word` of `segment`.
 fn told_near(segment: u32, word: u32, pointer: Pointer) -> Option<Telling>
     ensures value { result ≡ spec.told_near segment word pointer }
     ensures small { IfSome result (λ t. t.from ≤ 2 ^ 32) }
@@ -72,7 +72,8 @@ fn told_near(segment: u32, word: u32, pointer: Pointer) -> Option<Telling>
     }
 }
 
-/// What the second word of a landing pad of two tells, whose first leads to a word of a segment.
+/// Returns the reference of a landing pad of two words, of which the first leads to `word` of `segment`, and the second
+/// is `form`.
 fn told_there<S: Space>(space: &S, segment: u32, word: u32, form: Pointer) -> Option<Telling>
     ensures value { result ≡ spec.told_there (S.message space.now) segment word form }
     ensures small { IfSome result (λ t. t.from ≤ 2 ^ 32) }
@@ -89,7 +90,7 @@ fn told_there<S: Space>(space: &S, segment: u32, word: u32, form: Pointer) -> Op
     }
 }
 
-/// What the two words of a landing pad tell.
+/// Returns the reference of the two words of a landing pad, `first` and `second`.
 fn told_two<S: Space>(space: &S, first: Pointer, second: Pointer) -> Option<Telling>
     ensures value { result ≡ spec.told_two (S.message space.now) first second }
     ensures small { IfSome result (λ t. t.from ≤ 2 ^ 32) }
@@ -118,7 +119,7 @@ fn told_two<S: Space>(space: &S, first: Pointer, second: Pointer) -> Option<Tell
     }
 }
 
-/// Whether `count` words from a word on are inside a segment.
+/// Returns `true` if the `count` words from `word` on are inside `segment`.
 pub(crate) fn has_words<S: Space>(space: &S, segment: u32, word: u64, count: u64) -> bool
     requires word { word < 2 ^ 40 }
     requires count { count < 2 ^ 40 }
@@ -129,7 +130,7 @@ pub(crate) fn has_words<S: Space>(space: &S, segment: u32, word: u64, count: u64
     end <= segment_length(space, segment) as u64
 }
 
-/// What the landing pad of one word at a place tells.
+/// Returns the reference of the landing pad of one word at `word` of `segment`.
 fn behind_one<S: Space>(space: &S, segment: u32, word: u32) -> Option<Telling>
     ensures value { result ≡ (if spec.has_words (S.message space.now) segment word 1
         then spec.told_near segment word (pointer_in (S.message space.now) segment word) else None) }
@@ -142,7 +143,7 @@ fn behind_one<S: Space>(space: &S, segment: u32, word: u32) -> Option<Telling>
     }
 }
 
-/// What the landing pad of two words at a place tells.
+/// Returns the reference of the landing pad of two words at `word` of `segment`.
 fn behind_two<S: Space>(space: &S, segment: u32, word: u32) -> Option<Telling>
     ensures value { result ≡ (if spec.has_words (S.message space.now) segment word 2
         then spec.told_two (S.message space.now) (pointer_in (S.message space.now) segment word)
@@ -158,7 +159,7 @@ fn behind_two<S: Space>(space: &S, segment: u32, word: u32) -> Option<Telling>
     }
 }
 
-/// What a pointer at a place tells, or its landing pad.
+/// Returns the reference of the `pointer` at `at`, or of its landing pad.
 pub(crate) fn told_by<S: Space>(space: &S, at: Place, pointer: Pointer) -> Option<Telling>
     ensures value { result ≡ spec.told_by (S.message space.now) at.segment at.word pointer }
     ensures small { IfSome result (λ t. t.from ≤ 2 ^ 32) }

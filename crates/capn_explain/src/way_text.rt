@@ -2,7 +2,7 @@
 
 use std::fmt;
 
-/// The numbers that lead from the root of a message to a slot, displayed with dots between them; or `root` where there
+/// The numbers that lead from the root of a message to a slot, displayed with dots between them; or `root`, if there
 /// are none.
 #[derive(Clone, Copy, Debug, PartialEq, Eq)]
 pub struct WayText<'a>(pub &'a [u32]);

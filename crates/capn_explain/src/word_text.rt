@@ -6,7 +6,7 @@ ghost use Rattle.hex.specs.Hex.{encode_lower};
 
 use std::{fmt, str};
 
-/// The digits of a word's bytes.
+/// Returns the digits of the bytes of `word`.
 fn digits_of(word: u64) -> [u8; 16]
     ensures { result ≡ encode_lower (to_le_bytes w64 word) }
 {

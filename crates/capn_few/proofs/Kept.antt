@@ -1,4 +1,4 @@
--- What a message of few segments keeps.
+-- The ends that a message of few segments keeps. (For `segments` and `words`.)
 use Rattle.std.proofs.Common.{◌≡◌, ℕ, ◌≤◌, List, length, take, arith}
 use Rattle.std.proofs.lemmas.List.{length-take-le}
 

@@ -1,4 +1,4 @@
--- How many segments a message may have that is read without memory. (Own.)
+-- The most segments of a message that is read without memory. (Own.)
 use Rattle.std.specs.Prelude.{ℕ, ◌<◌, List}
 use Rattle.capn_stream.specs.FrameRefusal.{IsWhole, announced_segments}
 

@@ -6,13 +6,13 @@ ghost use Rattle.capn_stream.specs.Cuts.{AreEnds, cut};
 use capn_words::{Bare, Place, Space};
 use std::marker::Model;
 
-/// How many ends are kept at most: one of each segment but the last.
+/// The most ends that are kept: one of each segment but the last.
 pub const MOST_ENDS: usize = 63;
 
 /// A message of at most 64 segments, which follow one another in borrowed bytes. Contracts see it as the list of their
 /// words.
 ///
-/// It copies none of them. Beside the borrow it keeps where each segment but the last ends, so it takes no memory, and
+/// It copies none of them. Beside the borrow it keeps the ends of all segments but the last, so it takes no memory, and
 /// finds every segment in constant time.
 #[derive(Drop)]
 pub struct FewSegments<'a> {
@@ -32,7 +32,7 @@ impl<'a> Model for FewSegments<'a> {
     ghost invariant = { λ f. (f.count ≤ 63) × (length f.ends ≡ 63) × AreEnds (take f.count f.ends) f.words };
 }
 
-/// The ends that are kept.
+/// Returns the first `count` of `ends`, which are those that are kept.
 fn kept(ends: &[u32; MOST_ENDS], count: usize) -> &[u32]
     requires { count ≤ 63 }
     ensures { result.now ≡ take count ends.now }
@@ -40,7 +40,7 @@ fn kept(ends: &[u32; MOST_ENDS], count: usize) -> &[u32]
     &ends[..count]
 }
 
-/// Where a segment begins.
+/// Returns the word at which `segment` begins.
 fn start_of(ends: &[u32], segment: usize) -> u32
     requires { segment ≤ length ends.now }
     ensures { result ≡ slice_index (0 ∷ ends.now) segment }
@@ -48,7 +48,7 @@ fn start_of(ends: &[u32], segment: usize) -> u32
     if segment == 0 { 0 } else { ends[segment - 1] }
 }
 
-/// Where a segment ends: for the last one, at the end of the message, which has `words` words.
+/// Returns the word at which `segment` ends: for the last one, the end of the message, which has `words` words.
 fn end_of(ends: &[u32], words: u32, segment: usize) -> u32
     requires { segment ≤ length ends.now }
     ensures { result ≡ slice_index (ends.now ++ words ∷ []) segment }
@@ -61,7 +61,7 @@ fn end_of(ends: &[u32], words: u32, segment: usize) -> u32
 }
 
 impl<'a> FewSegments<'a> {
-    /// The words, cut at the first `count` ends.
+    /// Cuts `words` at the first `count` of `ends`.
     pub(crate) fn new(words: Bare<'a>, ends: [u32; MOST_ENDS], count: usize) -> FewSegments<'a>
         requires few { count ≤ 63 }
         requires ends { AreEnds (take count ends) words }

@@ -7,11 +7,13 @@ ghost use Rattle.capn_stream.specs.FrameRefusal.{IsFrameRefused, IsWhole, announ
 ghost use Rattle.capn_few.specs.Few.{HasMore, most_few};
 
 use crate::few_segments::{FewSegments, MOST_ENDS};
-use crate::table::{Head, ends_of, head_of, read_head};
+use crate::table::ends_of;
 use capn_stream::FrameFault;
+use capn_stream::table::{Head, head_of, read_head};
 use capn_words::Bare;
 
-/// The message of a whole frame whose table announces at most 64 segments, and the number of bytes that it takes.
+/// Returns the message of the whole frame at the front of `bytes`, whose table announces `head`, at most 64 segments,
+/// and the number of bytes that the frame takes.
 fn message_of<'a>(bytes: &'a [u8], max_words: u32, head: Head) -> (FewSegments<'a>, usize)
     requires small { max_words ≤ most_message_words }
     requires whole { IsWhole bytes.now max_words }
@@ -30,23 +32,23 @@ fn message_of<'a>(bytes: &'a [u8], max_words: u32, head: Head) -> (FewSegments<'
     }
 }
 
-/// The message whose frame comes first in the bytes, and the number of bytes that it takes, or why there is none;
-/// `None` of a whole frame of more than 64 segments.
+/// Reads the message whose frame comes first in `bytes`; returns it and the number of bytes that its frame takes, or
+/// the reason why there is none. `None` if a whole frame of more than 64 segments comes first.
 ///
-/// It answers what `capn_stream::first` answers where that message has at most 64 segments, and refuses what that
-/// refuses, the tests being made in the same order. It takes no memory. (Page: serialization over a stream; the order
-/// of the tests and the number are our own.)
+/// It answers what `capn_stream::first` answers of a message of at most 64 segments and `max_words` words, and refuses
+/// what that refuses, by the same tests in the same order. It takes no memory. (Page: serialization over a stream; the
+/// order of the tests and the number are our own.)
 pub fn first_few<'a>(
     bytes: &'a [u8],
     max_words: u32,
 ) -> Option<Result<(FewSegments<'a>, usize), FrameFault>>
     requires { max_words ≤ most_message_words }
-    // What each answer means, and that each such message is answered.
+    // The meaning of each answer; and each such message is answered.
     ensures found { IfSome result (λ r. IfOk r (λ answer. StandsFirst bytes.now max_words answer.0 answer.1)) }
     ensures few { IfSome result (λ r. IfOk r (λ answer. length answer.0 ≤ most_few)) }
     ensures only { (message : List (List ℕ)) (taken : ℕ) → StandsFirst bytes.now max_words message taken
         → length message ≤ most_few → result ≡ Some (Ok (message, taken)) }
-    // What each refusal means: memory is never refused.
+    // The meaning of each refusal: memory is never refused.
     ensures refused { IfSome result (λ r. IfErr r (λ e. IsFrameRefused bytes.now max_words e)) }
     ensures no_memory { IfSome result (λ r. IfErr r (λ e. e ≢ FrameFault.Memory)) }
     // No answer means that a whole frame of more segments comes first.

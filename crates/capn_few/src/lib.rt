@@ -1,7 +1,7 @@
 //! Messages of few segments in a stream, read without memory.
 //!
 //! [`first_few`] reads the message whose frame comes first in some bytes, as `capn_stream::first` does, and refuses
-//! what that refuses, in the same order. It keeps where the segments end in a [`FewSegments`] itself, which has room
+//! what that refuses, in the same order. It keeps the ends of the segments in a [`FewSegments`] itself, which has room
 //! for 64 segments; a whole frame of more is for `capn_stream::first`.
 //!
 //! ```text
@@ -22,6 +22,6 @@ mod table;
 pub use few_segments::FewSegments;
 pub use first_message::first_few;
 
-// What the signatures above name.
+// The types in the signatures above.
 pub use capn_stream::FrameFault;
 pub use capn_words::{Bare, Place, Space};

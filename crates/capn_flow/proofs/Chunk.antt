@@ -1,4 +1,4 @@
--- A chunk that was read in after what is left of those before it.
+-- A chunk that was read in after what is left of those before it. (For `unpack_stream`.)
 use Rattle.std.proofs.Common.{◌≡◌, ℕ, ◌+◌, ◌-◌, ◌≤◌, List, [], ◌++◌, length, take, drop, Bool, false, Option, ap, sym}
 use Rattle.std.proofs.Common.{subst, ◌∙◌, arith, length-append, length-drop, length-take, length-take-le}
 use Rattle.std.proofs.Math.Seq.{paste, take-append-add, take_all}

@@ -1,4 +1,4 @@
--- One more read.
+-- One more read. (For `pack_stream` and `unpack_stream`.)
 use Rattle.std.proofs.Common.{◌≡◌, inl, inr, ℕ, ◌+◌, ◌-◌, ◌≤◌, ◌<◌, min, List, [], ◌++◌, length, take, refl}
 use Rattle.std.proofs.Common.{sym, ap}
 use Rattle.std.proofs.Common.{subst, ◌∙◌, arith, length-append, length-take-le, append-nil, Option, None, Some, IfSome}

@@ -1,4 +1,4 @@
--- What the last word of a packer's text says of its last group.
+-- The last group of a packer's text, by the last word of it. (For `settled_part` and `zeros_part`.)
 use Rattle.std.proofs.Common.{◌≡◌, ◌≢◌, inl, inr, ℕ, zero, suc, ◌+◌, ◌-◌, ◌*◌, ◌/◌, ◌^◌, ◌<◌, ◌≤◌, List, [], ◌∷◌}
 use Rattle.std.proofs.Common.{◌++◌}
 use Rattle.std.proofs.Common.{length, take, drop, replicate, get_or, eqb, false, refl, ap, sym, subst, ◌∙◌, arith}

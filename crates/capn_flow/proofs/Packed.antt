@@ -1,4 +1,4 @@
--- How far packing has come.
+-- The progress of packing. (For `pack_chunk`, `pack_last` and `pack_stream`.)
 use Rattle.std.proofs.Common.{◌≡◌, ◌⊎◌, ◌↔◌, inl, inr, ℕ, ◌+◌, ◌<◌, ◌≤◌, List, [], ◌++◌, length, take}
 use Rattle.std.proofs.Common.{if◌then◌else◌, ◌%◌, eqb}
 use Rattle.std.proofs.Common.{Bool, true, false, Option, Ok, Err, refl, ap, sym, subst, ◌∙◌, append-nil}

@@ -1,4 +1,4 @@
--- How a run ends.
+-- The end of a run. (For `pack_stream` and `unpack_stream`.)
 use Rattle.std.proofs.Common.{◌≡◌, ◌⊎◌, inl, inr, ℕ, ◌+◌, ◌-◌, ◌<◌, ◌≤◌, min, List, ◌++◌, length, take, Bool, true}
 use Rattle.std.proofs.Common.{false, Option, None, Some, IfSome, Err, refl, ap, sym, subst, ◌∙◌, arith}
 use Rattle.std.proofs.Common.{length-append, length-take, length-take-le}

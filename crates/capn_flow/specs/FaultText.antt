@@ -5,7 +5,7 @@ use Rattle.capn_endings.specs.Ending.{out_of_memory}
 use Rattle.capn_flow.specs.declared.fault.FlowFault.{FlowFault}
 use Rattle.capn_flow.specs.declared.fault.FlowFault.TheVariants as faults
 
--- why a stream isn't packed or unpacked to its end
+-- the reason why a stream isn't packed or unpacked to its end
 abbrev pub fault_text : FlowFault → List ℕ
 fault_text faults.Memory = out_of_memory
 fault_text faults.Io = codes "input or output failed"

@@ -1,12 +1,11 @@
--- A stream of bytes that comes in through a reader and goes out through a writer: what is written of it, and how it
--- ends. (Own.)
+-- A stream of bytes that comes in through a reader and goes out through a writer: its text, and its end. (Own.)
 use Rattle.std.specs.Prelude.{◌≡◌, ◌⊎◌, ◌↔◌, ℕ, ◌+◌, ◌-◌, ◌^◌, ◌<◌, ◌≤◌, nat_lt, List, length, take, Bool, true, false}
 use Rattle.std.specs.Prelude.{Option, IfSome, Result, Err}
 use Rattle.std.specs.Io.KnownBytes.{Consumes, Appends, IsAtEnd}
 use Rattle.capn_flow.specs.declared.fault.FlowFault.{FlowFault}
 use Rattle.capn_flow.specs.declared.fault.FlowFault.TheVariants as faults
 
--- how a run ends
+-- the end of a run
 abbrev pub Ending : Type 0
 Ending = Result (Unit {0}) FlowFault
 
@@ -18,7 +17,7 @@ most = 2 ^ 64 - 1
 abbrev pub taken_of : List ℕ → List ℕ
 taken_of input = take most input
 
--- whether the input has more
+-- true if the input has more
 abbrev pub has_more : List ℕ → Bool
 has_more input = nat_lt most (length input)
 
@@ -26,7 +25,7 @@ has_more input = nat_lt most (length input)
 abbrev pub TakesBytes : Option (List ℕ) → Option (List ℕ) → Type 0
 TakesBytes old new = (bytes : List ℕ) × Consumes old new bytes × (0 < length bytes)
 
--- What is written of bytes: `gives`, of all that are taken, and whether there are more, the text and how it ends;
+-- The text of bytes that flow: `gives`, of all that are taken, and whether there are more, the text and the end;
 -- `settles`, of the first ones, the text that is written before more are read; `begins`, a text of which a beginning
 -- may have been written when a run ends early.
 pub record Flow : Type 1 where
@@ -43,7 +42,7 @@ module _ (f : Flow) where
       ⊎ ((r ≡ Err faults.Io)
       ⊎ ((text : List ℕ) × f.gives bytes is_longer text r × Appends c d text))
 
-  -- a run has ended so over what it takes of a whole input
+  -- a run has ended so over the bytes that it takes of a whole input
   abbrev pub EndsAs : Option (List ℕ) → Option (List ℕ) → Ending → List ℕ → Type 0
   EndsAs c d r input = HasEnded (taken_of input) (has_more input) c d r
 
@@ -62,7 +61,7 @@ module _ (f : Flow) where
   abbrev pub KeepsUp : Option (List ℕ) → Option (List ℕ) → Option (List ℕ) → Option (List ℕ) → Type 0
   KeepsUp a b c d = (bytes : List ℕ) × (text : List ℕ) × Consumes a b bytes × f.settles bytes text × Appends c d text
 
-  -- What a run did, over a reader (from a to b) and a writer (from c to d), and how it ended.
+  -- A run, over a reader (from a to b) and a writer (from c to d), and its end.
   pub record Runs (a b c d : Option (List ℕ)) (reader_failed writer_failed : Bool) (r : Ending) : Type 0 where
     pub exact : IfSome a (EndsAs c d r)
     pub io : (r ≡ Err faults.Io) ↔ ((reader_failed ≡ true) ⊎ (writer_failed ≡ true))
@@ -70,9 +69,9 @@ module _ (f : Flow) where
     pub heard : reader_failed ≡ true → KeepsUp a b c d
     pub memory : r ≡ Err faults.Memory → TakesBytes a b
 
-  -- ---- how far a run has come
+  -- ---- the progress of a run
 
-  -- all bytes that are taken have come, and the run ended: with a fault, or with what they give
+  -- all bytes that are taken have come, and the run ended: with a fault, or with their text
   pub record Ends (bytes : List ℕ) (is_longer : Bool) (c d : Option (List ℕ)) (failed : Bool) (r : Ending) : Type 0
     where
       pub exact : HasEnded bytes is_longer c d r

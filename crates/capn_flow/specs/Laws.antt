@@ -1,4 +1,4 @@
--- What holds of the definitions alone. (Own.)
+-- Laws of the definitions alone. (Own.)
 use Rattle.std.specs.Prelude.{◌≡◌, ℕ, List, Bool}
 use Rattle.capn_flow.specs.Flow.{Ending, Flow}
 use Rattle.capn_flow.specs.PackRun.{packing}

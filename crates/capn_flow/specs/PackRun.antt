@@ -11,7 +11,7 @@ use Rattle.capn_flow.specs.Flow.{Ending, Flow, Stops}
 abbrev pub whole_of : List ℕ → List ℕ
 whole_of bytes = take (length bytes / 8 * 8) bytes
 
--- how packing ends after a number of bytes: with more than are taken, with bytes that are no whole word, or well
+-- the end of packing after a number of bytes: with more than are taken, with bytes that are no whole word, or well
 abbrev pub ending_of : Bool → ℕ → Ending
 ending_of true count = Err faults.InputTooLong
 ending_of false count = if count % 8 == 0 then Ok tt else Err (faults.NotWhole count)
@@ -48,13 +48,13 @@ SettlesMost bytes text = (rest : List ℕ) × Settles bytes text rest × (length
 abbrev pub IsFront : List ℕ → List ℕ → Type 0
 IsFront bytes text = ((rest : List ℕ) × Settles bytes text rest) ⊎ Chosen text (whole_of bytes)
 
--- of bytes the packer's text is written: before more are read what is settled of it, and at the end all
+-- of bytes the packer's text is written: before more are read the settled part of it, and at the end all
 abbrev pub packing : Flow
 packing = record { gives = λ bytes. IsPacked (length bytes) bytes; settles = SettlesMost; begins = IsFront }
 
--- ---- how far packing has come
+-- ---- the progress of packing
 
--- the same flow for the last bytes, where packing ends after this number of bytes in all
+-- this flow for the last bytes, if packing ends after this number of bytes in all
 abbrev pub packing_last : ℕ → Flow
 packing_last count = record { gives = IsPacked count; settles = SettlesMost; begins = IsFront }
 
@@ -72,7 +72,7 @@ pub record IsSettled (text words : List ℕ) (first at : ℕ) : Type 0 where
 abbrev pub last_word : List ℕ → List ℕ
 last_word bytes = drop (length bytes - 8) bytes
 
--- what is settled of bytes after those that were held was written, and no more bytes are held than there were; or the
+-- the settled part of bytes after those that were held was written, and no more bytes are held than there were; or the
 -- run stopped
 abbrev pub PacksPart : List ℕ → List ℕ → Option (List ℕ) → Option (List ℕ) → Bool → Ending → List ℕ → Type 0
 PacksPart before bytes c d failed (Ok u) after =

@@ -1,4 +1,4 @@
--- Unpacking a stream: what its whole groups unpack to, and a group that is cut. (Page: packing; the rest is own.)
+-- Unpacking a stream: the words of its whole groups, and a group that is cut. (Page: packing; the rest is own.)
 use Rattle.std.specs.Prelude.{◌≡◌, ℕ, ◌+◌, ◌<◌, List, [], ◌∷◌, length, drop, replicate, refl, Bool, true, false, Option}
 use Rattle.std.specs.Prelude.{Result, Ok, Err}
 use Rattle.std.specs.Io.KnownBytes.{Appends}
@@ -12,7 +12,7 @@ use Rattle.capn_flow.specs.declared.fault.FlowFault.{FlowFault}
 use Rattle.capn_flow.specs.declared.fault.FlowFault.TheVariants as faults
 use Rattle.capn_flow.specs.Flow.{Ending, Flow, Stops}
 
--- how unpacking ends: with more bytes than are taken, within a group that is cut, or after whole groups
+-- the end of unpacking: with more bytes than are taken, within a group that is cut, or after whole groups
 abbrev pub ending_of : Bool → List ℕ → ℕ → Ending
 ending_of true group offset = Err faults.InputTooLong
 ending_of false [] offset = Ok tt
@@ -50,7 +50,7 @@ a_cut_behind_them = refl
 nothing_behind_them : ending_of false [] 6 ≡ Ok tt
 nothing_behind_them = refl
 
--- ---- how far unpacking has come
+-- ---- the progress of unpacking
 
 -- the most words that are held at once
 abbrev pub most_words : ℕ

@@ -2,7 +2,7 @@
 
 ghost use Rattle.capn_flow.specs.Laws.{PackingGivesOne, UnpackingGivesOne};
 
-/// Bytes are packed to one text, and unpacked to one, and each ends in one way.
+/// States: bytes are packed to one text, and unpacked to one, and each ends in one way.
 pub fn one_text()
     ensures packing { PackingGivesOne }
     ensures unpacking { UnpackingGivesOne }

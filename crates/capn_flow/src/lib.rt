@@ -4,9 +4,9 @@
 //! before it reads again. [`pack_stream`] writes the text that the packer has for the words of the stream, as far as no
 //! later word can change it. Memory is bounded, whatever comes.
 //!
-//! One record describes a call, `Runs` in `specs/Flow.antt`: what was written of the input and how it ended, when it is
-//! `Io`, and what had been written where it ended early. What is written of some bytes is a [`Flow`] of that file, one
-//! for each direction.
+//! One record describes a call, `Runs` in `specs/Flow.antt`: the text that was written of the input and its end, the
+//! cases of `Io`, and the text that had been written if it ended early. The text of some bytes is that of a [`Flow`] of
+//! that file, one for each direction.
 #![tactic(auto)]
 
 mod fault;

@@ -32,14 +32,15 @@ const RUN: u32 = 256;
 /// The bytes of 255 words: a run of this length may go on.
 const OPEN: usize = 2040;
 
-/// How many bytes of a packed text are settled, whatever follows, and how many bytes of the words that it packs.
+/// The part of a packed text that is settled, whatever follows: its number of bytes, and the number of bytes of the
+/// words that it packs.
 #[derive(Clone, Copy)]
 struct Settled {
     text: usize,
     words: usize,
 }
 
-/// Whether a group with this tag and number of words is a run that may go on.
+/// Returns `true` if a group with this `tag` and number of `words` is a run that may go on.
 fn may_go_on(tag: u8, words: u32) -> bool
     ensures open { result ≡ true → words < 256 }
     ensures closed { result ≡ false → words < 256 → (0 < tag) × (tag < 255) }
@@ -47,7 +48,7 @@ fn may_go_on(tag: u8, words: u32) -> bool
     words < RUN && (tag == 0 || tag == 255)
 }
 
-/// How many of some bytes are zero.
+/// Counts the zero bytes of `bytes`.
 fn zeros_of(bytes: &[u8]) -> usize
     ensures { result ≡ zero_count bytes.now }
 {
@@ -60,8 +61,8 @@ fn zeros_of(bytes: &[u8]) -> usize
     zeros
 }
 
-/// The end of what can be packed now: the start of the last run of dense words, which may go on in the next bytes; the
-/// end of all words where that run is as long as one may be.
+/// Returns the end of what can be packed of `words` now: the start of the last run of dense words, which may go on in
+/// the next bytes; or the end of all words, if that run is as long as one may be.
 fn before_dense(words: &[u8]) -> usize
     requires { length words.now % 8 ≡ 0 }
     ensures whole { result % 8 ≡ 0 }
@@ -81,7 +82,8 @@ fn before_dense(words: &[u8]) -> usize
     words.len()
 }
 
-/// What is settled of a text whose last word is zero: the last group is zero words, and its last byte says how many.
+/// Returns what is settled of the `text` of `words`, of which the last is zero: the last group is zero words, and its
+/// last byte says how many.
 fn zeros_part(words: &[u8], text: &[u8]) -> Settled
     requires some { 8 ≤ length words.now }
     requires chosen { Chosen text.now words.now }
@@ -101,7 +103,7 @@ fn zeros_part(words: &[u8], text: &[u8]) -> Settled
     }
 }
 
-/// What is settled of a text, whose last group is found by unpacking those before it.
+/// Returns what is settled of the `text` of `words`. Its last group is found by unpacking those before it.
 fn unpacked_part<A: Allocator + Copy>(
     alloc: A,
     words: &[u8],
@@ -127,8 +129,9 @@ fn unpacked_part<A: Allocator + Copy>(
     })
 }
 
-/// What is settled of a packed text: all of it, or all but its last group, if that is a run that may go on. Most often
-/// the last word says which: a dense one may be in a run of raw words, a zero one is in a run, and others are alone.
+/// Returns what is settled of the `text` of `words`: all of it, or all but its last group, if that is a run that may go
+/// on. Most often the last word says which: a dense one may be in a run of raw words, a zero one is in a run, and
+/// others are alone.
 fn settled_part<A: Allocator + Copy>(
     alloc: A,
     words: &[u8],
@@ -154,14 +157,14 @@ fn settled_part<A: Allocator + Copy>(
     })
 }
 
-/// The text of some bytes that is settled, whatever follows, and the bytes whose text is not.
+/// The text of some bytes that is settled, whatever follows, and the bytes whose text isn't.
 #[derive(Drop)]
 struct Settlement<A: Allocator + Copy> {
     text: Vec<u8, A>,
     rest: Vec<u8, A>,
 }
 
-/// Packs the whole words of some bytes as far as it is settled how. Dense words that come last are held back with the
+/// Packs the whole words of `held`, as far as their text is settled. Dense words that come last are held back with the
 /// rest, if they may be in a run that goes on: so the groups before it need not be unpacked to find its beginning.
 fn settle<A: Allocator + Copy>(alloc: A, held: &[u8]) -> Result<Settlement<A>, AllocError>
     requires short { length held.now ≤ 131072 }
@@ -181,7 +184,7 @@ fn settle<A: Allocator + Copy>(alloc: A, held: &[u8]) -> Result<Settlement<A>, A
     Ok(Settlement { text, rest })
 }
 
-/// Writes what is settled of the text of what is held and a chunk, and holds the rest.
+/// Writes what is settled of the text of `held` followed by `bytes`, and leaves the rest in `held`.
 fn pack_chunk<W: Write, A: Allocator + Copy>(
     alloc: A,
     held: &mut Vec<u8, A>,
@@ -201,7 +204,8 @@ fn pack_chunk<W: Write, A: Allocator + Copy>(
     Ok(())
 }
 
-/// How packing ends after a number of bytes, all of which were packed.
+/// Returns the end of a run of `count` bytes, all of which were packed: `InputTooLong` if the stream `is_longer`, else
+/// `NotWhole` if they are no whole words, else done.
 fn end_after(count: u64, is_longer: bool) -> Result<(), FlowFault>
     ensures { result ≡ ending_of is_longer count }
 {
@@ -214,7 +218,8 @@ fn end_after(count: u64, is_longer: bool) -> Result<(), FlowFault>
     Ok(())
 }
 
-/// Writes the text of the whole words that are held. So packing ends, after a number of bytes in all.
+/// Writes the text of the whole words of `held` to `writer`: the last ones. Returns the end of the run, which took
+/// `count` bytes in all.
 fn pack_last<W: Write, A: Allocator + Copy>(
     alloc: A,
     held: &[u8],
@@ -236,9 +241,9 @@ fn pack_last<W: Write, A: Allocator + Copy>(
     }
 }
 
-/// Packs a stream: writes the packer's text of its whole words, which is what [`pack`](capn_pack::pack) answers of
-/// them, in chunks of at most 65,536 bytes, and what is settled of the text of each chunk before it reads again. (Page:
-/// packing; the rest is own.)
+/// Packs a stream: writes the packer's text of the whole words of `reader` to `writer`, which is what
+/// [`pack`](capn_pack::pack) answers of them. It reads chunks of at most 65,536 bytes, and writes what is settled of
+/// the text of each chunk before it reads again. (Page: packing; the rest is own.)
 ///
 /// Settled is what no later word can change: all but the last group, and that too, unless it is a run of zero words or
 /// of raw words that may go on. With up to 255 dense words that come last, fewer than 4,096 bytes are held back.

@@ -15,13 +15,14 @@ use std::io::{Read, Write};
 /// The most bytes that one call of a reader is asked for.
 const CHUNK: usize = 65_536;
 
-/// An unfinished group has no more bytes.
+/// The most bytes of an unfinished group.
 const UNFINISHED: usize = 2049;
 
 /// The most words that are held at once. No group has as many.
 const WORDS: u32 = 16_384;
 
-/// Writes the words of the whole groups that come first, of as many as are held at once.
+/// Writes the words of the whole groups that come first in `bytes`, as many as are held at once. `words` is
+/// overwritten.
 fn write_some<W: Write, A: Allocator + Copy>(
     bytes: &[u8],
     words: &mut Vec<u8, A>,
@@ -37,7 +38,8 @@ fn write_some<W: Write, A: Allocator + Copy>(
     Ok(progress)
 }
 
-/// Writes the words of all whole groups that come first, and answers how many bytes those groups take.
+/// Writes the words of all whole groups that come first in `bytes`, and returns the number of bytes that those groups
+/// take. `words` is overwritten.
 fn write_groups<W: Write, A: Allocator + Copy>(
     bytes: &[u8],
     words: &mut Vec<u8, A>,
@@ -58,7 +60,8 @@ fn write_groups<W: Write, A: Allocator + Copy>(
     }
 }
 
-/// How unpacking ends where the input has ended, and these bytes of it are in no whole group.
+/// Returns the end of a run at the end of the input, of which the bytes of `rest`, from `offset` on, are in no whole
+/// group.
 fn end_of_unpacking(rest: &[u8], offset: u64) -> Result<(), FlowFault>
     ensures { result ≡ ending_of false rest.now offset }
 {
@@ -68,8 +71,8 @@ fn end_of_unpacking(rest: &[u8], offset: u64) -> Result<(), FlowFault>
     Err(FlowFault::Cut(offset))
 }
 
-/// Unpacks a stream: writes the words of its whole groups, in chunks of at most 65,536 bytes of it, and those of each
-/// chunk before it reads again. (Page: packing; the rest is own.)
+/// Unpacks a stream: reads chunks of at most 65,536 bytes of `reader`, and writes the words of the groups that each
+/// chunk makes whole to `writer` before it reads again. (Page: packing; the rest is own.)
 ///
 /// Of the stream at most 2^64 - 1 bytes are taken, and one more is read, to know whether there are more. There is no
 /// maximum of words. The run ends as done, or with the first fault: `Io` if and only if the reader or the writer

@@ -4,7 +4,7 @@ use Rattle.std.specs.Fmt.{decimal}
 use Rattle.capn_layout.specs.declared.tree_layout.LayoutFault.{LayoutFault}
 use Rattle.capn_layout.specs.declared.tree_layout.LayoutFault.TheVariants as layouts
 
--- why a tree has no layout
+-- the reason why a tree has no layout
 abbrev pub layout_text : LayoutFault → List ℕ
 layout_text layouts.Memory = codes "out of memory"
 layout_text (layouts.Capability index) = codes "capability " ++ decimal index

@@ -46,7 +46,7 @@ abbrev mutual
 abbrev pub list_to : ℕ → ℕ → Width → ℕ → ℕ
 list_to from to width n = word_of (Many (pos (to - suc from)) width n)
 
--- the pointer to a struct: offset -1 where it has no words, so that it isn't null (Page: canonicalization.)
+-- the pointer to a struct: offset -1 if it has no words, so that it isn't null (Page: canonicalization.)
 abbrev pub struct_to : ℕ → ℕ → ℕ → ℕ → ℕ
 struct_to from to a b = word_of (if (a == 0) && (b == 0) then Node (negsuc 0) 0 0 else Node (pos (to - suc from)) a b)
 
@@ -71,7 +71,7 @@ abbrev pub number : ℕ → List ℕ → ℕ
 number base [] = 0
 number base (x ∷ xs) = x + base * number base xs
 
--- n words, each of `many` elements of `width` bits; what is missing in the last one is 0 (Own.)
+-- n words, each of `many` elements of `width` bits; missing bits of the last one are 0 (Own.)
 abbrev pub packed : ℕ → ℕ → ℕ → List ℕ → List ℕ
 packed many width zero xs = []
 packed many width (suc n) xs = number (2 ^ width) (take many xs) ∷ packed many width n (drop many xs)

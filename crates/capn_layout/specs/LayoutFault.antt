@@ -1,4 +1,4 @@
--- Why a tree has no layout.
+-- The reason why a tree has no layout.
 use Rattle.std.specs.Prelude.{◌≡◌, Some, ⊤}
 use Rattle.capn_value.specs.Tree.{Tree}
 use Rattle.capn_value.specs.FirstCap.{first_cap}

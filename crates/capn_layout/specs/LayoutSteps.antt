@@ -1,4 +1,4 @@
--- How a buffer of words grows to a layout.
+-- The growth of a buffer of words to a layout.
 use Rattle.std.specs.Prelude.{◌≡◌, ℕ, zero, suc, ◌+◌, List, [], ◌++◌, length, take, set, replicate}
 use Rattle.capn_value.specs.Tree.{Tree, Trees, no_trees, tree, Bodies, no_bodies, body}
 use Rattle.capn_layout.specs.Layout.{point, lay}

@@ -1,4 +1,4 @@
--- What slots, numbers and rows of a message hold.
+-- The values of slots, numbers and rows of a message.
 use Rattle.std.specs.Prelude.{◌≡◌, ℕ, ◌+◌, ◌*◌, ◌^◌, ◌<◌, List, length}
 use Rattle.capn_words.specs.Message.{IsMessage, segment_at}
 use Rattle.capn_words.specs.declared.space.Place.{Place}

@@ -24,7 +24,7 @@ filled [] = []
 filled (None ∷ cs) = filled cs
 filled (Some w ∷ cs) = w ∷ filled cs
 
--- whether the mark of a word is set, each number having the marks of 64 words (Own.)
+-- true if the mark of a word is set, each number having the marks of 64 words (Own.)
 abbrev pub is_marked : List ℕ → ℕ → Bool
 is_marked marks i = bit_at (slice_index marks (i / 64)) (i % 64) == 1
 
@@ -33,7 +33,7 @@ unfoldable pub flags : ℕ → ℕ → List ℕ → List Bool
 flags i zero marks = []
 flags i (suc n) marks = is_marked marks i ∷ flags (suc i) n marks
 
--- what is at a word: a hole where it is marked (Own.)
+-- the cell of a word: a hole if it is marked (Own.)
 abbrev pub cell : Bool → ℕ → Option ℕ
 cell true w = None
 cell false w = Some w

@@ -1,4 +1,4 @@
--- What slots and rows hold that has room in a buffer of words, and how they are laid out there.
+-- Slots and rows whose values have room in a buffer of words, and the way in which they are laid out there.
 use Rattle.std.specs.Prelude.{◌≡◌, ℕ, suc, ◌+◌, ◌*◌, ◌^◌, ◌<◌, ◌≤◌, List, ◌++◌, length, set}
 use Rattle.capn_value.specs.Tree.{Tree, Trees, count, tree_at, Bodies, count_rows}
 use Rattle.capn_value.specs.Trim.{kept_slots_of_rows}
@@ -20,7 +20,7 @@ module _ {S : Type 0} (has : S → ℕ → Tree → Type 0) where
     pub low : height value ≤ depth
     pub room : n + size value ≤ most
 
-  -- the same with as much room as a pointer reaches (Own.)
+  -- a slot whose value has as much room as a pointer reaches (Own.)
   pub record IsReady (source : S) (slot depth n : ℕ) : Type 0 where
     pub value : Tree
     pub is : has source slot value

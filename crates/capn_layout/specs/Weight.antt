@@ -1,4 +1,4 @@
--- How much of a message a layout of its value reads.
+-- The number of reads of a message by a layout of its value.
 use Rattle.std.specs.Prelude.{ℕ, ◌+◌, max, length}
 use Rattle.capn_value.specs.Tree.{Tree, node, links, rows, Trees, no_trees, tree, Bodies, no_bodies, body, count}
 use Rattle.capn_value.specs.Tree.{count_rows, row_words}

@@ -8,7 +8,7 @@ ghost use Rattle.capn_layout.specs.inner.Draft.{Appends};
 
 use crate::draft::push;
 
-/// The word whose lowest bit is the first, and whose bits past the last are 0.
+/// Returns the word whose lowest bit is the first of `bits`, and whose bits past the last are 0.
 fn word_of_bits(bits: &[bool]) -> u64
     requires { length bits.now ≤ 64 }
     ensures { result ≡ number 2 (map from_bool bits.now) }
@@ -21,7 +21,8 @@ fn word_of_bits(bits: &[bool]) -> u64
     word
 }
 
-/// Appends the words of packed bits, 64 a word.
+/// Appends the words of packed `bits`, 64 a word, after the first `len` words of `out`; returns the number of words
+/// then.
 pub fn extend_bits(out: &mut [u8], len: usize, bits: &[bool]) -> usize
     requires { 8 * (len + words_for (length bits.now)) ≤ length out.old }
     ensures { Appends len result (packed 64 1 (words_for (length bits.now)) (map from_bool bits.now)) out.old out.new }

@@ -12,7 +12,7 @@ ghost use Rattle.capn_layout.specs.inner.Draft.{Writes, Appends, Puts};
 use byteorder::{ByteOrder, LittleEndian};
 use capn_target::counted::PaidBytes;
 
-/// Writes bytes over those from a place on.
+/// Writes the bytes `xs` over those of `out` from offset `at` on.
 #[inline(always)]
 fn write(out: &mut [u8], at: usize, xs: &[u8])
     requires { at + length xs.now ≤ length out.old }
@@ -21,7 +21,7 @@ fn write(out: &mut [u8], at: usize, xs: &[u8])
     out[at..at + xs.len()].copy_from_slice(xs);
 }
 
-/// Writes a word over the 8 bytes from a place on: one store.
+/// Writes `word` over the 8 bytes of `out` from offset `at` on: one store.
 #[inline(always)]
 #[tactic(auto, unfolding(capn_words::specs::Message::word_bytes))]
 fn write_word(out: &mut [u8], at: usize, word: u64)
@@ -31,7 +31,7 @@ fn write_word(out: &mut [u8], at: usize, word: u64)
     LittleEndian::write_u64(&mut out[at..at + 8], word);
 }
 
-/// Appends a word.
+/// Appends `word` after the first `len` words of `out`; returns the number of words then.
 #[inline(always)]
 pub fn push(out: &mut [u8], len: usize, word: u64) -> usize
     requires { 8 * len + 8 ≤ length out.old }
@@ -41,7 +41,7 @@ pub fn push(out: &mut [u8], len: usize, word: u64) -> usize
     len + 1
 }
 
-/// Writes bytes of a message over those from a place on.
+/// Writes the bytes `xs` of a message over those of `out` from offset `at` on.
 #[inline(always)]
 fn write_paid(out: &mut [u8], at: usize, xs: PaidBytes<'_>)
     requires { at + length xs ≤ length out.old }
@@ -51,7 +51,8 @@ fn write_paid(out: &mut [u8], at: usize, xs: PaidBytes<'_>)
     xs.copy_to(&mut out[at..end]);
 }
 
-/// Appends whole words of a message, given by their bytes.
+/// Appends whole words of a message, given by their bytes `xs`, after the first `len` words of `out`; returns the
+/// number of words then.
 #[inline(always)]
 pub fn extend(out: &mut [u8], len: usize, xs: PaidBytes<'_>) -> usize
     requires whole { length xs % 8 ≡ 0 }
@@ -63,7 +64,7 @@ pub fn extend(out: &mut [u8], len: usize, xs: PaidBytes<'_>) -> usize
     len + words
 }
 
-/// Puts a word over the one at a place.
+/// Puts `word` over word `at` of `out`.
 #[inline(always)]
 pub fn put(out: &mut [u8], at: usize, word: u64)
     requires { 8 * at + 8 ≤ length out.old }
@@ -72,7 +73,7 @@ pub fn put(out: &mut [u8], at: usize, word: u64)
     write_word(out, 8 * at, word);
 }
 
-/// Writes zeros over bytes from a place on.
+/// Writes `n` zeros over the bytes of `out` from offset `at` on.
 fn write_zeros(out: &mut [u8], at: usize, n: usize)
     requires { at + n ≤ length out.old }
     ensures { Writes at (replicate n 0) out.old out.new }
@@ -80,7 +81,7 @@ fn write_zeros(out: &mut [u8], at: usize, n: usize)
     out[at..at + n].fill(0);
 }
 
-/// Appends words of zeros.
+/// Appends `n` words of zeros after the first `len` words of `out`; returns the number of words then.
 pub fn extend_zeros(out: &mut [u8], len: usize, n: usize) -> usize
     requires { 8 * (len + n) ≤ length out.old }
     ensures words { Appends len result (replicate n 0) out.old out.new }
@@ -90,7 +91,7 @@ pub fn extend_zeros(out: &mut [u8], len: usize, n: usize) -> usize
     len + n
 }
 
-/// Writes numbers of 2 bytes over the bytes from a place on.
+/// Writes the numbers `xs` of 2 bytes over the bytes of `out` from offset `at` on.
 fn write_pairs(out: &mut [u8], at: usize, xs: &[u16])
     requires { at + 2 * length xs.now ≤ length out.old }
     ensures { Writes at (flat_map (little_bytes 2) xs.now) out.old out.new }
@@ -99,7 +100,7 @@ fn write_pairs(out: &mut [u8], at: usize, xs: &[u16])
     LittleEndian::write_u16_into(xs, &mut out[at..at + size]);
 }
 
-/// Writes numbers of 4 bytes over the bytes from a place on.
+/// Writes the numbers `xs` of 4 bytes over the bytes of `out` from offset `at` on.
 fn write_quads(out: &mut [u8], at: usize, xs: &[u32])
     requires { at + 4 * length xs.now ≤ length out.old }
     ensures { Writes at (flat_map (little_bytes 4) xs.now) out.old out.new }
@@ -108,7 +109,7 @@ fn write_quads(out: &mut [u8], at: usize, xs: &[u32])
     LittleEndian::write_u32_into(xs, &mut out[at..at + size]);
 }
 
-/// Writes numbers of 8 bytes over the bytes from a place on.
+/// Writes the numbers `xs` of 8 bytes over the bytes of `out` from offset `at` on.
 fn write_octs(out: &mut [u8], at: usize, xs: &[u64])
     requires { at + 8 * length xs.now ≤ length out.old }
     ensures { Writes at (flat_map (little_bytes 8) xs.now) out.old out.new }
@@ -117,7 +118,8 @@ fn write_octs(out: &mut [u8], at: usize, xs: &[u64])
     LittleEndian::write_u64_into(xs, &mut out[at..at + size]);
 }
 
-/// Appends the words of packed bytes, eight a word.
+/// Appends the words of the packed bytes `xs`, eight a word, after the first `len` words of `out`; returns the number
+/// of words then.
 pub fn extend_bytes(out: &mut [u8], len: usize, xs: &[u8]) -> usize
     requires { 8 * (len + words_for (8 * length xs.now)) ≤ length out.old }
     ensures { Appends len result (packed 8 8 (words_for (8 * length xs.now)) xs.now) out.old out.new }
@@ -127,7 +129,8 @@ pub fn extend_bytes(out: &mut [u8], len: usize, xs: &[u8]) -> usize
     end
 }
 
-/// Appends the words of packed 16-bit numbers, four a word.
+/// Appends the words of the packed 16-bit numbers `xs`, four a word, after the first `len` words of `out`; returns the
+/// number of words then.
 pub fn extend_pairs(out: &mut [u8], len: usize, xs: &[u16]) -> usize
     requires { 8 * (len + words_for (16 * length xs.now)) ≤ length out.old }
     ensures { Appends len result (packed 4 16 (words_for (16 * length xs.now)) xs.now) out.old out.new }
@@ -137,7 +140,8 @@ pub fn extend_pairs(out: &mut [u8], len: usize, xs: &[u16]) -> usize
     end
 }
 
-/// Appends the words of packed 32-bit numbers, two a word.
+/// Appends the words of the packed 32-bit numbers `xs`, two a word, after the first `len` words of `out`; returns the
+/// number of words then.
 pub fn extend_quads(out: &mut [u8], len: usize, xs: &[u32]) -> usize
     requires { 8 * (len + words_for (32 * length xs.now)) ≤ length out.old }
     ensures { Appends len result (packed 2 32 (words_for (32 * length xs.now)) xs.now) out.old out.new }
@@ -147,7 +151,7 @@ pub fn extend_quads(out: &mut [u8], len: usize, xs: &[u32]) -> usize
     end
 }
 
-/// Appends words.
+/// Appends the words `xs` after the first `len` words of `out`; returns the number of words then.
 pub fn extend_octs(out: &mut [u8], len: usize, xs: &[u64]) -> usize
     requires { 8 * (len + length xs.now) ≤ length out.old }
     ensures { Appends len result xs.now out.old out.new }

@@ -6,7 +6,7 @@ ghost use Rattle.capn_layout.specs.inner.PaddedBytes.{pad, padded};
 use capn_value::Memory;
 use std::alloc::Allocator;
 
-/// Appends `size` zeros and more up to a whole word, and answers the place of the first.
+/// Appends `size` zeros and more up to a whole word to `bytes`, and returns the offset of the first.
 fn append_room<A: Allocator>(bytes: &mut Vec<u8, A>, size: usize) -> Result<usize, Memory>
     ensures start { IfOk result (λ start. start ≡ length bytes.old.items) }
     ensures small { OnOk result (length bytes.old.items + size < 2 ^ 63) }
@@ -19,7 +19,7 @@ fn append_room<A: Allocator>(bytes: &mut Vec<u8, A>, size: usize) -> Result<usiz
     Ok(start)
 }
 
-/// Appends bytes.
+/// Appends the bytes `xs` to `bytes`, with zeros up to a whole word.
 pub fn append_bytes<A: Allocator>(bytes: &mut Vec<u8, A>, xs: &[u8]) -> Result<(), Memory>
     ensures ok { OnOk result (bytes.new.items ≡ bytes.old.items ++ padded xs.now) }
     ensures err { OnErr result (bytes.new.items ≡ bytes.old.items) }

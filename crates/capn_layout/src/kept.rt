@@ -1,19 +1,18 @@
 //! Kept lengths, found in the message itself.
 
-ghost use Rattle.std.specs.Prelude.{◌≡◌, ℕ, ◌+◌, ◌*◌, ◌<◌, ◌≤◌, max, take};
+ghost use Rattle.std.specs.Prelude.{◌≡◌, ◌+◌, ◌*◌, ◌<◌, ◌≤◌, max, take};
 ghost use Rattle.capn_layout.specs.RowWords.{kept_each};
 ghost use Rattle.capn_words.specs.Message.{IsMessage};
 ghost use Rattle.capn_value.specs.Trim.{kept_words};
 ghost use Rattle.capn_walk.specs.ValueAt.{words_from};
 ghost use Rattle.capn_target.specs.Shapes.{IsContent};
 
-use capn_target::counted::{CountedSpace, Reads, count_reads};
+use capn_target::counted::{CountedSpace, Reads};
 use capn_words::{Place, Space};
-use std::marker::Brand;
-use std::sync::ledger::{Blank, Ledger};
+use std::sync::ledger::Ledger;
 
-/// How many of `count` words are left when the zeros at their end are cut, but no fewer than `least`. In most cases it
-/// is all of them.
+/// Returns the number of the `count` words from `at` on that are left when the zeros at their end are cut, but no fewer
+/// than `least`. In most cases it is all of them.
 #[inline(always)]
 pub fn kept_above<S: Space, L: Ledger>(
     space: &CountedSpace<'_, S, L>,
@@ -42,7 +41,8 @@ pub fn kept_above<S: Space, L: Ledger>(
     kept_below(space.again(), at, count - 1, least, reads)
 }
 
-/// The same, as a call of its own: a loop, whose numbers would else lie on the stack at each level of depth.
+/// Returns that number by a loop. It is a call of its own, since its numbers would else lie on the stack at each level
+/// of depth.
 #[inline(never)]
 fn kept_below<S: Space, L: Ledger>(
     space: CountedSpace<'_, S, L>,
@@ -72,47 +72,8 @@ fn kept_below<S: Space, L: Ledger>(
     kept
 }
 
-/// The greatest length that is kept of a part of `count` rows, which begin every `step` words. The part begins `inset`
-/// words into its row and has `size` words.
-pub fn kept_in_rows<S: Space>(
-    space: &S,
-    start: Place,
-    count: u32,
-    step: u32,
-    inset: u32,
-    size: u32,
-) -> u32
-    requires message { IsMessage (S.message space.now) }
-    requires content { IsContent (S.message space.now) start (count * step) }
-    requires part { inset + size ≤ step }
-    ensures { result ≡ kept_each (S.message space.now) start.segment (start.word + inset) size step count }
-{
-    kept_with_ledger::<S, Brand>(space, start, count, step, inset, size, Blank::new(1))
-}
-
-/// The same, with a new ledger.
-fn kept_with_ledger<S: Space, L: Ledger>(
-    space: &S,
-    start: Place,
-    count: u32,
-    step: u32,
-    inset: u32,
-    size: u32,
-    blank: Blank,
-) -> u32
-    requires name { blank.name ≡ L.name }
-    requires parts { blank.parts ≡ L.parts }
-    requires one { 0 < blank.parts }
-    requires message { IsMessage (S.message space.now) }
-    requires content { IsContent (S.message space.now) start (count * step) }
-    requires part { inset + size ≤ step }
-    ensures { result ≡ kept_each (S.message space.now) start.segment (start.word + inset) size step count }
-{
-    let (space, mut reads) = count_reads::<S, L>(space, blank);
-    kept_each_counted(space, start, count, step, inset, size, &mut reads)
-}
-
-/// What [`kept_in_rows`] answers, where each read is counted, and each row.
+/// Returns the greatest length that is kept of a part of `count` rows, which begin every `step` words. The part begins
+/// `inset` words into its row and has `size` words. Each read is counted, and each row.
 pub fn kept_each_counted<S: Space, L: Ledger>(
     space: CountedSpace<'_, S, L>,
     start: Place,

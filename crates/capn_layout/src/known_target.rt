@@ -10,7 +10,7 @@ use capn_walk::{Shape, Target};
 use capn_words::{Place, Pointer, Space, Width, split};
 use std::sync::ledger::Ledger;
 
-/// Where an offset leads from the word after a pointer.
+/// Returns the word to which `offset` leads from the pointer at `word`.
 #[inline(always)]
 fn start_of(word: u32, offset: i32) -> u32
     requires { (start : ℕ) × (spec.moved word offset ≡ Ok start) × (start < 2 ^ 32) }
@@ -20,7 +20,7 @@ fn start_of(word: u32, offset: i32) -> u32
     if start < 0 { 0 } else { start as u32 }
 }
 
-/// What the pointer at a place names. It is known to name something, so nothing is tested again.
+/// Returns the target of the pointer at `at`. It is known to have one, so nothing is tested again.
 #[inline(always)]
 pub fn target_at<S: Space, L: Ledger>(
     space: &CountedSpace<'_, S, L>,
@@ -62,8 +62,8 @@ pub fn target_at<S: Space, L: Ledger>(
     }
 }
 
-/// The same with all tests. A call has its answer in a place of its own: then only that one comes through memory, and
-/// the place lies on the stack no longer than here.
+/// Returns the target of the pointer at `at`, with all tests. A call has its answer in a place of its own: then only
+/// that one comes through memory, and the place lies on the stack no longer than here.
 #[inline(always)]
 fn followed<S: Space, L: Ledger>(
     space: &CountedSpace<'_, S, L>,
@@ -79,7 +79,7 @@ fn followed<S: Space, L: Ledger>(
     target
 }
 
-/// The same, as a call of its own.
+/// Returns the target of the pointer at `at`, with all tests, as a call of its own.
 #[inline(never)]
 fn resolved<S: Space, L: Ledger>(
     space: CountedSpace<'_, S, L>,

@@ -1,20 +1,19 @@
-//! The canonical layout of values and messages.
-//! It is one segment, its objects in preorder, every struct cut to what it keeps.
+//! The canonical layout of values and messages: one segment, its objects in preorder, every struct cut to what it
+//! keeps.
 //!
 //! - [`layout`] writes the canonical bytes of a tree. A tree with a capability has none, and is refused by the first
 //!   one's index.
 //! - [`surveyed_layout`] writes those of the value of a message that was surveyed, which it reads where it is.
-//! - [`surveyed_layout_into`] writes them into bytes that are there, and [`surveyed_length`] says how many they are.
-//! - [`surveyed_layout_counted`], [`surveyed_layout_into_counted`] and [`surveyed_length_counted`] do the same to a
-//!   message whose reads are counted: what its value costs bounds how often they read it.
+//! - [`surveyed_length`] returns their number.
+//! - [`surveyed_layout_counted`] and [`surveyed_length_counted`] do the same to a message whose reads are counted: the
+//!   cost of its value bounds how often they read it. [`surveyed_layout_into_counted`] writes the bytes into a buffer.
 //! - [`Patch`] is a buffer of words and of holes for what is not known yet, as a pointer whose object has no place so
 //!   far. Nothing here writes to it.
-//! - [`list_pointer`], [`tag_word`], [`bits_of`] and [`kept_in_rows`] say what words a layout has, for whoever compares
-//!   bytes with it.
+//! - [`list_pointer`], [`tag_word`] and [`bits_of`] give the words of a layout, for whoever compares bytes with it.
 //!
-//! A tree and a message are laid out by one writer, over what they have in common: slots with their values. Their
-//! first pass learns how many bytes there are, their second writes them. The memory for them is asked for in between,
-//! once. Where it is refused the answer is `Memory`.
+//! A tree and a message are laid out by one writer, over what they have in common: slots with their values. Their first
+//! pass counts the bytes, their second writes them. The memory for them is asked for in between, once. If it is refused
+//! the answer is `Memory`.
 #![tactic(auto)]
 
 mod bits;
@@ -37,16 +36,15 @@ mod tree_layout;
 mod tree_slots;
 mod zero_bytes;
 
-pub use kept::kept_in_rows;
 pub use message_layout::{
-    surveyed_layout, surveyed_layout_counted, surveyed_layout_into, surveyed_layout_into_counted,
-    surveyed_length, surveyed_length_counted,
+    surveyed_layout, surveyed_layout_counted, surveyed_layout_into_counted, surveyed_length,
+    surveyed_length_counted,
 };
 pub use number_list_words::bits_of;
 pub use patch::Patch;
 pub use pointer_words::{list_pointer, tag_word};
 pub use tree_layout::{LayoutFault, layout};
 
-// What the signatures above name.
+// The types in the signatures above.
 pub use capn_value::{Memory, Tree};
 pub use capn_words::{Place, Space, Width};

@@ -6,7 +6,7 @@ ghost use Rattle.capn_layout.specs.Patch.{is_marked};
 use capn_value::Memory;
 use std::alloc::Allocator;
 
-/// Grows the marks until each of `words` words has one. What is added is not set.
+/// Grows `marks` until each of `words` words has one. Those that are added are not set.
 #[inline(always)]
 pub fn cover<A: Allocator>(marks: &mut Vec<u64, A>, words: usize) -> Result<(), Memory>
     ensures same { (i : ℕ) → is_marked marks.new.items i ≡ is_marked marks.old.items i }
@@ -20,7 +20,7 @@ pub fn cover<A: Allocator>(marks: &mut Vec<u64, A>, words: usize) -> Result<(), 
     Ok(())
 }
 
-/// Sets the mark of a word.
+/// Sets the mark of `word`.
 #[inline(always)]
 pub fn mark<A: Allocator>(marks: &mut Vec<u64, A>, word: usize)
     requires { word < 64 * length marks.old.items }
@@ -32,7 +32,7 @@ pub fn mark<A: Allocator>(marks: &mut Vec<u64, A>, word: usize)
     marks[word / 64] |= 1 << (word % 64);
 }
 
-/// Clears the mark of a word.
+/// Clears the mark of `word`.
 #[inline(always)]
 pub fn unmark<A: Allocator>(marks: &mut Vec<u64, A>, word: usize)
     requires { word < 64 * length marks.old.items }

@@ -20,8 +20,8 @@ use std::alloc::Allocator;
 use std::marker::Brand;
 use std::sync::ledger::{Blank, Ledger};
 
-/// How many words the canonical bytes of the value at the root of a message that was surveyed are: the value is at most
-/// `depth` objects deep and has no capability.
+/// Returns the number of words of the canonical bytes of the value at the root of `space`, a message that was surveyed:
+/// the value is at most `depth` objects deep and has no capability.
 ///
 /// It reads the message as the writing of these bytes does, and takes no memory. (Page: canonicalization.)
 pub fn surveyed_length<S: Space>(space: &S, depth: u32) -> u32
@@ -31,7 +31,7 @@ pub fn surveyed_length<S: Space>(space: &S, depth: u32) -> u32
     length_with_ledger::<S, Brand>(space, depth, Blank::new(1))
 }
 
-/// The same, with a new ledger.
+/// Does what [`surveyed_length`] does, with a count in the new ledger `blank`.
 fn length_with_ledger<S: Space, L: Ledger>(space: &S, depth: u32, blank: Blank) -> u32
     requires name { blank.name ≡ L.name }
     requires parts { blank.parts ≡ L.parts }
@@ -43,8 +43,9 @@ fn length_with_ledger<S: Space, L: Ledger>(space: &S, depth: u32, blank: Blank) 
     surveyed_length_counted(&space, depth, &mut reads)
 }
 
-/// What [`surveyed_length`] answers, by calls that count what they read, as for
-/// [`survey_counted`](capn_walk::survey_counted). With the reads it counts the turns of its loops.
+/// Returns what [`surveyed_length`] does, by calls that count in `reads`, as for
+/// [`survey_counted`](capn_walk::survey_counted). With the reads it counts the turns of its loops. The value of the
+/// message `space` is at most `depth` objects deep.
 ///
 /// It reads and turns at most twenty times for each word that the value costs, under either tariff, and eleven times
 /// more. A walk pays at least that cost. It takes no memory.
@@ -66,42 +67,12 @@ pub fn surveyed_length_counted<S: Space, L: Ledger>(
     1 + size_of_slot(&source, 0, depth, reads)
 }
 
-/// Writes the canonical bytes of the value at the root of a message that was surveyed to the beginning of `out`, and
-/// answers how many bytes they are. What is after them stays as it was. The value is at most `depth` objects deep and
-/// has no capability.
+/// Writes the canonical bytes of the value at the root of `space`, a message that was surveyed, to the beginning of
+/// `out`, and returns their number. The bytes after them stay as they were. The value is at most `depth` objects deep
+/// and has no capability.
 ///
-/// It reads the message where it is and tests nothing again. It takes no memory but the stack. (Page:
-/// canonicalization.)
-pub fn surveyed_layout_into<S: Space>(space: &S, depth: u32, out: &mut [u8]) -> usize
-    requires ready { IsReady (HasSlot (S.message space.now)) 0 0 depth 1 }
-    requires fits { (v : Value) → IsAt (S.message space.now) root v → length (canon v) ≤ length out.old }
-    ensures { (v : Value) → IsAt (S.message space.now) root v
-        → (result ≡ length (canon v)) × (out.new ≡ canon v ++ drop (length (canon v)) out.old) }
-{
-    layout_into_with_ledger::<S, Brand>(space, depth, out, Blank::new(1))
-}
-
-/// The same, with a new ledger.
-fn layout_into_with_ledger<S: Space, L: Ledger>(
-    space: &S,
-    depth: u32,
-    out: &mut [u8],
-    blank: Blank,
-) -> usize
-    requires name { blank.name ≡ L.name }
-    requires parts { blank.parts ≡ L.parts }
-    requires one { 0 < blank.parts }
-    requires ready { IsReady (HasSlot (S.message space.now)) 0 0 depth 1 }
-    requires fits { (v : Value) → IsAt (S.message space.now) root v → length (canon v) ≤ length out.old }
-    ensures { (v : Value) → IsAt (S.message space.now) root v
-        → (result ≡ length (canon v)) × (out.new ≡ canon v ++ drop (length (canon v)) out.old) }
-{
-    let (space, mut reads) = count_reads::<S, L>(space, blank);
-    surveyed_layout_into_counted(&space, depth, out, &mut reads)
-}
-
-/// What [`surveyed_layout_into`] writes and answers, by calls that count what they read, as for
-/// [`surveyed_length_counted`] and with its bound. It takes no memory but the stack.
+/// It reads the message where it is and tests nothing again, by calls that count in `reads`, as for
+/// [`surveyed_length_counted`] and with its bound. It takes no memory but the stack. (Page: canonicalization.)
 pub fn surveyed_layout_into_counted<S: Space, L: Ledger>(
     space: &CountedSpace<'_, S, L>,
     depth: u32,
@@ -125,9 +96,9 @@ pub fn surveyed_layout_into_counted<S: Space, L: Ledger>(
     8 * words
 }
 
-/// How many bytes are enough for the canonical bytes of a message that was surveyed: what was paid, if that is no more
-/// than twice the message, and else as many as they are. Of the message the first segments are taken, as many as words
-/// were paid.
+/// Returns a number of bytes that is enough for the canonical bytes of a message that was surveyed: those of the words
+/// `paid` and of one more, if that is no more than twice the message, and else exactly theirs. Of the message the first
+/// segments are taken, as many as words were paid.
 fn room_for<S: Space, L: Ledger>(
     space: &CountedSpace<'_, S, L>,
     depth: u32,
@@ -151,12 +122,12 @@ fn room_for<S: Space, L: Ledger>(
     8 * surveyed_length_counted(space, depth, reads) as usize
 }
 
-/// The canonical bytes of the value at the root of a message that was surveyed: it is at most `depth` objects deep, has
-/// no capability, and its walk paid `paid` words.
+/// Writes the canonical bytes of the value at the root of `space`, a message that was surveyed: it is at most `depth`
+/// objects deep, has no capability, and its walk paid `paid` words.
 ///
-/// It reads the message where it is and tests nothing again. The memory is asked for at once: as many words as were
-/// paid and one more, if that is no more than twice the message (its first `paid` segments); else the bytes are counted
-/// first. `Memory` comes only where that was refused. (Page: canonicalization.)
+/// It reads the message where it is and tests nothing again. The memory is asked of `alloc` at once: as many words as
+/// were paid and one more, if that is no more than twice the message (its first `paid` segments); else the bytes are
+/// counted first. `Memory` comes only if that was refused. (Page: canonicalization.)
 pub fn surveyed_layout<S: Space, A: Allocator>(
     alloc: A,
     space: &S,
@@ -170,7 +141,7 @@ pub fn surveyed_layout<S: Space, A: Allocator>(
     layout_with_ledger::<S, A, Brand>(alloc, space, depth, paid, Blank::new(1))
 }
 
-/// The same, with a new ledger.
+/// Does what [`surveyed_layout`] does, with a count in the new ledger `blank`.
 fn layout_with_ledger<S: Space, A: Allocator, L: Ledger>(
     alloc: A,
     space: &S,
@@ -189,9 +160,10 @@ fn layout_with_ledger<S: Space, A: Allocator, L: Ledger>(
     surveyed_layout_counted(alloc, &space, depth, paid, &mut reads)
 }
 
-/// What [`surveyed_layout`] answers, by calls that count what they read, as for [`surveyed_length_counted`].
+/// Writes what [`surveyed_layout`] does of the message `space`, at most `depth` objects deep, by calls that count in
+/// `reads`, as for [`surveyed_length_counted`].
 ///
-/// It reads and turns at most twice for each word that was paid, forty times for each word that the value costs, and
+/// It reads and turns at most twice for each word that was `paid`, forty times for each word that the value costs, and
 /// 23 times more.
 pub fn surveyed_layout_counted<S: Space, A: Allocator, L: Ledger>(
     alloc: A,

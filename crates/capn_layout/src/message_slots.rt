@@ -196,7 +196,7 @@ impl<'a, S: Space, L: Ledger> Source for MessageSlots<'a, S, L> {
         (record { segment = s.start.segment; word = s.start.word + k }) hv.at hw.at };
 }
 
-/// What an object of a shape is.
+/// Returns the item of an object of this `shape` whose content starts at `start`.
 #[inline(always)]
 fn item_at<'a, S: Space, L: Ledger>(
     space: &CountedSpace<'a, S, L>,

@@ -13,7 +13,7 @@ use capn_target::counted::{CountedSpace, Reads};
 use capn_words::{Place, Space, Width};
 use std::sync::ledger::Ledger;
 
-/// The bits of an element.
+/// Returns the bits of an element of this `width`.
 pub fn bits_of(width: Width) -> u64
     requires { IsPlain width }
     ensures { result ≡ element_bits width }
@@ -29,7 +29,8 @@ pub fn bits_of(width: Width) -> u64
     }
 }
 
-/// Appends the first bits of the words from a place on; the bits past them are 0.
+/// Appends the first `bits` bits of the words from `start` on after the first `len` words of `out`, the bits past them
+/// as 0; returns the number of words then.
 pub fn append_bits<S: Space, L: Ledger>(
     space: &CountedSpace<'_, S, L>,
     start: Place,

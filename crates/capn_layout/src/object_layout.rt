@@ -23,8 +23,8 @@ use capn_value::Memory;
 use capn_words::{Pointer, join};
 use std::alloc::Allocator;
 
-/// The canonical bytes of the value in the first slot, at most `depth` objects deep. What they take is learnt first,
-/// and asked for at once.
+/// Writes the canonical bytes of the value in the first slot of `source`, at most `depth` objects deep. They are
+/// counted first, and their memory is asked of `alloc` at once.
 pub fn canonical_bytes<S: Source, A: Allocator>(
     alloc: A,
     source: S,
@@ -40,8 +40,9 @@ pub fn canonical_bytes<S: Source, A: Allocator>(
     Ok(bytes)
 }
 
-/// Writes the canonical bytes of the value in the first slot, the pointer to it and then its content, and answers how
-/// many words they are. What is after them stays as it was.
+/// Writes the canonical bytes of the value in the first slot of `source` to `out`, the pointer to it and then its
+/// content, and returns their number of words. The bytes after them stay as they were. The value is at most `depth`
+/// objects deep.
 pub fn lay_root<S: Source>(source: &S, depth: u32, out: &mut [u8], reads: &mut S::Reads) -> usize
     requires ready { IsReadyIn S.has source.now 0 depth 1 (length out.old / 8) }
     requires short { length out.old ≤ 2 ^ 32 }
@@ -53,7 +54,8 @@ pub fn lay_root<S: Source>(source: &S, depth: u32, out: &mut [u8], reads: &mut S
     lay_slot(source, 0, 0, depth, out, len, reads)
 }
 
-/// Puts the pointer to the value in a slot, and appends its content with all below it, at most `depth` objects deep.
+/// Puts the pointer to the value in `slot` over word `from`, and appends its content with all below it, at most `depth`
+/// objects deep.
 #[cycle(objects)]
 #[inline(always)]
 fn lay_slot<S: Source>(
@@ -116,8 +118,8 @@ fn lay_slot<S: Source>(
     }
 }
 
-/// Puts the pointer to a list of structs, and appends its content with all below it, at most `depth` objects deep.
-/// It is a call of its own, so that what it needs on the stack is not kept at each level of depth.
+/// Puts the pointer to a list of `count` structs over word `from`, and appends its content with all below it, at most
+/// `depth` objects deep. It is a call of its own, so that its part of the stack is not kept at each level of depth.
 #[cycle(objects)]
 #[inline(never)]
 fn lay_list<S: Source>(
@@ -183,7 +185,7 @@ fn lay_each<S: Source>(
     end
 }
 
-/// The same, as a call of its own.
+/// Does what [`lay_each`] does, as a call of its own.
 #[cycle(objects)]
 #[inline(never)]
 fn lay_slots<S: Source>(

@@ -11,7 +11,8 @@ ghost use Rattle.capn_layout.specs.Ready.{IsReady, AreReady, RowsReady};
 
 use crate::source::{Item, Source};
 
-/// The words of the content of the value in a slot, with all below it, at most `depth` objects deep.
+/// Returns the words of the content of the value in `slot` of `source`, with all below it, at most `depth` objects
+/// deep. It counts in `reads`.
 #[cycle(sizes)]
 #[inline(always)]
 pub fn size_of_slot<S: Source>(source: &S, slot: u32, depth: u32, reads: &mut S::Reads) -> u32
@@ -40,7 +41,7 @@ pub fn size_of_slot<S: Source>(source: &S, slot: u32, depth: u32, reads: &mut S:
     }
 }
 
-/// The words of the contents of the first `number` slots, with all below them.
+/// Returns the words of the contents of the first `number` slots, with all below them.
 #[cycle(sizes)]
 #[inline(never)]
 fn size_of_slots<S: Source>(source: S, number: u32, depth: u32, reads: &mut S::Reads) -> u32
@@ -58,7 +59,7 @@ fn size_of_slots<S: Source>(source: S, number: u32, depth: u32, reads: &mut S::R
     size
 }
 
-/// The words of the contents below `number` rows, of which `slots` slots are kept.
+/// Returns the words of the contents below `number` rows, of which `slots` slots are kept.
 #[cycle(sizes)]
 #[inline(never)]
 fn size_of_rows<S: Source>(

@@ -14,7 +14,8 @@ use crate::pointer_words::{list_pointer, struct_pointer, tag_word};
 use crate::source::Source;
 use capn_words::Width;
 
-/// Where the first row begins in the layout, how many words and slots of each row are kept, and where all rows end.
+/// An object whose own words are written: the place of its first row in the layout, the numbers of words and of slots
+/// of each row that are kept, and the end of all rows.
 #[derive(Clone, Copy)]
 pub struct Opened {
     pub first: usize,
@@ -23,7 +24,8 @@ pub struct Opened {
     pub slots: u32,
 }
 
-/// Puts the pointer to a struct, and appends what is kept of it.
+/// Puts the pointer to a struct, `row`, over word `from`, and appends what is kept of it after the first `len` words of
+/// `out`.
 #[inline(always)]
 pub fn open_struct<S: Source>(
     row: &S::Rows,
@@ -56,7 +58,8 @@ pub fn open_struct<S: Source>(
     }
 }
 
-/// Puts the pointer to a list of pointers, and appends words in place of its slots.
+/// Puts the pointer to a list of `count` pointers over word `from`, and appends words in place of its slots after the
+/// first `len` words of `out`.
 #[inline(always)]
 pub fn open_links<S: Source>(
     row: &S::Rows,
@@ -87,8 +90,9 @@ pub fn open_links<S: Source>(
     }
 }
 
-/// Puts the pointer to a list of structs, and appends its tag and what is kept of each row. All rows are cut alike.
-/// It is a call of its own, so that what it needs on the stack is not kept at each level of depth.
+/// Puts the pointer to a list of `count` structs, `rows`, over word `from`, and appends its tag and what is kept of
+/// each row after the first `len` words of `out`. All rows are cut alike. It is a call of its own, so that its part of
+/// the stack is not kept at each level of depth.
 #[inline(never)]
 pub fn open_rows<S: Source>(
     rows: &S::Rows,

@@ -34,7 +34,7 @@ impl<A: Allocator> Model for Patch<A> {
     ghost invariant = { λ p. IsPatched p.holes.items p.bytes.items };
 }
 
-/// The 8 bytes of a word.
+/// Returns the 8 bytes of `word`.
 #[tactic(auto, unfolding(capn_words::specs::Message::word_bytes))]
 pub(crate) fn bytes_of(word: u64) -> [u8; 8]
     ensures { result ≡ word_bytes word }
@@ -44,7 +44,7 @@ pub(crate) fn bytes_of(word: u64) -> [u8; 8]
     bytes
 }
 
-/// Writes a word over the 8 bytes from a start on.
+/// Writes `word` over the 8 bytes from offset `start` on.
 pub(crate) fn write_at<A: Allocator>(bytes: &mut Vec<u8, A>, start: usize, word: u64)
     requires { start + 8 ≤ length bytes.old.items }
     ensures { bytes.new.items
@@ -55,7 +55,7 @@ pub(crate) fn write_at<A: Allocator>(bytes: &mut Vec<u8, A>, start: usize, word:
 }
 
 impl<A: Allocator + Copy> Patch<A> {
-    /// An empty buffer, which takes no memory until something is appended.
+    /// Returns an empty buffer, which takes no memory of `alloc` until something is appended.
     pub fn new(alloc: A) -> Patch<A>
         ensures { result ≡ [] }
     {
@@ -67,14 +67,14 @@ impl<A: Allocator + Copy> Patch<A> {
 }
 
 impl<A: Allocator> Patch<A> {
-    /// The number of words and holes.
+    /// Returns the number of words and holes.
     pub fn len(&self) -> usize
         ensures { result ≡ length self.now }
     {
         self.bytes.len() / 8
     }
 
-    /// Appends words of zeros.
+    /// Appends `n` words of zeros.
     #[inline(always)]
     fn append_zeros(&mut self, n: usize) -> Result<(), Memory>
         ensures ok { OnOk result (self.new ≡ self.old ++ replicate n (Some 0)) }
@@ -87,7 +87,7 @@ impl<A: Allocator> Patch<A> {
         Ok(())
     }
 
-    /// Makes a word a hole.
+    /// Makes word `at` a hole.
     #[inline(always)]
     fn open(&mut self, at: usize)
         requires { at < length self.old }
@@ -96,9 +96,9 @@ impl<A: Allocator> Patch<A> {
         mark(&mut self.holes, at);
     }
 
-    /// Appends a word.
+    /// Appends `word`.
     ///
-    /// Answers Memory where a growth was refused, and then nothing has changed.
+    /// Answers `Memory` if a growth was refused, and then nothing has changed.
     pub fn push(&mut self, word: u64) -> Result<(), Memory>
         ensures ok { OnOk result (self.new ≡ self.old ++ Some word ∷ []) }
         ensures err { OnErr result (self.new ≡ self.old) }
@@ -110,9 +110,9 @@ impl<A: Allocator> Patch<A> {
         Ok(())
     }
 
-    /// Appends n holes, and answers the place of the first, which for n = 0 is the length.
+    /// Appends `n` holes, and returns the place of the first, which for `n` = 0 is the length.
     ///
-    /// Answers Memory where a growth was refused, and then nothing has changed.
+    /// Answers `Memory` if a growth was refused, and then nothing has changed.
     #[inline(always)]
     pub fn leave(&mut self, n: usize) -> Result<usize, Memory>
         ensures ok { IfOk result (λ at. (at ≡ length self.old)
@@ -131,7 +131,7 @@ impl<A: Allocator> Patch<A> {
         Ok(at)
     }
 
-    /// Appends the words of packed bytes, eight a word. On Memory nothing has changed.
+    /// Appends the words of the packed bytes `xs`, eight a word. On `Memory` nothing has changed.
     pub fn extend_bytes(&mut self, xs: &[u8]) -> Result<(), Memory>
         ensures ok { OnOk result (self.new
             ≡ self.old ++ whole (packed 8 8 (words_for (8 * length xs.now)) xs.now)) }
@@ -143,7 +143,7 @@ impl<A: Allocator> Patch<A> {
         Ok(())
     }
 
-    /// Puts a word into the hole at a place.
+    /// Puts `word` into the hole at `at`.
     pub fn fill(&mut self, at: usize, word: u64)
         requires { IsHole self.old at }
         ensures { self.new ≡ set self.old at (Some word) }
@@ -152,10 +152,10 @@ impl<A: Allocator> Patch<A> {
         unmark(&mut self.holes, at);
     }
 
-    /// The bytes of the words, in which no hole is left.
+    /// Returns the bytes of the words, in which no hole is left.
     ///
-    /// The buffer is moved, so nothing is copied and no memory is taken. It never answers Memory, with
-    /// which it would hand the buffer back.
+    /// The buffer is moved, so nothing is copied and no memory is taken. It never answers `Memory`, with which it would
+    /// hand the buffer back.
     pub fn finish(self) -> Result<Vec<u8, A>, (Patch<A>, Memory)>
         requires { IsWhole self }
         ensures ok { IfOk result (λ v. v.items ≡ bytes_of_words (filled self)) }

@@ -7,7 +7,8 @@ ghost use Rattle.capn_layout.specs.Layout.{list_to, struct_to};
 
 use capn_words::{Pointer, Width, join};
 
-/// The pointer, at word `from`, to a list whose content starts at word `to`.
+/// Returns the pointer, at word `from`, to a list of `count` elements of this `width` whose content starts at word
+/// `to`.
 #[inline(always)]
 pub fn list_pointer(from: usize, to: usize, width: Width, count: usize) -> u64
     requires order { from < to }
@@ -23,8 +24,8 @@ pub fn list_pointer(from: usize, to: usize, width: Width, count: usize) -> u64
     })
 }
 
-/// The pointer, at word `from`, to a struct whose content starts at word `to`. One of no words has
-/// offset -1.
+/// Returns the pointer, at word `from`, to a struct of `words` and `slots` whose content starts at word `to`. One of
+/// neither has offset -1.
 #[inline(always)]
 pub fn struct_pointer(from: usize, to: usize, words: usize, slots: usize) -> u64
     requires order { from < to }
@@ -44,7 +45,7 @@ pub fn struct_pointer(from: usize, to: usize, words: usize, slots: usize) -> u64
     4 * offset + 4_294_967_296 * words as u64 + 281_474_976_710_656 * slots as u64
 }
 
-/// The tag: how many rows there are, and how many words and slots each has.
+/// Returns the tag of a list of `count` rows, with `words` words and `slots` slots each.
 pub fn tag_word(count: usize, words: usize, slots: usize) -> u64
     requires few { count < 2 ^ 29 }
     requires words { words < 2 ^ 16 }

@@ -11,20 +11,20 @@ ghost use Rattle.capn_layout.specs.Sound.{AreWide};
 
 use capn_words::Width;
 
-/// What a slot holds.
+/// The content of a slot.
 #[derive(Drop)]
 pub enum Item<N, R> {
     /// Null.
     Nil,
     /// A capability, by its index.
     Cap(u32),
-    /// A list of numbers of one width, and how many they are.
+    /// A list of numbers of one width, and their number.
     Numbers(N, Width, u32),
     /// A struct: one row.
     Struct(R),
-    /// A list of pointers: the slots of one row that has no words, and how many they are.
+    /// A list of pointers: the slots of one row that has no words, and their number.
     Links(R, u32),
-    /// A list of structs: its rows, and how many they are.
+    /// A list of structs: its rows, and their number.
     Rows(R, u32),
 }
 
@@ -33,11 +33,11 @@ pub enum Item<N, R> {
 /// There are two: the slots of a [`Value`](capn_value::Value), and words of a message that was surveyed. Those of a
 /// message count what they read. With the reads the turns of loops are counted.
 pub trait Source: Drop {
-    /// Where the numbers of a list are.
+    /// The place of the numbers of a list.
     type Numbers: Drop;
-    /// Where rows of equal sizes are, each with its words and its slots.
+    /// The place of rows of equal sizes, each with its words and its slots.
     type Rows: Drop;
-    /// How often the message was read. It takes no bytes.
+    /// The number of reads of the message. It takes no bytes.
     type Reads;
 
     /// A slot has a value.
@@ -49,24 +49,25 @@ pub trait Source: Drop {
     /// Rows have words, and slots with values.
     ghost are: { Self.Rows → Bodies → Type 0 };
 
-    /// How many reads and turns were counted.
+    /// The number of reads and turns that were counted.
     ghost spent: { Self.Reads → ℕ };
 
-    /// One turn of a loop more.
+    /// Counts one turn of a loop more in `reads`.
     fn tick(reads: &mut Self::Reads)
         ensures { spent reads.new ≤ spent reads.old + 1 };
 
-    /// The same rows, for a function that takes them by value.
+    /// Returns `rows` again, for a function that takes them by value.
     fn again(rows: &Self::Rows) -> Self::Rows
         ensures { result ≡ rows.now };
 
-    /// What a slot holds.
+    /// Returns the content of `slot`. It counts in `reads`.
     fn item(&self, slot: u32, reads: &mut Self::Reads) -> Item<Self::Numbers, Self::Rows>
         requires { (v : Tree) × has self.now slot v }
         ensures is { (v : Tree) → has self.now slot v → IsItem packs are result v }
         ensures reads { spent reads.new ≤ spent reads.old + 9 };
 
-    /// Appends the words in which numbers are packed; bits past the last number are 0.
+    /// Appends the words in which `numbers` are packed after the first `len` words of `out`; bits past the last number
+    /// are 0. Returns the number of words then.
     fn append_numbers(
         numbers: &Self::Numbers,
         out: &mut [u8],
@@ -77,26 +78,27 @@ pub trait Source: Drop {
         ensures appends { (ws : List ℕ) → packs numbers.now ws → Appends len result ws out.old out.new }
         ensures reads { (ws : List ℕ) → packs numbers.now ws → spent reads.new ≤ spent reads.old + length ws };
 
-    /// In how many words numbers are packed.
+    /// Returns the number of words in which `numbers` are packed.
     fn count_words(numbers: &Self::Numbers) -> u32
         requires { (ws : List ℕ) × packs numbers.now ws × (length ws ≤ 2 ^ 29) }
         ensures { (ws : List ℕ) → packs numbers.now ws → result ≡ length ws };
 
-    /// How many words are kept of each row, when all rows are cut alike.
+    /// Returns the number of words that are kept of each of `rows`, when all are cut alike.
     fn kept_words(rows: &Self::Rows, reads: &mut Self::Reads) -> u32
         requires { (bs : Bodies) × are rows.now bs }
         ensures kept { (bs : Bodies) → are rows.now bs → result ≡ kept_words_of_rows bs }
         ensures reads { (bs : Bodies) → are rows.now bs
             → spent reads.new ≤ spent reads.old + count_rows bs + 2 * row_words bs };
 
-    /// How many slots are kept of each row, when all rows are cut alike.
+    /// Returns the number of slots that are kept of each of `rows`, when all are cut alike.
     fn kept_slots(rows: &Self::Rows, reads: &mut Self::Reads) -> u32
         requires { (bs : Bodies) × are rows.now bs }
         ensures kept { (bs : Bodies) → are rows.now bs → result ≡ kept_slots_of_rows bs }
         ensures reads { (bs : Bodies) → are rows.now bs
             → spent reads.new ≤ spent reads.old + count_rows bs + 2 * row_words bs };
 
-    /// Appends the first words of each row, each followed by any words in place of its first slots.
+    /// Appends the first `words` words of each of `rows`, each followed by any words in place of its first `slots`
+    /// slots, after the first `len` words of `out`. Returns the number of words then.
     fn append_rows(
         rows: &Self::Rows,
         words: u32,
@@ -112,7 +114,7 @@ pub trait Source: Drop {
         ensures kept { IsKept result out.old out.new }
         ensures reads { (bs : Bodies) → are rows.now bs → spent reads.new ≤ spent reads.old + row_words bs };
 
-    /// The slots of a row.
+    /// Returns the slots of row `row` of `rows`.
     fn slots(rows: &Self::Rows, row: u32) -> Self
         requires { (bs : Bodies) × are rows.now bs × (row < count_rows bs) }
         ensures { (bs : Bodies) → are rows.now bs → (k : ℕ) → k < count (slots_at bs row)

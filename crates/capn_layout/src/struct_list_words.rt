@@ -12,8 +12,8 @@ use capn_target::counted::{CountedSpace, Reads};
 use capn_words::{Place, Space};
 use std::sync::ledger::Ledger;
 
-/// Appends the first words of two parts of a row, the second of which comes after the whole of the first. They are
-/// one piece if the first is kept whole.
+/// Appends the first `words` and `slots` words of two parts of a row, the second of which comes after the whole of the
+/// first. They are one piece if the first is kept whole.
 #[inline(always)]
 fn push_parts<S: Space, L: Ledger>(
     space: &CountedSpace<'_, S, L>,
@@ -45,8 +45,8 @@ fn push_parts<S: Space, L: Ledger>(
     extend(out, end, space.bytes(below, 8 * slots as usize, reads))
 }
 
-/// Appends `kept` of the `words` words and `below` of the `slots` slots of each of `count` rows, as they stand. Rows
-/// that are kept whole are one piece.
+/// Appends `kept` of the `words` words and `below` of the `slots` slots of each of `count` rows, as they stand, after
+/// the first `len` words of `out`; returns the number of words then. Rows that are kept whole are one piece.
 #[inline(always)]
 pub fn push_rows<S: Space, L: Ledger>(
     space: &CountedSpace<'_, S, L>,

@@ -12,7 +12,7 @@ use std::alloc::Allocator;
 use std::error::Error;
 use std::fmt;
 
-/// Why a tree has no layout.
+/// The reason why a tree has no layout.
 #[derive(Clone, Copy, Debug, PartialEq, Eq)]
 pub enum LayoutFault {
     /// A growth was refused.
@@ -41,14 +41,13 @@ impl Error for LayoutFault {}
 /// The greatest height of a tree.
 const MOST_HEIGHT: u32 = 256;
 
-/// The canonical bytes of a tree: one segment, its objects in preorder, every struct cut to what it
-/// keeps.
+/// Writes the canonical bytes of `tree`: one segment, its objects in preorder, every struct cut to what it keeps.
 ///
-/// `Capability` comes exactly where the tree has one, with the index of the first in preorder, before any
-/// memory is taken. `Memory` comes only where that for the answer was refused, which is asked for at once.
+/// `Capability` comes exactly if the tree has one, with the index of the first in preorder, before any memory is taken.
+/// `Memory` comes only if that for the answer was refused, which is asked of `alloc` at once.
 ///
-/// Page: canonicalization. Own: bits past a list's last element are 0, and a list without content points
-/// at the next free word.
+/// Page: canonicalization. Own: bits past a list's last element are 0, and a list without content points at the next
+/// free word.
 pub fn layout<A: Allocator + Copy, B: Allocator>(
     alloc: A,
     tree: &Tree<B>,

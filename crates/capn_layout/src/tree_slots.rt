@@ -143,7 +143,7 @@ impl<'a, B: Allocator> Source for TreeSlots<'a, B> {
     ghost one = { λ s k v w hv hw. hv.is ∙ sym hw.is };
 }
 
-/// Appends the first words of a row, and zeros in place of its first slots.
+/// Appends the first `words` words of a row, and zeros in place of its first `slots` slots.
 fn push_body<B: Allocator>(
     body: &Body<B>,
     words: usize,
@@ -159,7 +159,7 @@ fn push_body<B: Allocator>(
     extend_zeros(out, end, slots)
 }
 
-/// Appends the first words of each row, each followed by zeros in place of its first slots.
+/// Appends the first `words` words of each row, each followed by zeros in place of its first `slots` slots.
 fn push_bodies<B: Allocator>(
     bodies: &[Body<B>],
     words: usize,
@@ -178,7 +178,7 @@ fn push_bodies<B: Allocator>(
     end
 }
 
-/// What a value is.
+/// Returns the item that `value` is.
 #[tactic(auto, using(capn_value::specs::Views::views))]
 fn item_of<B: Allocator>(value: &Value<B>) -> Item<TreeNumbers<'_>, TreeRows<'_, B>>
     requires { Sound (tree_of value.now) }

@@ -5,13 +5,14 @@ ghost use Rattle.std.specs.Prelude.{◌≡◌, length, IfOk};
 use capn_value::Memory;
 use std::alloc::Allocator;
 
-/// How many zeros are copied at once.
+/// The number of zeros that are copied at once.
 const BLOCK: usize = 512;
 
 /// Zeros to copy.
 static ZEROS: [u8; 512] = [0; 512];
 
-/// A vector of zeros. The memory is asked for at once, and `Memory` comes only where that was refused.
+/// Returns a vector of `size` zeros. The memory is asked of `alloc` at once, and `Memory` comes only if that was
+/// refused.
 ///
 /// They are copied a block at a time, which is faster than to write each.
 pub fn zeros<A: Allocator>(alloc: A, size: usize) -> Result<Vec<u8, A>, Memory>

@@ -1,4 +1,4 @@
--- What comes after texts that are made is at no line before their end.
+-- Nothing after texts that are made is at a line before their end. (For `following`.)
 use Rattle.std.proofs.Common.{◌≡◌, inl, inr, ℕ, ◌+◌, ◌≤◌, List, [], ◌∷◌, ◌++◌, length, Err}
 use Rattle.std.proofs.Common.{refl, sym, ap, subst, ◌∙◌, append_assoc, arith}
 use Rattle.capn_value.specs.Tree.{Tree}

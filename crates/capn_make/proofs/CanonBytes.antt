@@ -1,4 +1,4 @@
--- The length of canonical bytes and of their frame.
+-- The length of canonical bytes and of their frame. (For `canonical`.)
 use Rattle.std.proofs.Common.{◌≡◌, ℕ, ◌*◌, ◌/◌, ◌%◌, ◌^◌, ◌<◌, List, ◌++◌, length, replicate, arith, ap}
 use Rattle.std.proofs.Common.{length-append, refl}
 use Rattle.std.specs.Int.{to_le_bytes, w32}

@@ -1,4 +1,4 @@
--- An input ends in one way.
+-- An input ends in one way. (For `refusing`.)
 use Rattle.std.proofs.Common.{◌≡◌, ℕ, List, [], Result, Ok, Err, refl, sym, subst, ◌∙◌}
 use Rattle.capn_text.specs.Laws.{TextsAreApart, FittingIsShowable, OneWrongLine, WrongIsNotDeep, DeepIsHigh}
 use Rattle.capn_canon.specs.Layout.{canon}

@@ -1,4 +1,4 @@
--- Whether a reader has failed after a call.
+-- The failure of a reader in a call.
 use Rattle.std.proofs.Common.{◌≡◌, Bool, true, false, ◌||◌}
 
 -- one that had not failed and gave bytes has not

@@ -1,4 +1,4 @@
--- Texts that begin an input, and one more.
+-- Texts that begin an input, and one more. (For `AfterTexts`, `FoundRefusal`, `NextTexts` and others.)
 use Rattle.std.proofs.Common.{◌≡◌, Bool, true, false, ℕ, ◌+◌, ◌≤◌, ◌==◌, List, [], ◌∷◌, ◌++◌, length, cond}
 use Rattle.std.proofs.Common.{refl, sym, ap, ◌∙◌, append_assoc, arith}
 use Rattle.std.proofs.lemmas.List.{append-nil}

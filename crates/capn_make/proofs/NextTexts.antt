@@ -1,4 +1,5 @@
--- The texts of an input, made one after the other: before the first, one more, and how that ends.
+-- The texts of an input, made one after the other: before the first, one more, and how that ends. (For `next_text.rt`,
+-- `progress.rt` and `whole_texts.rt`.)
 use Rattle.std.specs.Prelude.{IfErr}
 use Rattle.std.proofs.Common.{◌≡◌, ◌≢◌, ◌⊎◌, Bool, true, false, inl, inr}
 use Rattle.std.proofs.Common.{ℕ, ◌+◌, ◌≤◌, List, [], ◌∷◌, ◌++◌, length, drop}

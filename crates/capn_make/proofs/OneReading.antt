@@ -1,4 +1,5 @@
--- An input is read in one way: its texts are those of the same values, and what is left is refused for one reason.
+-- An input is read in one way: its texts are those of the same values, and what is left is refused for one reason. (For
+-- `AfterTexts`, `Decided`, `Endings` and others.)
 use Rattle.std.proofs.Common.{◌≡◌, inl, inr, ℕ, List, [], ◌∷◌, ◌++◌, length}
 use Rattle.std.proofs.Common.{Some, Result, Ok, Err, refl, sym, ap, ap₂, subst}
 use Rattle.std.proofs.Common.{◌∙◌, append_assoc, arith}

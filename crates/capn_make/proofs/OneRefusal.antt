@@ -1,4 +1,4 @@
--- What is left after the texts of an input is refused for one reason.
+-- The rest after the texts of an input is refused for one reason. (For `end_of_one`.)
 use Rattle.std.proofs.Common.{◌≡◌, inl, inr, ℕ, ◌≤◌, List, [], ◌∷◌, ◌++◌, length}
 use Rattle.std.proofs.Common.{Some, Result, Ok, Err, refl, sym, ap, ap₂, subst}
 use Rattle.std.proofs.Common.{◌∙◌, arith}

@@ -1,4 +1,4 @@
--- The one text that is asked for, and what follows it.
+-- The one text that is asked for, and what follows it. (For `make_first` and `make_one`.)
 use Rattle.std.proofs.Common.{◌≡◌, inl, inr, ℕ, ◌+◌, ◌≤◌, List, [], ◌∷◌, ◌++◌, length, Some}
 use Rattle.std.proofs.Common.{Result, Ok, Err, refl, sym, ap, subst, ◌∙◌, arith, Vec}
 use Rattle.std.proofs.lemmas.List.{append-nil}

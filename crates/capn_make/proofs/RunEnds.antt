@@ -1,4 +1,4 @@
--- How a run ends that has read its input, or has not.
+-- The end of a run that has read its input, or has not. (For `make`.)
 use Rattle.std.proofs.Common.{◌≡◌, ◌⊎◌, inl, inr, ℕ, ◌^◌, ◌≤◌, zero, suc, List, [], ◌++◌, length, take}
 use Rattle.std.proofs.Common.{Bool, true, false, Option, Some, None, IfSome, Result, Ok, Err}
 use Rattle.std.proofs.Common.{refl, sym, ap, subst, ◌∙◌, arith}

@@ -1,4 +1,4 @@
--- A text with quotes that was read so far: its plain form, and the lines of that.
+-- A text with quotes that was read so far: its plain form, and the lines of that. (For `UnderTexts`.)
 use Rattle.std.proofs.Common.{◌≡◌, ◌≢◌, ℕ, ◌+◌, ◌-◌, ◌≤◌, Bool, true, false, cond, List, [], ◌++◌, length}
 use Rattle.std.proofs.Common.{Result, Ok, Err}
 use Rattle.std.proofs.Common.{refl, sym, ap, ap₂, subst, ◌∙◌, append_assoc, arith}

@@ -1,4 +1,4 @@
--- What `show` writes is made, and nothing else is made of it.
+-- The texts that `show` writes are made, and nothing else is made of them. (For `making` and `showing`.)
 use Rattle.std.proofs.Common.{◌≡◌, ℕ, List, [], ◌∷◌, ◌++◌, Result, Ok, Err, refl, sym, ap₂, subst}
 use Rattle.std.proofs.Common.{◌∙◌}
 use Rattle.std.proofs.lemmas.List.{append-nil}

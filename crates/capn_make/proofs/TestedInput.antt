@@ -1,4 +1,4 @@
--- An input that is made, and tested, as it grows.
+-- An input that is made, and tested, as it grows. (For `UnderTexts` and `UnderWay`.)
 use Rattle.std.proofs.Common.{◌≡◌, ◌≢◌, inl, inr, ℕ, ◌+◌, ◌*◌, ◌≤◌, List, [], ◌++◌, length, take, drop}
 use Rattle.std.proofs.Common.{Ok, Err, refl, sym, ap, subst, ◌∙◌, append_assoc, arith}
 use Rattle.std.proofs.lemmas.Bool.{cases_lt}

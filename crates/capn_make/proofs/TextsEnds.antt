@@ -1,4 +1,4 @@
--- How a run over texts with quotes ends.
+-- The end of a run over texts with quotes. (For `make_texts`.)
 use Rattle.std.proofs.Common.{◌≡◌, ◌≢◌, ◌⊎◌, inl, inr, ℕ, ◌+◌, ◌^◌, ◌≤◌, List, [], ◌++◌, length, take}
 use Rattle.std.proofs.Common.{Bool, true, false, Option, Some, None, IfSome, Result, Ok, Err}
 use Rattle.std.proofs.Common.{refl, sym, ap, subst, ◌∙◌, arith}

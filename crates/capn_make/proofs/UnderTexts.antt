@@ -1,4 +1,4 @@
--- A run over texts with quotes, between two pieces.
+-- A run over texts with quotes, between two pieces. (For `make_texts_input`.)
 use Rattle.std.proofs.Common.{◌≡◌, ◌≢◌, ◌⊎◌, inl, inr, ℕ, ◌+◌, ◌-◌, ◌*◌, ◌^◌, ◌≤◌, ◌<◌, ◌==◌}
 use Rattle.std.proofs.Common.{List, [], ◌∷◌, ◌++◌, length, take}
 use Rattle.std.proofs.Common.{drop, cond, Bool, true, false, Option, Some, None, Result, Ok, Err}

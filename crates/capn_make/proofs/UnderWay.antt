@@ -1,4 +1,4 @@
--- An input that is made, and written, as it comes.
+-- An input that is made, and written, as it comes. (For `make_input` and `make_texts_input`.)
 use Rattle.std.proofs.Common.{◌≡◌, ◌≢◌, ◌⊎◌, inl, inr, ℕ, suc, ◌+◌, ◌*◌, ◌-◌, ◌^◌, ◌≤◌, ◌<◌, List, []}
 use Rattle.std.proofs.Common.{◌∷◌, ◌++◌, length, take, drop}
 use Rattle.std.proofs.Common.{Bool, true, false, Option, None, Result, Ok, Err}

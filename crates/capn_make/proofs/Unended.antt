@@ -1,4 +1,4 @@
--- Where no text stands with its end.
+-- Bytes in which no text stands with its end. (For `end_of_one`, `make_input` and `make_texts_input`.)
 use Rattle.std.proofs.Common.{◌≡◌, inl, inr, ℕ, ◌≤◌, ◌-◌, List, [], ◌∷◌, ◌++◌, length, drop, refl, sym}
 use Rattle.std.proofs.Common.{zero, suc, Bool, true, false, cond, ◌*◌, replicate, ap, ap₂, ◌∙◌, append_assoc, arith}
 use Rattle.std.proofs.lemmas.Bool.{cases_lt}

@@ -1,4 +1,4 @@
--- How an input of texts ends, and when it is refused whatever follows it. (Own.)
+-- The end of an input of texts, and the cases in which it is refused whatever follows it. (Own.)
 use Rattle.std.specs.Prelude.{◌≤◌, ℕ, ⊤, List, [], ◌∷◌, ◌++◌, Result, Ok, Err}
 use Rattle.capn_value.specs.Tree.{Tree}
 use Rattle.capn_text.specs.Streams.{ended_lines}
@@ -17,13 +17,13 @@ abbrev pub EndsOnly : List ℕ → Result (Unit {0}) MakeFault → Type 0
 EndsOnly input (Ok u) = (v : Tree) × AreFirst (v ∷ []) input []
 EndsOnly input (Err fault) = IsNotOne input fault
 
--- how an input ends in a form: as what is made of it does
+-- the end of an input in a form: that of the messages that are made of it
 abbrev pub Ends : Form → List ℕ → Result (Unit {0}) MakeFault → Type 0
 Ends forms.Stream input ending = EndsEach input ending
 Ends forms.Packed input ending = EndsEach input ending
 Ends forms.Bare input ending = EndsOnly input ending
 
--- what a fault of an input is about is complete: if it is a wrong line, that line has its end
+-- the subject of a fault of an input is complete: if it is a wrong line, that line has its end
 abbrev pub IsWhole : List ℕ → MakeFault → Type 0
 IsWhole input faults.Memory = ⊤
 IsWhole input faults.Io = ⊤

@@ -1,4 +1,4 @@
--- What holds of the definitions alone. (Own.)
+-- Laws of the definitions alone. (Own.)
 use Rattle.std.specs.Prelude.{◌≡◌, ◌↔◌, ◌≤◌, ◌<◌, ◌^◌, ℕ, List, [], ◌∷◌, ◌++◌, length, Result, Ok, Err}
 use Rattle.std.specs.List.{AllByRecursion}
 use Rattle.capn_words.specs.Message.{IsBare}
@@ -71,11 +71,11 @@ abbrev pub DecidedStay : Type 0
 DecidedStay = (vs ws : List Tree) (bytes more rest left : List ℕ) → AreFirst vs bytes rest → IsStuck rest
     → AreFirst ws (bytes ++ more) left → IsStuck left → (us : List Tree) × (ws ≡ vs ++ us)
 
--- where no text of any value is next with its end, none of a value that can be made is
+-- if no text of any value is next with its end, none of a value that can be made is
 abbrev pub UnendedIsStuck : Type 0
 UnendedIsStuck = (rest : List ℕ) → IsUnended rest → IsStuck rest
 
--- where texts are refused for good, no other one of a value that can be made comes, whatever follows
+-- if texts are refused for good, no other one of a value that can be made comes, whatever follows
 abbrev pub RefusedIsStuck : Type 0
 RefusedIsStuck = (form : Form) (vs : List Tree) (input rest more : List ℕ) → (form ≡ forms.Bare → ⊥)
     → IsRefusedForGood form input → AreFirst vs input rest → IsStuck rest → IsStuck (rest ++ more)
@@ -100,7 +100,7 @@ abbrev pub MakingEnds : Type 0
 MakingEnds = (form : Form) (input text : List ℕ) (r : Result (Unit {0}) MakeFault) → Makes form input text r
     → Ends form input r
 
--- what is written of a value in frames is a frame of one segment, whose bytes are the canonical ones
+-- the text of a value in frames is a frame of one segment, whose bytes are the canonical ones
 abbrev pub FramedAreFrames : Type 0
 FramedAreFrames = (v : Tree) → Fits v → InRange v
     → (ws : List ℕ) × IsBare (canon v) ws × Frames (framed (canon v)) (ws ∷ [])
@@ -110,7 +110,7 @@ abbrev pub OneTextInFrames : Type 0
 OneTextInFrames = (vs : List Tree) (text other : List ℕ) → AreMade forms.Stream vs text
     → AreMade forms.Stream vs other → text ≡ other
 
--- what is shown of values with texts between quotes is made as what is shown of them without
+-- the text that is shown of values with texts between quotes is made as the one that is shown of them without
 abbrev pub QuotedAreMade : Type 0
 QuotedAreMade = (form : Form) (vs : List Tree) (text : List ℕ) (r : Result (Unit {0}) MakeFault)
     → AllByRecursion IsShowable vs → length (quoted_stream vs) < 2 ^ 64

@@ -1,4 +1,4 @@
--- What is made of an input of texts, each with its line `end`, and how that ends. (Own.)
+-- The messages that are made of an input of texts, each with its line `end`, and their end. (Own.)
 use Rattle.std.specs.Prelude.{◌≡◌, ◌≢◌, ◌⊎◌, ℕ, ◌+◌, ◌≤◌, List, [], ◌∷◌, ◌++◌, Some, Result, Ok, Err}
 use Rattle.std.specs.List.{AllByRecursion}
 use Rattle.capn_value.specs.Tree.{Tree}
@@ -43,7 +43,7 @@ pub record IsWrong (line : ℕ) (rest : List ℕ) (n : ℕ) : Type 0 where
       → rest ≢ show_text v ++ (end_line ++ more)
   pub first : (k : ℕ) × (n + 1 ≡ line + k) × IsFirstWrong ended_text k rest
 
--- Why the text is refused that is next, from a line on: a line is wrong; or it goes too deep, whatever follows; or its
+-- The text that is next, from a line on, is refused: a line is wrong; or it goes too deep, whatever follows; or its
 -- value is of at most 256 levels and has a misfit; or its value fits, and has a capability.
 abbrev pub IsTextRefused : ℕ → List ℕ → MakeFault → Type 0
 IsTextRefused line rest faults.Memory = ⊥
@@ -69,7 +69,8 @@ abbrev pub MakesEach : Form → List ℕ → List ℕ → Result (Unit {0}) Make
 MakesEach form input text ending = (vs : List Tree) × (rest : List ℕ) × AreFirst vs input rest × AreMade form vs text
     × EndsAfter vs rest ending
 
--- What follows the one text that is asked for, from a line on: a line that begins another text, or a line that doesn't.
+-- The one text that is asked for is followed, from a line on, by a line that begins another text, or by a line that
+-- doesn't.
 abbrev pub Follows : ℕ → List ℕ → MakeFault → Type 0
 Follows line rest faults.Memory = ⊥
 Follows line rest faults.Io = ⊥
@@ -80,7 +81,7 @@ Follows line rest (faults.Capability n index) = ⊥
 Follows line rest (faults.Another n) = (n ≡ line) × (v : Tree) × BeginsAs rest v
 Follows line rest faults.NoText = ⊥
 
--- why an input is not one text: it is empty, its first text is refused, or more follows
+-- an input is not one text: it is empty, its first text is refused, or more follows
 abbrev pub IsNotOne : List ℕ → MakeFault → Type 0
 IsNotOne input fault = ((input ≡ []) × (fault ≡ faults.NoText)) ⊎ (IsTextRefused 1 input fault
     ⊎ ((v : Tree) × (rest : List ℕ) × AreFirst (v ∷ []) input rest × Follows (line_after (v ∷ [])) rest fault))
@@ -90,7 +91,7 @@ abbrev pub MakesOne : List ℕ → List ℕ → Result (Unit {0}) MakeFault → 
 MakesOne input text (Ok u) = (v : Tree) × AreFirst (v ∷ []) input [] × (text ≡ canon v)
 MakesOne input text (Err fault) = (text ≡ []) × IsNotOne input fault
 
--- what is made of an input in a form, and how that ends
+-- the messages that are made of an input in a form, and their end
 abbrev pub Makes : Form → List ℕ → List ℕ → Result (Unit {0}) MakeFault → Type 0
 Makes forms.Stream input text ending = MakesEach forms.Stream input text ending
 Makes forms.Packed input text ending = MakesEach forms.Packed input text ending

@@ -1,4 +1,4 @@
--- What a run of `make_texts` did: what `make` makes of the plain form. (Own.)
+-- A run of `make_texts`: it makes what `make` makes of the plain form. (Own.)
 use Rattle.std.specs.Prelude.{◌≡◌, ◌≢◌, ◌⊎◌, ◌↔◌, ◌≤◌, ◌+◌, ◌^◌, ℕ, List, [], ◌++◌, length, Bool, true}
 use Rattle.std.specs.Prelude.{Option, IfSome, Result, Ok, Err}
 use Rattle.std.specs.Io.KnownBytes.{Appends, Consumes}
@@ -21,14 +21,14 @@ at_own own (faults.Capability n index) = faults.Capability (own n) index
 at_own own (faults.Another n) = faults.Another (own n)
 at_own own faults.NoText = faults.NoText
 
--- what is made of the plain form of an input, and how that ends, by the lines of these bytes of the input
+-- the messages that are made of the plain form of an input, and their end, by the lines of these bytes of the input
 abbrev pub MakesTexts : Form → List ℕ → List ℕ → List ℕ → Result (Unit {0}) MakeFault → Type 0
 MakesTexts form bytes input text (Ok u) = Makes form (plain input) text (Ok u)
 MakesTexts form bytes input text (Err fault) =
     (f : MakeFault) × (fault ≡ at_own (own_line bytes) f) × Makes form (plain input) text (Err f)
 
--- what is made of all of an input was written, and the run ended as that does, its line counted in these bytes of it;
--- or memory was refused, or the reader or the writer failed, or the input and its plain form are too long
+-- the messages that are made of all of an input were written, and the run ended as that does, its line counted in these
+-- bytes of it; or memory was refused, or the reader or the writer failed, or the input and its plain form are too long
 abbrev pub EndsTexts : Form → Option (List ℕ) → Option (List ℕ) → Result (Unit {0}) MakeFault → List ℕ → List ℕ
     → Type 0
 EndsTexts form c d (Ok u) bytes input = (text : List ℕ) × MakesTexts form bytes input text (Ok u) × Appends c d text
@@ -36,7 +36,7 @@ EndsTexts form c d (Err fault) bytes input = (fault ≡ faults.Memory) ⊎ ((fau
     ⊎ (((fault ≡ faults.InputTooLong) × (2 ^ 64 ≤ length input + length (plain input)))
     ⊎ ((text : List ℕ) × MakesTexts form bytes input text (Err fault) × Appends c d text)))
 
--- what is said of the plain form of some bytes
+-- a statement on the plain form of some bytes
 abbrev pub OfPlain : (List ℕ → Option (List ℕ) → Option (List ℕ) → Type 0) → List ℕ → Option (List ℕ)
     → Option (List ℕ) → Type 0
 OfPlain P bytes c d = P (plain bytes) c d
@@ -48,23 +48,24 @@ IsInTime form bytes = (before : List ℕ) × (piece : List ℕ) × (whole : List
     × (bytes ≡ before ++ piece) × (length piece ≤ 65536) × (plain before ≡ whole ++ last) × (ended_lines last ≡ 0)
     × AreInTime form whole
 
--- what a run did, over a reader (from a to b) and a writer (from c to d), and how it ended
+-- a run, over a reader (from a to b) and a writer (from c to d), and its end
 pub record MadeTexts (form : Form) (a b c d : Option (List ℕ)) (reader_failed writer_failed : Bool)
     (r : Result (Unit {0}) MakeFault) : Type 0 where
   -- these bytes were read
   pub bytes : List ℕ
   pub read : Consumes a b bytes
-  -- of an input that is known it has written what is made of its plain form, and ended as that does
+  -- of an input that is known it has written the messages that are made of its plain form, and ended as they do
   pub exact : IfSome a (EndsTexts form c d r bytes)
   -- it ended with Io if and only if one of the two has failed
   pub io : (r ≡ Err faults.Io) ↔ ((reader_failed ≡ true) ⊎ (writer_failed ≡ true))
   -- with Memory only if some bytes were read
   pub memory : r ≡ Err faults.Memory → bytes ≢ []
-  -- however it ended, a beginning was written of what is made of the plain form of what was read
+  -- however it ended, a beginning was written of the messages that are made of the plain form of the bytes that were
+  -- read
   pub begun : HasBegunText form (plain bytes) c d
-  -- if the reader failed, what was written is what is made of the texts that are whole in the bytes that it gave
+  -- if the reader failed, the messages of the texts that are whole in the bytes that it gave were written
   pub heard : reader_failed ≡ true → HasServed form (plain bytes) c d
-  -- however it ended, it has read no more than a piece beyond what was served and written
+  -- however it ended, it has read no more than a piece beyond the bytes that were served and written
   pub ahead : IsAhead (OfPlain (HasServed form)) bytes c d
   -- however it ended, little more was read than was needed to know that the input is refused
   pub time : IsInTime form bytes

@@ -1,4 +1,4 @@
--- What a run of `make` did. (Own.)
+-- A run of `make`. (Own.)
 use Rattle.std.specs.Prelude.{◌≡◌, ◌≢◌, ◌⊎◌, ◌↔◌, ◌≤◌, ◌+◌, ◌*◌, ◌^◌, ℕ, List, [], ◌∷◌, ◌++◌, length, take, Bool, true}
 use Rattle.std.specs.Prelude.{Option, IfSome, Result, Ok, Err}
 use Rattle.std.specs.Io.KnownBytes.{Appends, Consumes}
@@ -14,16 +14,16 @@ use Rattle.capn_make.specs.Endings.{IsRefusedForGood, IsLostForGood}
 use Rattle.capn_make.specs.declared.fault.MakeFault.{MakeFault}
 use Rattle.capn_make.specs.declared.fault.MakeFault.TheVariants as faults
 
--- a beginning was written of what is made of the first texts of an input
+-- a beginning was written of the messages that are made of the first texts of an input
 abbrev pub HasBegunEach : Form → List ℕ → Option (List ℕ) → Option (List ℕ) → Type 0
 HasBegunEach form input c d = (vs : List Tree) × (rest : List ℕ) × (text : List ℕ) × AreFirst vs input rest
     × AreMade form vs text × HasBegun c d text
 
--- nothing was written, or a beginning of what is made of the one text that an input is
+-- nothing was written, or a beginning of the message that is made of the one text of an input
 abbrev pub HasBegunOne : List ℕ → Option (List ℕ) → Option (List ℕ) → Type 0
 HasBegunOne input c d = Appends c d [] ⊎ ((v : Tree) × AreFirst (v ∷ []) input [] × HasBegun c d (canon v))
 
--- a beginning was written of what is made of an input in a form
+-- a beginning was written of the messages that are made of an input in a form
 abbrev pub HasBegunText : Form → List ℕ → Option (List ℕ) → Option (List ℕ) → Type 0
 HasBegunText forms.Stream input c d = HasBegunEach forms.Stream input c d
 HasBegunText forms.Packed input c d = HasBegunEach forms.Packed input c d
@@ -47,26 +47,26 @@ abbrev pub IsAhead : (List ℕ → Option (List ℕ) → Option (List ℕ) → T
 IsAhead Written bytes c d = (before : List ℕ) × (piece : List ℕ) × (mid : Option (List ℕ)) × (more : List ℕ)
     × (bytes ≡ before ++ piece) × (length piece ≤ 65536) × Written before c mid × Appends mid d more
 
--- what is made of all of an input was written, and the run ended as that does; or memory was refused, or the reader or
--- the writer failed, or the input is too long
+-- the messages that are made of all of an input were written, and the run ended as that does; or memory was refused, or
+-- the reader or the writer failed, or the input is too long
 abbrev pub EndsAs : Form → Option (List ℕ) → Option (List ℕ) → Result (Unit {0}) MakeFault → List ℕ → Type 0
 EndsAs form c d (Ok u) input = (text : List ℕ) × Makes form input text (Ok u) × Appends c d text
 EndsAs form c d (Err fault) input = (fault ≡ faults.Memory) ⊎ ((fault ≡ faults.Io)
     ⊎ (((fault ≡ faults.InputTooLong) × (2 ^ 64 ≤ length input))
     ⊎ ((text : List ℕ) × Makes form input text (Err fault) × Appends c d text)))
 
--- what a run did, over a reader (from a to b) and a writer (from c to d), and how it ended
+-- a run, over a reader (from a to b) and a writer (from c to d), and its end
 pub record Made (form : Form) (a b c d : Option (List ℕ)) (reader_failed writer_failed : Bool)
     (r : Result (Unit {0}) MakeFault) : Type 0 where
-  -- of an input that is known it has written what is made, and ended as that does
+  -- of an input that is known it has written the messages that are made, and ended as they do
   pub exact : IfSome a (EndsAs form c d r)
   -- it ended with Io if and only if one of the two has failed
   pub io : (r ≡ Err faults.Io) ↔ ((reader_failed ≡ true) ⊎ (writer_failed ≡ true))
-  -- however it ended, a beginning was written of what is made of the bytes that were read
+  -- however it ended, a beginning was written of the messages that are made of the bytes that were read
   pub begun : (bytes : List ℕ) × Consumes a b bytes × HasBegunText form bytes c d
-  -- if the reader failed, what was written is what is made of the texts that are whole in the bytes that it gave
+  -- if the reader failed, the messages of the texts that are whole in the bytes that it gave were written
   pub heard : reader_failed ≡ true → (bytes : List ℕ) × Consumes a b bytes × HasServed form bytes c d
-  -- however it ended, it has read no more than a piece beyond what was served and written
+  -- however it ended, it has read no more than a piece beyond the bytes that were served and written
   pub ahead : (bytes : List ℕ) × Consumes a b bytes × IsAhead (HasServed form) bytes c d
 
 -- If the first n of these bytes are refused whatever follows, there are at most four times as many and 65,536 more. If

@@ -1,4 +1,4 @@
--- What is written of one value. (Page: serialization over a stream, packing, canonicalization.)
+-- The bytes that are written of one value. (Page: serialization over a stream, packing, canonicalization.)
 use Rattle.std.specs.Prelude.{◌≡◌, ℕ, ◌/◌, List, [], ◌∷◌, ◌++◌, length, replicate, None}
 use Rattle.std.specs.Int.{to_le_bytes, w32}
 use Rattle.capn_pack.specs.Chosen.{Chosen}
@@ -20,17 +20,17 @@ pub record IsMakeable (v : Tree) : Type 0 where
 abbrev pub framed : List ℕ → List ℕ
 framed bytes = replicate 4 0 ++ (to_le_bytes w32 (length bytes / 8) ++ bytes)
 
--- what is written of canonical bytes: their frame, the packer's text of that frame, or the bytes alone
+-- the bytes that are written of canonical bytes: their frame, the packer's text of that frame, or the bytes alone
 abbrev pub IsInForm : Form → List ℕ → List ℕ → Type 0
 IsInForm forms.Stream bytes piece = piece ≡ framed bytes
 IsInForm forms.Packed bytes piece = Chosen piece (framed bytes)
 IsInForm forms.Bare bytes piece = piece ≡ bytes
 
--- what is written of a value
+-- the bytes that are written of a value
 abbrev pub IsWrittenValue : Form → Tree → List ℕ → Type 0
 IsWrittenValue form v piece = IsInForm form (canon v) piece
 
--- what is written of these values, one after the other
+-- the bytes that are written of these values, one after the other
 abbrev pub AreMade : Form → List Tree → List ℕ → Type 0
 AreMade form [] text = text ≡ []
 AreMade form (v ∷ vs) text = (piece : List ℕ) × (rest : List ℕ) × IsWrittenValue form v piece × AreMade form vs rest

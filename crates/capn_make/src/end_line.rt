@@ -5,7 +5,7 @@ ghost use Rattle.capn_text.specs.Streams.{end_line};
 ghost use Rattle.capn_make.specs.inner.RunParts as spec;
 ghost use Rattle.capn_make.specs.inner.RunParts.{begins_with};
 
-/// Whether that line stands at the front of these bytes.
+/// Returns `true` if that line stands at the front of `bytes`.
 fn begins_with_end(bytes: &[u8]) -> bool
     ensures { result ≡ begins_with end_line bytes.now }
 {
@@ -25,7 +25,7 @@ fn begins_with_end(bytes: &[u8]) -> bool
     true
 }
 
-/// Whether it stands in these bytes.
+/// Returns `true` if it stands in `bytes`.
 fn holds_end(bytes: &[u8]) -> bool
     ensures { result ≡ spec.holds_end bytes.now }
 {
@@ -39,8 +39,8 @@ fn holds_end(bytes: &[u8]) -> bool
     false
 }
 
-/// Whether what is left of an input is to be looked at, which had this many bytes before some came, and as many the
-/// last time it was: there are four times as many now, or an end of a text has come.
+/// Returns `true` if `rest`, what is left of an input, is to be looked at. It had `before` bytes before some came, and
+/// `tested` the last time that it was: there are four times as many now, or an end of a text has come.
 pub(crate) fn is_due(rest: &[u8], before: usize, tested: usize) -> bool
     requires { before ≤ length rest.now }
     ensures due { result ≡ true

@@ -1,4 +1,4 @@
-//! Why a run of `make` ends without having made all of its input.
+//! Faults of a run of `make`.
 
 ghost use Rattle.std.specs.Prelude.{◌≡◌};
 ghost use Rattle.capn_value.specs.Display.{misfit_name};
@@ -13,7 +13,7 @@ use std::error::Error;
 use std::fmt;
 use std::io::Write;
 
-/// Why a run ends without having made all of its input. Lines are counted from 1 over the whole input.
+/// The reason why a run ends without having made all of its input. Lines are counted from 1 over the whole input.
 #[derive(Clone, Copy, Debug, PartialEq, Eq)]
 pub enum MakeFault {
     /// A growth was refused.
@@ -35,8 +35,8 @@ pub enum MakeFault {
 }
 
 impl MakeFault {
-    /// The exit status of a run that ends so: 1 if the input is refused, 3 if memory, the reader or the writer failed
-    /// or the input is too long.
+    /// Returns the exit status of a run that ends so: 1 if the input is refused, 3 if memory, the reader or the writer
+    /// failed or the input is too long.
     pub fn status(self) -> u8
         ensures { result ≡ status_of self }
     {
@@ -72,7 +72,7 @@ impl fmt::Display for MakeFault {
     }
 }
 
-/// The name of a misfit.
+/// Returns the name of `misfit`.
 fn name_of(misfit: Misfit) -> &'static [u8]
     ensures { result.now ≡ misfit_name misfit }
 {

@@ -16,7 +16,8 @@ use std::io::{Read, Write};
 /// The most bytes that one call of a reader is asked for.
 const CHUNK: usize = 65_536;
 
-/// Reads once, adds the bytes to what is left of the input, and answers how many they are. At the end there are none.
+/// Reads once, appends the bytes to `rest`, what is left of the input, and returns their number. At the end there are
+/// none.
 fn read_chunk<R: Read, A: Allocator>(
     reader: &mut Watched<R>,
     chunk: &mut [u8],
@@ -37,7 +38,7 @@ fn read_chunk<R: Read, A: Allocator>(
     }
 }
 
-/// How many bytes came with these, unless there are 2^64 or more, which takes centuries.
+/// Returns the number of bytes that came, `count` after `taken`, unless they are 2^64 or more, which takes centuries.
 fn counted(taken: u64, count: usize) -> Option<u64>
     ensures { MatchOption result (2 ^ 64 ≤ taken + count) (λ sum. (sum ≡ taken + count) × (sum < 2 ^ 64)) }
 {
@@ -45,12 +46,12 @@ fn counted(taken: u64, count: usize) -> Option<u64>
 }
 
 /// Reads an input to its end, or until it is known to be refused whatever follows, makes each text once it is whole,
-/// and writes what was made before it reads again. In form bare nothing is written. Answers what is still to be
-/// written.
+/// and writes the messages that were made before it reads again. In form bare nothing is written. Returns what is still
+/// to be written.
 ///
-/// What is left is looked at when the first bytes have come, and then each time a line that ends a text has, or there
-/// are four times as many as were left the last time: so a text is read once, and again only while it is unfinished,
-/// which costs no more than one reading of four thirds of it. All bytes grow on `alloc`, a logarithmic number of times.
+/// The rest is looked at when the first bytes have come, and then each time a line that ends a text has, or there are
+/// four times as many as were left the last time: so a text is read once, and again only while it is unfinished, which
+/// costs no more than one reading of four thirds of it. All bytes grow on `alloc`, a logarithmic number of times.
 pub(crate) fn make_input<R: Read, W: Write, A: Allocator + Copy>(
     alloc: A,
     form: Form,

@@ -9,8 +9,8 @@ ghost use Rattle.capn_make.specs.Laws.{OneDeciding, DecidedStay, UnendedIsStuck,
 use capn_canon::laws::canonicity;
 use capn_text::laws::{plain_forms, refusals, texts, whole_lines};
 
-/// The texts that [`capn_value::show`] writes, each with its line `end`, are made again: of values that fit and have no
-/// capability nothing but their canonical bytes, in order.
+/// States: the texts that [`capn_value::show`] writes, each with its line `end`, are made again: of values that fit and
+/// have no capability nothing but their canonical bytes, in order.
 pub fn showing()
     ensures made { ShownAreMade }
     ensures only { ShownAreMadeOnly }
@@ -21,7 +21,7 @@ pub fn showing()
     refusals();
 }
 
-/// An input is made in one way, and ends as done or with one fault.
+/// States: an input is made in one way, and ends as done or with one fault.
 pub fn making()
     ensures one { OneMaking }
     ensures bare { OneBareMaking }
@@ -31,7 +31,7 @@ pub fn making()
     refusals();
 }
 
-/// An input that is refused by what is complete in it, a text or a wrong line with its line end, is refused so
+/// States: an input that is refused by what is complete in it, a text or a wrong line with its line end, is refused so
 /// whatever follows it.
 pub fn refusing()
     ensures stays { FaultStays }
@@ -44,7 +44,8 @@ pub fn refusing()
     whole_lines();
 }
 
-/// The texts that are whole in some bytes have one list of values, which is the beginning of that of more bytes.
+/// States: the texts that are whole in some bytes have one list of values, which is the beginning of that of more
+/// bytes.
 pub fn deciding()
     ensures one { OneDeciding }
     ensures stay { DecidedStay }
@@ -53,7 +54,7 @@ pub fn deciding()
     texts();
 }
 
-/// Where the texts of some bytes are refused for good, no other one is whole, whatever follows.
+/// States: if the texts of some bytes are refused for good, no other one is whole, whatever follows.
 pub fn stuck()
     ensures { RefusedIsStuck }
 {
@@ -62,7 +63,7 @@ pub fn stuck()
     whole_lines();
 }
 
-/// What comes after texts that are made is at no line before their end.
+/// States: what comes after texts that are made is at no line before their end.
 pub fn following()
     ensures after { RefusedAfter }
     ensures last { UnendedIsLast }
@@ -71,14 +72,14 @@ pub fn following()
     refusals();
 }
 
-/// What is written of a value in [`crate::Form::Stream`] is a frame of one segment, as [`capn_canon`] reads it.
+/// States: what is written of a value in [`crate::Form::Stream`] is a frame of one segment, as [`capn_canon`] reads it.
 pub fn framing()
     ensures { FramedAreFrames }
 {
     canonicity();
 }
 
-/// What is shown of values with texts between quotes is made as what is shown of them without.
+/// States: what is shown of values with texts between quotes is made as what is shown of them without.
 pub fn quoting()
     ensures { QuotedAreMade }
 {

@@ -22,7 +22,7 @@ pub use fault::MakeFault;
 pub use make_run::make;
 pub use texts_run::make_texts;
 
-// What the signatures above name.
+// The types in the signatures above.
 pub use capn_canon::Form;
 pub use capn_value::Misfit;
 pub use capn_words::Watched;

@@ -1,4 +1,4 @@
-//! From the texts of an input to what is made of them.
+//! A run from the texts of an input to messages.
 
 ghost use Rattle.std.specs.Prelude.{◌≡◌, false, IsErrOf};
 ghost use Rattle.capn_words.specs.Watched.{inner_of, has_failed};
@@ -12,22 +12,22 @@ use capn_words::Watched;
 use std::alloc::Allocator;
 use std::io::{Read, Write};
 
-/// Reads texts of values to the end of the input, each with its line `end`, and writes the canonical bytes of each
-/// value: in [`Form::Stream`] as a frame of one segment, in [`Form::Packed`] as the packed text of that frame, in
-/// [`Form::Bare`] as they are, of exactly one text. This is the inverse of [`capn_value::show`].
+/// Reads texts of values from `reader` to the end of the input, each with its line `end`, and writes the canonical
+/// bytes of each value to `writer`, by `form`: in [`Form::Stream`] as a frame of one segment, in [`Form::Packed`] as
+/// the packed text of that frame, in [`Form::Bare`] as they are, of exactly one text. This is the inverse of
+/// [`capn_value::show`].
 ///
 /// It ends as done, or with the first fault. `NotText`, `Misfit` or `Capability`: the next text is refused, in this
 /// order; those before it have been written. In form `Bare` nothing is written then, and more than one text is
 /// `Another`, or `NotText` if the line after the first text begins none; no text is `NoText`. In the other forms an
-/// input without texts is done. `Io` if and only if the reader or the writer failed; `Memory` if a growth was refused,
-/// which takes some bytes; `InputTooLong` for an input of 2^64 bytes and more that isn't refused before, which takes
-/// centuries.
+/// input without texts is done. `Io` if and only if the reader or the writer failed; `Memory` if a growth on `alloc`
+/// was refused, which takes some bytes; `InputTooLong` for an input of 2^64 bytes and more that isn't refused before,
+/// which takes centuries.
 ///
-/// The reader is asked for at most 65,536 bytes at once, and what is made of the texts that are whole by then is
-/// written before it is asked again: if it fails, what was written is what is made of all texts that it gave with their
-/// ends. Form `Bare` alone writes at the end of the input. What is held is the text that is unfinished and, once it is
-/// whole, its value and what is written of it, with what is made of one piece. What a text announces is never
-/// allocated.
+/// The reader is asked for at most 65,536 bytes at once, and the messages of the texts that are whole by then are
+/// written before it is asked again: if it fails, those of all texts that it gave with their ends were written. Form
+/// `Bare` alone writes at the end of the input. It holds the text that is unfinished and, once it is whole, its value
+/// and the bytes that are written of it, with the messages of one piece. What a text announces is never allocated.
 ///
 /// An input that is refused whatever follows isn't read to its end. A text that is refused once it is whole, as by a
 /// misfit, is refused in the piece that its end came with. If n bytes are enough to refuse an input otherwise, by a

@@ -1,4 +1,4 @@
-//! The next text of an input, and what is written of its value.
+//! The next text of an input, and the bytes that are written of its value.
 
 ghost use Rattle.std.specs.Prelude.{◌≡◌, ◌≢◌, [], None, Some, IfErr, IsErrOf};
 ghost use Rattle.capn_make.specs.inner.RunParts as spec;
@@ -11,7 +11,7 @@ use capn_text::{TextFault, Texts};
 use capn_value::Tree;
 use std::alloc::Allocator;
 
-/// Why the next text, from a line on, is not read.
+/// Returns the reason why the next text, from `line` on, is not read.
 pub(crate) fn unread(line: u64, fault: TextFault) -> MakeFault
     ensures { result ≡ spec.unread line fault }
 {
@@ -23,7 +23,7 @@ pub(crate) fn unread(line: u64, fault: TextFault) -> MakeFault
     }
 }
 
-/// Whether the fault of a text is that of an unfinished one, which more bytes may take away.
+/// Returns `true` if `fault` is that of an unfinished text, which more bytes may take away.
 fn is_cut(fault: TextFault) -> bool
     ensures { result ≡ spec.is_cut fault }
 {
@@ -33,7 +33,7 @@ fn is_cut(fault: TextFault) -> bool
     }
 }
 
-/// What is written of the tree whose text begins at a line.
+/// Writes the bytes of `tree`, whose text begins at `line`, in this `form`.
 fn made<A: Allocator + Copy>(
     alloc: A,
     form: Form,
@@ -49,7 +49,7 @@ fn made<A: Allocator + Copy>(
     }
 }
 
-/// What is written of the value of the next text, or nothing at the end of the input. After a wrong line `cut` says
+/// Writes the bytes of the value of the next text; `None` at the end of the input. After a wrong line `cut` says
 /// whether more bytes may make it another.
 pub(crate) fn next_piece<A: Allocator + Copy>(
     alloc: A,

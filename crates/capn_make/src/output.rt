@@ -8,7 +8,7 @@ use crate::fault::MakeFault;
 use capn_words::Watched;
 use std::io::Write;
 
-/// Writes all of the text, or a beginning of it if the writer fails.
+/// Writes all of `text`, or a beginning of it if the writer fails, which is `Io`.
 pub(crate) fn write_all<W: Write>(writer: &mut Watched<W>, text: &[u8]) -> Result<(), MakeFault>
     requires { has_failed writer.old ≡ false }
     ensures ok { OnOk result (Appends (W.contents (inner_of writer.old)) (W.contents (inner_of writer.new)) text.now) }

@@ -19,25 +19,25 @@ use capn_words::Watched;
 use std::alloc::{AllocError, Allocator};
 use std::io::Write;
 
-/// What was made of an input so far, and what is left of it.
+/// The messages that were made of an input so far, and what is left of it.
 #[derive(Drop)]
 pub(crate) struct Progress<A: Allocator> {
-    /// What was made of its first texts and isn't written yet.
+    /// The messages that were made of its first texts and aren't written yet.
     pub(crate) made: Vec<u8, A>,
-    /// What comes after them.
+    /// The bytes after those texts.
     pub(crate) rest: Vec<u8, A>,
-    /// The line of the input at which that begins.
+    /// The line of the input at which these begin.
     pub(crate) line: u64,
 }
 
-/// What is still to be written of an input, and how it ends.
+/// The bytes that are still to be written of an input, and its end.
 #[derive(Drop)]
 pub(crate) struct Outcome<A: Allocator> {
     pub(crate) text: Vec<u8, A>,
     pub(crate) ending: Result<(), MakeFault>,
 }
 
-/// Drops the first bytes.
+/// Drops the first `count` of `bytes`.
 fn drop_front<A: Allocator>(bytes: &mut Vec<u8, A>, count: usize)
     requires { count ≤ length bytes.old.items }
     ensures { bytes.new.items ≡ drop count bytes.old.items }
@@ -47,7 +47,7 @@ fn drop_front<A: Allocator>(bytes: &mut Vec<u8, A>, count: usize)
     bytes.truncate(len - count);
 }
 
-/// Whether what a fault is about is complete in what is left, from a line on.
+/// Returns `true` if the subject of `fault` is complete in `rest`, what is left from `line` on.
 fn is_whole(rest: &[u8], line: u64, fault: MakeFault) -> bool
     ensures whole { result ≡ true → IsWholeFrom line rest.now fault }
     ensures cut { result ≡ false → IsWholeFrom line rest.now fault → ⊥ }
@@ -59,7 +59,8 @@ fn is_whole(rest: &[u8], line: u64, fault: MakeFault) -> bool
     }
 }
 
-/// Whether a fault is that of a wrong line that isn't cut: it is wrong whatever follows, though its end may be to come.
+/// Returns `true` if `fault` is that of a wrong line that isn't `cut`: it is wrong whatever follows, though its end may
+/// be to come.
 fn is_lost(fault: MakeFault, cut: bool) -> bool
     ensures { result ≡ spec.is_lost fault cut }
 {
@@ -76,8 +77,8 @@ fn is_lost(fault: MakeFault, cut: bool) -> bool
 }
 
 impl<A: Allocator + Copy> Progress<A> {
-    /// Makes the texts that are complete by now, and keeps what is left. Answers how the input ends if nothing follows,
-    /// and after a wrong line, by `cut`, whether more bytes may make it another.
+    /// Makes the texts that are complete by now, and keeps what is left. Returns the end of the input if nothing
+    /// follows, and after a wrong line, by `cut`, whether more bytes may make it another.
     fn go_on(&mut self, alloc: A, form: Form, cut: &mut bool) -> Result<(), MakeFault>
         requires { HasRoom self.old.line self.old.rest.items }
         ensures made { (input : List ℕ) (written : List ℕ)
@@ -100,8 +101,8 @@ impl<A: Allocator + Copy> Progress<A> {
         ending
     }
 
-    /// Makes the texts that are complete by now, and keeps what is left. Answers why the input is refused whatever
-    /// follows, if it is.
+    /// Makes the texts that are complete by now, and keeps what is left. Returns the reason why the input is refused
+    /// whatever follows, if it is.
     pub(crate) fn find_refusal(
         &mut self,
         alloc: A,
@@ -134,7 +135,7 @@ impl<A: Allocator + Copy> Progress<A> {
         }
     }
 
-    /// Writes what was made. In form bare it is kept: nothing is written before the end.
+    /// Writes the messages that were made. In form bare they are kept: nothing is written before the end.
     pub(crate) fn write_made<W: Write>(
         &mut self,
         form: Form,
@@ -152,7 +153,8 @@ impl<A: Allocator + Copy> Progress<A> {
         Ok(())
     }
 
-    /// What is still to be written of an input that ends so. In form bare that is nothing, unless it ends well.
+    /// Returns the bytes that are still to be written of an input with this `ending`. In form bare there are none,
+    /// unless it ends well.
     pub(crate) fn end(self, form: Form, ending: Result<(), MakeFault>) -> Outcome<A>
         ensures { (input : List ℕ) (written : List ℕ) → (form ≡ forms.Bare → written ≡ [])
             → IsMadeSo form input (written ++ self.made.items) ending
@@ -165,7 +167,7 @@ impl<A: Allocator + Copy> Progress<A> {
         Outcome { text, ending }
     }
 
-    /// What is still to be written of an input to which nothing follows.
+    /// Makes the texts of an input to which nothing follows, and returns the bytes that are still to be written of it.
     pub(crate) fn finish(mut self, alloc: A, form: Form) -> Result<Outcome<A>, AllocError>
         requires { HasRoom self.line self.rest.items }
         ensures made { IfOk result (λ outcome. (input : List ℕ) (written : List ℕ) → (form ≡ forms.Bare → written ≡ [])

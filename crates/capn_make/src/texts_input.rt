@@ -20,8 +20,8 @@ use std::io::{Read, Write};
 /// The most bytes that one call of a reader is asked for.
 const CHUNK: usize = 65_536;
 
-/// Reads once, adds the plain form of the lines that are whole by now to what is left of the input, and answers how
-/// many bytes came. At the end there are none, and a line without its end is added.
+/// Reads once, appends the plain form of the lines that are whole by now to `rest`, what is left of the input, and
+/// returns the number of bytes that came. At the end there are none, and a line without its end is added.
 fn read_lines<R: Read, A: Allocator + Copy>(
     reader: &mut Watched<R>,
     chunk: &mut [u8],
@@ -47,7 +47,8 @@ fn read_lines<R: Read, A: Allocator + Copy>(
     }
 }
 
-/// How many bytes came with these and what they added, unless there are 2^64 or more, which takes centuries.
+/// Returns the number of bytes that came and that they added, `count` and `added` after `taken`, unless they are 2^64
+/// or more, which takes centuries.
 fn counted(taken: u64, count: usize, added: usize) -> Option<u64>
     ensures { MatchOption result (2 ^ 64 ≤ taken + (count + added))
         (λ sum. (sum ≡ taken + (count + added)) × (sum < 2 ^ 64)) }
@@ -55,7 +56,7 @@ fn counted(taken: u64, count: usize, added: usize) -> Option<u64>
     taken.checked_add(count as u64)?.checked_add(added as u64)
 }
 
-/// The same fault, at the line of the input.
+/// Returns `fault` at the line of the input.
 fn at_own<A: Allocator + Copy>(unquoter: &Unquoter<A>, fault: MakeFault) -> MakeFault
     ensures { result ≡ texts.at_own (own_at unquoter.now) fault }
 {
@@ -70,7 +71,7 @@ fn at_own<A: Allocator + Copy>(unquoter: &Unquoter<A>, fault: MakeFault) -> Make
     }
 }
 
-/// What is still to be written of an input, and how it ends, at the line of the input.
+/// Returns `outcome` with its fault at the line of the input.
 fn own_outcome<A: Allocator + Copy>(unquoter: &Unquoter<A>, outcome: Outcome<A>) -> Outcome<A>
     ensures text { result.text.items ≡ outcome.text.items }
     ensures ending { result.ending ≡ ending_at (own_at unquoter.now) outcome.ending }
@@ -86,10 +87,10 @@ fn own_outcome<A: Allocator + Copy>(unquoter: &Unquoter<A>, outcome: Outcome<A>)
 }
 
 /// Reads an input to its end, or until it is known to be refused whatever follows, makes each text of its plain form
-/// once it is whole, and writes what was made before it reads again. In form bare nothing is written. Answers what is
-/// still to be written.
+/// once it is whole, and writes the messages that were made before it reads again. In form bare nothing is written.
+/// Returns what is still to be written.
 ///
-/// What is left is looked at as `make` looks at it, without a line that is unfinished.
+/// The rest is looked at as `make` looks at it, without a line that is unfinished.
 pub(crate) fn make_texts_input<R: Read, W: Write, A: Allocator + Copy>(
     alloc: A,
     form: Form,

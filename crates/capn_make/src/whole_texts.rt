@@ -1,4 +1,4 @@
-//! The texts that are complete in what is left of an input.
+//! The texts that are complete in the rest of an input.
 
 ghost use Rattle.std.specs.Prelude.{◌≡◌, ◌≢◌, ℕ, List, [], ◌++◌, IfErr, IsErrOf};
 ghost use Rattle.capn_canon.specs.declared.form.Form.TheVariants as forms;
@@ -31,7 +31,7 @@ fn make_each<A: Allocator + Copy>(
     Ok(())
 }
 
-/// Refuses what follows the one text, by its first line. What comes after that line isn't looked at.
+/// Refuses the bytes that follow the one text, by their first line. Nothing after that line is looked at.
 fn end_of_one(texts: &Texts, cut: &mut bool) -> Result<(), MakeFault>
     ensures end { EndsOne texts.now result }
     ensures cut { IfErr result (λ e. TellsEnd texts.now cut.new e) }
@@ -47,7 +47,7 @@ fn end_of_one(texts: &Texts, cut: &mut bool) -> Result<(), MakeFault>
     }
 }
 
-/// Makes the first text of an input, and refuses what follows it.
+/// Makes the first text of an input, and refuses the bytes that follow it.
 fn make_first<A: Allocator + Copy>(
     alloc: A,
     texts: &mut Texts,
@@ -68,7 +68,7 @@ fn make_first<A: Allocator + Copy>(
     end_of_one(texts, cut)
 }
 
-/// Makes the one text, unless it is made already, and refuses what follows it.
+/// Makes the one text, unless it is made already, and refuses the bytes that follow it.
 fn make_one<A: Allocator + Copy>(
     alloc: A,
     texts: &mut Texts,
@@ -88,7 +88,7 @@ fn make_one<A: Allocator + Copy>(
     end_of_one(texts, cut)
 }
 
-/// Makes the next texts, as far as a form takes them, and answers how the input ends whose rest they are.
+/// Makes the next texts, as far as the `form` takes them, and returns the end of the input whose rest they are.
 pub(crate) fn make_texts<A: Allocator + Copy>(
     alloc: A,
     form: Form,

@@ -1,4 +1,4 @@
-//! What is written of one value.
+//! The bytes that are written of one value.
 
 ghost use Rattle.std.specs.Prelude.{◌≡◌, ◌%◌, ◌<◌, ◌^◌, length, None, IfOk, IfErr, OnOk};
 ghost use Rattle.capn_pack.specs.Chosen.{Chosen};
@@ -14,7 +14,7 @@ use capn_pack::{PackFault, pack};
 use capn_value::Tree;
 use std::alloc::{AllocError, Allocator};
 
-/// The frame of one segment of these bytes, which are whole words.
+/// Returns the frame of one segment of `bytes`, which are whole words.
 fn framed<A: Allocator>(alloc: A, bytes: &[u8]) -> Result<Vec<u8, A>, AllocError>
     requires { length bytes.now < 2 ^ 35 }
     ensures { IfOk result (λ text. text.items ≡ spec.framed bytes.now) }
@@ -27,7 +27,7 @@ fn framed<A: Allocator>(alloc: A, bytes: &[u8]) -> Result<Vec<u8, A>, AllocError
     Ok(text)
 }
 
-/// The packed text of that frame.
+/// Returns the packed text of that frame.
 fn packed<A: Allocator + Copy>(alloc: A, bytes: &[u8]) -> Result<Vec<u8, A>, AllocError>
     requires short { length bytes.now < 2 ^ 35 }
     requires whole { length bytes.now % 8 ≡ 0 }
@@ -41,7 +41,7 @@ fn packed<A: Allocator + Copy>(alloc: A, bytes: &[u8]) -> Result<Vec<u8, A>, All
     }
 }
 
-/// The canonical bytes of a tree: whole words, and no more than any message may have.
+/// Returns the canonical bytes of `tree`: whole words, and no more than any message may have.
 fn canonical<A: Allocator + Copy, B: Allocator>(
     alloc: A,
     tree: &Tree<B>,
@@ -52,13 +52,13 @@ fn canonical<A: Allocator + Copy, B: Allocator>(
     ensures free { OnOk result (first_cap tree.now ≡ None) }
     ensures refused { IfErr result (λ fault. IsLayoutFault tree.now fault) }
 {
-    // What a tree holds fits and is in range, so its canonical bytes are those of a message.
+    // A tree fits and is in range, so its canonical bytes are those of a message.
     canonicity();
     let _value = tree.value();
     layout(alloc, tree)
 }
 
-/// What is written of canonical bytes in a form.
+/// Writes canonical `bytes` in this `form`.
 fn in_form<A: Allocator + Copy>(
     alloc: A,
     form: Form,
@@ -75,7 +75,7 @@ fn in_form<A: Allocator + Copy>(
     }
 }
 
-/// What is written of a tree in a form.
+/// Writes `tree` in this `form`.
 pub(crate) fn piece_of<A: Allocator + Copy, B: Allocator>(
     alloc: A,
     form: Form,

@@ -1,4 +1,4 @@
--- How many words are before each segment, one segment after the other.
+-- The number of words before each segment, one segment after the other. (For `byte_of` and `words_before`.)
 use Rattle.std.proofs.Common.{◌≡◌, ℕ, ◌+◌, ◌<◌, ◌≤◌, nat_lt, Bool, true, false, List, [], ◌∷◌, ◌++◌, length}
 use Rattle.std.proofs.Common.{take, slice_index, refl, ap, subst, ◌∙◌, arith}
 use Rattle.std.proofs.lemmas.Bool.Decides.{nat_tests}

@@ -1,4 +1,5 @@
--- The texts of numbered items, one after the other: one more, and all of them.
+-- The texts of numbered items, one after the other: one more, and all of them. (For the cycle `marked`, `mark_numbers`
+-- and `mark_words`.)
 use Rattle.std.proofs.Common.{◌≡◌, ℕ, zero, suc, ◌+◌, ◌<◌, List, [], ◌∷◌, ◌++◌, length, take, get_or}
 use Rattle.std.proofs.Common.{sym, ap, ◌∙◌, arith, append_assoc}
 use Rattle.std.proofs.lemmas.List.{append-nil, take_all}

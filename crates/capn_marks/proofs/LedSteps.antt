@@ -1,4 +1,4 @@
--- A step of a way: where it leads in a message.
+-- A step of a way: where it leads in a message. (For `lead` and `mark_part`.)
 use Rattle.std.proofs.Common.{◌≡◌, ℕ, suc, ◌+◌, ◌<◌, ◌≤◌, List, [], ◌∷◌, length, drop, get_or, Some, None, Option}
 use Rattle.std.proofs.Common.{refl, subst, sym, ap, ap₂, ◌∙◌, arith}
 use Rattle.std.specs.Prelude.{IfSome}

@@ -1,4 +1,5 @@
--- Lines, slots and rows with marks, as the texts of numbered items.
+-- Lines, slots and rows with marks, as the texts of numbered items. (For the cycle `marked`, `mark_numbers` and
+-- `mark_words`.)
 use Rattle.std.proofs.Common.{◌≡◌, ℕ, zero, suc, ◌+◌, ◌*◌, List, [], ◌∷◌, ◌++◌, length, get_or}
 use Rattle.std.proofs.Common.{refl, sym, ap, ap₂, ◌∙◌, arith, append_assoc}
 use Rattle.capn_words.specs.declared.space.Place.{Place}

@@ -1,4 +1,5 @@
--- The text of what a pointer names, with marks, from its parts.
+-- The text of what a pointer names, with marks, from its parts. (For the cycle `marked`, `mark_bits`, `mark_digits` and
+-- `mark_list`.)
 use Rattle.std.proofs.Common.{◌≡◌, ℕ, zero, suc, ◌+◌, ◌/◌, ◌<◌, arith, List, [], ◌∷◌, ◌++◌, Bool, length, take, codes}
 use Rattle.std.proofs.Common.{map, refl, subst, sym, ap, ap₂, ◌∙◌}
 use Rattle.std.specs.Prelude.{Ok}

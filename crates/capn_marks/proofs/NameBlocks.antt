@@ -1,4 +1,4 @@
--- A name in a block of tabs, and the digits before it.
+-- A name in a block of tabs, and the digits before it. (For `name_block`, `put_block` and `put_named`.)
 use Rattle.std.proofs.Common.{◌≡◌, ℕ, zero, suc, ◌+◌, ◌-◌, ◌≤◌, List, [], ◌∷◌, ◌++◌, length, take, drop, replicate}
 use Rattle.std.proofs.Common.{refl, sym, ap, ap₂, ◌∙◌, arith, append_assoc}
 

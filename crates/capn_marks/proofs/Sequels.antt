@@ -1,4 +1,5 @@
--- A text that is added, then what a call says of the next.
+-- A text that is added, then what a call says of the next. (For `+marked.rt`, `marked_lines.rt`, `marked_part.rt` and
+-- `marks.rt`.)
 use Rattle.std.proofs.Common.{◌≡◌, ℕ, List, ◌++◌, refl}
 use Rattle.std.specs.Prelude.{Result, Ok, Err, OnOk, IfErr}
 use Rattle.capn_show.specs.declared.fault.Broken.{Broken}

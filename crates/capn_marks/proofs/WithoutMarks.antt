@@ -1,4 +1,4 @@
--- A text with marks, where no mark is asked for.
+-- A text with marks, where no mark is asked for. (For `without_marks`.)
 use Rattle.std.proofs.Common.{◌≡◌, ℕ, zero, suc, ◌+◌, ◌/◌, List, [], ◌∷◌, ◌++◌, Bool, true, false, length, codes, map}
 use Rattle.std.proofs.Common.{refl, ap, ap₂, ◌∙◌, append_assoc, if◌then◌else◌, Option, Some, None}
 use Rattle.hex.specs.Hex.{encode_lower}

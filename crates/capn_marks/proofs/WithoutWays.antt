@@ -1,4 +1,4 @@
--- A text with marks, where no ways are asked for: it is the same at each way.
+-- A text with marks, where no ways are asked for: it is the same at each way. (For the cycle `marked`.)
 use Rattle.std.proofs.Common.{◌≡◌, ℕ, zero, suc, ◌+◌, ◌/◌, List, [], ◌∷◌, ◌++◌, Bool, true, false, length, codes, map}
 use Rattle.std.proofs.Common.{refl, sym, subst, ap, ap₂, ◌∙◌, arith, take, if◌then◌else◌}
 use Rattle.std.proofs.lemmas.List.{take_all}

@@ -1,4 +1,4 @@
--- What holds of texts with marks. (Own.)
+-- Laws of texts with marks. (Own.)
 use Rattle.std.specs.Prelude.{◌≡◌, ℕ, List, false}
 use Rattle.capn_value.specs.Tree.{Tree}
 use Rattle.capn_show.specs.Styled.{styled}

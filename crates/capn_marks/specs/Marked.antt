@@ -1,4 +1,4 @@
--- The text of a message with marks: before each line stands where what it is about lies, and the way to it. (Own.)
+-- The text of a message with marks: before each line stand the byte of its subject, and the way to it. (Own.)
 use Rattle.std.specs.Prelude.{◌≡◌, ℕ, zero, suc, ◌+◌, ◌*◌, ◌/◌, Bool, true, false, List, [], ◌∷◌, ◌++◌}
 use Rattle.std.specs.Prelude.{length, take, map, codes, if◌then◌else◌, refl}
 use Rattle.std.specs.Fmt.{decimal, digits}
@@ -25,7 +25,7 @@ abbrev pub below : List ℕ → ℕ → List ℕ
 below [] i = decimal i
 below (c ∷ way) i = (c ∷ way) ++ 46 ∷ decimal i
 
--- what a way is called
+-- the name of a way
 abbrev pub way_name : List ℕ → List ℕ
 way_name [] = codes "root"
 way_name (c ∷ way) = c ∷ way
@@ -40,7 +40,7 @@ byte_of start m at = start + 8 * (total (take at.segment m) + at.word)
 
 -- ---- marks
 
--- the byte of what a line is about
+-- the byte of a line's subject
 abbrev pub offset_mark : Bool → ℕ → List ℕ
 offset_mark offsets lies = if offsets then decimal lies ++ 9 ∷ [] else []
 
@@ -48,7 +48,7 @@ offset_mark offsets lies = if offsets then decimal lies ++ 9 ∷ [] else []
 abbrev pub way_mark : Bool → List ℕ → List ℕ
 way_mark ways way = if ways then way_name way ++ 9 ∷ [] else []
 
--- what stands before a line about what lies at a byte, at a way
+-- the marks of a line whose subject lies at a byte, at a way
 abbrev pub mark : Marks → ℕ → List ℕ → List ℕ
 mark marks lies way = offset_mark marks.offsets lies ++ way_mark marks.ways way
 
@@ -74,18 +74,18 @@ module _ (marks : Marks) where
   marked_digits level way first zero digits = []
   marked_digits level way first (suc n) digits = mark marks first way ++ line level digits
 
-  -- the lines of a list of bytes in digits: of the first one, what stands behind the mark
+  -- the lines of a list of bytes in digits: of the first one, the part behind the mark
   abbrev pub digit_lines : ℕ → List ℕ → ℕ → List ℕ → List ℕ
   digit_lines level way first xs =
       line level (named (codes "bytes") (length xs))
       ++ marked_digits (level + 1) way first (length xs) (encode_lower xs)
 
-  -- a text on one line, or the digits of what is none
+  -- a text on one line, or the digits of bytes that are none
   abbrev pub text_or_digits : ℕ → List ℕ → ℕ → List ℕ → List ℕ
   text_or_digits level way first xs =
       if is_text xs then quoted_line level xs else digit_lines level way first xs
 
-  -- the lines of a list of numbers: of the first one, what stands behind the mark
+  -- the lines of a list of numbers: of the first one, the part behind the mark
   abbrev pub marked_numbers : NumberWidth → ℕ → List ℕ → ℕ → List ℕ → List ℕ
   marked_numbers bit level way first xs =
       line level (named (codes "bits") (length xs))
@@ -104,7 +104,8 @@ module _ (m : List (List ℕ)) (marks : Marks) where
   byte_at at = byte_of (first_byte marks) m at
 
   abbrev mutual
-    -- what a pointer names, at a level and a way: of its first line, what stands behind the mark, and all lines below
+    -- the text of the target of a pointer, at a level and a way: of its first line the part behind the mark, and all
+    -- lines below
     pub unmarked : ℕ → List ℕ → Target → Tree → List ℕ
     unmarked level way found nil = line level (codes "null")
     unmarked level way found (node ws ss) =

@@ -1,4 +1,4 @@
--- The text with marks of what is at a way of numbers from a value of a message. (Own.)
+-- The text with marks of the part at a way of numbers from a value of a message. (Own.)
 use Rattle.std.specs.Prelude.{◌≡◌, ℕ, List, [], ◌∷◌, ◌++◌, Option, Some, None, codes, if◌then◌else◌, Bool, true}
 use Rattle.std.specs.Prelude.{false, refl}
 use Rattle.capn_words.specs.declared.space.Place.{Place}
@@ -14,20 +14,21 @@ use Rattle.capn_marks.specs.declared.marks.Marks.{Marks}
 use Rattle.capn_show.specs.declared.style.Style.{Style}
 use Rattle.capn_show.specs.declared.style.Style.TheVariants as styles
 
--- something in a message: the slot that names it, or of a row where it begins; what a pointer names; its value; its way
+-- a part of a message: the slot that names it, or of a row the place at which it begins; the target of its pointer; its
+-- value; its way
 pub record There : Type 0 where
   pub at : Place
   pub found : Target
   pub value : Tree
   pub way : List ℕ
 
--- the line where nothing is: no digits and no way stand before it
+-- the line for no part: no digits and no way stand before it
 abbrev pub none_line : Marks → List ℕ
 none_line marks =
     (if marks.offsets then 9 ∷ [] else []) ++ ((if marks.ways then 9 ∷ [] else []) ++ line 0 (codes "none"))
 
 module _ (m : List (List ℕ)) where
-  -- what is one step below something, with its value if it has one
+  -- the part one step below another, with its value if it has one
   abbrev pub stepped : There → ℕ → Option Tree → Option There
   stepped there i None = None
   stepped there i (Some t) = Some (record {
@@ -43,18 +44,18 @@ module _ (m : List (List ℕ)) where
   led (i ∷ numbers) None = None
   led (i ∷ numbers) (Some there) = led numbers (stepped there i (step_down there.value i))
 
-  -- what is at the root
+  -- the part at the root
   abbrev pub at_root : Tree → There
   at_root t = record { at = root; found = named_by (target m root); value = t; way = [] }
 
   module _ (marks : Marks) where
-    -- the text of what is there
+    -- the text of the part there
     abbrev pub there_text : Option There → List ℕ
     there_text None = none_line marks
     there_text (Some there) =
         mark marks (byte_at m marks there.at) there.way ++ unmarked m marks 0 there.way there.found there.value
 
-    -- the text of what is at a way of numbers from the root
+    -- the text of the part at a way of numbers from the root
     abbrev pub marked_at : List ℕ → Tree → List ℕ
     marked_at numbers t = there_text (led numbers (Some (at_root t)))
 

@@ -1,4 +1,4 @@
--- What is known of places whose text is written with marks, and how a text grows by it.
+-- The places whose text is written with marks, and the growth of a text by it.
 use Rattle.std.specs.Prelude.{◌≡◌, ◌≤◌, ℕ, Option, Some, None, ◌+◌, ◌*◌, ◌<◌, List, ◌++◌, length, take, slice_index}
 use Rattle.capn_words.specs.Message.{total}
 use Rattle.capn_words.specs.declared.space.Place.{Place}
@@ -16,7 +16,7 @@ use Rattle.capn_marks.specs.MarkedPart.{at_root, led, marked_at, none_line}
 use Rattle.capn_show.specs.declared.descent.Part.{Part}
 use Rattle.capn_show.specs.ReadyPlaces.{struct_at, AreDataWords, AreSlots, AreRowsAt}
 
--- how many words of a message are before each of its segments
+-- the number of words of a message before each of its segments
 pub record CountsBefore (m : List (List ℕ)) (before : List ℕ) : Type 0 where
   pub count : length before ≡ length m
   pub each : (s : ℕ) → s < length m → slice_index before s ≡ total (take s m)
@@ -56,16 +56,16 @@ module _ (m : List (List ℕ)) where
     RowsMarked s w number a b Says = (bs : Bodies) → AreRowsAt m s w a b bs → count_rows bs ≡ number
         → Says (marked_rows m marks level way (λ i. struct_at s (w + i * (a + b)) a b) 0 bs)
 
-  -- of the text of what is somewhere, at a way
+  -- of the text of a part, at a way
   abbrev pub IsThereMarked : Marks → List ℕ → Place → Target → (List ℕ → Type 0) → Type 0
   IsThereMarked marks way at found Says = (v : Tree) → Shows m found v
       → Says (mark marks (byte_at m marks at) way ++ unmarked m marks 0 way found v)
 
-  -- of that of what is at a way of numbers from the root
+  -- of that of the part at a way of numbers from the root
   abbrev pub IsPartMarked : Marks → List ℕ → (List ℕ → Type 0) → Type 0
   IsPartMarked marks numbers Says = (v : Tree) → IsAt m root v → Says (marked_at m marks numbers v)
 
-  -- numbers lead from the root to what is there, with a value that is no higher and a way; or nothing is there
+  -- numbers lead from the root to the part there, with a value that is no higher and a way; or nothing is there
   abbrev pub IsLed : List ℕ → Tree → List ℕ → Option Part → Type 0
   IsLed numbers v way (Some p) = (u : Tree)
       × (led m numbers (Some (at_root m v)) ≡ Some (record { at = p.at; found = p.found; value = u; way = way }))
@@ -73,7 +73,7 @@ module _ (m : List (List ℕ)) where
       × (height u ≤ height v)
   IsLed numbers v way None = led m numbers (Some (at_root m v)) ≡ None
 
-  -- of the text of what is somewhere at a way, or of the line where nothing is
+  -- of the text of a part at a way, or of the line for no part
   abbrev pub IsLedMarked : Marks → List ℕ → Option Part → (List ℕ → Type 0) → Type 0
   IsLedMarked marks way (Some p) Says = IsThereMarked marks way p.at p.found Says
   IsLedMarked marks way None Says = Says (none_line marks)

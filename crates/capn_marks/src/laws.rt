@@ -2,7 +2,7 @@
 
 ghost use Rattle.capn_marks.specs.Laws.{WithoutMarks};
 
-/// A text for which no marks are asked is that in lines: marks stand before lines, and change none of them.
+/// States: a text for which no marks are asked is that in lines: marks stand before lines, and change none of them.
 pub fn without_marks()
     ensures { WithoutMarks }
 {}

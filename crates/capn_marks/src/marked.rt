@@ -20,7 +20,7 @@ use capn_words::{Place, Space, Watched, Width};
 use std::alloc::Allocator;
 use std::io::Write;
 
-/// The text of the value at a place.
+/// Appends the text of the value at `at` to `text`, at this `level`, with `marks`; `way` leads to it.
 #[cycle(marked)]
 pub fn mark_slot<S: Space, W: Write, A: Allocator>(
     text: &mut Vec<u8, A>,
@@ -51,12 +51,12 @@ pub fn mark_slot<S: Space, W: Write, A: Allocator>(
     views_show_values();
     match resolve(space, at) {
         Ok(found) => mark_found(text, writer, way, space, before, marks, found, level, depth),
-        // A value is here, so the pointer names something.
+        // A value is here, so the pointer has a target.
         Err(_) => unreachable!(),
     }
 }
 
-/// The text of the value that a pointer names, behind its first mark.
+/// Appends the text of the value with the target `found`, to which `way` leads, to `text`, behind its first mark.
 #[cycle(marked)]
 pub fn mark_found<S: Space, W: Write, A: Allocator>(
     text: &mut Vec<u8, A>,
@@ -169,7 +169,8 @@ pub fn mark_found<S: Space, W: Write, A: Allocator>(
     }
 }
 
-/// The text of a struct, behind its first mark.
+/// Appends the text of a struct of `words` and `slots`, whose content starts at `start`, to `text`, behind its first
+/// mark.
 #[cycle(marked)]
 pub fn mark_body<S: Space, W: Write, A: Allocator>(
     text: &mut Vec<u8, A>,

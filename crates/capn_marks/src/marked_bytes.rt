@@ -18,7 +18,8 @@ use capn_words::{Place, Space, Watched};
 use std::alloc::Allocator;
 use std::io::Write;
 
-/// The digits of the bits of a list of which the first lies at a byte.
+/// Appends the line of the digits of a list of `count` bits to `text`, with its mark; `first` is the byte of the first
+/// of them.
 pub fn mark_bits<S: Space, W: Write, A: Allocator>(
     text: &mut Vec<u8, A>,
     writer: &mut Watched<W>,
@@ -46,7 +47,8 @@ pub fn mark_bits<S: Space, W: Write, A: Allocator>(
     show_bits(text, writer, space, start, count, level)
 }
 
-/// The digits of the bytes of a list of which the first lies at a byte.
+/// Appends the line of the digits of a list of `count` bytes to `text`, with its mark; `first` is the byte of the first
+/// of them.
 fn mark_digits<S: Space, W: Write, A: Allocator>(
     text: &mut Vec<u8, A>,
     writer: &mut Watched<W>,
@@ -74,7 +76,7 @@ fn mark_digits<S: Space, W: Write, A: Allocator>(
     show_bytes(text, writer, space, start, count, level)
 }
 
-/// The lines of a list of bytes in digits, behind the mark of the first.
+/// Appends the lines of a list of `count` bytes to `text`, in digits, behind the mark of the first.
 fn mark_digit_lines<S: Space, W: Write, A: Allocator>(
     text: &mut Vec<u8, A>,
     writer: &mut Watched<W>,
@@ -110,7 +112,8 @@ fn mark_digit_lines<S: Space, W: Write, A: Allocator>(
     )
 }
 
-/// The one line of a list of bytes that is a text, or the digits of one that is none, behind the first mark.
+/// Appends a list of `count` bytes to `text`, behind the first mark: the one line of a text, or the digits of one that
+/// is none.
 fn mark_text_or_digits<S: Space, W: Write, A: Allocator>(
     text: &mut Vec<u8, A>,
     writer: &mut Watched<W>,
@@ -140,7 +143,8 @@ fn mark_text_or_digits<S: Space, W: Write, A: Allocator>(
     }
 }
 
-/// The lines of a list of bytes, between quotes where it is a text and quotes are asked for.
+/// Appends the lines of a list of `count` bytes to `text`, behind the first mark: between quotes, if it is a text and
+/// `marks` ask for quotes, else in digits.
 pub fn mark_bytes<S: Space, W: Write, A: Allocator>(
     text: &mut Vec<u8, A>,
     writer: &mut Watched<W>,

@@ -11,12 +11,13 @@ ghost use Rattle.capn_show.specs.ReadyPlaces.{HasNumbers, NumbersShown};
 ghost use Rattle.capn_show.specs.Outgoing.{Adds, BreaksOff, outgoing};
 
 use crate::marks::{Marks, put_mark};
-use capn_show::{Broken, number_at, number_line, per_word, word_line};
+use capn_show::{Broken, number_at, number_line, word_line};
+use capn_walk::per_word;
 use capn_words::{Place, Space, Watched, Width};
 use std::alloc::Allocator;
 use std::io::Write;
 
-/// The line of a data word, with its mark.
+/// Appends the line of a data `word` to `text`, with its mark.
 fn mark_word<W: Write, A: Allocator>(
     text: &mut Vec<u8, A>,
     writer: &mut Watched<W>,
@@ -37,7 +38,7 @@ fn mark_word<W: Write, A: Allocator>(
     word_line(text, writer, level, word)
 }
 
-/// The line of an element, with its mark.
+/// Appends the line of the element `n` to `text`, with its mark.
 fn mark_number<W: Write, A: Allocator>(
     text: &mut Vec<u8, A>,
     writer: &mut Watched<W>,
@@ -58,7 +59,8 @@ fn mark_number<W: Write, A: Allocator>(
     number_line(text, writer, level, n)
 }
 
-/// A line for each data word of a struct, of which the first lies at a byte.
+/// Appends a line for each of the `count` data words of a struct to `text`, with its mark; `first` is the byte of the
+/// first of them.
 pub fn mark_words<S: Space, W: Write, A: Allocator>(
     text: &mut Vec<u8, A>,
     writer: &mut Watched<W>,
@@ -91,14 +93,15 @@ pub fn mark_words<S: Space, W: Write, A: Allocator>(
     Ok(())
 }
 
-/// The bytes of an element, if no word holds more than eight of them.
+/// Returns the bytes of an element of this `width`, if no word holds more than eight of them.
 fn element_bytes(width: Width) -> u128
     ensures is { result ≡ 8 / seen.per_word width }
 {
     8 / per_word(width) as u128
 }
 
-/// A line for each number of a list, of which the first lies at a byte.
+/// Appends a line for each of the `count` numbers of a list to `text`, with its mark; `first` is the byte of the first
+/// of them.
 pub fn mark_numbers<S: Space, W: Write, A: Allocator>(
     text: &mut Vec<u8, A>,
     writer: &mut Watched<W>,

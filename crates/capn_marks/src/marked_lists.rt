@@ -18,7 +18,8 @@ use capn_words::{Place, Space, Watched, Width};
 use std::alloc::Allocator;
 use std::io::Write;
 
-/// The lines of a list of elements without pointers, behind the mark of the first.
+/// Appends the lines of a list of `count` elements of this `width`, which are no pointers, to `text`, behind the mark
+/// of the first.
 pub fn mark_list<S: Space, W: Write, A: Allocator>(
     text: &mut Vec<u8, A>,
     writer: &mut Watched<W>,

@@ -23,11 +23,12 @@ use capn_words::{Place, Space, Watched};
 use std::alloc::Allocator;
 use std::io::Write;
 
-/// Adds the text of what is at a way of numbers from the root of a message, with marks before each line.
+/// Appends the text of the value at a `way` of numbers from the root of `message` to `text`, with `marks` before each
+/// line.
 ///
-/// The text without its marks is that of `capn_show::show_part`, as lines, and the message is surveyed, and the text
-/// added, kept and written as there. Beside that it takes memory for the words before each segment, 4 bytes for each,
-/// and for the way to where it is.
+/// The text without its marks is that of `capn_show::show_part`, as lines, and the message is surveyed within `limits`,
+/// and the text added, kept and written as there. Beside that it takes memory of `alloc` for the words before each
+/// segment, 4 bytes for each, and for the way to where it is.
 pub fn show_marked<S: Space, W: Write, A: Allocator + Copy>(
     alloc: A,
     text: &mut Vec<u8, A>,
@@ -37,7 +38,7 @@ pub fn show_marked<S: Space, W: Write, A: Allocator + Copy>(
     marks: Marks,
     way: &[u64],
 ) -> Result<(), ShowFault>
-    // An answer: the message is accepted, and the text of what is there is added.
+    // An answer: the message is accepted, and the text of the value there is added.
     ensures shown { OnOk result (IsWritten (S.message message.now) limits
         (marked_at (S.message message.now) marks way.now)
         (outgoing W.contents writer.old text.old.items) (outgoing W.contents writer.new text.new.items)) }
@@ -55,7 +56,7 @@ pub fn show_marked<S: Space, W: Write, A: Allocator + Copy>(
     }
 }
 
-/// The text of what is at a way from the root.
+/// Appends the text of the value at the way of `numbers` from the root to `text`.
 fn mark_part<S: Space, W: Write, A: Allocator + Copy>(
     alloc: A,
     text: &mut Vec<u8, A>,
@@ -84,7 +85,7 @@ fn mark_part<S: Space, W: Write, A: Allocator + Copy>(
     }
 }
 
-/// The text of what is somewhere at a way, or the line where nothing is.
+/// Appends the text of `found`, at this `way`, to `text`; or the line for no value.
 fn mark_led<S: Space, W: Write, A: Allocator>(
     text: &mut Vec<u8, A>,
     writer: &mut Watched<W>,
@@ -112,7 +113,7 @@ fn mark_led<S: Space, W: Write, A: Allocator>(
     }
 }
 
-/// What is at a way of numbers from the root, if anything is there; its way is added to one that is empty.
+/// Follows `numbers` from the root, and adds the way to `way`, which is empty; `None`, if nothing is there.
 fn lead<S: Space, A: Allocator>(
     way: &mut Vec<u8, A>,
     space: &S,
@@ -143,7 +144,7 @@ fn lead<S: Space, A: Allocator>(
     Ok(Some(part))
 }
 
-/// The text of what is somewhere, at a way.
+/// Appends the text of `part`, at this `way`, to `text`.
 fn mark_there<S: Space, W: Write, A: Allocator>(
     text: &mut Vec<u8, A>,
     writer: &mut Watched<W>,
@@ -173,7 +174,7 @@ fn mark_there<S: Space, W: Write, A: Allocator>(
     )
 }
 
-/// A tab, if a mark is asked for.
+/// Appends a tab to `text`, if it is `marked`.
 fn put_tab<W: Write, A: Allocator>(
     text: &mut Vec<u8, A>,
     writer: &mut Watched<W>,
@@ -191,7 +192,7 @@ fn put_tab<W: Write, A: Allocator>(
     }
 }
 
-/// The line where nothing is.
+/// Appends the line for no value to `text`.
 fn mark_none<W: Write, A: Allocator>(
     text: &mut Vec<u8, A>,
     writer: &mut Watched<W>,

@@ -16,7 +16,7 @@ use capn_words::{Place, Space, Watched};
 use std::alloc::Allocator;
 use std::io::Write;
 
-/// The text of rows, one after the other.
+/// Appends the text of `count` rows of `words` and `slots` each, from `first` on, one after the other, to `text`.
 #[cycle(marked)]
 pub fn mark_rows<S: Space, W: Write, A: Allocator>(
     text: &mut Vec<u8, A>,
@@ -61,7 +61,7 @@ pub fn mark_rows<S: Space, W: Write, A: Allocator>(
     Ok(())
 }
 
-/// The text of the row of a number.
+/// Appends the text of the row of this `number`, which starts at `start`, to `text`.
 #[cycle(marked)]
 fn mark_row<S: Space, W: Write, A: Allocator>(
     text: &mut Vec<u8, A>,

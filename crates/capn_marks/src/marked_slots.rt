@@ -1,4 +1,4 @@
-//! The text of what is in slots, with marks.
+//! The text of the values of slots, with marks.
 
 ghost use Rattle.std.specs.Prelude.{◌≡◌, ℕ, ◌<◌, ◌+◌, ◌*◌, ◌^◌, IfErr, OnOk};
 ghost use Rattle.capn_words.specs.Message.{IsMessage, IsPlace};
@@ -15,7 +15,7 @@ use capn_words::{Place, Space, Watched};
 use std::alloc::Allocator;
 use std::io::Write;
 
-/// The text of what is in slots, one after the other.
+/// Appends the text of the values of `count` slots from `first` on, one after the other, to `text`.
 #[cycle(marked)]
 pub fn mark_slots<S: Space, W: Write, A: Allocator>(
     text: &mut Vec<u8, A>,
@@ -54,7 +54,7 @@ pub fn mark_slots<S: Space, W: Write, A: Allocator>(
     Ok(())
 }
 
-/// The text of what is in the slot of a number.
+/// Appends the text of the value of the slot of this `number`, which is at `at`, to `text`.
 #[cycle(marked)]
 fn mark_below<S: Space, W: Write, A: Allocator>(
     text: &mut Vec<u8, A>,

@@ -13,22 +13,22 @@ use itoa::Buffer;
 use std::alloc::Allocator;
 use std::io::Write;
 
-/// What stands before each line of a text, and how lists of bytes are written.
+/// The marks before each line of a text, and the way in which lists of bytes are written.
 #[derive(Clone, Copy, Debug, PartialEq, Eq)]
 pub struct Marks {
-    /// Before each line stands the byte of what it is about, in decimal digits, and a tab.
+    /// Before each line stands the byte of its subject, in decimal digits, and a tab.
     pub offsets: bool,
-    /// Before each line, after its offset, stands the way to what it is about, and a tab.
+    /// Before each line, after its offset, stands the way to its subject, and a tab.
     pub ways: bool,
     /// A list of bytes that is a text is written between quotes, as in `capn_show::Style::Quoted`.
     pub quoted: bool,
-    /// How many bytes of the stream are before the message's table.
+    /// The number of bytes of the stream before the message's table.
     pub offset: u64,
-    /// How many words the table has: none where it is a message without one.
+    /// The number of words of the table: 0 for a message without one.
     pub table: u32,
 }
 
-/// The digits of a byte past 2^64, and a tab.
+/// Appends the digits of a `byte` past 2^64 and a tab to `text`.
 #[cold]
 fn put_wide<W: Write, A: Allocator>(
     text: &mut Vec<u8, A>,
@@ -46,7 +46,7 @@ fn put_wide<W: Write, A: Allocator>(
     put(text, writer, b"\t")
 }
 
-/// The digits of a byte, and a tab.
+/// Appends the digits of `byte` and a tab to `text`.
 fn put_byte<W: Write, A: Allocator>(
     text: &mut Vec<u8, A>,
     writer: &mut Watched<W>,
@@ -64,7 +64,7 @@ fn put_byte<W: Write, A: Allocator>(
     }
 }
 
-/// The byte of what a line is about, and a tab, if that is asked for.
+/// Appends the `byte` of a line's subject and a tab to `text`, if `offsets` are asked for.
 fn put_offset<W: Write, A: Allocator>(
     text: &mut Vec<u8, A>,
     writer: &mut Watched<W>,
@@ -83,7 +83,7 @@ fn put_offset<W: Write, A: Allocator>(
     }
 }
 
-/// What a way is called: that of the root has no numbers.
+/// Returns the name of `way`: that of the root, which has no numbers, is `root`.
 fn way_name(way: &[u8]) -> &[u8]
     ensures { result.now ≡ spec.way_name way.now }
 {
@@ -93,7 +93,7 @@ fn way_name(way: &[u8]) -> &[u8]
 /// The most bytes of a name that has room in a block.
 const MOST: usize = 42;
 
-/// A block with a name in it: a tab is before it, at byte 20, and one behind it.
+/// Returns a block with `name` in it: a tab is before it, at byte 20, and one behind it.
 #[inline(always)]
 fn name_block(name: &[u8]) -> [u8; 64]
     requires short { length name.now ≤ 42 }
@@ -106,7 +106,7 @@ fn name_block(name: &[u8]) -> [u8; 64]
     block
 }
 
-/// A name that has no room in a block, and a tab.
+/// Appends a `name` that has no room in a block and a tab to `text`.
 #[cold]
 fn put_long<W: Write, A: Allocator>(
     text: &mut Vec<u8, A>,
@@ -122,7 +122,7 @@ fn put_long<W: Write, A: Allocator>(
     put(text, writer, b"\t")
 }
 
-/// A name, and a tab.
+/// Appends `name` and a tab to `text`.
 fn put_named<W: Write, A: Allocator>(
     text: &mut Vec<u8, A>,
     writer: &mut Watched<W>,
@@ -140,7 +140,7 @@ fn put_named<W: Write, A: Allocator>(
     put(text, writer, &block[21..22 + name.len()])
 }
 
-/// The digits of a byte, a tab, a name, and a tab, in one block.
+/// Appends the digits of `byte`, a tab, `name` and a tab to `text`, in one block.
 fn put_block<W: Write, A: Allocator>(
     text: &mut Vec<u8, A>,
     writer: &mut Watched<W>,
@@ -158,7 +158,7 @@ fn put_block<W: Write, A: Allocator>(
     put(text, writer, &block[start..22 + name.len()])
 }
 
-/// The digits of a byte, a tab, a name, and a tab, where they need not have room in a block.
+/// Appends the digits of `byte`, a tab, `name` and a tab to `text`; they need not have room in a block.
 #[cold]
 fn put_apart<W: Write, A: Allocator>(
     text: &mut Vec<u8, A>,
@@ -176,7 +176,7 @@ fn put_apart<W: Write, A: Allocator>(
     put_named(text, writer, name)
 }
 
-/// The digits of a byte, a tab, a name, and a tab.
+/// Appends the digits of `byte`, a tab, `name` and a tab to `text`.
 fn put_both<W: Write, A: Allocator>(
     text: &mut Vec<u8, A>,
     writer: &mut Watched<W>,
@@ -195,7 +195,7 @@ fn put_both<W: Write, A: Allocator>(
     }
 }
 
-/// The marks of a line about what lies at a byte, at a way.
+/// Appends the `marks` of a line to `text`, whose subject lies at `byte` and has this `way`.
 pub fn put_mark<W: Write, A: Allocator>(
     text: &mut Vec<u8, A>,
     writer: &mut Watched<W>,
@@ -217,14 +217,14 @@ pub fn put_mark<W: Write, A: Allocator>(
     }
 }
 
-/// The bytes of a way.
+/// Returns the number of bytes of `way`.
 pub fn way_length<A: Allocator>(way: &Vec<u8, A>) -> usize
     ensures { result ≡ length way.now.items }
 {
     way.len()
 }
 
-/// The way to what has this number below what is at a way.
+/// Appends `number` to `way`, which then leads to the value of this number below.
 pub fn push_number<A: Allocator>(way: &mut Vec<u8, A>, number: u64) -> Result<(), Broken>
     ensures below { OnOk result (way.new.items ≡ spec.below way.old.items number) }
     ensures memory { IfErr result (λ e. e ≡ broken.Memory) }
@@ -242,7 +242,7 @@ pub fn push_number<A: Allocator>(way: &mut Vec<u8, A>, number: u64) -> Result<()
     }
 }
 
-/// The way to what has this number below, where ways are asked for; else it stays, and nothing reads it.
+/// Appends `number` to `way`, if `ways` are asked for; else it stays, and nothing reads it.
 pub fn step_below<A: Allocator>(way: &mut Vec<u8, A>, ways: bool, number: u64) -> Result<(), Broken>
     ensures below { OnOk result (way.new.items ≡ (if ways then spec.below way.old.items number else way.old.items)) }
     ensures memory { IfErr result (λ e. e ≡ broken.Memory) }

@@ -9,7 +9,7 @@ use crate::marks::Marks;
 use capn_words::{Place, Space};
 use std::alloc::{AllocError, Allocator};
 
-/// How many words of a message are before each of its segments.
+/// Returns the number of words of the message `space` before each of its segments.
 #[tactic(auto, using(crate::proofs::Before::one_more, crate::proofs::Before::next, crate::proofs::Before::within))]
 pub fn words_before<S: Space, A: Allocator>(alloc: A, space: &S) -> Result<Vec<u32, A>, AllocError>
     requires message { IsMessage (S.message space.now) }
@@ -27,7 +27,7 @@ pub fn words_before<S: Space, A: Allocator>(alloc: A, space: &S) -> Result<Vec<u
     Ok(before)
 }
 
-/// The byte of a message's first word.
+/// Returns the byte of a message's first word.
 fn first_byte(marks: &Marks) -> u128
     ensures is { result ≡ spec.first_byte marks.now }
     ensures small { result < 2 ^ 65 }
@@ -35,7 +35,7 @@ fn first_byte(marks: &Marks) -> u128
     marks.offset as u128 + 8 * marks.table as u128
 }
 
-/// The byte of a word, or of a segment's end.
+/// Returns the byte of the word at `at`, or of a segment's end; `before` has the words before each segment.
 #[tactic(auto, using(crate::proofs::Before::within))]
 pub fn byte_of<S: Space>(space: &S, marks: &Marks, before: &[u32], at: Place) -> u128
     requires message { IsMessage (S.message space.now) }

@@ -1,4 +1,5 @@
--- The tables hold their rules, and what a vector shuffled by a row of them is.
+-- The tables hold their rules, and what a vector shuffled by a row of them is. (For `gather_table.rt`, `lanes.rt`,
+-- `pack_block.rt` and others.)
 use Rattle.std.proofs.Common.{◌≡◌, ℕ, zero, suc, ◌+◌, ◌*◌, ◌/◌, ◌%◌, ◌^◌, ◌<◌, ◌≤◌, Bool, true, false, cond, eqb, ltb}
 use Rattle.std.proofs.Common.{leb, ◌&&◌, ◌||◌, T, inl, inr, List, [], ◌∷◌, ◌++◌, map, length, take, drop, get_or}
 use Rattle.std.proofs.Common.{replicate, refl, sym, ap, ◌∙◌, subst, arith, append_assoc, take_all, w8}

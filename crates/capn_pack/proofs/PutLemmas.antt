@@ -1,4 +1,4 @@
--- The group that the packer appends.
+-- The group that the packer appends. (For `pack_block.rt`, `pack_group.rt` and `packed_text.rt`.)
 use Rattle.std.proofs.Common.{◌≡◌, ℕ, ◌+◌, ◌-◌, ◌*◌, ◌<◌, ◌≤◌, List, [], ◌∷◌, ◌++◌, length, take, drop, slice_range}
 use Rattle.std.proofs.Common.{replicate, sym, ap, ◌∙◌, subst, arith, append_assoc, take-append-drop, drop-drop}
 use Rattle.std.proofs.Common.{length-take, length-drop}

@@ -1,4 +1,5 @@
--- Groups one after another at the front of some bytes.
+-- Groups one after another at the front of some bytes. (For `text_piece.rt`, `unpack_block.rt` and
+-- `unpacked_words.rt`.)
 use Rattle.std.proofs.Common.{◌≡◌, ℕ, ◌+◌, ◌-◌, ◌*◌, ◌≤◌, List, [], ◌∷◌, ◌++◌, length, take, drop, slice_range}
 use Rattle.std.proofs.Common.{sym, ap, ◌∙◌, subst, arith, append_assoc, length-append, take-add, take-append-drop}
 use Rattle.std.proofs.Common.{length-take, length-drop, take_all}

@@ -1,4 +1,4 @@
--- Runs of words, and the bytes that a tag names.
+-- Runs of words, and the bytes that a tag names. (For `long_run`, `raw_run`, `raw_step` and `zero_run`.)
 use Rattle.std.proofs.Common.{◌≡◌, ℕ, zero, suc, ◌+◌, ◌-◌, ◌*◌, ◌/◌, ◌%◌, ◌^◌, ◌<◌, ◌≤◌, true, false, eqb, ltb, List}
 use Rattle.std.proofs.Common.{[], ◌∷◌, ◌++◌, length, take, drop, slice_range, replicate, filter, refl, sym, ap, ◌∙◌}
 use Rattle.std.proofs.Common.{subst, arith, append_assoc, take-add, take-append-drop, drop-drop, length-take}

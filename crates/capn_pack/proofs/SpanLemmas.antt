@@ -1,4 +1,4 @@
--- A span of bytes is written whole, and a front of it counts.
+-- A span of bytes is written whole, and a front of it counts. (For `fill_raw` and `store_raw`.)
 use Rattle.std.proofs.Common.{◌≡◌, ℕ, zero, suc, ◌+◌, ◌-◌, ◌*◌, ◌/◌, ◌^◌, ◌≤◌, List, [], ◌∷◌, ◌++◌, length, take, drop}
 use Rattle.std.proofs.Common.{slice_range, refl, sym, ap, ◌∙◌, arith, append_assoc, length-take, length-drop}
 use Rattle.std.proofs.lemmas.List.{take-take}

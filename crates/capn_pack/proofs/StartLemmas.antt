@@ -1,4 +1,4 @@
--- A whole group comes first.
+-- A whole group comes first. (For `text_piece.rt`, `unpack_block.rt`, `unpack_group.rt` and `unpacked_words.rt`.)
 use Rattle.std.proofs.Common.{◌≡◌, inl, inr, ℕ, ◌*◌, ◌<◌, ◌≤◌, List, [], ◌∷◌, ◌++◌, length, take, drop}
 use Rattle.std.proofs.Common.{slice_range, sym, ap, ◌∙◌, arith, append_assoc, length-take}
 use Rattle.std.proofs.Common.{take-append-drop, Result, IsErrAnd}

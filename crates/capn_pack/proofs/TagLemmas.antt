@@ -1,4 +1,4 @@
--- The tag of a word by lanes.
+-- The tag of a word by lanes. (For `four_tags` and `tag`.)
 use Rattle.std.proofs.Common.{◌≡◌, ℕ, ◌+◌, ◌*◌, ◌%◌, ◌^◌, ◌<◌, Bool, true, false, not, cond, eqb, List, [], ◌∷◌, map}
 use Rattle.std.proofs.Common.{length, refl, ◌∙◌, arith, w8, replicate}
 use Rattle.std.proofs.lemmas.Simd.{bitmask_splat, mask_l-lt}

@@ -1,4 +1,4 @@
--- The tag of a word as the sum of the weights of its lanes.
+-- The tag of a word as the sum of the weights of its lanes. (For `tag`.)
 use Rattle.std.proofs.Common.{◌≡◌, ℕ, zero, suc, ◌+◌, ◌*◌, ◌%◌, ◌≤◌, Bool, true, false, not, cond, eqb, List, []}
 use Rattle.std.proofs.Common.{◌∷◌, map, length, refl, ap, ◌∙◌, arith, replicate}
 use lib.Lanes.{fold_l, sel_l, top, zip2}

@@ -1,4 +1,5 @@
--- Whole groups at the front of some bytes, whose words were appended to what was there, under a maximum.
+-- Whole groups at the front of some bytes, whose words were appended to what was there, under a maximum. (For
+-- `unpack_some`.)
 use Rattle.std.proofs.Common.{◌≡◌, ℕ, ◌+◌, ◌-◌, ◌*◌, ◌<◌, ◌≤◌, List, [], ◌∷◌, ◌++◌, length, take, drop, slice_range}
 use Rattle.std.proofs.Common.{refl, sym, ap, ◌∙◌, subst, arith, append_assoc, length-append, take-append-drop}
 use Rattle.std.proofs.Common.{length-take}

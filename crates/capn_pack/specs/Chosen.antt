@@ -4,7 +4,7 @@ use Rattle.std.specs.Prelude.{suc, zero, ⊤}
 use Rattle.capn_pack.specs.Packed.{tag_of, Group, IsGroup, texts, contents}
 use Rattle.capn_pack.specs.Packed.Group.{Zeros, Named, Raw}
 
--- How many of some bytes are zero.
+-- The number of zeros among some bytes.
 abbrev pub zero_count : List ℕ → ℕ
 zero_count [] = 0
 zero_count (x ∷ xs) = (if x == 0 then 1 else 0) + zero_count xs

@@ -6,7 +6,7 @@ use Rattle.std.specs.List.{flat_map, AllByRecursion}
 -- ---- the tag of a word, one bit for each of its eight bytes, and the three kinds of group. A word is its eight bytes,
 -- the least first. (Page: packing.)
 
--- The tag of some bytes: from the least bit on, 1 exactly where the byte isn't zero.
+-- The tag of some bytes: from the least bit on, 1 exactly if the byte isn't zero.
 abbrev pub tag_of : List ℕ → ℕ
 tag_of [] = 0
 tag_of (x ∷ xs) = (if x == 0 then 0 else 1) + 2 * tag_of xs
@@ -30,13 +30,13 @@ pub data Group : Type 0 where
   -- one word written whole, and this many more, copied
   Raw : (word : List ℕ) (count : ℕ) (more : List ℕ) → Group
 
--- The numbers of a group fit: counts are bytes, words have eight bytes, and what no tag names is zero.
+-- The numbers of a group fit: counts are bytes, words have eight bytes, and bytes that no tag names are zero.
 abbrev pub IsGroup : Group → Type 0
 IsGroup (Zeros more) = more < 256
 IsGroup (Named tag word) = (0 < tag) × (tag < 255) × (length word ≡ 8) × IsNamedBy tag word
 IsGroup (Raw word count more) = (length word ≡ 8) × (count < 256) × (length more ≡ 8 * count)
 
--- How a group is written: its tag, then what the tag asks for.
+-- The text of a group: its tag, then the bytes for which the tag asks.
 abbrev pub text : Group → List ℕ
 text (Zeros more) = 0 ∷ more ∷ []
 text (Named tag word) = tag ∷ named_bytes tag word
@@ -48,7 +48,7 @@ content (Zeros more) = replicate (8 * (1 + more)) 0
 content (Named tag word) = word
 content (Raw word count more) = word ++ more
 
--- How many words a group has.
+-- The number of words of a group.
 abbrev pub words : Group → ℕ
 words (Zeros more) = 1 + more
 words (Named tag word) = 1
@@ -64,7 +64,7 @@ texts groups = flat_map text groups
 abbrev pub contents : List Group → List ℕ
 contents groups = flat_map content groups
 
--- How many words a row of groups has.
+-- The number of words of a row of groups.
 abbrev pub word_count : List Group → ℕ
 word_count [] = 0
 word_count (g ∷ gs) = words g + word_count gs

@@ -24,8 +24,8 @@ pub record Begins (stream old new : List ℕ) : Type 0 where
   pub text : stream ≡ texts groups ++ rest
   pub content : new ≡ old ++ contents groups
 
--- What an unpacker holds: the bytes of the unfinished group, where in the stream it begins, and whether a call has
--- refused.
+-- The state of an unpacker: the bytes of the unfinished group, the offset in the stream at which it begins, and whether
+-- a call has refused.
 pub record Held : Type 0 where
   pub rest : List ℕ
   pub offset : ℕ
@@ -35,7 +35,7 @@ pub record Held : Type 0 where
 abbrev pub advanced : ℕ → ℕ → ℕ
 advanced offset len = min (offset + len) (2 ^ 64 - 1)
 
--- What was held and the piece are whole groups, whose words were appended, and what is held then.
+-- The bytes held before and the piece are whole groups, whose words were appended, and the bytes held after them.
 pub record Feeds (before : Held) (piece old new : List ℕ) (after : Held) : Type 0 where
   pub len : ℕ
   pub split : Splits (before.rest ++ piece) after.rest old new len

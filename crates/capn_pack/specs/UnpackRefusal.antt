@@ -1,4 +1,4 @@
--- What is answered where a text packs no words, or more than the maximum. (Own.)
+-- The answer for a text that packs no words, or more than the maximum. (Own.)
 use Rattle.std.specs.Prelude.{ℕ, ◌≡◌, ◌⊎◌, ◌+◌, ◌*◌, ◌<◌, ◌≤◌, ◌==◌, if◌then◌else◌, List, ◌++◌, length, slice_index}
 use Rattle.std.specs.Prelude.{count_ones, ⊤}
 use Rattle.std.specs.List.{AllByRecursion}
@@ -6,7 +6,7 @@ use Rattle.capn_pack.specs.declared.fault.UnpackFault.{UnpackFault}
 use Rattle.capn_pack.specs.declared.fault.UnpackFault.TheVariants.{Memory, Cut, TooLong, Failed}
 use Rattle.capn_pack.specs.Packed.{Group, IsGroup, text, words, texts, word_count}
 
--- How long the head of a group with this tag is: the tag, then a count, the named bytes, or a word and a count.
+-- The length of the head of a group with this tag: the tag, then a count, the named bytes, or a word and a count.
 abbrev pub head_len : ℕ → ℕ
 head_len tag = if tag == 0 then 2 else (if tag == 255 then 10 else 1 + count_ones tag)
 
@@ -14,13 +14,13 @@ head_len tag = if tag == 0 then 2 else (if tag == 255 then 10 else 1 + count_one
 abbrev pub HasHead : List ℕ → Type 0
 HasHead rest = head_len (slice_index rest 0) ≤ length rest
 
--- How many words the head announces.
+-- The number of words that the head announces.
 abbrev pub words_at : List ℕ → ℕ
 words_at rest =
     let tag = slice_index rest 0 in
     if tag == 0 then 1 + slice_index rest 1 else (if tag == 255 then 1 + slice_index rest 9 else 1)
 
--- How many bytes the head announces, itself among them.
+-- The number of bytes that the head announces, itself among them.
 abbrev pub len_at : List ℕ → ℕ
 len_at rest =
     let tag = slice_index rest 0 in

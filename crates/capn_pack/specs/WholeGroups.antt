@@ -10,14 +10,14 @@ use Rattle.capn_pack.specs.declared.whole_groups.Next.TheVariants as nexts
 abbrev pub most_group : ℕ
 most_group = 2050
 
--- what comes next, with room for this many words: nothing; a group that is cut; or one that has more words
+-- these bytes come next, with room for this many words: none; a group that is cut; or one that has more words
 abbrev pub StandsNext : Next → ℕ → List ℕ → Type 0
 StandsNext nexts.End room rest = rest ≡ []
 StandsNext nexts.Cut room rest = IsCut room rest × (length rest < most_group)
 StandsNext nexts.TooLong room rest = IsTooLong room rest
 
 -- The first bytes are whole groups of this many words, within the maximum, which were appended; and this comes next,
--- with room for what is left of the maximum.
+-- with room for the rest of the maximum.
 pub record UnpacksSome (bytes : List ℕ) (max : ℕ) (old new : List ℕ) (taken words : ℕ) (next : Next) : Type 0 where
   pub groups : List Group
   pub each : AllByRecursion IsGroup groups

@@ -1,16 +1,16 @@
 //! The progress of a block, and writes into it.
 ghost use Rattle.std.specs.Prelude.{◌≡◌, ◌+◌, ◌≤◌, ◌++◌, length, take};
 
-/// What a block holds: what was made of the groups up to an offset of the input, and how many bytes that is.
+/// The progress of a block: an offset of the input, and the number of bytes that were made of the groups up to it.
 #[derive(Clone, Copy)]
 pub(crate) struct Block {
     /// The offset, in bytes.
     pub at: usize,
-    /// How many bytes of the block are filled.
+    /// The number of bytes of the block that are filled.
     pub fill: usize,
 }
 
-/// Writes some bytes from an offset on.
+/// Copies `bytes` to `block`, from offset `at` on.
 #[inline(always)]
 pub(crate) fn store_bytes(block: &mut [u8], at: usize, bytes: &[u8])
     requires { at + length bytes.now ≤ length block.old }

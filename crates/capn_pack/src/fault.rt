@@ -6,7 +6,7 @@ use std::alloc::AllocError;
 use std::error::Error;
 use std::fmt;
 
-/// Why bytes aren't packed.
+/// The reason why bytes aren't packed.
 #[derive(Clone, Copy, Debug, PartialEq, Eq)]
 pub enum PackFault {
     /// A growth was refused.
@@ -41,19 +41,19 @@ impl fmt::Display for PackFault {
 
 impl Error for PackFault {}
 
-/// Why a packed text isn't unpacked. Offsets are in bytes of the text, and are those of a group's tag.
+/// The reason why a packed text isn't unpacked. Offsets are in bytes of the text, and are those of a group's tag.
 #[derive(Clone, Copy, Debug, PartialEq, Eq)]
 pub enum UnpackFault {
     /// A growth was refused.
     Memory,
     /// The text ends within the group that begins there.
     Cut {
-        /// Where the group's tag is.
+        /// The offset of the group's tag.
         at: u64,
     },
     /// The group that begins there has more words than the maximum leaves.
     TooLong {
-        /// Where the group's tag is.
+        /// The offset of the group's tag.
         at: u64,
     },
     /// An earlier call on the same unpacker has refused.

@@ -266,7 +266,7 @@ static GATHERS: [[u8; 16]; 256] = [
     [128, 0, 1, 2, 3, 4, 5, 6, 7, 128, 128, 128, 128, 128, 128, 128],
 ];
 
-/// The lanes that the bytes named by this tag come from.
+/// Returns the lanes of a word that hold the bytes named by `tag`, one after another behind lane 0.
 #[inline(always)]
 pub(crate) fn gather_places(tag: u8) -> u8x16
     ensures { result ≡ gather_row tag }

@@ -6,7 +6,7 @@ use crate::gather_table::gather_places;
 use crate::spread_table::spread_places;
 use std::simd::prelude::*;
 
-/// The tag of a word: bit i is 1 if and only if byte i isn't zero. (Page: packing.)
+/// Returns the tag of the word `bytes`: bit i is 1 if and only if byte i isn't zero. (Page: packing.)
 ///
 /// It is the sum of the weights of the lanes that aren't zero. It takes no memory.
 #[inline(always)]
@@ -20,7 +20,7 @@ pub fn tag(bytes: &[u8; 8]) -> u8
         .reduce_sum()
 }
 
-/// The first sixteen bytes, or as many as there are.
+/// Returns the first sixteen bytes of `bytes`; if there are fewer, all of them and then zeros.
 #[inline(always)]
 fn window(bytes: &[u8]) -> u8x16
     ensures { (n : ℕ) → n ≤ 16 → n ≤ length bytes.now → take n result ≡ take n bytes.now }
@@ -33,7 +33,7 @@ fn window(bytes: &[u8]) -> u8x16
     u8x16::from_array(window)
 }
 
-/// The word of which the tag names the first lanes.
+/// Returns the word whose bytes named by `tag` are the first of `lanes`, in order; its other bytes are zero.
 #[inline(always)]
 fn spread_lanes(tag: u8, lanes: u8x16) -> [u8; 8]
     ensures named { IsNamedBy tag result }
@@ -43,7 +43,7 @@ fn spread_lanes(tag: u8, lanes: u8x16) -> [u8; 8]
     lanes.swizzle_dyn(places).extract::<0, 8>().to_array()
 }
 
-/// The word of which the tag names the first of these bytes.
+/// Returns the word whose bytes named by `tag` are the first of `bytes`, in order; its other bytes are zero.
 #[inline(always)]
 pub(crate) fn spread(tag: u8, bytes: &[u8]) -> [u8; 8]
     requires { count_ones tag ≤ length bytes.now }
@@ -53,7 +53,7 @@ pub(crate) fn spread(tag: u8, bytes: &[u8]) -> [u8; 8]
     spread_lanes(tag, window(bytes))
 }
 
-/// The same where sixteen bytes are there, with no copy of them.
+/// Returns what [`spread`] does, if `bytes` are sixteen or more, without a copy of them.
 #[inline(always)]
 pub(crate) fn spread_far(tag: u8, bytes: &[u8]) -> [u8; 8]
     requires { 16 ≤ length bytes.now }
@@ -63,7 +63,7 @@ pub(crate) fn spread_far(tag: u8, bytes: &[u8]) -> [u8; 8]
     spread_lanes(tag, u8x16::from_slice(bytes))
 }
 
-/// The word, then zeros.
+/// Returns `word`, then eight zeros.
 #[inline(always)]
 fn widened(word: [u8; 8]) -> u8x16
     ensures { result ≡ word ++ replicate 8 0 }
@@ -74,7 +74,7 @@ fn widened(word: [u8; 8]) -> u8x16
     )
 }
 
-/// The tag, then the bytes of the word that it names, then any.
+/// Returns `tag`, then the bytes of `word` that it names, then any.
 #[inline(always)]
 pub(crate) fn gather(word: [u8; 8], tag: u8) -> [u8; 16]
     ensures { take (1 + count_ones tag) result ≡ tag ∷ named_bytes tag word }

@@ -8,14 +8,14 @@ use crate::lanes::gather;
 use crate::runs::{raw_run, word_at, zero_run};
 use crate::signs::tag;
 
-/// How many bytes are written at once after the head of a raw group: those of the words that follow its first one, of
-/// which there are fewer than eight, and any.
+/// The number of bytes that are written at once after the head of a raw group: those of the words that follow its first
+/// one, which are fewer than eight, and any.
 const SPAN: usize = 64;
 
-/// How many bytes one group may need of a block: the head of a raw group has ten.
+/// The most bytes that one group needs of a block: the head of a raw group has ten.
 pub(crate) const ROOM: usize = 10 + SPAN;
 
-/// Writes sixteen bytes.
+/// Copies sixteen `bytes` to `block`, from offset `at` on.
 #[inline(always)]
 fn store(block: &mut [u8], at: usize, bytes: [u8; 16])
     requires { at + 16 ≤ length block.old }
@@ -24,7 +24,7 @@ fn store(block: &mut [u8], at: usize, bytes: [u8; 16])
     block[at..at + 16].copy_from_slice(&bytes);
 }
 
-/// Writes two bytes.
+/// Copies the two bytes of `pair` to `block`, from offset `at` on.
 #[inline(always)]
 fn store_pair(block: &mut [u8], at: usize, pair: [u8; 2])
     requires { at + 2 ≤ length block.old }
@@ -33,7 +33,8 @@ fn store_pair(block: &mut [u8], at: usize, pair: [u8; 2])
     block[at..at + 2].copy_from_slice(&pair);
 }
 
-/// Writes a raw group of at most eight words after the bytes that wait, if a span of bytes comes after its first word.
+/// Writes a raw group of at most eight words, of which the first is at byte `at` of `bytes`, to `block` from offset
+/// `fill` on. Returns `None` if the group is longer, or if fewer than [`SPAN`] bytes come after its first word.
 #[inline(always)]
 fn store_raw(bytes: &[u8], at: usize, block: &mut [u8], fill: usize) -> Option<Block>
     requires inside { at + 8 ≤ length bytes.now }
@@ -51,7 +52,7 @@ fn store_raw(bytes: &[u8], at: usize, block: &mut [u8], fill: usize) -> Option<B
     if more == 8 {
         return None;
     }
-    // The word stays in its lanes, as where a group has no more than it.
+    // The word stays in its lanes, as it does in a group of one word.
     let word = word_at(bytes, at);
     store(block, fill, gather(word, 255));
     store_bytes(block, fill + 9, &[more as u8]);
@@ -62,7 +63,8 @@ fn store_raw(bytes: &[u8], at: usize, block: &mut [u8], fill: usize) -> Option<B
     })
 }
 
-/// Writes the tag and the bytes that it names after the bytes that wait, and answers how many wait then.
+/// Writes `tag` and the bytes of `word` that it names to `block` from offset `fill` on, and returns the offset after
+/// them.
 #[inline(always)]
 fn store_named(block: &mut [u8], fill: usize, word: [u8; 8], tag: u8) -> usize
     requires { fill + 16 ≤ length block.old }
@@ -73,7 +75,8 @@ fn store_named(block: &mut [u8], fill: usize, word: [u8; 8], tag: u8) -> usize
     fill + 1 + tag.count_ones() as usize
 }
 
-/// Writes the group of a zero word, and of as many more as come, after the bytes that wait.
+/// Writes the group of the zero word at byte `at` of `bytes`, and of as many more as follow, up to 255, to `block` from
+/// offset `fill` on.
 #[inline(always)]
 fn store_zeros(bytes: &[u8], at: usize, block: &mut [u8], fill: usize) -> Block
     requires inside { at + 8 ≤ length bytes.now }
@@ -90,8 +93,8 @@ fn store_zeros(bytes: &[u8], at: usize, block: &mut [u8], fill: usize) -> Block
     }
 }
 
-/// Writes the group that the packer chooses there after the bytes that wait, unless it is a raw one that is long or
-/// near the end.
+/// Writes the group that the packer chooses for the words from byte `at` of `bytes` on to `block` from offset `fill`
+/// on. Returns `None` for a raw group that is long or near the end.
 #[inline(always)]
 fn store_group(bytes: &[u8], at: usize, block: &mut [u8], fill: usize) -> Option<Block>
     requires inside { at + 8 ≤ length bytes.now }
@@ -112,8 +115,8 @@ fn store_group(bytes: &[u8], at: usize, block: &mut [u8], fill: usize) -> Option
     }
 }
 
-/// Writes the groups that the packer chooses from there on, as far as the block goes, or up to a
-/// raw one that is long or near the end.
+/// Writes the groups that the packer chooses for the words from byte `start` of `bytes` on, as far as `block` goes, or
+/// up to a raw group that is long or near the end.
 pub(crate) fn store_groups(bytes: &[u8], start: usize, block: &mut [u8]) -> Block
     requires inside { start ≤ length bytes.now }
     requires room { ROOM ≤ length block.old }

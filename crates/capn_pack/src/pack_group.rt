@@ -9,7 +9,7 @@ use crate::runs::{long_run, word_at, zero_run};
 use crate::signs::tag;
 use std::alloc::{AllocError, Allocator};
 
-/// Appends the tag and the bytes that it names.
+/// Appends `tag` and the bytes of `word` that it names to `out`.
 #[inline(always)]
 fn push_named<A: Allocator>(word: &[u8; 8], tag: u8, out: &mut Vec<u8, A>) -> Result<(), AllocError>
     ensures ok { OnOk result (out.new.items ≡ out.old.items ++ tag ∷ named_bytes tag word.now) }
@@ -20,7 +20,8 @@ fn push_named<A: Allocator>(word: &[u8; 8], tag: u8, out: &mut Vec<u8, A>) -> Re
     Ok(())
 }
 
-/// A zero word, and as many more as come.
+/// Appends the group of the zero word at byte `at` of `bytes` and of as many more as follow, up to 255, to `out`;
+/// returns the offset of the next word.
 #[inline(always)]
 fn put_zeros<A: Allocator>(
     bytes: &[u8],
@@ -36,7 +37,8 @@ fn put_zeros<A: Allocator>(
     Ok(at + 8 + 8 * more)
 }
 
-/// A word without a zero byte, and as many dense words as come.
+/// Appends the raw group of the word at byte `at` of `bytes`, which has no zero byte, and of as many dense words as
+/// follow, up to 255, to `out`; returns the offset of the next word.
 #[inline(always)]
 fn put_raw<A: Allocator>(bytes: &[u8], at: usize, out: &mut Vec<u8, A>) -> Result<usize, AllocError>
     requires inside { at + 8 ≤ length bytes.now }
@@ -55,7 +57,8 @@ fn put_raw<A: Allocator>(bytes: &[u8], at: usize, out: &mut Vec<u8, A>) -> Resul
     Ok(end)
 }
 
-/// A word of which some bytes are zero.
+/// Appends the group of the word at byte `at` of `bytes`, of which some bytes are zero, to `out`; returns the offset of
+/// the next word.
 #[inline(always)]
 fn put_named<A: Allocator>(
     bytes: &[u8],
@@ -73,7 +76,8 @@ fn put_named<A: Allocator>(
     Ok(at + 8)
 }
 
-/// Appends the group that the packer chooses for the words from there on, and answers where the next begins.
+/// Appends the group that the packer chooses for the words from byte `at` of `bytes` on to `out`; returns the offset at
+/// which the next group begins.
 pub(crate) fn put_group<A: Allocator>(
     bytes: &[u8],
     at: usize,

@@ -13,7 +13,7 @@ use std::alloc::{AllocError, Allocator};
 /// A block and the room for a group after it.
 const BLOCK: usize = 4096 + ROOM;
 
-/// Packs whole words, small groups by the block.
+/// Packs the whole words `bytes`, small groups by the block.
 fn pack_words<A: Allocator + Copy>(alloc: A, bytes: &[u8]) -> Result<Vec<u8, A>, AllocError>
     requires { length bytes.now % 8 ≡ 0 }
     ensures chosen { IfOk result (λ v. Chosen v.items bytes.now) }
@@ -35,14 +35,14 @@ fn pack_words<A: Allocator + Copy>(alloc: A, bytes: &[u8]) -> Result<Vec<u8, A>,
     Ok(out)
 }
 
-/// The packed text of whole words, which this packer chooses. (Page: packing; where runs end is our own.)
+/// Packs whole words: returns the one text that this packer chooses. (Page: packing; where runs end is our own.)
 ///
 /// `bytes` are the words' bytes, the least first. The answer grows on `alloc` a logarithmic number of times: it gets
 /// room for the rest of the words, as if they packed like those before, but for at most 64 times what it has; or for
 /// twice what it has.
 ///
-/// Refusals: `NotWhole` with the number of bytes where that is no multiple of eight, before any growth; `Memory` where
-/// a growth was refused, which takes some bytes.
+/// Refusals: `NotWhole` with the number of bytes, if that is no multiple of eight, before any growth; `Memory` if a
+/// growth was refused, which takes some bytes.
 pub fn pack<A: Allocator + Copy>(alloc: A, bytes: &[u8]) -> Result<Vec<u8, A>, PackFault>
     // The answer is the packer's text of these words, and so a packed text of them.
     ensures packed { IfOk result (λ v. Chosen v.items bytes.now) }

@@ -7,8 +7,9 @@ use std::alloc::Allocator;
 /// A text grows by this many times itself at most.
 const TIMES: usize = 64;
 
-/// The room for `count` bytes of text, with which the words up to `at` are packed; where there is none yet, also the
-/// room for the text of the words after them, as if those packed like the words before.
+/// Returns the room to ask of `out` for `count` more bytes of text, which pack the words up to byte `at` of `all`:
+/// `count`, if `out` has as much; else also the room for the text of the words after them, as if those packed like the
+/// words before.
 #[inline(always)]
 pub(crate) fn text_room<A: Allocator>(
     out: &Vec<u8, A>,
@@ -27,8 +28,9 @@ pub(crate) fn text_room<A: Allocator>(
     count.saturating_add(text.saturating_mul(times))
 }
 
-/// The room for `count` bytes of words, which come first in the rest of a text; where there is none yet, for twice the
-/// bytes of the rest, within the maximum: ten bytes of groups have at least eight bytes of words.
+/// Returns the room to ask of `out` for `count` more bytes of words, which come first in `rest` of a text: `count`, if
+/// `out` has as much; else room for twice the bytes of `rest`, within the `room` words that are left of the maximum:
+/// ten bytes of groups have at least eight bytes of words.
 #[inline(always)]
 pub(crate) fn words_room<A: Allocator>(
     out: &Vec<u8, A>,

@@ -4,7 +4,7 @@ ghost use Rattle.capn_pack.specs.Chosen.{IsDense, AllDense};
 
 use crate::signs::{four_tags, tag};
 
-/// The word that begins there.
+/// Returns the word that begins at byte `at` of `bytes`.
 #[inline(always)]
 pub(crate) fn word_at(bytes: &[u8], at: usize) -> [u8; 8]
     requires { at + 8 ≤ length bytes.now }
@@ -15,7 +15,7 @@ pub(crate) fn word_at(bytes: &[u8], at: usize) -> [u8; 8]
     word
 }
 
-/// How many of the words from there are zero, up to 255.
+/// Counts the zero words from byte `start` of `bytes` on, up to 255.
 #[inline(always)]
 pub(crate) fn zero_run(bytes: &[u8], start: usize) -> usize
     requires { start ≤ length bytes.now }
@@ -34,7 +34,7 @@ pub(crate) fn zero_run(bytes: &[u8], start: usize) -> usize
     count
 }
 
-/// How many of the words from there have at most one zero byte, up to a number.
+/// Counts the words from byte `start` of `bytes` on that have at most one zero byte, up to `limit`.
 #[inline(always)]
 pub(crate) fn raw_run(bytes: &[u8], start: usize, limit: usize) -> usize
     requires inside { start ≤ length bytes.now }
@@ -54,7 +54,7 @@ pub(crate) fn raw_run(bytes: &[u8], start: usize, limit: usize) -> usize
     count
 }
 
-/// The four words that begin there.
+/// Returns the four words that begin at byte `at` of `bytes`.
 #[inline(always)]
 fn four_at(bytes: &[u8], at: usize) -> [u8; 32]
     requires { at + 32 ≤ length bytes.now }
@@ -65,8 +65,8 @@ fn four_at(bytes: &[u8], at: usize) -> [u8; 32]
     words
 }
 
-/// How many of the next words have at most one zero byte, up to four and up to a number. Where four have no zero byte,
-/// that is seen at once.
+/// Counts the words from byte `at` of `bytes` on that have at most one zero byte, up to four and up to `limit`. Four
+/// words without a zero byte are seen at once.
 #[inline(always)]
 fn raw_step(bytes: &[u8], at: usize, limit: usize) -> usize
     requires inside { at ≤ length bytes.now }
@@ -82,7 +82,8 @@ fn raw_step(bytes: &[u8], at: usize, limit: usize) -> usize
     4
 }
 
-/// How many of the words from there have at most one zero byte, up to 255, four at a time where that is seen at once.
+/// Counts the words from byte `start` of `bytes` on that have at most one zero byte, up to 255. Four words without a
+/// zero byte are seen at once.
 #[inline(always)]
 pub(crate) fn long_run(bytes: &[u8], start: usize) -> usize
     requires { start ≤ length bytes.now }

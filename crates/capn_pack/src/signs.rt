@@ -4,7 +4,7 @@ ghost use Rattle.capn_pack.specs.Packed.{tag_of};
 
 use std::simd::prelude::*;
 
-/// The tag of a word, by the sign bits of its lanes.
+/// Returns the tag of the word `bytes`, by the sign bits of its lanes.
 ///
 /// It is what [`tag`](crate::tag) answers; but testing it for zero becomes one comparison of the whole word, so long
 /// runs of zero words are found faster.
@@ -17,7 +17,7 @@ pub(crate) fn tag(bytes: &[u8; 8]) -> u8
         .to_bitmask() as u8
 }
 
-/// The tags of four words, those of the first word least.
+/// Returns the tags of the four words of `bytes`, that of the first word in the least bits.
 #[inline(always)]
 pub(crate) fn four_tags(bytes: &[u8; 32]) -> u32
     ensures { result ≡ tag_of bytes.now }

@@ -266,7 +266,7 @@ static SPREADS: [[u8; 16]; 256] = [
     [0, 1, 2, 3, 4, 5, 6, 7, 128, 128, 128, 128, 128, 128, 128, 128],
 ];
 
-/// The lanes that the bytes of a word with this tag come from.
+/// Returns the lanes from which the bytes of a word with this `tag` come.
 #[inline(always)]
 pub(crate) fn spread_places(tag: u8) -> u8x16
     ensures { result ≡ spread_row tag }

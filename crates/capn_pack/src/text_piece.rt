@@ -7,10 +7,11 @@ use crate::unpack_block::{SLACK, take_block};
 use crate::unpack_group::{GROUP, Stop, WORDS, take_group};
 use std::alloc::{AllocError, Allocator};
 
-/// Room for an unfinished group and for as many bytes after it as may make it whole.
+/// The room for an unfinished group and for as many bytes after it as may make it whole.
 pub(crate) const HELD: usize = 4099;
 
-/// Appends the words of each whole group at the front, and answers how many bytes those took. The block is overwritten.
+/// Appends the words of each whole group at the front of `bytes` to `out`, and returns the number of bytes that those
+/// groups take. `block` is overwritten.
 fn take_groups<A: Allocator>(
     bytes: &[u8],
     block: &mut [u8],
@@ -42,15 +43,15 @@ fn take_groups<A: Allocator>(
     Ok(at)
 }
 
-/// What became of an unfinished group once more bytes came: `Open` with the bytes that it has now, or `Whole` with the
-/// bytes of the piece that it took.
+/// The outcome for an unfinished group once more bytes came: `Open` with the number of bytes that it has now, or
+/// `Whole` with the number of bytes of the piece that it took.
 #[derive(Clone, Copy)]
 pub(crate) enum Joined {
     Open(usize),
     Whole(usize),
 }
 
-/// Copies the front of the piece after the bytes that are held.
+/// Copies `piece` to `held`, after its first `len` bytes.
 fn fill(held: &mut [u8], len: usize, piece: &[u8])
     requires { len + length piece.now ≤ length held.old }
     ensures front { take len held.new ≡ take len held.old }
@@ -60,7 +61,8 @@ fn fill(held: &mut [u8], len: usize, piece: &[u8])
     held[len..end].copy_from_slice(piece);
 }
 
-/// Joins the unfinished group with the piece.
+/// Joins the unfinished group, the first `len` bytes of `held`, with the front of `piece`, and appends its words to
+/// `out` if it is whole then.
 fn join_first<A: Allocator>(
     held: &mut [u8],
     len: usize,
@@ -88,14 +90,14 @@ fn join_first<A: Allocator>(
     }
 }
 
-/// How many bytes are held for the next group, and how many the groups took.
+/// The number of bytes that are held for the next group, and the number that the groups before took.
 #[derive(Clone, Copy)]
 pub(crate) struct Fed {
     pub len: usize,
     pub taken: usize,
 }
 
-/// Takes a piece where nothing is held.
+/// Takes `piece` while nothing is held: appends the words of its whole groups to `out`, and copies the rest to `held`.
 fn feed_fresh<A: Allocator>(
     held: &mut [u8],
     piece: &[u8],
@@ -114,7 +116,7 @@ fn feed_fresh<A: Allocator>(
     })
 }
 
-/// Takes a piece after the beginning of a group.
+/// Takes `piece` after the beginning of a group, the first `len` bytes of `held`.
 fn feed_begun<A: Allocator>(
     held: &mut [u8],
     len: usize,
@@ -141,7 +143,8 @@ fn feed_begun<A: Allocator>(
     }
 }
 
-/// Takes a piece after what is held.
+/// Takes `piece` after the first `len` bytes of `held`, if there are any: appends the words of all groups that are
+/// whole then to `out`, and holds the rest.
 pub(crate) fn feed_held<A: Allocator>(
     held: &mut [u8],
     len: usize,

@@ -11,13 +11,14 @@ use crate::room::words_room;
 use crate::unpack_group::Taken;
 use std::alloc::{AllocError, Allocator};
 
-/// How many bytes a block needs after its limit: a few words, zero or raw, are written by one store of that size.
+/// The number of bytes that a block needs after its limit: a few words, zero or raw, are written by one store of that
+/// size.
 pub(crate) const SLACK: usize = 64;
 
-/// How many bytes one step may read: the head of a raw group and as many bytes as a few words have.
+/// The most bytes that one step reads: the head of a raw group and the bytes of a few words.
 const REACH: usize = 10 + SLACK;
 
-/// Writes a word.
+/// Copies `word` to `block`, from offset `at` on.
 #[inline(always)]
 fn store_word(block: &mut [u8], at: usize, word: [u8; 8])
     requires { at + 8 ≤ length block.old }
@@ -26,7 +27,7 @@ fn store_word(block: &mut [u8], at: usize, word: [u8; 8])
     block[at..at + 8].copy_from_slice(&word);
 }
 
-/// Writes eight zero words.
+/// Writes eight zero words to `block`, from offset `at` on.
 #[inline(always)]
 fn store_zeros(block: &mut [u8], at: usize)
     requires { at + SLACK ≤ length block.old }
@@ -35,7 +36,8 @@ fn store_zeros(block: &mut [u8], at: usize)
     block[at..at + SLACK].copy_from_slice(&[0; SLACK]);
 }
 
-/// Writes the zero words of the group that begins there after the bytes that wait, if they are few.
+/// Writes the zero words of the group at byte `at` of `text` to `block` from offset `fill` on. Returns `None` if they
+/// are more than eight.
 #[inline(always)]
 fn fill_zeros(text: &[u8], at: usize, block: &mut [u8], fill: usize) -> Option<Block>
     requires far { at + 17 ≤ length text.now }
@@ -61,7 +63,8 @@ fn fill_zeros(text: &[u8], at: usize, block: &mut [u8], fill: usize) -> Option<B
     })
 }
 
-/// Writes the words of the raw group that begins there after the bytes that wait, if they are few.
+/// Writes the words of the raw group at byte `at` of `text` to `block` from offset `fill` on. Returns `None` if they
+/// are more than eight.
 #[inline(always)]
 fn fill_raw(text: &[u8], at: usize, block: &mut [u8], fill: usize) -> Option<Block>
     requires far { at + REACH ≤ length text.now }
@@ -88,7 +91,7 @@ fn fill_raw(text: &[u8], at: usize, block: &mut [u8], fill: usize) -> Option<Blo
     })
 }
 
-/// Writes the word of the group that begins there after the bytes that wait.
+/// Writes the word of the group at byte `at` of `text`, whose tag names some bytes, to `block` from offset `fill` on.
 #[inline(always)]
 fn fill_named(text: &[u8], at: usize, block: &mut [u8], fill: usize) -> Block
     requires far { at + 17 ≤ length text.now }
@@ -112,7 +115,8 @@ fn fill_named(text: &[u8], at: usize, block: &mut [u8], fill: usize) -> Block
     }
 }
 
-/// Writes the words of the group that begins there after the bytes that wait, if they are few.
+/// Writes the words of the group at byte `at` of `text` to `block` from offset `fill` on. Returns `None` if they are
+/// more than eight.
 #[inline(always)]
 fn fill_group(text: &[u8], at: usize, block: &mut [u8], fill: usize) -> Option<Block>
     requires far { at + REACH ≤ length text.now }
@@ -134,7 +138,8 @@ fn fill_group(text: &[u8], at: usize, block: &mut [u8], fill: usize) -> Option<B
     }
 }
 
-/// The same near the end of the text or of the block, and of no raw group.
+/// Does what [`fill_group`] does, near the end of the text or of the block: returns `None` also for a raw group, and
+/// for zero words if fewer than [`SLACK`] bytes are left up to `limit`.
 #[inline(always)]
 fn fill_last(text: &[u8], at: usize, block: &mut [u8], fill: usize, limit: usize) -> Option<Block>
     requires far { at + 17 ≤ length text.now }
@@ -159,15 +164,15 @@ fn fill_last(text: &[u8], at: usize, block: &mut [u8], fill: usize, limit: usize
     }
 }
 
-/// How far some steps came, and how many of them are left.
+/// The progress of some steps, and the number of steps that are left.
 #[derive(Clone, Copy)]
 struct Stretch {
     reached: Block,
     left: usize,
 }
 
-/// Fills the block with the words of as many groups, or of those before one of more words: each of them has its bytes
-/// and its room, so that nothing is tested but its kind.
+/// Fills `block` with the words of the next `steps` groups of `text`, or of those before a group of more than eight
+/// words. Each of them has its bytes and its room for sure, so that nothing is tested but its kind.
 #[inline(always)]
 fn fill_steps(text: &[u8], from: Block, block: &mut [u8], steps: usize) -> Stretch
     requires far { from.at + REACH * steps ≤ length text.now }
@@ -199,7 +204,8 @@ fn fill_steps(text: &[u8], from: Block, block: &mut [u8], steps: usize) -> Stret
     }
 }
 
-/// How many groups of a few words have their bytes and their room for sure.
+/// Returns the number of groups of a few words that have their bytes and their room for sure: the text has `len` bytes,
+/// the block room up to `limit`, and `from` is the progress so far.
 #[inline(always)]
 fn sure_steps(len: usize, limit: usize, from: Block) -> usize
     requires inside { from.at ≤ len }
@@ -210,7 +216,8 @@ fn sure_steps(len: usize, limit: usize, from: Block) -> usize
     ((len - from.at) / 128).min((limit - from.fill) / SLACK)
 }
 
-/// Fills the block with the words of the groups that come, near the end of the text or of the block.
+/// Fills `block` with the words of the groups of `text` after `from`, near the end of the text or of the block, up to
+/// `limit`.
 #[inline(always)]
 fn fill_rest(text: &[u8], from: Block, block: &mut [u8], limit: usize) -> Block
     requires slack { limit + SLACK ≤ length block.old }
@@ -235,7 +242,7 @@ fn fill_rest(text: &[u8], from: Block, block: &mut [u8], limit: usize) -> Block
     Block { at, fill }
 }
 
-/// Fills the block with the words of the groups that come first, as far as it goes.
+/// Fills `block` up to `limit` with the words of the groups that come first in `text`, as far as it goes.
 fn fill_block(text: &[u8], block: &mut [u8], limit: usize) -> Block
     requires { limit + SLACK ≤ length block.old }
     ensures within { result.fill ≤ limit }
@@ -254,7 +261,8 @@ fn fill_block(text: &[u8], block: &mut [u8], limit: usize) -> Block
     fill_rest(text, from, block, limit)
 }
 
-/// Appends the words of the groups that come first, as many as a block holds and there is room for; it may be none.
+/// Appends the words of the groups that come first in `rest` to `out`, as many as `block` holds and as `room`, a number
+/// of words, allows; it may be none.
 pub(crate) fn take_block<A: Allocator>(
     rest: &[u8],
     room: usize,

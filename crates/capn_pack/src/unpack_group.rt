@@ -6,13 +6,13 @@ use crate::lanes::spread;
 use crate::room::words_room;
 use std::alloc::{AllocError, Allocator};
 
-/// How many bytes the longest group has: a tag, a word, a count and 255 words. An unfinished one has fewer.
+/// The most bytes of a group: a tag, a word, a count and 255 words. An unfinished one has fewer.
 pub(crate) const GROUP: usize = 2050;
 
-/// A group has no more words.
+/// The most words of a group.
 pub(crate) const WORDS: usize = 256;
 
-/// Why one group isn't read.
+/// The reason why one group isn't read.
 #[derive(Clone, Copy)]
 pub(crate) enum Stop {
     /// A growth was refused.
@@ -36,13 +36,14 @@ impl From<AllocError> for Stop {
 /// A group that was read.
 #[derive(Clone, Copy)]
 pub(crate) struct Taken {
-    /// How many bytes it took.
+    /// The number of bytes that it took.
     pub bytes: usize,
-    /// How many words it has.
+    /// The number of words that it has.
     pub words: usize,
 }
 
-/// A zero word, and as many more as its count says.
+/// Reads the group of a zero word, and of as many more as its count says, at the front of `rest`, and appends its words
+/// to `out`, if they are at most `room`.
 #[inline(always)]
 fn take_zeros<A: Allocator>(rest: &[u8], room: usize, out: &mut Vec<u8, A>) -> Result<Taken, Stop>
     requires some { 0 < length rest.now }
@@ -61,7 +62,8 @@ fn take_zeros<A: Allocator>(rest: &[u8], room: usize, out: &mut Vec<u8, A>) -> R
     Ok(Taken { bytes: 2, words })
 }
 
-/// A group with one word, of which the tag names some bytes.
+/// Reads the group at the front of `rest` that has one word, of which the tag names some bytes, and appends the word to
+/// `out`, if there is `room` for one.
 fn take_named<A: Allocator>(rest: &[u8], room: usize, out: &mut Vec<u8, A>) -> Result<Taken, Stop>
     requires some { 0 < length rest.now }
     requires above { 0 < slice_index rest.now 0 }
@@ -84,7 +86,8 @@ fn take_named<A: Allocator>(rest: &[u8], room: usize, out: &mut Vec<u8, A>) -> R
     })
 }
 
-/// A word written whole, and as many more as its count says.
+/// Reads the group of a word written whole, and of as many more as its count says, at the front of `rest`, and appends
+/// its words to `out`, if they are at most `room`.
 #[inline(always)]
 fn take_raw<A: Allocator>(rest: &[u8], room: usize, out: &mut Vec<u8, A>) -> Result<Taken, Stop>
     requires some { 0 < length rest.now }
@@ -112,7 +115,7 @@ fn take_raw<A: Allocator>(rest: &[u8], room: usize, out: &mut Vec<u8, A>) -> Res
     })
 }
 
-/// Reads the group that comes first, and appends its words.
+/// Reads the group at the front of `rest`, and appends its words to `out`, if they are at most `room`.
 pub(crate) fn take_group<A: Allocator>(
     rest: &[u8],
     room: usize,

@@ -12,7 +12,7 @@ use std::alloc::Allocator;
 /// A block and its slack.
 const BLOCK: usize = 4096 + SLACK;
 
-/// Unpacks group by group, small groups by the block.
+/// Unpacks `bytes` group by group, small groups by the block, to at most `max_words` words.
 fn unpack_groups<A: Allocator + Copy>(
     alloc: A,
     bytes: &[u8],
@@ -46,22 +46,22 @@ fn unpack_groups<A: Allocator + Copy>(
     Ok(out)
 }
 
-/// The words of a packed text, as their bytes. (Page: packing.)
+/// Unpacks a packed text: returns the bytes of its words. (Page: packing.)
 ///
 /// It takes what the packer would not write too: set tag bits over zero bytes, short runs, any raw words. (Own.) A text
 /// without bytes packs no words. The answer grows on `alloc` a logarithmic number of times, and only for words that the
 /// text has after the head of their group and that are within the maximum: it gets room for twice the bytes that the
 /// text has left, within the maximum, and for these words at least; or for twice what it has.
 ///
-/// Refusals, with the offset of the group's tag: `Cut` where the group's head is cut, else `TooLong` where its words
-/// would bring their number above `max_words`, else `Cut` where its raw words are; `Memory` where a growth was
-/// refused, which takes a whole group within the maximum at the front. `Failed` never comes.
+/// Refusals, with the offset of the group's tag: `Cut` if the group's head is cut, else `TooLong` if its words would
+/// bring their number above `max_words`, else `Cut` if its raw words are cut; `Memory` if a growth was refused, which
+/// takes a whole group within the maximum at the front. `Failed` never comes.
 pub fn unpack<A: Allocator + Copy>(
     alloc: A,
     bytes: &[u8],
     max_words: u32,
 ) -> Result<Vec<u8, A>, UnpackFault>
-    // What is answered is what the bytes pack, within the maximum.
+    // The answer is what the bytes pack, within the maximum.
     ensures found { IfOk result (λ v. Packs bytes.now v.items) }
     ensures within { IfOk result (λ v. length v.items ≤ 8 * max_words) }
     // They are the bytes of words.
@@ -69,7 +69,7 @@ pub fn unpack<A: Allocator + Copy>(
     // What they pack within the maximum is answered, unless memory runs out.
     ensures only { (bs : List ℕ) → Packs bytes.now bs → length bs ≤ 8 * max_words
         → MatchResult result (λ v. v.items ≡ bs) (λ e. e ≡ UnpackFault.Memory) }
-    // What each refusal means, and where.
+    // The meaning of each refusal, and its place.
     ensures refused { IfErr result (λ e. IsUnpackRefused bytes.now max_words e) }
     // Memory is needed only if a whole group within the maximum comes first.
     ensures memory { IsErrOf result UnpackFault.Memory → StartsWithin bytes.now max_words }

@@ -33,7 +33,7 @@ impl Model for Unpacker {
 }
 
 impl Default for Unpacker {
-    /// At the beginning of a text.
+    /// Returns an unpacker at the beginning of a text.
     fn default() -> Unpacker
         ensures { result ≡ record { rest = []; offset = 0; failed = false } }
     {
@@ -42,7 +42,7 @@ impl Default for Unpacker {
 }
 
 impl Unpacker {
-    /// At the beginning of a text. It takes no memory.
+    /// Returns an unpacker at the beginning of a text. It takes no memory.
     pub fn new() -> Unpacker
         ensures { result ≡ record { rest = []; offset = 0; failed = false } }
     {
@@ -54,19 +54,19 @@ impl Unpacker {
         }
     }
 
-    /// Takes the next piece, and appends the bytes of the words of every group that is whole by now, and of no other.
+    /// Takes the next `piece` of the text, and appends to `out` the bytes of the words of every group that is whole by
+    /// now, and of no other.
     ///
-    /// The piece is taken whole: what remains of it is held. There is no maximum of words; the pieces bound them.
+    /// `piece` is taken whole: what remains of it is held. There is no maximum of words; the pieces bound them.
     ///
-    /// Refusals: `Memory` where a growth of `out` was refused, and then a beginning of those words was appended (a
-    /// piece that makes no group whole takes no memory); `Failed` after an earlier refusal, and then `out` is as it
-    /// was.
+    /// Refusals: `Memory` if a growth of `out` was refused, and then a beginning of those words was appended (a piece
+    /// that makes no group whole takes no memory); `Failed` after an earlier refusal, and then `out` is as it was.
     pub fn feed<A: Allocator>(
         &mut self,
         piece: &[u8],
         out: &mut Vec<u8, A>,
     ) -> Result<(), UnpackFault>
-        // What was held and the piece are whole groups, whose words were appended, and what is held now.
+        // The bytes held before and the piece are whole groups, whose words were appended, and the bytes held now.
         ensures fed { OnOk result (Feeds self.old piece.now out.old.items out.new.items self.new) }
         // Without memory a beginning of the words was appended, and the text can't be continued.
         ensures begun { IsErrOf result UnpackFault.Memory
@@ -97,14 +97,14 @@ impl Unpacker {
         }
     }
 
-    /// The bytes of the unfinished group, from its tag on, also after `Cut`; none where no group has begun.
+    /// Returns the bytes of the unfinished group, from its tag on, also after `Cut`; none if no group has begun.
     pub fn held(&self) -> &[u8]
         ensures { result.now ≡ self.now.rest }
     {
         &self.held[..self.len]
     }
 
-    /// The end of the text.
+    /// Tells the unpacker that the text ends here.
     ///
     /// Refusals: `Cut` at the offset of the unfinished group's tag, if there is one; `Failed` after an earlier refusal.
     /// After Ok the text may go on. It takes no memory.
@@ -113,7 +113,7 @@ impl Unpacker {
         ensures cut { self.old.failed ≡ false → self.old.rest ≢ []
             → (result ≡ Err (UnpackFault.Cut self.old.offset)) × (self.new.failed ≡ true) }
         ensures failed { self.old.failed ≡ true → (result ≡ Err UnpackFault.Failed) × (self.new ≡ self.old) }
-        // What is held stays, whatever it answers.
+        // The bytes that are held stay, whatever it answers.
         ensures kept { self.new.rest ≡ self.old.rest }
         ensures whole { self.old.failed ≡ false → self.old.rest ≡ [] → IsOk result }
     {

@@ -11,7 +11,7 @@ use std::alloc::{AllocError, Allocator};
 /// A block and its slack.
 const BLOCK: usize = 4096 + SLACK;
 
-/// What follows the whole groups that were unpacked.
+/// The bytes that follow the whole groups that were unpacked.
 #[derive(Clone, Copy, Debug, PartialEq, Eq)]
 pub enum Next {
     /// The end of the bytes.
@@ -22,18 +22,18 @@ pub enum Next {
     TooLong,
 }
 
-/// How far some bytes were unpacked.
+/// The part of some bytes that was unpacked.
 #[derive(Clone, Copy, Debug, PartialEq, Eq)]
 pub struct Progress {
-    /// How many bytes the groups took.
+    /// The number of bytes that the groups took.
     pub bytes: usize,
-    /// How many words they have.
+    /// The number of words that they have.
     pub words: u32,
-    /// What follows them.
+    /// The bytes that follow them.
     pub next: Next,
 }
 
-/// How far it came, with this much room left of the maximum.
+/// Returns the progress after `bytes` bytes, with `room` words left of `max_words`, and `next` after them.
 fn stopped(bytes: usize, max_words: u32, room: usize, next: Next) -> Progress
     requires { room ≤ max_words }
     ensures bytes { result.bytes ≡ bytes }
@@ -47,12 +47,13 @@ fn stopped(bytes: usize, max_words: u32, room: usize, next: Next) -> Progress
     }
 }
 
-/// Appends the words of the whole groups that come first, as long as they come to at most `max_words`. (Own.)
+/// Appends the words of the whole groups that come first in `bytes` to `out`, as long as they come to at most
+/// `max_words`. (Own.)
 ///
 /// A text that comes in pieces is unpacked under a maximum by calls of it: each takes what the last call left, and the
-/// piece that came, with the words that the last call left of the maximum. Where the text ends, what is left is refused
-/// as [`unpack`](crate::unpack) refuses it there: `Cut` if a group has begun, and `TooLong` as soon as this call
-/// answers it.
+/// piece that came, with the words that the last call left of the maximum. At the end of the text, what is left is
+/// refused as [`unpack`](crate::unpack) refuses it there: `Cut` if a group has begun, and `TooLong` as soon as this
+/// call answers it.
 ///
 /// It takes no memory except what `out` needs for those words. Refusal: `AllocError` if a growth of `out` was refused,
 /// and then a beginning of those words was appended; that needs a whole group within the maximum at the front.
@@ -66,7 +67,7 @@ pub fn unpack_some<A: Allocator>(
         p.next) }
     // Without memory a beginning of the words within the maximum was appended.
     ensures begun { OnErr result (AppendsSome bytes.now max_words out.old.items out.new.items) }
-    // Memory is asked for only where a whole group within the maximum comes first.
+    // Memory is asked for only if a whole group within the maximum comes first.
     ensures memory { OnErr result (StartsWithin bytes.now max_words) }
 {
     let mut block = [0; BLOCK];

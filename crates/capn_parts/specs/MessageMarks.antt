@@ -1,20 +1,13 @@
 -- The marks of a message in an input, and its line `end` with marks. (Own.)
-use Rattle.std.specs.Prelude.{◌≡◌, ℕ, ◌+◌, ◌*◌, ◌/◌, List, [], ◌∷◌, ◌++◌, codes, Bool, true, false, if◌then◌else◌}
-use Rattle.std.specs.Prelude.{length, refl}
+use Rattle.std.specs.Prelude.{◌≡◌, ℕ, ◌+◌, ◌*◌, List, [], ◌∷◌, ◌++◌, codes, Bool, true, false, if◌then◌else◌}
+use Rattle.std.specs.Prelude.{refl}
 use Rattle.std.specs.Fmt.{decimal, digits}
-use Rattle.capn_canon.specs.declared.form.Form.{Form}
-use Rattle.capn_canon.specs.declared.form.Form.TheVariants as forms
 use Rattle.capn_marks.specs.declared.marks.Marks.{Marks}
 use Rattle.capn_show.specs.declared.style.Style.{Style}
 use Rattle.capn_show.specs.declared.style.Style.TheVariants as styles
+use Rattle.capn_serve.specs.Table.{table_words}
 use Rattle.capn_serve.specs.declared.position.Position.{Position}
 use Rattle.capn_parts.specs.declared.part_texts.PartTexts.{PartTexts}
-
--- the words of a message's table: none of a bare segment
-abbrev pub table_words : Form → List (List ℕ) → ℕ
-table_words forms.Bare message = 0
-table_words forms.Stream message = length message / 2 + 1
-table_words forms.Packed message = length message / 2 + 1
 
 -- whether lists of bytes that are texts stand between quotes in a style of lines
 abbrev pub is_quoted : Style → Bool

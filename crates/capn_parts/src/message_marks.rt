@@ -5,22 +5,11 @@ ghost use Rattle.capn_serve.specs.declared.fault.ServeFault.TheVariants as serve
 ghost use Rattle.capn_parts.specs.MessageMarks as spec;
 
 use crate::part_texts::PartTexts;
-use capn_canon::Form;
 use capn_marks::Marks;
-use capn_serve::{Position, ServeFault};
+use capn_serve::{Position, ServeFault, table_words};
 use capn_show::Style;
 use capn_words::Space;
 use std::alloc::Allocator;
-
-/// The words of a message's table: none of a bare segment.
-fn table_words<S: Space>(form: Form, message: &S) -> u32
-    ensures { result ≡ spec.table_words form (S.message message.now) }
-{
-    match form {
-        Form::Bare => 0,
-        Form::Stream | Form::Packed => message.segments() / 2 + 1,
-    }
-}
 
 /// Whether lists of bytes that are texts stand between quotes in a style of lines.
 fn is_quoted(style: Style) -> bool

@@ -6,17 +6,16 @@ ghost use Rattle.capn_words.specs.Watched.{has_failed};
 ghost use Rattle.capn_marks.specs.MarkedPart.{marked_at};
 ghost use Rattle.capn_show.specs.Outgoing.{outgoing};
 ghost use Rattle.capn_show.specs.Styled.{styled};
-ghost use Rattle.capn_show.specs.declared.fault.ShowFault.TheVariants as ends;
 ghost use Rattle.capn_parts.specs.MessageMarks as marking;
 ghost use Rattle.capn_parts.specs.PartTexts as spec;
 ghost use Rattle.capn_parts.specs.inner.AddedParts.{AddsEnd, AddsPart, IsFaultOf};
 
 use crate::message_marks::{marked_end, marks_of};
-use capn_canon::{Form, Refusal};
+use capn_canon::Form;
 use capn_marks::{Marks, show_marked};
-use capn_serve::{Position, ServeFault, Service, flush_long};
+use capn_serve::{Position, ServeFault, Service, fault_of_stop, flush_long};
 use capn_show::{ShowFault, Style, show_part};
-use capn_walk::{Fault, Limits, Stopped};
+use capn_walk::Limits;
 use capn_words::{Space, Watched, total_words};
 use std::alloc::Allocator;
 use std::io::Write;
@@ -38,22 +37,12 @@ pub struct PartTexts<'w> {
     pub ways: bool,
 }
 
-/// How a message ends whose survey has stopped.
-fn stop_of(stopped: Stopped) -> ServeFault
-    ensures { IsFaultOf (ends.Stopped stopped) result }
-{
-    match stopped.fault {
-        Fault::Memory => ServeFault::Memory,
-        _ => ServeFault::Refused(Refusal::Walk(stopped)),
-    }
-}
-
 /// How a message ends that is refused, or whose text breaks off.
 fn fault_of(fault: ShowFault) -> ServeFault
     ensures { IsFaultOf fault result }
 {
     match fault {
-        ShowFault::Stopped(stopped) => stop_of(stopped),
+        ShowFault::Stopped(stopped) => fault_of_stop(stopped),
         ShowFault::Io => ServeFault::Io,
         ShowFault::Memory => ServeFault::Memory,
     }

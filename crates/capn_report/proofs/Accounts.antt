@@ -1,4 +1,4 @@
--- The lines of an account, wherever its ways are kept.
+-- The lines of an account, wherever its ways are kept. (For `first_of` and `put_accepted`.)
 use Rattle.std.proofs.Common.{◌≡◌, ℕ, List, Some, Result, Ok, Err, IfOk, IsErr, refl, ap, ◌++◌, codes}
 use Rattle.std.proofs.Common.{◌≤◌, Vec, arith}
 use Rattle.capn_words.specs.declared.memory.Memory.{Memory}

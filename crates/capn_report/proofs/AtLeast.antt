@@ -1,4 +1,4 @@
--- What is missing is read as zero, so of a beginning no number is greater.
+-- Missing bytes are read as zeros, so no number of a beginning is greater. (For `least_of` and `needs_of`.)
 use Rattle.std.proofs.Common.{◌≡◌, ℕ, zero, suc, ◌+◌, ◌≤◌, List, [], ◌∷◌, ◌++◌, drop, sum}
 use Rattle.std.proofs.Common.{slice_index, ap, arith}
 use Rattle.std.proofs.lemmas.List.{append-nil, get_or-drop}

@@ -1,4 +1,4 @@
--- What is written after the loop over the messages.
+-- The text after the loop over the messages. (For `run_explain` and `write_refusal`.)
 use Rattle.std.proofs.Common.{◌≡◌, ◌≢◌, ◌↔◌, ◌⊎◌, inl, inr, ℕ, List, [], Bool, true, false, Option, None}
 use Rattle.std.proofs.Common.{Some, OnOk, IsErrOf, IsErrAnd, IsOkUnless, length, arith}
 use Rattle.std.proofs.Common.{Result, Ok, Err, refl, ap, sym, subst, ◌∙◌}

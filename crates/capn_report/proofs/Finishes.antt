@@ -1,4 +1,4 @@
--- The end of a run over an input that explains one of its messages.
+-- The end of a run over an input that explains one of its messages. (For `run_explain` and `serve_messages`.)
 use Rattle.std.proofs.Common.{◌≡◌, ◌≢◌, ◌⊎◌, inl, inr, ℕ, ◌+◌, List, [], ◌++◌, length, take, Bool, true, false, Option}
 use Rattle.std.proofs.Common.{None, Some, IfSome, Ok, Err, refl, ap, sym, subst, ◌∙◌, append-nil}
 use Rattle.std.proofs.Math.Seq.{take-length, take-append-add}

@@ -1,4 +1,4 @@
--- A message that a reporter serves.
+-- A message that a reporter serves. (For `report_accepted`, `report_known` and `serve`.)
 use Rattle.std.proofs.Common.{◌≡◌, ℕ, List, [], Option, None, Some, Result, Ok, Err, refl, ap, sym, subst, ◌∙◌}
 use Rattle.std.proofs.Common.{append-nil, false, inr}
 use Rattle.capn_walk.specs.Accepted.{IsAccepted}

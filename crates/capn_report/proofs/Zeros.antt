@@ -1,4 +1,4 @@
--- Bytes that are missing are read as zeros.
+-- Bytes that are missing are read as zeros. (For `entry_at`, `first_of`, `least_of` and `total_of`.)
 use Rattle.std.proofs.Common.{◌≡◌, ℕ, zero, suc, ◌+◌, ◌*◌, ◌≤◌, ◌<◌, ◌-◌, ◌/◌, ◌^◌, min, List, [], ◌∷◌, ◌++◌}
 use Rattle.std.proofs.Common.{length, drop, replicate, sum, slice_index, refl, ap, sym, ◌∙◌, arith}
 use Rattle.std.proofs.lemmas.List.{get_or-drop}

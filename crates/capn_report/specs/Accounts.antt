@@ -1,11 +1,11 @@
--- What is told of a message that is accepted. (Own.)
-use Rattle.std.specs.Prelude.{◌≡◌, ℕ, ◌+◌, ◌/◌, List, [], ◌∷◌, ◌++◌, length, None, Some, codes, refl}
+-- The account of a message that is accepted. (Own.)
+use Rattle.std.specs.Prelude.{◌≡◌, ℕ, ◌+◌, List, [], ◌∷◌, ◌++◌, None, Some, codes, refl}
 use Rattle.std.specs.Fmt.{decimal, digits}
 use Rattle.capn_walk.specs.Limits.{Bounds}
 use Rattle.capn_canon.specs.Measure.{IsMeasure}
 use Rattle.capn_canon.specs.declared.form.Form.{Form}
-use Rattle.capn_canon.specs.declared.form.Form.TheVariants as forms
 use Rattle.capn_canon.specs.declared.surveyed_bare.MeasuredBare.{MeasuredBare}
+use Rattle.capn_serve.specs.Table.{table_words}
 use Rattle.capn_serve.specs.declared.position.Position.{Position}
 use Rattle.capn_explain.specs.MessageTexts.{head_lines, segments_of}
 use Rattle.capn_explain.specs.declared.message_text.MessageHead.{MessageHead}
@@ -14,19 +14,12 @@ use Rattle.capn_departure.specs.declared.answer.Departure.TheVariants as departu
 use Rattle.capn_departure.specs.declared.canonical_lines.CanonicalLines.{CanonicalLines}
 use Rattle.capn_report.specs.declared.account.Account.{Account}
 
--- the words of a message's table: none of a bare segment; else 4 bytes for their number, 4 for each segment, and 4 more
--- where that is no whole word
-abbrev pub table_words : Form → List (List ℕ) → ℕ
-table_words forms.Bare message = 0
-table_words forms.Stream message = length message / 2 + 1
-table_words forms.Packed message = length message / 2 + 1
-
--- where a message is, and its segments
+-- the place of a message, and its segments
 abbrev pub head_of : Position → List (List ℕ) → MessageHead
 head_of at message = record { index = at.index; offset = at.offset; segments = Some (segments_of message) }
 
 module _ {A : Type 0} where
-  -- what is told of a message that was measured, and has these lines
+  -- the account of a message that was measured, and has these lines
   abbrev pub account_by : Position → List (List ℕ) → MeasuredBare → CanonicalLines A → Account A
   account_by at message m lines = record {
     head = head_of at message;
@@ -55,10 +48,7 @@ abbrev pub IsAccountText : Form → Position → List (List ℕ) → Bounds → 
 IsAccountText form at message limits text =
     (account : Account (Unit {0})) × IsAccount form at message limits account × (text ≡ account_text account)
 
--- ---- a table, and lines
-
-two_segments : table_words forms.Stream (([]) ∷ [] ∷ []) ≡ 2
-two_segments = refl
+-- ---- lines
 
 second : account_text {A = Unit {0}} (record {
   head = head_of (record { index = 1; offset = 24 }) ((0 ∷ []) ∷ []);

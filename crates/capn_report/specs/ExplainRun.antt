@@ -1,5 +1,4 @@
--- What a run that explains one message did: what is written at its end, and the rest by the definition for all such
--- runs. (Own.)
+-- A run that explains one message: the text at its end, and the rest by the definition for all such runs. (Own.)
 use Rattle.std.specs.Prelude.{◌≡◌, ℕ, List, [], ◌++◌, Bool, Option, Some, None, Result, Ok, Err, codes, refl}
 use Rattle.std.specs.Fmt.{digits}
 use Rattle.capn_canon.specs.declared.refusal.Refusal.{Refusal}
@@ -36,47 +35,47 @@ first_run order = record {
 abbrev pub count_line : CountText → List ℕ
 count_line count = count_text count ++ codes "\n"
 
--- what is written where this number of messages explained nothing: with a number, the count of messages; else the lines
--- of the only message, nothing where memory was refused for them, or the count of messages of which none is refused
+-- the text of a run of this number of messages that explained nothing: with a number, the count of messages; else the
+-- lines of the only message, nothing if memory was refused for them, or the count of messages of which none is refused
 abbrev pub rest_text : Option ℕ → Option First → ℕ → List ℕ
 rest_text (Some number) first count = count_line (counts.Fewer count)
 rest_text None (Some (Ok text)) count = text
 rest_text None (Some (Err memory)) count = []
 rest_text None None count = count_line (counts.NoneRefused count)
 
--- what is written after all messages: nothing more, where one was explained
+-- the text after all messages: nothing more, if one was explained
 abbrev pub closing_by : Outcome → Option ℕ → Option First → ℕ → List ℕ
 closing_by outcomes.Nothing number first count = rest_text number first count
 closing_by (outcomes.Refused at stopped) number first count = []
 closing_by outcomes.Accepted number first count = []
 
--- the same by the state after them
+-- that text by the state after them
 abbrev pub closing : Run Reporting → List ℕ
 closing run = closing_by run.service.outcome run.service.order.number run.service.first run.at.index
 
--- how a run ends whose messages explained nothing: for memory, where that was refused for the lines of the only
--- message; else as done
+-- the end of a run whose messages explained nothing: for memory, if that was refused for the lines of the only message;
+-- else as done
 abbrev pub rest_ending : Option ℕ → Option First → Result (Unit {0}) RunFault
 rest_ending (Some number) first = Ok tt
 rest_ending None (Some (Ok text)) = Ok tt
 rest_ending None (Some (Err memory)) = Err faults.Memory
 rest_ending None None = Ok tt
 
--- how a run ends whose messages ended as done: as refused if a message was explained that is
+-- the end of a run whose messages ended as done: as refused if a message was explained that is
 abbrev pub ending_by : Outcome → Option ℕ → Option First → Result (Unit {0}) RunFault
 ending_by outcomes.Nothing number first = rest_ending number first
 ending_by (outcomes.Refused at stopped) number first = Err (faults.Refused at (refusals.Walk stopped))
 ending_by outcomes.Accepted number first = Ok tt
 
--- the same by the state after them
+-- that end by the state after them
 abbrev pub ending : Run Reporting → Result (Unit {0}) RunFault
 ending run = ending_by run.service.outcome run.service.order.number run.service.first
 
--- what is written of a message that is refused before its walk, by what had come of it
+-- the text of a message that is refused before its walk, by the part of it that had come
 abbrev pub told_at : Explain → Position → Refusal → Came → List ℕ
 told_at order at refusal came = fault_lines order.limits at refusal came.rest came.group
 
--- what a run does after its messages
+-- the end of a run after its messages
 abbrev pub explain_finish : Explain → Finish (Run Reporting)
 explain_finish order = record {
   closing = λ y. closing y;
@@ -84,7 +83,7 @@ explain_finish order = record {
   told = λ at r came. told_at order at r came;
 }
 
--- what a run did, over a reader (from a to b) and a writer (from c to d)
+-- a run, over a reader (from a to b) and a writer (from c to d)
 abbrev pub Explained : Explain → Option (List ℕ) → Option (List ℕ) → Option (List ℕ) → Option (List ℕ) → Bool → Bool
     → Result (Unit {0}) RunFault → Type 0
 Explained order a b c d reader_failed writer_failed r =

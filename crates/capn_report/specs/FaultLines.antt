@@ -22,7 +22,8 @@ use Rattle.capn_explain.specs.declared.message_text.MessageHead.{MessageHead}
 use Rattle.capn_explain.specs.declared.segments_text.SegmentsText.{SegmentsText}
 use Rattle.capn_report.specs.WhatCame.{group, segments, there}
 
--- what a table announces that is too much, and the most that is allowed; or how much came of a frame that is cut
+-- the number that a table announces and that is too great, and the most that is allowed; or the number of bytes that
+-- came of a frame that is cut
 abbrev pub frame_key : FrameFault → ℕ → List ℕ → FrameKey
 frame_key (frames.TooManySegments count) most_words rest = keys.Announced count most_segments
 frame_key (frames.TooManyWords count) most_words rest = keys.Announced count most_words
@@ -31,37 +32,37 @@ frame_key frames.Memory most_words rest = keys.Nothing
 frame_key frames.Empty most_words rest = keys.Nothing
 frame_key frames.Failed most_words rest = keys.Nothing
 
--- what came of a group that is cut
+-- the part of a group that came, if it is cut
 abbrev pub packed_key : UnpackFault → List ℕ → FrameKey
 packed_key (packings.Cut at) came = group at came
 packed_key packings.Memory came = keys.Nothing
 packed_key (packings.TooLong at) came = keys.Nothing
 packed_key packings.Failed came = keys.Nothing
 
--- the bytes that came of a bare input, by what is said of them; counts stop at the greatest number of 64 bits, far
--- above the bytes that such an input may have
+-- the bytes that came of a bare input, by its fault; counts stop at the greatest number of 64 bits, far above the bytes
+-- that such an input may have
 abbrev pub bare_key : BareFault → FrameKey
 bare_key (bares.NotWhole bytes) = keys.There bytes
 bare_key (bares.TooLong words) = keys.There (min (8 * words) (2 ^ 64 - 1))
 
--- what is told of a refusal beside its name, by what came of the message and of a group
+-- the line of a refusal beside its name, by the parts of the message and of a group that came
 abbrev pub key_of : Refusal → ℕ → List ℕ → List ℕ → FrameKey
 key_of (refusals.Frame fault) most_words rest came = frame_key fault most_words rest
 key_of (refusals.Packed fault) most_words rest came = packed_key fault came
 key_of (refusals.Bare fault) most_words rest came = bare_key fault
 key_of _ most_words rest came = keys.Nothing
 
--- the segments of a message in a frame, where their sizes came
+-- the segments of a message in a frame, if their sizes came
 abbrev pub segments_at : Refusal → List ℕ → Option SegmentsText
 segments_at (refusals.Frame fault) rest = segments rest
 segments_at (refusals.Packed fault) rest = segments rest
 segments_at _ rest = None
 
--- where a message is, and its segments
+-- the place of a message, and its segments
 abbrev pub head_at : Position → Refusal → List ℕ → MessageHead
 head_at at refusal rest = record { index = at.index; offset = at.offset; segments = segments_at refusal rest }
 
--- all lines, by what came of the message and of a group
+-- all lines, by the parts of the message and of a group that came
 abbrev pub fault_lines : Bounds → Position → Refusal → List ℕ → List ℕ → List ℕ
 fault_lines limits at refusal rest came =
     frame_lines (head_at at refusal rest) (refusal_text refusal) (key_of refusal limits.message_words rest came)

@@ -1,4 +1,4 @@
--- A run over an input that explains one of its messages: the text of its input, how it ends, and what was written
+-- A run over an input that explains one of its messages: the text of its input, its end, and the text that was written
 -- whatever it answers. (Own.)
 use Rattle.std.specs.Prelude.{◌≡◌, ◌≢◌, ◌⊎◌, ◌↔◌, ℕ, List, [], ◌++◌, Bool, true, Option, IfSome, Result, Ok, Err}
 use Rattle.std.specs.Prelude.{IfErr}
@@ -14,32 +14,32 @@ use Rattle.capn_serve.specs.FormRun.{AreMessages, HasWritten, IsNeededSoFar, IsR
 use Rattle.capn_serve.specs.FormRun.{MayNeedMemory}
 use Rattle.capn_serve.specs.WhatCame.{Came, TellsInput}
 
--- what is written where a fault ended the messages: the lines of a refusal, by what had come, else nothing
+-- the text for a fault that ended the messages: the lines of a refusal, by the part that had come, else nothing
 abbrev pub fault_text : (Position → Refusal → Came → List ℕ) → RunFault → Came → List ℕ
 fault_text told (faults.Refused at r) came = told at r came
 fault_text told faults.Memory came = []
 fault_text told faults.Io came = []
 fault_text told faults.InputTooLong came = []
 
--- what a run does after its messages: the text that it writes by its state, and how it ends then; or the lines of a
--- refusal that ended them, by what had come of the message
+-- the end of a run after its messages: the text that it writes by its state, and its ending then; or the lines of a
+-- refusal that ended them, by the part of the message that had come
 pub record Finish (X : Type 0) : Type 0 where
   pub closing : X → List ℕ
   pub ending : X → Result (Unit {0}) RunFault
   pub told : Position → Refusal → Came → List ℕ
 
--- what had come of the message whose refusal ended the messages of an input, in the state after them; where they ended
--- as done, anything
+-- the part that had come of the message whose refusal ended the messages of an input, in the state after them; if they
+-- ended as done, anything
 abbrev pub TellsEnd : {X : Type 0} → Fold X → X → Form → List ℕ → Result (Unit {0}) RunFault → Came → X → Type 0
 TellsEnd f x form input served came y = IfErr served (λ fault. TellsInput f x form input fault came y)
 
 module _ {X : Type 0} (f : Fold X) (x : X) (finish : Finish X) where
-  -- what is written after the messages, by how they ended
+  -- the text after the messages, by their end
   abbrev pub last_text : Result (Unit {0}) RunFault → X → Came → List ℕ
   last_text (Ok u) y came = finish.closing y
   last_text (Err fault) y came = fault_text finish.told fault came
 
-  -- how a run ends whose messages ended so
+  -- the end of a run whose messages ended so
   abbrev pub last_ending : Result (Unit {0}) RunFault → X → Result (Unit {0}) RunFault
   last_ending (Ok u) y = finish.ending y
   last_ending (Err fault) y = Err fault
@@ -86,7 +86,7 @@ module _ {X : Type 0} (f : Fold X) (x : X) (finish : Finish X) where
     pub needed : IsNeededSoFar f x form bytes
     pub written : HasWritten f x form bytes c d ⊎ HasBegunClosing form a c d
 
-  -- what a run did, over a reader (from a to b) and a writer (from c to d)
+  -- a run, over a reader (from a to b) and a writer (from c to d)
   pub record Finished (form : Form) (a b c d : Option (List ℕ)) (reader_failed writer_failed : Bool)
       (r : Result (Unit {0}) RunFault) : Type 0 where
     pub exact : IfSome a (EndsAs form c d r)

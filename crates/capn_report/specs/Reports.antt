@@ -1,4 +1,4 @@
--- What is written of each message, and what is kept of it. (Own.)
+-- The text of each message, and the account that is kept of it. (Own.)
 use Rattle.std.specs.Prelude.{◌≡◌, ◌⊎◌, ℕ, ◌+◌, ◌<◌, nat_lt, List, [], ◌++◌, Bool, true, false}
 use Rattle.std.specs.Prelude.{Option, Some, None, Result, Ok, Err, refl}
 use Rattle.capn_words.specs.declared.memory.Memory.{Memory}
@@ -12,7 +12,8 @@ use Rattle.capn_serve.specs.declared.fault.ServeFault.{ServeFault}
 use Rattle.capn_serve.specs.declared.fault.ServeFault.TheVariants as faults
 use Rattle.capn_explain.specs.Refusal.{IsRefusalTold}
 use Rattle.capn_departure.specs.Departures.{Departs}
-use Rattle.capn_report.specs.Accounts.{IsAccountText, account_text, table_words}
+use Rattle.capn_serve.specs.Table.{table_words}
+use Rattle.capn_report.specs.Accounts.{IsAccountText, account_text}
 use Rattle.capn_report.specs.declared.account.Account.{Account}
 use Rattle.capn_report.specs.declared.explain.Explain.{Explain}
 use Rattle.capn_report.specs.declared.outcome.Outcome.{Outcome}
@@ -20,11 +21,12 @@ use Rattle.capn_report.specs.declared.outcome.Outcome.TheVariants as outcomes
 
 -- ---- the state
 
--- the lines of the only message, or that memory was refused for what they tell
+-- the lines of the only message, or that memory was refused for them
 abbrev pub First : Type 0
 First = Result (List ℕ) Memory
 
--- what a reporter has found: its order, what has been explained, and the first message until another one has begun
+-- the state of a reporter: its order, the message that has been explained, and the first message until another one has
+-- begun
 pub record Reporting : Type 0 where
   pub order : Explain
   pub outcome : Outcome
@@ -34,7 +36,7 @@ pub record Reporting : Type 0 where
 abbrev pub first_reporting : Explain → Reporting
 first_reporting order = record { order = order; outcome = outcomes.Nothing; first = None }
 
--- what is kept of the first message, as lines
+-- the account that is kept of the first message, as lines
 abbrev pub lines_first : {A : Type 0} → Option (Result (Account A) Memory) → Option First
 lines_first (Some (Ok account)) = Some (Ok (account_text account))
 lines_first (Some (Err memory)) = Some (Err memory)
@@ -42,7 +44,7 @@ lines_first None = None
 
 -- ---- one message
 
--- whether a message comes before the one of a number, counted from 1
+-- true if a message comes before the one of a number, counted from 1
 abbrev pub is_before : Position → Option ℕ → Bool
 is_before at (Some number) = nat_lt (at.index + 1) number
 is_before at None = false
@@ -52,8 +54,8 @@ abbrev pub IsTold : Explain → Position → List (List ℕ) → Stopped → Lis
 IsTold order at message stopped text =
     IsRefusalTold message order.limits at.index at.offset (table_words order.form message) stopped text
 
--- what is kept of a message that is accepted, if it is the first: its lines, or that memory was refused for them, which
--- comes only of one that departs from its canonical bytes; of another message nothing is kept
+-- the account that is kept of a message that is accepted, if it is the first: its lines, or that memory was refused for
+-- them, which comes only of one that departs from its canonical bytes; of another message nothing is kept
 abbrev pub IsFirst : Form → Position → List (List ℕ) → Bounds → Option First → Type 0
 IsFirst form at message limits (Some (Ok text)) = (at.index ≡ 0) × IsAccountText form at message limits text
 IsFirst form at message limits (Some (Err memory)) = (at.index ≡ 0) × Departs message limits
@@ -61,11 +63,11 @@ IsFirst form at message limits None = 0 < at.index
 
 -- ---- from one state to the next
 
--- the same state, in which this has been explained
+-- this state, in which this has been explained
 abbrev pub with_outcome : Reporting → Outcome → Reporting
 with_outcome s outcome = record { order = s.order; outcome = outcome; first = s.first }
 
--- the same state, in which this is kept of the only message
+-- this state, in which this is kept of the only message
 abbrev pub with_first : Reporting → Option First → Reporting
 with_first s first = record { order = s.order; outcome = s.outcome; first = first }
 
@@ -84,7 +86,7 @@ TellsAcceptedBy None s at message text t =
     (first : Option First) × IsAccepted message s.order.limits
     × IsFirst s.order.form at message s.order.limits first × (text ≡ []) × (t ≡ with_first s first)
 
--- the same by the order
+-- that text and state, by the order
 abbrev pub TellsAccepted : Reporting → Position → List (List ℕ) → List ℕ → Reporting → Type 0
 TellsAccepted s at message text t = TellsAcceptedBy s.order.number s at message text t
 
@@ -97,11 +99,11 @@ ServesBy false s at message text t = TellsRefused s at message text t ⊎ TellsA
 abbrev pub serves : Reporting → Position → List ℕ → List (List ℕ) → List ℕ → Reporting → Type 0
 serves s at frame message text t = ServesBy (is_before at s.order.number) s at message text t
 
--- no message ends a run by its refusal: what is refused is told
+-- no message ends a run by its refusal: a message that is refused is explained
 abbrev pub refuses : Reporting → Position → List ℕ → List (List ℕ) → Refusal → Type 0
 refuses s at frame message r = ⊥
 
--- whether something has been explained
+-- true if something has been explained
 abbrev pub is_explained : Outcome → Bool
 is_explained outcomes.Nothing = false
 is_explained (outcomes.Refused at stopped) = true
@@ -111,7 +113,7 @@ is_explained outcomes.Accepted = true
 abbrev pub done : Reporting → Position → Bool
 done s at = is_explained s.outcome
 
--- ---- what a call did
+-- ---- the answer of a call
 
 -- a text was appended; or memory was refused, and the text is as it was
 abbrev pub PutsText : List ℕ → List ℕ → List ℕ → Result (Unit {0}) ServeFault → Type 0

@@ -1,4 +1,4 @@
--- What came of a message whose frame or packing is refused. (Own.)
+-- The part that came of a message whose frame or packing is refused. (Own.)
 use Rattle.std.specs.Prelude.{◌≡◌, ℕ, ◌+◌, ◌-◌, ◌*◌, ◌^◌, ◌<◌, ◌≤◌, nat_lt, min, List, [], ◌∷◌, ◌++◌, length}
 use Rattle.std.specs.Prelude.{drop, replicate, slice_index, Option, Some, None, if◌then◌else◌, refl}
 use Rattle.capn_words.specs.Message.{most_segments}
@@ -10,12 +10,12 @@ use Rattle.capn_explain.specs.declared.frame_text.FrameKey.{FrameKey}
 use Rattle.capn_explain.specs.declared.frame_text.FrameKey.TheVariants as keys
 use Rattle.capn_explain.specs.declared.segments_text.SegmentsText.{SegmentsText}
 
--- what came of a frame, and behind it as many zeros as the table has bytes, so that no byte of that is missing
+-- the part of a frame that came, and behind it as many zeros as the table has bytes, so that no byte of that is missing
 abbrev pub with_zeros : List ℕ → List ℕ
 with_zeros rest = rest ++ replicate (head_length (announced_segments (rest ++ replicate 4 0))) 0
 
--- how many bytes the frame has at least, the missing bytes of its table being zeros; counts stop at the greatest number
--- of 64 bits, far above those of a frame that has not too many segments
+-- the number of bytes that the frame has at least, the missing bytes of its table being zeros; counts stop at the
+-- greatest number of 64 bits, far above those of a frame that has not too many segments
 abbrev pub least_length : List ℕ → ℕ
 least_length rest = min (frame_length (with_zeros rest)) (2 ^ 64 - 1)
 
@@ -32,7 +32,7 @@ IsLeastOfGroup came least = 0 < length came → (group : Group) (more : List ℕ
 abbrev pub there : List ℕ → FrameKey
 there rest = keys.AtLeast (length rest) (least_length rest)
 
--- the segments that a table announces; behind the last one it doesn't matter what stands there
+-- the segments that a table announces; behind the last one any number may stand
 abbrev pub announced : List ℕ → SegmentsText
 announced rest = record {
   count = announced_segments rest;
@@ -40,7 +40,7 @@ announced rest = record {
   first = entries 8 (drop 4 rest);
 }
 
--- the same where all sizes came, of a table that has not too many
+-- the segments of a table, if all sizes came and they are not too many
 abbrev pub segments : List ℕ → Option SegmentsText
 segments rest =
     if nat_lt most_segments (announced_segments rest) then None

@@ -1,4 +1,4 @@
-//! What is told of a message that is accepted.
+//! The account of a message that is accepted.
 
 ghost use Rattle.std.specs.Prelude.{◌≡◌, IfOk, IsErr};
 ghost use Rattle.capn_departure.specs.Departures.{Departs};
@@ -6,20 +6,19 @@ ghost use Rattle.capn_report.specs.Accounts as spec;
 ghost use Rattle.capn_report.specs.Accounts.{IsAccount};
 ghost use Rattle.capn_report.specs.inner.Figures.{AreFigures};
 
-use crate::table::table_words;
 use capn_canon::{Form, MeasuredBare};
 use capn_departure::{CanonicalLines, lines_of_measured, measure_surveyed};
 use capn_explain::{MessageHead, SegmentsText};
-use capn_serve::Position;
+use capn_serve::{Position, table_words};
 use capn_walk::{Limits, Measured};
 use capn_words::{Memory, Space};
 use std::alloc::{Allocator, Global};
 use std::fmt;
 
-/// What is told of a message that is accepted, displayed in lines.
+/// The account of a message that is accepted, displayed in lines.
 #[derive(Debug, Drop)]
 pub struct Account<A: Allocator = Global> {
-    /// Where it is, and how large.
+    /// Its place and its size.
     pub head: MessageHead,
     /// The words that its walk pays.
     pub paid: u32,
@@ -27,7 +26,7 @@ pub struct Account<A: Allocator = Global> {
     pub visits: u32,
     /// The least depth that admits it.
     pub depth: u32,
-    /// Whether it is canonical, and why not.
+    /// The lines about its canonical form.
     pub lines: CanonicalLines<A>,
 }
 
@@ -50,7 +49,7 @@ impl<A: Allocator> fmt::Display for Account<A> {
     }
 }
 
-/// What is told of a message that was measured, and has these lines.
+/// Returns the account of a message that was `measured`, and has these `lines`.
 fn account_by<S: Space, A: Allocator>(
     at: Position,
     message: &S,
@@ -72,10 +71,10 @@ fn account_by<S: Space, A: Allocator>(
     }
 }
 
-/// What is told of a message that is accepted and was surveyed within limits.
+/// Returns the account of `message`, which is accepted and was `surveyed` within `limits`.
 ///
-/// `Memory` comes only for a message of one segment that is not canonical, where a growth was refused. Memory: that of
-/// [`lines_of_measured`].
+/// `Memory` comes only for a message of one segment that is not canonical, if a growth on `alloc` was refused. Memory:
+/// that of [`lines_of_measured`].
 pub(crate) fn account_of<S: Space, A: Allocator + Copy>(
     alloc: A,
     form: Form,

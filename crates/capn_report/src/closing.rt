@@ -1,4 +1,4 @@
-//! What is written after the loop over the messages, and how a run ends.
+//! The text after the loop over the messages, and the end of a run.
 
 ghost use Rattle.std.specs.Prelude.{◌≡◌, false, IfOk, IfErr, Some, string_bytes};
 ghost use Rattle.capn_words.specs.Watched.{inner_of, has_failed};
@@ -20,7 +20,7 @@ use capn_words::{Memory, Watched};
 use std::alloc::Allocator;
 use std::io::Write;
 
-/// How a run ends that explained nothing.
+/// Returns the end of a run that explained nothing.
 fn rest_ending<A: Allocator>(
     number: Option<u64>,
     first: &Option<Result<Account<A>, Memory>>,
@@ -39,7 +39,7 @@ fn rest_ending<A: Allocator>(
     }
 }
 
-/// How a run ends whose messages ended as done.
+/// Returns the end of `run`, whose messages ended as done.
 pub(crate) fn ending_of<A: Allocator>(run: &Run<Reporter<A>>) -> Result<(), RunFault>
     ensures { result ≡ spec.ending run.now }
 {
@@ -51,7 +51,7 @@ pub(crate) fn ending_of<A: Allocator>(run: &Run<Reporter<A>>) -> Result<(), RunF
     }
 }
 
-/// The line of a count.
+/// Writes the line of `count`.
 fn count_line<A: Allocator>(alloc: A, count: CountText) -> Result<String<A>, RunFault>
     ensures found { IfOk result (λ line. string_bytes line ≡ spec.count_line count) }
     ensures only { IfErr result (λ e. e ≡ faults.Memory) }
@@ -62,7 +62,7 @@ fn count_line<A: Allocator>(alloc: A, count: CountText) -> Result<String<A>, Run
     }
 }
 
-/// The lines of the only message.
+/// Writes the lines of the only message.
 fn only_lines<B: Allocator, A: Allocator>(
     alloc: A,
     account: &Account<B>,
@@ -76,7 +76,7 @@ fn only_lines<B: Allocator, A: Allocator>(
     }
 }
 
-/// What is written where this number of messages explained nothing.
+/// Writes the text of a run of `count` messages that explained nothing.
 fn rest_lines<B: Allocator, A: Allocator>(
     alloc: A,
     number: Option<u64>,
@@ -98,7 +98,7 @@ fn rest_lines<B: Allocator, A: Allocator>(
     Ok(Some(lines))
 }
 
-/// What is written after all messages.
+/// Returns the text after all messages.
 fn closing_lines<B: Allocator, A: Allocator>(
     alloc: A,
     run: &Run<Reporter<B>>,
@@ -115,7 +115,7 @@ fn closing_lines<B: Allocator, A: Allocator>(
     }
 }
 
-/// Writes what is written after all messages.
+/// Writes the text after all messages.
 pub(crate) fn write_closing<W: Write, B: Allocator, A: Allocator + Copy>(
     alloc: A,
     run: &Run<Reporter<B>>,
@@ -131,7 +131,7 @@ pub(crate) fn write_closing<W: Write, B: Allocator, A: Allocator + Copy>(
     }
 }
 
-/// Writes the lines of a refusal that ended the loop over the messages, by what had come of the message.
+/// Writes the lines of a refusal that ended the loop over the messages, by the part of the message that had come.
 fn write_refusal<W: Write, B: Allocator + Copy, A: Allocator + Copy>(
     alloc: A,
     order: &Explain,
@@ -150,7 +150,7 @@ fn write_refusal<W: Write, B: Allocator + Copy, A: Allocator + Copy>(
     write_all(writer, lines.as_bytes())
 }
 
-/// Writes what is written where a fault ended the loop over the messages.
+/// Writes the lines of the `fault` that ended the loop over the messages.
 pub(crate) fn write_fault<W: Write, B: Allocator + Copy, A: Allocator + Copy>(
     alloc: A,
     order: &Explain,

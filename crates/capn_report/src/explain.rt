@@ -1,15 +1,15 @@
-//! What is explained of an input.
+//! The order of a run that explains a message.
 
 use capn_canon::{Form, Limits};
 
-/// What is explained of an input: one of its messages.
+/// The order to explain one of the messages of an input.
 #[derive(Clone, Copy, Debug, PartialEq, Eq)]
 pub struct Explain {
-    /// How the input holds the messages.
+    /// The form in which the input holds the messages.
     pub form: Form,
     /// The limits of each message.
     pub limits: Limits,
-    /// The number of the message, counted from 1. Without it, the first message that is refused is explained, and
-    /// where none is, the only message.
+    /// The number of the message, counted from 1. Without it, the first message that is refused is explained, and if
+    /// none is, the only message.
     pub number: Option<u64>,
 }

@@ -15,14 +15,15 @@ use capn_words::Watched;
 use std::alloc::Allocator;
 use std::io::{Read, Write};
 
-/// The run of an order, before its first message.
+/// Returns the run of `order` before its first message.
 fn first_run<A: Allocator>(alloc: A, order: Explain) -> Run<Reporter<A>>
     ensures { result ≡ spec.first_run order }
 {
     Run::new(Reporter::new(alloc, order))
 }
 
-/// Serves the messages of an input in its form, and keeps what had come of one that is refused before its walk.
+/// Serves the messages of an input in its form, and keeps the part that had come of one that is refused before its
+/// walk.
 fn serve_messages<R: Read, W: Write, A: Allocator + Copy>(
     alloc: A,
     order: &Explain,
@@ -45,19 +46,20 @@ fn serve_messages<R: Read, W: Write, A: Allocator + Copy>(
     serve_form_with(alloc, order.form, most, run, begun, reader, writer)
 }
 
-/// Explains one message of an input: the first that is refused, or the one of a number.
+/// Explains one message of the input of `reader`, by `order`: the first that is refused, or the one of a number. Writes
+/// the lines to `writer`.
 ///
 /// Without a number that is the first message whose frame, packing, length or walk is refused, and nothing is read
-/// beyond the piece that has it. Where none is refused, it is the only message; or the line is written that says how
-/// many there are. With a number it is the message of that, refused or accepted; a message before it is not walked, and
-/// what keeps the input from being read as far is explained instead. Where there are fewer messages, the line is
-/// written that says how many.
+/// beyond the piece that has it. If none is refused, it is the only message; or the line is written that says how many
+/// there are. With a number it is the message of that, refused or accepted; a message before it is not walked, and what
+/// keeps the input from being read as far is explained instead. If there are fewer messages, the line is written that
+/// says how many.
 ///
-/// It reads as [`serve_form`] does. The run ends as done, or as refused if what is explained is refused: its lines have
-/// been written then. It ends with `InputTooLong`; with `Io` if and only if the reader or the writer failed; and with
-/// `Memory` if a growth was refused; where that was for what is told of the first message, only if no other has come.
-/// Then no explanation has been written, unless the writer failed within it. It holds what its loop holds, the
-/// canonical bytes of the message that is explained, the ways of what is told of it, and the lines.
+/// It reads as [`serve_form`] does. The run ends as done, or as refused if the message that is explained is refused:
+/// its lines have been written then. It ends with `InputTooLong`; with `Io` if and only if the reader or the writer
+/// failed; and with `Memory` if a growth on `alloc` was refused; if that was for the account of the first message, only
+/// if no other has come. Then no explanation has been written, unless the writer failed within it. It holds what its
+/// loop holds, the canonical bytes of the message that is explained, the ways of its account, and the lines.
 pub fn run_explain<R: Read, W: Write, A: Allocator + Copy>(
     alloc: A,
     order: Explain,

@@ -13,7 +13,8 @@ use capn_walk::Limits;
 use capn_words::{BareFault, MOST_SEGMENTS};
 use std::alloc::Allocator;
 
-/// The counts that a table announces, where they are too great; or how much came of a frame that is cut.
+/// Returns the counts that a table announces, if they are too great; or the number of bytes that came of a frame that
+/// is cut.
 fn frame_key(fault: FrameFault, most_words: u32, rest: &[u8]) -> FrameKey
     ensures { result ≡ spec.frame_key fault most_words rest.now }
 {
@@ -27,7 +28,7 @@ fn frame_key(fault: FrameFault, most_words: u32, rest: &[u8]) -> FrameKey
     }
 }
 
-/// What came of a group that is cut.
+/// Returns the part that came of a group that is cut.
 fn packed_key(fault: UnpackFault, came: &[u8]) -> FrameKey
     ensures { result ≡ spec.packed_key fault came.now }
 {
@@ -39,7 +40,7 @@ fn packed_key(fault: UnpackFault, came: &[u8]) -> FrameKey
     }
 }
 
-/// The bytes that came of a bare input, by what is said of them.
+/// Returns the number of bytes that came of a bare input.
 fn bare_key(fault: BareFault) -> FrameKey
     ensures { result ≡ spec.bare_key fault }
 {
@@ -49,7 +50,7 @@ fn bare_key(fault: BareFault) -> FrameKey
     }
 }
 
-/// What is told of a refusal beside its name, where this came of the message and of a group.
+/// Returns the line of a refusal beside its name: `rest` came of the message, and `came` of a group.
 fn key_of(refusal: &Refusal, most_words: u32, rest: &[u8], came: &[u8]) -> FrameKey
     ensures { result ≡ spec.key_of refusal.now most_words rest.now came.now }
 {
@@ -61,7 +62,7 @@ fn key_of(refusal: &Refusal, most_words: u32, rest: &[u8], came: &[u8]) -> Frame
     }
 }
 
-/// The segments of a message in a frame, where their sizes came.
+/// Returns the segments of a message in a frame, if their sizes came.
 fn segments_at(refusal: &Refusal, rest: &[u8]) -> Option<SegmentsText>
     ensures { result ≡ spec.segments_at refusal.now rest.now }
 {
@@ -71,7 +72,8 @@ fn segments_at(refusal: &Refusal, rest: &[u8]) -> Option<SegmentsText>
     }
 }
 
-/// The lines of a message at a position that is refused before its walk, where this came of it and of a group.
+/// Writes the lines of a message at the position `at` that is refused before its walk: `rest` came of it, and `came` of
+/// a group.
 pub(crate) fn fault_lines<A: Allocator>(
     alloc: A,
     limits: Limits,

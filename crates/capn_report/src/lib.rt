@@ -1,8 +1,8 @@
-//! What the program says of one message of an input.
+//! The text of the program about one message of an input.
 //!
 //! [`run_explain`] carries an order out, an [`Explain`]: by its service, the [`Reporter`], it finds the message that is
-//! explained, a refused one or the one of a number, and writes the lines that explain it. The loop over the messages
-//! is that of [`capn_serve`].
+//! explained, a refused one or the one of a number, and writes the lines that explain it. The loop over the messages is
+//! that of [`capn_serve`].
 #![tactic(auto)]
 
 mod account;
@@ -12,7 +12,6 @@ mod explain_run;
 mod fault_lines;
 mod outcome;
 mod reporter;
-mod table;
 mod what_came;
 
 pub use account::Account;

@@ -11,20 +11,19 @@ ghost use Rattle.capn_report.specs.Reports.{IsFirst, IsTold, Puts, PutsAccount, 
 use crate::account::{Account, account_of};
 use crate::explain::Explain;
 use crate::outcome::Outcome;
-use crate::table::table_words;
 use capn_explain::{Told, explain_stop};
-use capn_serve::{Position, ServeFault, Service, flush_long, number_of};
+use capn_serve::{Position, ServeFault, Service, flush_long, number_of, table_words};
 use capn_walk::{Measured, Stopped, survey_depth};
 use capn_words::{Memory, Space, Watched};
 use std::alloc::{Allocator, Global};
 use std::io::Write;
 use std::marker::Model;
 
-/// The service that finds the message that is explained, and what it has found.
+/// The service that finds the message that is explained, and its outcome.
 ///
 /// Without a number it walks each message. The first one that is refused writes the lines that explain it, and no more
 /// is served. With a number it passes over the messages before that one, which are not walked; that one writes the
-/// lines that explain it, refused or accepted, and no more is served. No message ends its run. It keeps what is told of
+/// lines that explain it, refused or accepted, and no more is served. No message ends its run. It keeps the account of
 /// the first message, or that memory was refused for it, until another one has begun.
 #[derive(Drop)]
 pub struct Reporter<A: Allocator = Global> {
@@ -42,7 +41,7 @@ impl<A: Allocator> Model for Reporter<A> {
     ghost view = { λ s. record { order = s.order; outcome = s.outcome; first = lines_first s.first } };
 }
 
-/// Whether a message comes before the one of a number.
+/// Returns `true` if the message at the position `at` comes before the one of `number`.
 fn is_before(at: Position, number: Option<u64>) -> bool
     ensures { result ≡ spec.is_before at number }
 {
@@ -52,7 +51,7 @@ fn is_before(at: Position, number: Option<u64>) -> bool
     }
 }
 
-/// The lines that explain a message, by where its walk stopped.
+/// Returns the lines that explain `message`, whose walk `stopped`.
 fn told_of<S: Space, A: Allocator + Copy>(
     alloc: A,
     order: &Explain,
@@ -81,7 +80,7 @@ fn told_of<S: Space, A: Allocator + Copy>(
     }
 }
 
-/// Appends some bytes, or nothing where memory is refused.
+/// Appends `bytes` to `text`, or nothing if memory is refused.
 fn put_bytes<A: Allocator>(text: &mut Vec<u8, A>, bytes: &[u8]) -> Result<(), ServeFault>
     ensures { PutsText bytes.now text.old.items text.new.items result }
 {
@@ -91,7 +90,7 @@ fn put_bytes<A: Allocator>(text: &mut Vec<u8, A>, bytes: &[u8]) -> Result<(), Se
     }
 }
 
-/// The lines of an account.
+/// Writes the lines of `account`.
 fn lines_of<B: Allocator, A: Allocator>(
     alloc: A,
     account: &Account<B>,
@@ -105,7 +104,7 @@ fn lines_of<B: Allocator, A: Allocator>(
     }
 }
 
-/// Appends the lines of an account, or nothing where memory is refused.
+/// Appends the lines of `account` to `text`, or nothing if memory is refused.
 fn put_account<B: Allocator, A: Allocator + Copy>(
     alloc: A,
     account: &Account<B>,
@@ -117,7 +116,7 @@ fn put_account<B: Allocator, A: Allocator + Copy>(
     put_bytes(text, lines.as_bytes())
 }
 
-/// Appends the lines that explain an accepted message, or nothing where memory is refused.
+/// Appends the lines that explain an accepted `message` to `text`, or nothing if memory is refused.
 fn put_accepted<S: Space, A: Allocator + Copy>(
     alloc: A,
     order: &Explain,
@@ -135,7 +134,7 @@ fn put_accepted<S: Space, A: Allocator + Copy>(
     }
 }
 
-/// What is kept of a message that is accepted: what is told of it, if it is the first.
+/// Returns the account of an accepted `message` that is kept, if it is the first.
 fn first_of<S: Space, A: Allocator + Copy>(
     alloc: A,
     order: &Explain,
@@ -153,7 +152,7 @@ fn first_of<S: Space, A: Allocator + Copy>(
 }
 
 impl<B: Allocator> Reporter<B> {
-    /// A reporter that has found nothing. It takes no memory.
+    /// Returns a reporter that has found nothing. It takes no memory.
     pub(crate) fn new(alloc: B, order: Explain) -> Reporter<B>
         ensures { result ≡ spec.first_reporting order }
     {
@@ -165,21 +164,21 @@ impl<B: Allocator> Reporter<B> {
         }
     }
 
-    /// What is explained.
+    /// Returns its order.
     pub(crate) fn order(&self) -> Explain
         ensures { result ≡ self.now.order }
     {
         self.order
     }
 
-    /// What has been explained.
+    /// Returns its outcome so far.
     pub(crate) fn outcome(&self) -> Outcome
         ensures { result ≡ self.now.outcome }
     {
         self.outcome
     }
 
-    /// What is kept of the only message so far, if that is accepted and no number is asked for.
+    /// Returns the account of the only message so far, if that is accepted and no number is asked for.
     pub(crate) fn first(&self) -> &Option<Result<Account<B>, Memory>>
         ensures { spec.lines_first result.now ≡ self.now.first }
     {
@@ -188,7 +187,7 @@ impl<B: Allocator> Reporter<B> {
 }
 
 impl<B: Allocator + Copy> Reporter<B> {
-    /// Reports on a message that is accepted, by what a survey found of it.
+    /// Reports on a `message` that is accepted and was `surveyed`.
     fn report_accepted<S: Space, A: Allocator + Copy>(
         &mut self,
         alloc: A,
@@ -211,7 +210,7 @@ impl<B: Allocator + Copy> Reporter<B> {
         Ok(())
     }
 
-    /// Reports on a message that isn't before the one that is explained.
+    /// Reports on a `message` that isn't before the one that is explained.
     fn report_known<S: Space, A: Allocator + Copy>(
         &mut self,
         alloc: A,
@@ -233,7 +232,7 @@ impl<B: Allocator + Copy> Reporter<B> {
         }
     }
 
-    /// Reports on a message.
+    /// Reports on `message`.
     fn report<S: Space, A: Allocator + Copy>(
         &mut self,
         alloc: A,

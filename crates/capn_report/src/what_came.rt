@@ -1,4 +1,4 @@
-//! What came of a message whose frame or packing is refused.
+//! The part that came of a message whose frame or packing is refused.
 
 ghost use Rattle.std.specs.Prelude.{◌≡◌, ◌*◌, ◌^◌, ◌≤◌, drop, slice_index, sum};
 ghost use Rattle.capn_pack.specs.UnpackRefusal.{len_at};
@@ -9,7 +9,7 @@ ghost use Rattle.capn_report.specs.WhatCame.{IsLeastOfFrame, IsLeastOfGroup};
 use capn_explain::{FrameKey, SegmentsText};
 use capn_words::MOST_SEGMENTS;
 
-/// The byte at a place, or zero where that is missing.
+/// Returns the byte at `place`, or zero if that is missing.
 fn byte_at(bytes: &[u8], place: usize) -> u8
     ensures { result ≡ slice_index bytes.now place }
 {
@@ -19,7 +19,7 @@ fn byte_at(bytes: &[u8], place: usize) -> u8
     }
 }
 
-/// The number of 4 bytes that begins at byte 4 times the index. Missing bytes are zeros.
+/// Returns the number of 4 bytes that begins at byte `4 * index`. Missing bytes are zeros.
 fn entry_at(bytes: &[u8], index: usize) -> u32
     requires { index ≤ 2 ^ 32 }
     ensures { result ≡ entry_number (drop (4 * index) bytes.now) }
@@ -32,7 +32,7 @@ fn entry_at(bytes: &[u8], index: usize) -> u32
     first + 256 * (second + 256 * (third + 256 * fourth))
 }
 
-/// The sum of this many sizes. Missing bytes are zeros.
+/// Returns the sum of the first `count` sizes. Missing bytes are zeros.
 fn total_of(sizes: &[u8], count: u64) -> u64
     requires { count ≤ 2 ^ 32 }
     ensures { result ≡ sum (entries count sizes.now) }
@@ -46,7 +46,7 @@ fn total_of(sizes: &[u8], count: u64) -> u64
     total
 }
 
-/// How many segments a table announces. Missing bytes are zeros.
+/// Returns the number of segments that a table announces. Missing bytes are zeros.
 fn segments_of(rest: &[u8]) -> u64
     ensures is { result ≡ announced_segments rest.now }
     ensures most { result ≤ 2 ^ 32 }
@@ -54,7 +54,7 @@ fn segments_of(rest: &[u8]) -> u64
     u64::from(entry_at(rest, 0)) + 1
 }
 
-/// What came behind the number of segments.
+/// Returns the bytes that came behind the number of segments.
 fn sizes_of(rest: &[u8]) -> &[u8]
     ensures { result.now ≡ drop 4 rest.now }
 {
@@ -64,14 +64,14 @@ fn sizes_of(rest: &[u8]) -> &[u8]
     &rest[4..]
 }
 
-/// How many words a table announces. Missing bytes are zeros.
+/// Returns the number of words that a table announces. Missing bytes are zeros.
 fn words_of(rest: &[u8]) -> u64
     ensures { result ≡ announced_words rest.now }
 {
     total_of(sizes_of(rest), segments_of(rest))
 }
 
-/// How many bytes a frame has at least, by what came of it.
+/// Returns the number of bytes that a frame has at least, by the part of it that came.
 fn least_of(rest: &[u8]) -> u64
     ensures is { result ≡ spec.least_length rest.now }
     ensures least { IsLeastOfFrame rest.now result }
@@ -80,14 +80,14 @@ fn least_of(rest: &[u8]) -> u64
     words_of(rest).saturating_mul(8).saturating_add(table)
 }
 
-/// How many bytes came of a frame, and how many it has at least.
+/// Returns the number of bytes that came of a frame, and of those that it has at least.
 pub(crate) fn there(rest: &[u8]) -> FrameKey
     ensures { result ≡ spec.there rest.now }
 {
     FrameKey::AtLeast(rest.len() as u64, least_of(rest))
 }
 
-/// The sizes of the first eight segments, behind their number.
+/// Returns the sizes of the first eight segments, behind their number.
 fn first_of(sizes: &[u8]) -> [u32; 8]
     ensures { result ≡ entries 8 sizes.now }
 {
@@ -103,7 +103,7 @@ fn first_of(sizes: &[u8]) -> [u32; 8]
     ]
 }
 
-/// The segments that a table announces, where all sizes came and they are not too many.
+/// Returns the segments that a table announces, if all sizes came and they are not too many.
 pub(crate) fn segments(rest: &[u8]) -> Option<SegmentsText>
     ensures { result ≡ spec.segments rest.now }
 {
@@ -121,7 +121,7 @@ pub(crate) fn segments(rest: &[u8]) -> Option<SegmentsText>
     })
 }
 
-/// How many bytes a group has by its tag and its count. Missing bytes are zeros.
+/// Returns the number of bytes that a group has by its tag and its count. Missing bytes are zeros.
 fn len_of(came: &[u8]) -> u64
     ensures { result ≡ len_at came.now }
 {
@@ -132,7 +132,7 @@ fn len_of(came: &[u8]) -> u64
     }
 }
 
-/// How many bytes a group has at least, by what came of it.
+/// Returns the number of bytes that a group has at least, by the part of it that came.
 #[tactic(auto, using(crate::proofs::AtLeast::least_of_group))]
 fn needs_of(came: &[u8]) -> u64
     ensures is { result ≡ len_at came.now }
@@ -141,7 +141,8 @@ fn needs_of(came: &[u8]) -> u64
     len_of(came)
 }
 
-/// What came of the group that begins at a byte of the packed input, and what it has at least.
+/// Returns the part that came of the group that begins at byte `at` of the packed input, and the number of bytes that
+/// it has at least.
 pub(crate) fn group(at: u64, came: &[u8]) -> FrameKey
     ensures { result ≡ spec.group at came.now }
 {

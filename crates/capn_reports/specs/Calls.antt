@@ -1,4 +1,4 @@
--- What a caller orders by numbers, and what a call leaves in its buffer. (Own.)
+-- The order of a caller by numbers, and the content of a buffer after a call. (Own.)
 use Rattle.std.specs.Prelude.{◌≡◌, ◌⊎◌, ℕ, suc, zero, ◌+◌, ◌*◌, ◌<◌, ◌≤◌, List, ◌++◌, length, drop}
 use Rattle.capn_value.specs.declared.tariff.Tariff.{Tariff}
 use Rattle.capn_value.specs.declared.tariff.Tariff.TheVariants as tariffs

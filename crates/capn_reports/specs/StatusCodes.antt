@@ -1,4 +1,4 @@
--- Which status and which numbers report a refusal. (Own.)
+-- The status and the numbers that report a refusal. (Own.)
 use Rattle.std.specs.Prelude.{◌≡◌, ◌≢◌, ℕ, Bool, ◌||◌, ◌&&◌, nat_eq, nat_lt}
 use Rattle.capn_words.specs.declared.bare.BareFault.{BareFault}
 use Rattle.capn_words.specs.declared.bare.BareFault.TheVariants as bare
@@ -16,7 +16,7 @@ use Rattle.capn_reports.specs.declared.report.CapnReport.{CapnReport}
 abbrev pub at_number : ℕ → CapnReport
 at_number n = record { length = 0; at = n; segment = 0; word = 0; paid = 0; visits = 0 }
 
--- a report of an answer: its length, what its walk paid, and how many visits that made
+-- a report of an answer: its length, the words that its walk paid, and the number of visits that it made
 abbrev pub answered : ℕ → ℕ → ℕ → CapnReport
 answered length paid visits = record { length = length; at = 0; segment = 0; word = 0; paid = paid; visits = visits }
 

@@ -1,8 +1,8 @@
 //! Orders and reports of the calls for C.
 //!
-//! - [`form_of`], [`flat_form_of`], [`limits_of`] and [`style_of`] are what a caller orders by numbers, or which of
-//!   them is out of its range.
-//! - [`CapnReport`] is what a call reports beside its status. [`refuse`] and [`refuse_packed`] are the status and the
+//! - [`form_of`], [`flat_form_of`], [`limits_of`] and [`style_of`] read the numbers of a caller's order, and say which
+//!   of them is out of its range.
+//! - [`CapnReport`] is the report of a call beside its status. [`refuse`] and [`refuse_packed`] give the status and the
 //!   report of a refusal; no other refusal has both, unless memory was refused.
 //! - [`deliver`] writes an answer into the caller's buffer, if that has room.
 //!
@@ -29,7 +29,7 @@ pub use status_codes::{
 };
 pub use styles::{end_of, style_of};
 
-// What the signatures above name.
+// The types in the signatures above.
 pub use capn_canon::{Form, Refusal};
 pub use capn_pack::UnpackFault;
 pub use capn_show::Style;

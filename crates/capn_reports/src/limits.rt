@@ -9,7 +9,7 @@ use capn_canon::Form;
 use capn_value::Tariff;
 use capn_walk::Limits;
 
-/// How much a call takes on. Any numbers may be passed: a call's status says if one is out of its range.
+/// The limits of a call. Any numbers may be passed: a call's status says if one is out of its range.
 #[derive(Clone, Copy)]
 #[repr(C)]
 pub struct CapnLimits {
@@ -19,11 +19,11 @@ pub struct CapnLimits {
     pub budget: u32,
     /// The depth of objects, from 1 to 256.
     pub depth: u32,
-    /// How visits are priced: 0, each content costs 1 beside its size; 1, it costs nothing beside it.
+    /// The tariff by which visits are priced: 0, each content costs 1 beside its size; 1, it costs nothing beside it.
     pub tariff: u32,
 }
 
-/// The tariff of a number.
+/// Returns the tariff that has this `number`.
 fn tariff_of(number: u32) -> Option<Tariff>
     ensures some { IsSome result ↔ IsTariff number }
     ensures value { IfSome result (λ t. t ≡ tariff_named number) }
@@ -35,7 +35,7 @@ fn tariff_of(number: u32) -> Option<Tariff>
     }
 }
 
-/// The form of a number.
+/// Returns the form that has this `number`; `None`, if none has.
 pub fn form_of(number: u32) -> Option<Form>
     ensures some { IsSome result ↔ IsForm number }
     ensures value { IfSome result (λ f. f ≡ form_named number) }
@@ -48,7 +48,8 @@ pub fn form_of(number: u32) -> Option<Form>
     }
 }
 
-/// The form of a number, if its bytes are those of the message itself: a stream, or bare words.
+/// Returns the form that has this `number`, if its bytes are those of the message itself: a stream, or bare words; else
+/// `None`.
 pub fn flat_form_of(number: u32) -> Option<Form>
     ensures some { IsSome result ↔ IsFlat number }
     ensures value { IfSome result (λ f. f ≡ form_named number) }
@@ -61,7 +62,7 @@ pub fn flat_form_of(number: u32) -> Option<Form>
     }
 }
 
-/// The limits of these numbers, or the status that says which is out of its range.
+/// Reads `limits`: returns them, or the status that says which is out of its range.
 pub fn limits_of(limits: &CapnLimits) -> Result<Limits, u32>
     ensures value { IfOk result (λ l. l ≡ bounds_of limits.now) }
     ensures ok { IfOk result (λ l. GiveLimits limits.now × IsTariff limits.now.tariff) }

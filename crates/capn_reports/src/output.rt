@@ -5,7 +5,7 @@ ghost use Rattle.capn_reports.specs.Calls.{Delivers};
 
 use crate::status_codes::{DONE, NO_ROOM};
 
-/// Writes an answer at the start of a buffer, if it has room for all of it.
+/// Writes `answer` at the start of `out`, if it has room for all of it; returns the status.
 pub fn deliver(answer: &[u8], out: &mut [u8]) -> u32
     ensures { Delivers answer.now result (length answer.now) out.old out.new }
 {

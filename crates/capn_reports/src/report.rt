@@ -3,17 +3,17 @@
 ghost use Rattle.std.specs.Prelude.{◌≡◌};
 ghost use Rattle.capn_reports.specs.StatusCodes.{at_number, answered};
 
-/// What a call reports beside its status. Each call sets every field; one that its status does not speak of is 0.
+/// The report of a call, beside its status. Each call sets every field; one that its status does not speak of is 0.
 #[derive(Clone, Copy)]
 #[repr(C)]
 pub struct CapnReport {
-    /// How many bytes the answer has: those that were written, or where there is no room how many are enough.
+    /// The number of bytes of the answer: those that were written, or if there is no room as many as are enough.
     pub length: u64,
     /// The number of a refusal: an offset, a count or an index.
     pub at: u64,
     /// The words that the walk paid.
     pub paid: u32,
-    /// How many visits it made.
+    /// The number of visits that it made.
     pub visits: u32,
     /// The slot at which the walk stopped: its segment,
     pub segment: u32,
@@ -21,7 +21,7 @@ pub struct CapnReport {
     pub word: u32,
 }
 
-/// A report of one number.
+/// Returns a report of the one number `at`.
 pub fn report_at(at: u64) -> CapnReport
     ensures { result ≡ at_number at }
 {
@@ -35,7 +35,7 @@ pub fn report_at(at: u64) -> CapnReport
     }
 }
 
-/// A report of an answer.
+/// Returns a report of an answer of `length` bytes, with the words that its walk `paid` and its `visits`.
 pub fn answer_of(length: u64, paid: u32, visits: u32) -> CapnReport
     ensures { result ≡ answered length paid visits }
 {

@@ -130,7 +130,7 @@ fn code_of_walk(fault: Fault) -> u32
     }
 }
 
-/// The status of a refusal.
+/// Returns the status of `refusal`.
 fn code_of(refusal: Refusal) -> u32
     ensures { result ≡ code refusal }
 {
@@ -145,7 +145,7 @@ fn code_of(refusal: Refusal) -> u32
     }
 }
 
-/// The numbers of a refusal.
+/// Returns the numbers of `refusal`.
 fn report_of_refusal(refusal: Refusal) -> CapnReport
     ensures { result ≡ report_of refusal }
 {
@@ -167,7 +167,7 @@ fn report_of_refusal(refusal: Refusal) -> CapnReport
     }
 }
 
-/// Reports a refusal: its numbers in the report, and its status.
+/// Reports `refusal`: writes its numbers to `report`, and returns its status.
 pub fn refuse(refusal: Refusal, report: &mut CapnReport) -> u32
     ensures { Reports result report.new refusal }
 {
@@ -175,7 +175,7 @@ pub fn refuse(refusal: Refusal, report: &mut CapnReport) -> u32
     code_of(refusal)
 }
 
-/// Reports a refusal of packed bytes: its number in the report, and its status.
+/// Reports a refusal of packed bytes, `fault`: writes its number to `report`, and returns its status.
 pub fn refuse_packed(fault: UnpackFault, report: &mut CapnReport) -> u32
     ensures { ReportsPacked result report.new fault }
 {

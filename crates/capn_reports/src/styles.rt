@@ -6,7 +6,7 @@ ghost use Rattle.capn_reports.specs.Styles.{IsStyle, style_named};
 
 use capn_show::Style;
 
-/// The style of a number.
+/// Returns the style that has this `number`; `None`, if none has.
 pub fn style_of(number: u32) -> Option<Style>
     ensures some { IsSome result ↔ IsStyle number }
     ensures value { IfSome result (λ s. s ≡ style_named number) }
@@ -20,7 +20,8 @@ pub fn style_of(number: u32) -> Option<Style>
     }
 }
 
-/// What ends the text of a message: the line `end`, but nothing in JSON, where the text is one line.
+/// Returns the end of the text of a message in this `style`: the line `end`, but nothing in JSON, where the text is one
+/// line.
 pub fn end_of(style: Style) -> &'static [u8]
     ensures { result.now ≡ shown.end_of style }
 {

@@ -1,4 +1,4 @@
--- A message that is held in segments: its words, its bytes and its size.
+-- A message that is held in segments: its words, its bytes and its size. (For `segments.rt`.)
 use Rattle.std.proofs.Common.{◌≡◌, ℕ, zero, suc, ◌+◌, ◌-◌, ◌*◌, ◌^◌, ◌<◌, ◌≤◌, List, [], ◌∷◌, length, take, drop, map}
 use Rattle.std.proofs.Common.{slice_index, slice_index_or, All, Bor, Some, None, min, refl, ap, sym, ◌∙◌, arith}
 use Rattle.std.proofs.lemmas.Bool.{lt-ltb, le-ltb}

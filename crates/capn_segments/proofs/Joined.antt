@@ -1,4 +1,4 @@
--- Words of 8 bytes each, joined.
+-- Words of 8 bytes each, joined. (For `bytes_of`.)
 use Rattle.std.proofs.Common.{◌≡◌, ℕ, zero, suc, ◌*◌, ◌<◌, List, [], ◌∷◌, ◌++◌, length}
 use Rattle.std.proofs.Common.{slice_index_or, All, refl, arith, length-append}
 use Rattle.capn_words.specs.Message.{AreBytes}

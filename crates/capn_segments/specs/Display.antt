@@ -4,7 +4,7 @@ use Rattle.std.specs.Fmt.{decimal}
 use Rattle.capn_segments.specs.declared.fault.SegmentsFault.{SegmentsFault}
 use Rattle.capn_segments.specs.declared.fault.SegmentsFault.TheVariants.{Empty, TooManySegments, TooManyWords}
 
--- why segments are no message
+-- the reason why segments are no message
 abbrev pub segments_text : SegmentsFault → List ℕ
 segments_text Empty = codes "Empty"
 segments_text (TooManySegments n) = codes "TooManySegments(" ++ decimal n ++ codes ")"

@@ -28,14 +28,14 @@ pub record IsHeld (message : List (List ℕ)) (most : ℕ) : Type 0 where
 abbrev pub counted_words : List (List ℕ) → ℕ
 counted_words message = min (total message) (2 ^ 64 - 1)
 
--- why segments are no message of at most `most` words, each test being made once those before it have passed
+-- segments are no message of at most `most` words, for this fault; each test is made once those before it have passed
 abbrev pub IsUnheld : List (List ℕ) → ℕ → SegmentsFault → Type 0
 IsUnheld message most Empty = length message ≡ 0
 IsUnheld message most (TooManySegments n) = (n ≡ length message) × (most_segments < n)
 IsUnheld message most (TooManyWords n) = (0 < length message) × (length message ≤ most_segments)
     × (most < total message) × (n ≡ counted_words message)
 
--- what segments are read as, under a number of words: the message that they hold, or the first of the refusals
+-- segments are read, under a number of words, as the message that they hold, or with the first of the refusals
 abbrev pub ReadsSegments : List (List ℕ) → ℕ → Result (List (List ℕ)) SegmentsFault → Type 0
 ReadsSegments message most (Ok read) = (read ≡ message) × IsHeld message most
 ReadsSegments message most (Err e) = IsUnheld message most e

@@ -3,7 +3,7 @@
 use std::error::Error;
 use std::fmt;
 
-/// Why segments are no message, in the order of the tests.
+/// The reason why segments are no message, in the order of the tests.
 #[derive(Clone, Copy, Debug, PartialEq, Eq)]
 pub enum SegmentsFault {
     /// There are no segments.

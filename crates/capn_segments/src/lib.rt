@@ -19,5 +19,5 @@ mod segments;
 pub use fault::SegmentsFault;
 pub use segments::Segments;
 
-// What the signatures above name.
+// The types in the signatures above.
 pub use capn_words::{Place, Space};

@@ -9,7 +9,7 @@ use crate::fault::SegmentsFault;
 use capn_words::{MOST_SEGMENTS, Place, Space};
 use std::marker::Model;
 
-/// How many words a segment has.
+/// Returns the number of words of `segment`.
 fn length_of(segment: &[[u8; 8]]) -> u64
     ensures count { result ≡ length segment.now }
     ensures each { All IsWord segment.now }
@@ -18,7 +18,7 @@ fn length_of(segment: &[[u8; 8]]) -> u64
     segment.len() as u64
 }
 
-/// How many words segments have together, or 2^64 - 1 if they have more.
+/// Returns the number of words that `segments` have together, or 2^64 - 1 if they have more.
 fn words_in(segments: &[&[[u8; 8]]]) -> u64
     ensures count { result ≡ counted_words (message_of segments.now) }
     ensures each { All (λ segment. All IsWord segment.now) segments.now }
@@ -52,14 +52,14 @@ impl<'a> Model for Segments<'a> {
 }
 
 impl<'a> Segments<'a> {
-    /// The message that segments hold, each of them its words of 8 bytes, the least significant first. A segment may be
+    /// Reads `segments` as a message, each of them its words of 8 bytes, the least significant first. A segment may be
     /// empty. Nothing is copied.
     ///
-    /// `Empty` if there are none; `TooManySegments` with their number, if it is above 4,096; `TooManyWords` with the
-    /// words that they have together, if they are more than `max_words`. (Own: the limits.)
+    /// Refusals: `Empty` if there are none; `TooManySegments` with their number, if it is above 4,096; `TooManyWords`
+    /// with the words that they have together, if they are more than `max_words`. (Own: the limits.)
     pub fn new(segments: &'a [&'a [[u8; 8]]], max_words: u32) -> Result<Segments<'a>, SegmentsFault>
         requires { max_words ≤ most_message_words }
-        // What each answer means, and that whatever segments hold is answered, if it is within the limits.
+        // The meaning of each answer; and whatever segments hold is answered, if it is within the limits.
         ensures exact { ReadsSegments (message_of segments.now) max_words result }
         ensures only { IsHeld (message_of segments.now) max_words → result ≡ Ok (message_of segments.now) }
     {

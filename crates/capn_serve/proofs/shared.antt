@@ -1,5 +1,6 @@
 -- Lemmas that other crates may cite.
-pub mod Appending
 pub mod Adding
+pub mod Appending
+pub mod Given
 pub mod OneServing
 pub mod Until

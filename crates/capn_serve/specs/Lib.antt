@@ -12,5 +12,6 @@ pub mod PickRun
 pub mod FormRun
 pub mod WhatCame
 pub mod FaultText
+pub mod Table
 pub mod Laws
 pub mod inner

@@ -1,9 +1,15 @@
 //! Faults of a run over a stream.
 
+ghost use Rattle.std.specs.Prelude.{◌≡◌, ◌≢◌, ◌⊎◌};
+ghost use Rattle.capn_target.specs.declared.target.Fault.TheVariants as walk_faults;
+ghost use Rattle.capn_canon.specs.declared.refusal.Refusal.TheVariants as refusals;
+ghost use Rattle.capn_serve.specs.declared.fault.ServeFault.TheVariants as serve_faults;
+
 use crate::position::Position;
 use crate::refusal_line::{say_place, say_refusal};
 use capn_canon::Refusal;
 use capn_endings::{Ending, Line};
+use capn_walk::{Fault, Stopped};
 use capn_words::Watched;
 use std::io::Write;
 
@@ -16,6 +22,17 @@ pub enum ServeFault {
     Io,
     /// The message is refused, or its value is, before the first byte of its text.
     Refused(Refusal),
+}
+
+/// Returns how a message ends whose survey stopped with `stopped`: memory was refused, or the message is.
+pub fn fault_of_stop(stopped: Stopped) -> ServeFault
+    ensures { ((stopped.fault ≡ walk_faults.Memory) × (result ≡ serve_faults.Memory))
+        ⊎ ((stopped.fault ≢ walk_faults.Memory) × (result ≡ serve_faults.Refused (refusals.Walk stopped))) }
+{
+    match stopped.fault {
+        Fault::Memory => ServeFault::Memory,
+        _ => ServeFault::Refused(Refusal::Walk(stopped)),
+    }
 }
 
 /// Why a run over a stream ends before all of its input was served.

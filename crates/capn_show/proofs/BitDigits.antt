@@ -1,4 +1,4 @@
--- The digits of the bits of a list, a word at a time.
+-- The digits of the bits of a list, a word at a time. (For `push_bits` and `word_bits`.)
 use Rattle.std.proofs.Common.{◌≡◌, ℕ, zero, suc, ◌+◌, ◌*◌, ◌/◌, ◌%◌, ◌^◌, ◌<◌, ◌≤◌, List, [], ◌∷◌, length, take, drop}
 use Rattle.std.proofs.Common.{inl, inr, set, get_or, map, refl, ap, ap₂, sym, ◌∙◌, arith, Bool, true, false}
 use Rattle.std.specs.Prelude.{slice_index}

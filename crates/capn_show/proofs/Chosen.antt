@@ -1,4 +1,4 @@
--- How lists of bytes are written, by a const parameter.
+-- The text of lists of bytes, by a const parameter. (For `json.rt`, `json_lists.rt`, `json_texts.rt` and others.)
 use Rattle.std.proofs.Common.{◌≡◌, ℕ, Bool, List, not, eqb, ap}
 use Rattle.std.proofs.lemmas.Bool.{ne_eqb}
 use Rattle.capn_show.specs.JsonTexts.{text_or_digits}

@@ -1,4 +1,4 @@
--- Whether bytes are a text in JSON, one byte further.
+-- The test of bytes for a text in JSON, one byte further. (For `is_json_text` and `is_well_formed`.)
 use Rattle.std.proofs.Common.{◌≡◌, ℕ, zero, suc, ◌+◌, ◌<◌, ◌==◌, ◌&&◌, ◌||◌, List, [], ◌∷◌, Bool, true, false}
 use Rattle.std.proofs.Common.{length, drop, get_or, ap, refl, ◌∙◌, arith}
 use Rattle.std.specs.Str.{IsUtf8, is_utf8}

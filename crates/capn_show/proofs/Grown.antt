@@ -1,4 +1,5 @@
--- A loop that appends a text for each element of a list: one more, and all of them.
+-- A loop that appends a text for each element of a list: one more, and all of them. (For `bits.rt`, `byte_digits.rt`,
+-- `escapes.rt` and `numbers.rt`.)
 use Rattle.std.proofs.Common.{◌≡◌, ℕ, zero, suc, ◌+◌, ◌*◌, ◌<◌, List, [], ◌∷◌, ◌++◌, Bool}
 use Rattle.std.proofs.Common.{length, take, drop}
 use Rattle.std.proofs.Common.{get_or, replicate, codes, refl, sym, ap, ◌∙◌, arith, append_assoc}

@@ -1,4 +1,5 @@
--- A loop that appends the items of an array: one more, all of them, and where it breaks off.
+-- A loop that appends the items of an array: one more, all of them, and where it breaks off. (For `json.rt`,
+-- `json_lists.rt` and `json_texts.rt`.)
 use Rattle.std.proofs.Common.{◌≡◌, ℕ, zero, suc, ◌+◌, ◌<◌, List, [], ◌∷◌, ◌++◌, length, take, drop, get_or}
 use Rattle.std.proofs.Common.{refl, sym, ap, ◌∙◌, arith, append_assoc}
 use Rattle.std.proofs.lemmas.List.{append-nil, take_all}

@@ -1,4 +1,5 @@
--- The JSON of values by its parts, and the texts of items by their numbers.
+-- The JSON of values by its parts, and the texts of items by their numbers. (For `json.rt`, `json_items.rt`,
+-- `json_lists.rt` and `json_texts.rt`.)
 use Rattle.std.proofs.Common.{◌≡◌, ℕ, zero, suc, ◌+◌, ◌-◌, ◌<◌, ◌≤◌, List, [], ◌∷◌, ◌++◌, length, get_or, map, codes}
 use Rattle.std.proofs.Common.{take, drop, replicate, refl, sym, ap, ap₂, ◌∙◌, arith, append_assoc}
 use Rattle.std.specs.Fmt.{decimal}

@@ -1,4 +1,4 @@
--- The JSON of what a pointer names.
+-- The JSON of what a pointer names. (For the cycle `json` and `json_list`.)
 use Rattle.std.proofs.Common.{◌≡◌, ℕ, ◌+◌, Bool, List, [], ◌∷◌, ◌++◌, codes, map, subst, sym, ap, ◌∙◌}
 use Rattle.std.specs.Fmt.{decimal}
 use Rattle.capn_words.specs.declared.space.Place.{Place}

@@ -1,4 +1,4 @@
--- The lines of a text, by their parts.
+-- The lines of a text, by their parts. (For `bytes.rt` and `lines.rt`.)
 use Rattle.std.proofs.Common.{◌≡◌, ℕ, ◌+◌, ◌*◌, ◌≤◌, ◌-◌, List, [], ◌∷◌, ◌++◌, take, replicate}
 use Rattle.std.proofs.Common.{refl, ◌∙◌, sym, ap, arith, append_assoc, codes}
 use Rattle.std.specs.Fmt.{decimal}

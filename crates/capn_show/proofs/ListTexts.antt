@@ -1,4 +1,4 @@
--- The text of a list of elements without pointers, from its first line and what follows it.
+-- The text of a list of elements without pointers, from its first line and what follows it. (For `show_list`.)
 use Rattle.std.proofs.Common.{◌≡◌, ℕ, ◌+◌, List, ◌++◌, length, codes, subst, sym, ap, ◌∙◌}
 use Rattle.capn_words.specs.declared.pointer.Width.{Width}
 use Rattle.capn_words.specs.declared.pointer.Width.TheVariants.{W0, W1, W8}

@@ -1,4 +1,4 @@
--- The list of bytes of a JSON.
+-- The list of bytes of a JSON. (For `json_texts`.)
 use Rattle.std.proofs.Common.{◌≡◌, ℕ, suc, ◌-◌, ◌==◌, List, [], ◌∷◌, ◌++◌, Bool, true, false, ◌&&◌}
 use Rattle.std.proofs.Common.{if◌then◌else◌, length, take, ap, sym, refl, ◌∙◌, arith, codes}
 use Rattle.std.proofs.lemmas.Bool.{eqb-true}

@@ -1,4 +1,4 @@
--- A step of a way: from what a pointer names to what is below it.
+-- A step of a way: from what a pointer names to what is below it. (For `follow`, `named` and `step_down`.)
 use Rattle.std.proofs.Common.{◌≡◌, ℕ, zero, suc, ◌+◌, ◌*◌, ◌<◌, ◌≤◌, List, [], ◌∷◌, length, drop, get_or, Some, None}
 use Rattle.std.proofs.Common.{refl, subst, sym, ap, ◌∙◌, arith, Err}
 use Rattle.std.proofs.Math.Seq.{drop-cons}

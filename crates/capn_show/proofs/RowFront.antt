@@ -1,4 +1,4 @@
--- The first rows of a list.
+-- The first rows of a list. (For the cycle `slots`.)
 use Rattle.std.proofs.Common.{ℕ, zero, suc}
 use Rattle.capn_value.specs.Tree.{Bodies, no_bodies, body}
 

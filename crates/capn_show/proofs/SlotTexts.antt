@@ -1,4 +1,4 @@
--- A loop that appends the text of each slot or row: one more, and all of them.
+-- A loop that appends the text of each slot or row: one more, and all of them. (For the cycle `slots`.)
 use Rattle.std.proofs.Common.{◌≡◌, ℕ, zero, suc, ◌+◌, ◌<◌, ◌≤◌, List, ◌++◌, length, refl, sym, ap, ◌∙◌, arith}
 use Rattle.std.proofs.Common.{append_assoc}
 use Rattle.std.proofs.lemmas.List.{append-nil}

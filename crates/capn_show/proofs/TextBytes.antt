@@ -1,4 +1,4 @@
--- Whether bytes are a text, one byte further, and how they are written between quotes.
+-- The test of bytes for a text, one byte further, and their form between quotes. (For `bare_run`.)
 use Rattle.std.proofs.Common.{◌≡◌, ℕ, zero, suc, ◌+◌, ◌<◌, ◌==◌, ◌&&◌, ◌||◌, List, [], ◌∷◌, ◌++◌, Bool, true, false}
 use Rattle.std.proofs.Common.{if◌then◌else◌, length, take, drop, get_or, ap, ap₂, sym, refl, ◌∙◌, arith, append_assoc}
 use Rattle.std.proofs.lemmas.List.{append-nil, take_more}

@@ -1,4 +1,4 @@
--- The digits of the bytes of a list.
+-- The digits of the bytes of a list. (For `push_bytes`.)
 use Rattle.std.proofs.Common.{◌≡◌, ℕ, List, [], ◌∷◌, ◌++◌, refl}
 use Rattle.hex.specs.Hex.{encode_with, encode_lower}
 

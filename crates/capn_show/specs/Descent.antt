@@ -1,4 +1,4 @@
--- Where a step of a way leads. (Own.)
+-- The target of a step of a way. (Own.)
 use Rattle.std.specs.Prelude.{ℕ, List, Result, Ok, Err}
 use Rattle.capn_words.specs.declared.space.Place.{Place}
 use Rattle.capn_target.specs.declared.target.Target.{Target}
@@ -9,23 +9,23 @@ use Rattle.capn_target.specs.Target.{target}
 use Rattle.capn_walk.specs.Accepted.{root}
 use Rattle.capn_walk.specs.View.{step_place, row_of}
 
--- where what a pointer names begins: in a list of structs that is its tag
+-- the place at which the target of a pointer begins: in a list of structs that is its tag
 abbrev pub begin : Target → Place
 begin (targets.Content s w shape pads) = record { segment = s; word = w }
 begin _ = root
 
--- what a pointer names, if anything
+-- the target of a pointer, if it has one
 abbrev pub named_by : Result Target Fault → Target
 named_by (Ok found) = found
 named_by (Err e) = targets.Nil
 
--- one step below what a pointer names: the slot of a number, or where the row begins
+-- one step below the target of a pointer: the slot of a number, or the place at which the row begins
 abbrev pub step_at : Target → ℕ → Place
 step_at (targets.Content s w (shapes.Rows n a b span) pads) i =
     begin (row_of (targets.Content s w (shapes.Rows n a b span) pads) i)
 step_at found i = step_place found i
 
--- what is there, in a message
+-- the target there, in a message
 abbrev pub step_to : List (List ℕ) → Target → ℕ → Target
 step_to m (targets.Content s w (shapes.Rows n a b span) pads) i =
     row_of (targets.Content s w (shapes.Rows n a b span) pads) i

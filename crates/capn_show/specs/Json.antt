@@ -64,12 +64,12 @@ module _ (bytes_json : List ℕ → List ℕ) where
     json_by (rows bs) = member (codes "rows") (array (each_row_by bs))
     json_by (cap k) = member (codes "capability") (decimal k)
 
-    -- that of each tree
+    -- the JSON of each tree
     pub each_json_by : Trees → List (List ℕ)
     each_json_by no_trees = []
     each_json_by (tree t ts) = json_by t ∷ each_json_by ts
 
-    -- that of each row, as of a struct
+    -- the JSON of each row, as of a struct
     pub each_row_by : Bodies → List (List ℕ)
     each_row_by no_bodies = []
     each_row_by (body ws ss bs) = struct_text ws (each_json_by ss) ∷ each_row_by bs

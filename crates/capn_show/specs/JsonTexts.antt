@@ -1,4 +1,4 @@
--- Lists of bytes that are written as texts in JSON. (RFC 3629 for UTF-8, RFC 8259 for what is escaped.)
+-- Lists of bytes that are written as texts in JSON. (RFC 3629 for UTF-8, RFC 8259 for the bytes that are escaped.)
 use Rattle.std.specs.Prelude.{◌≡◌, ℕ, ◌-◌, List, [], ◌∷◌, ◌++◌, length, take, codes, Bool, true, false, not}
 use Rattle.std.specs.Prelude.{◌&&◌, ◌||◌, ◌==◌}
 use Rattle.std.specs.Prelude.{nat_le, if◌then◌else◌, refl}
@@ -15,13 +15,13 @@ is_control b = (nat_le b 31 && not (b == 9 || (b == 10 || b == 13))) || b == 127
 abbrev pub is_long_control : ℕ → ℕ → Bool
 is_long_control b c = b == 194 && nat_le c 159
 
--- whether such a character stands in a text in UTF-8
+-- true if such a character stands in a text in UTF-8
 abbrev pub has_control : List ℕ → Bool
 has_control [] = false
 has_control (b ∷ []) = is_control b
 has_control (b ∷ c ∷ bs) = (is_control b || is_long_control b c) || has_control (c ∷ bs)
 
--- whether the last byte is zero
+-- true if the last byte is zero
 abbrev pub ends_in_zero : List ℕ → Bool
 ends_in_zero [] = false
 ends_in_zero (b ∷ []) = b == 0
@@ -31,7 +31,7 @@ ends_in_zero (b ∷ c ∷ bs) = ends_in_zero (c ∷ bs)
 abbrev pub before_last : List ℕ → List ℕ
 before_last xs = take (length xs - 1) xs
 
--- whether bytes are well-formed UTF-8 without control characters
+-- true if bytes are well-formed UTF-8 without control characters
 abbrev pub is_clear : List ℕ → Bool
 is_clear xs = is_utf8 xs && not (has_control xs)
 
@@ -52,7 +52,7 @@ json_escapes = escapes_by json_escaped
 abbrev pub text_json : List ℕ → List ℕ
 text_json xs = member (codes "text") (quoted (json_escapes (before_last xs)))
 
--- a list of bytes: a text, or the digits of what is none
+-- a list of bytes: a text, or the digits of bytes that are none
 abbrev pub text_or_digits : List ℕ → List ℕ
 text_or_digits xs = if is_json_text xs then text_json xs else digits_json xs
 

@@ -1,4 +1,4 @@
--- What holds of texts in a style. (Own.)
+-- Laws of texts in a style. (Own.)
 use Rattle.std.specs.Prelude.{◌≡◌, ℕ, List}
 use Rattle.hex.specs.Hex.{IsBytes}
 use Rattle.capn_show.specs.JsonTexts.{text_or_digits}

@@ -6,13 +6,13 @@ use Rattle.capn_words.specs.Watched.{inner_of, has_failed}
 use Rattle.capn_show.specs.declared.fault.Broken.{Broken}
 use Rattle.capn_show.specs.declared.fault.Broken.TheVariants as broken
 
--- what a writer has taken, the text that is kept for it, and whether a call of the writer has failed
+-- the bytes that a writer has taken, the text that is kept for it, and whether a call of the writer has failed
 pub record Outgoing : Type 0 where
   pub taken : Option (List ℕ)
   pub kept : List ℕ
   pub failed : Bool
 
--- of a writer, by the function that says what it has taken, and of the text that is kept for it
+-- of a writer, by the function that gives the bytes that it has taken, and of the text that is kept for it
 abbrev pub outgoing : {W : Type 0} → (W → Option (List ℕ)) → Watched W → List ℕ → Outgoing
 outgoing contents writer kept = record { taken = contents (inner_of writer); kept = kept; failed = has_failed writer }
 

@@ -1,4 +1,4 @@
--- What is at a way of numbers from a value, and its text. (Own.)
+-- The part at a way of numbers from a value, and its text. (Own.)
 use Rattle.std.specs.Prelude.{◌≡◌, ℕ, zero, suc, List, [], ◌∷◌, Option, Some, None, codes, refl}
 use Rattle.capn_value.specs.NumberWidth.{oct}
 use Rattle.capn_value.specs.Tree.{Tree, nil, node, numbers, links, rows, cap, Trees, no_trees, tree, Bodies, no_bodies}
@@ -30,16 +30,16 @@ follow [] found = found
 follow (i ∷ way) None = None
 follow (i ∷ way) (Some t) = follow way (step_down t i)
 
--- what is at a way from a value, if anything is there
+-- the part at a way from a value, if anything is there
 abbrev pub at_way : Tree → List ℕ → Option Tree
 at_way t way = follow way (Some t)
 
--- the text of what is there: one line if nothing is
+-- the text of the part there: one line if nothing is
 abbrev pub part_text : Option Tree → List ℕ
 part_text None = line 0 (codes "none")
 part_text (Some t) = show_text t
 
--- the text of what is at a way from a value
+-- the text of the part at a way from a value
 abbrev pub text_at : List ℕ → Tree → List ℕ
 text_at way t = part_text (at_way t way)
 

@@ -39,7 +39,7 @@ plain_bytes level xs =
 abbrev pub quoted_line : ℕ → List ℕ → List ℕ
 quoted_line level xs = line level (named (codes "bytes") (length xs) ++ 32 ∷ 34 ∷ (escapes xs ++ 34 ∷ []))
 
--- a text on one line, or the digits of what is none
+-- a text on one line, or the digits of bytes that are none
 abbrev pub quoted_bytes : ℕ → List ℕ → List ℕ
 quoted_bytes level xs = if is_text xs then quoted_line level xs else plain_bytes level xs
 

@@ -1,4 +1,4 @@
--- What is at places of a message whose text is written, and how a text grows by it.
+-- The values at places of a message whose text is written, and the growth of a text by it.
 use Rattle.std.specs.Prelude.{◌≡◌, ℕ, ◌+◌, ◌*◌, ◌<◌, ◌≤◌, List, Bool, ◌++◌, length, map, slice_index, ⊤, Option}
 use Rattle.std.specs.Prelude.{Some, [], ◌∷◌, codes, replicate, true, false, ◌||◌, ◌==◌}
 use Rattle.std.specs.Fmt.{decimal}
@@ -26,7 +26,7 @@ use Rattle.capn_show.specs.declared.fault.ShowFault.TheVariants as ends
 use Rattle.capn_show.specs.declared.fault.Broken.{Broken}
 use Rattle.capn_show.specs.declared.fault.Broken.TheVariants as broken
 
--- how a text that breaks off is answered
+-- the fault of a text that breaks off
 abbrev pub as_fault : Broken → ShowFault
 as_fault broken.Io = ends.Io
 as_fault broken.Memory = ends.Memory
@@ -47,17 +47,17 @@ abbrev pub shown_body : (ℕ → List ℕ → List ℕ) → ℕ → List ℕ →
 shown_body by level ws ss = body_line level (length ws) (count ss)
     ++ (word_lines (level + 1) ws ++ shown_each_by by (level + 1) ss)
 
--- how a list of bytes is written, by whether a text is put between quotes
+-- the text of a list of bytes, by whether a text is put between quotes
 abbrev pub bytes_of : Bool → ℕ → List ℕ → List ℕ
 bytes_of false = plain_bytes
 bytes_of true = quoted_bytes
 
--- how a byte of a text is written between quotes, by whether that is in JSON
+-- the text of a byte between quotes, by whether that is in JSON
 abbrev pub escaped_of : Bool → ℕ → List ℕ
 escaped_of false = escaped
 escaped_of true = json_escaped
 
--- whether a byte of a text is escaped between quotes
+-- true if a byte of a text is escaped between quotes
 abbrev pub is_escaped : Bool → ℕ → Bool
 is_escaped false b = b == 34 || (b == 92 || b == 0)
 is_escaped true b = b == 34 || (b == 92 || (b == 9 || (b == 10 || b == 13)))
@@ -72,7 +72,7 @@ abbrev pub quoted_front : ℕ → ℕ → List ℕ
 quoted_front level n = replicate (2 * level) 32 ++ (codes "bytes " ++ ((decimal n ++ 32 ∷ []) ++ 34 ∷ []))
 
 module _ (m : List (List ℕ)) where
-  -- ---- what is there
+  -- ---- the values there
 
   -- these words begin at a word
   abbrev pub AreDataWords : ℕ → ℕ → List ℕ → Type 0
@@ -134,14 +134,14 @@ module _ (m : List (List ℕ)) where
   abbrev pub HasValue : Target → Type 0
   HasValue found = (v : Tree) × Shows m found v
 
-  -- what is below a value is that which a pointer names, and is no higher
+  -- the value below another is that of the target of a pointer, and is no higher
   pub record LeadsTo (v : Tree) (below : Option Tree) (found : Target) : Type 0 where
     pub value : Tree
     pub is : below ≡ Some value
     pub shown : Shows m found value
     pub low : height value ≤ height v
 
-  -- ---- what is said of the text, as that it is added, or breaks off, by how lists of bytes are written
+  -- ---- statements on the text, as that it is added, or breaks off, by the writing of lists of bytes
 
   -- of that of the value at a place
   abbrev pub IsShown : (ℕ → List ℕ → List ℕ) → Place → ℕ → (List ℕ → Type 0) → Type 0
@@ -181,10 +181,10 @@ module _ (m : List (List ℕ)) where
   BitsShown s w number text Says = (xs : List Bool) → AreNumbers s w W1 (map from_bool xs) → length xs ≡ number
       → Says (text xs)
 
-  -- of that of what a pointer names, in a style
+  -- of that of the target of a pointer, in a style
   abbrev pub IsThereShown : Style → Target → (List ℕ → Type 0) → Type 0
   IsThereShown style found Says = (v : Tree) → Shows m found v → Says (part_in style (Some v))
 
-  -- of that of what is at a way from the root
+  -- of that of the part at a way from the root
   abbrev pub IsPartShown : Style → List ℕ → (List ℕ → Type 0) → Type 0
   IsPartShown style way Says = (v : Tree) → IsAt m root v → Says (styled style way v)

@@ -1,4 +1,4 @@
--- The text of what is at a way of numbers from a value, in a style. (Own.)
+-- The text of the part at a way of numbers from a value, in a style. (Own.)
 use Rattle.std.specs.Prelude.{◌≡◌, ℕ, List, [], ◌∷◌, ◌++◌, Option, Some, None, codes, refl}
 use Rattle.std.specs.Str.{chars, is_utf8}
 use Rattle.capn_value.specs.NumberWidth.{byte}
@@ -11,7 +11,7 @@ use Rattle.capn_show.specs.JsonTexts.{text_or_digits}
 use Rattle.capn_show.specs.declared.style.Style.{Style}
 use Rattle.capn_show.specs.declared.style.Style.TheVariants as styles
 
--- the text of what is somewhere, in a style: one line if nothing is
+-- the text of a part, in a style: one line if nothing is there
 abbrev pub part_in : Style → Option Tree → List ℕ
 part_in styles.Lines part = part_text part
 part_in styles.Quoted None = line 0 (codes "none")
@@ -21,7 +21,7 @@ part_in styles.Json (Some t) = json_line t
 part_in styles.JsonText None = 10 ∷ []
 part_in styles.JsonText (Some t) = json_line_by text_or_digits t
 
--- the text of what is at a way from a value, in a style
+-- the text of the part at a way from a value, in a style
 abbrev pub styled : Style → List ℕ → Tree → List ℕ
 styled style way t = part_in style (at_way t way)
 

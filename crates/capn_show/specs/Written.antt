@@ -1,4 +1,4 @@
--- What becomes of a message, of whose value a text is made. (Own.)
+-- The outcome for a message, of whose value a text is made. (Own.)
 use Rattle.std.specs.Prelude.{◌≡◌, ◌⊎◌, ℕ, List}
 use Rattle.capn_value.specs.Tree.{Tree}
 use Rattle.capn_target.specs.declared.target.Fault.TheVariants as faults

@@ -17,7 +17,8 @@ use capn_words::{Place, Space, Watched, Width};
 use std::alloc::Allocator;
 use std::io::Write;
 
-/// One line of the bits of a list, unless it is empty.
+/// Appends one line of the bits of the list of `count` bits at `start` to `text`, at this `level`; nothing, if it is
+/// empty.
 pub fn show_bits<S: Space, W: Write, A: Allocator>(
     text: &mut Vec<u8, A>,
     writer: &mut Watched<W>,
@@ -43,7 +44,7 @@ pub fn show_bits<S: Space, W: Write, A: Allocator>(
     end_line(text, writer)
 }
 
-/// The digits of the bits of a list, those of a word at a time.
+/// Appends the digits of the list of `count` bits at `start` to `text`, those of a word at a time.
 pub fn push_bits<S: Space, W: Write, A: Allocator>(
     text: &mut Vec<u8, A>,
     writer: &mut Watched<W>,

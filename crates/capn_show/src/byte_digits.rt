@@ -18,7 +18,8 @@ use capn_words::{Place, Space, Watched, Width};
 use std::alloc::Allocator;
 use std::io::Write;
 
-/// One line of the bytes of a list, unless it is empty.
+/// Appends one line of the digits of the list of `count` bytes at `start` to `text`, at this `level`; nothing, if it is
+/// empty.
 pub fn show_bytes<S: Space, W: Write, A: Allocator>(
     text: &mut Vec<u8, A>,
     writer: &mut Watched<W>,
@@ -44,7 +45,7 @@ pub fn show_bytes<S: Space, W: Write, A: Allocator>(
     end_line(text, writer)
 }
 
-/// The digits of the bytes of a list, those of a word at a time.
+/// Appends the digits of the list of `count` bytes at `start` to `text`, those of a word at a time.
 pub fn push_bytes<S: Space, W: Write, A: Allocator>(
     text: &mut Vec<u8, A>,
     writer: &mut Watched<W>,

@@ -19,21 +19,22 @@ use capn_words::{Place, Space, Watched};
 use std::alloc::Allocator;
 use std::io::Write;
 
-/// Whether a byte is from 0x20 to 0x7e.
+/// Returns `true` if `byte` is from 0x20 to 0x7e.
 fn is_printable(byte: u8) -> bool
     ensures { result ≡ quoting.is_printable byte }
 {
     32 <= byte && byte <= 126
 }
 
-/// Whether a text can end with a byte.
+/// Returns `true` if a text can end with `byte`.
 fn ends_text(byte: u8) -> bool
     ensures { result ≡ (quoting.is_printable byte || byte == 0) }
 {
     is_printable(byte) || byte == 0
 }
 
-/// Whether bytes are a text: each is printable, except that the last may be zero.
+/// Returns `true` if `bytes` are a text: there is one at least, and each is printable, except that the last may be
+/// zero.
 pub fn is_text(bytes: &[u8]) -> bool
     ensures { result ≡ quoting.is_text bytes.now }
 {
@@ -49,7 +50,7 @@ pub fn is_text(bytes: &[u8]) -> bool
     ends_text(bytes[last])
 }
 
-/// The beginning of the line of a text, up to its first quote.
+/// Appends the beginning of the line of a text of `count` bytes to `text`, at this `level`, up to its first quote.
 fn quoted_front<W: Write, A: Allocator>(
     text: &mut Vec<u8, A>,
     writer: &mut Watched<W>,
@@ -67,7 +68,7 @@ fn quoted_front<W: Write, A: Allocator>(
     put(text, writer, b"\"")
 }
 
-/// The one line of a list of bytes that is a text.
+/// Appends the one line of the list `bytes`, which is a text, to `text`, at this `level`.
 pub fn show_quoted<W: Write, A: Allocator>(
     text: &mut Vec<u8, A>,
     writer: &mut Watched<W>,
@@ -84,7 +85,7 @@ pub fn show_quoted<W: Write, A: Allocator>(
     put(text, writer, b"\"\n")
 }
 
-/// The lines of a list of bytes in digits.
+/// Appends the lines of the list of `count` bytes at `start` to `text`, at this `level`, in digits.
 fn show_digits<S: Space, W: Write, A: Allocator>(
     text: &mut Vec<u8, A>,
     writer: &mut Watched<W>,
@@ -107,7 +108,8 @@ fn show_digits<S: Space, W: Write, A: Allocator>(
     show_bytes(text, writer, space, start, count, level + 1)
 }
 
-/// The one line of a list of bytes that is a text, or the digits of one that is none.
+/// Appends the list of `count` bytes at `start` to `text`, at this `level`: the one line of a text, or the digits of
+/// one that is none.
 fn show_text_or_digits<S: Space, W: Write, A: Allocator>(
     text: &mut Vec<u8, A>,
     writer: &mut Watched<W>,
@@ -134,7 +136,8 @@ fn show_text_or_digits<S: Space, W: Write, A: Allocator>(
     }
 }
 
-/// The lines of a list of bytes, between quotes where it is a text and quotes are asked for.
+/// Appends the lines of the list of `count` bytes at `start` to `text`, at this `level`: between quotes, if it is a
+/// text and quotes are asked for (`QUOTED`), else in digits.
 pub fn show_byte_list<S: Space, W: Write, A: Allocator, const QUOTED: bool>(
     text: &mut Vec<u8, A>,
     writer: &mut Watched<W>,

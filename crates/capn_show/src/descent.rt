@@ -1,4 +1,4 @@
-//! A step of a way: from what a pointer names to what is below it.
+//! A step of a way: from the target of a pointer to a value below it.
 
 ghost use Rattle.std.specs.Prelude.{◌≡◌, ℕ, IfNone, IfSome, None, Ok};
 ghost use Rattle.capn_words.specs.Message.{IsMessage, IsPlace};
@@ -15,16 +15,16 @@ use capn_walk::laws::views_show_values;
 use capn_walk::{Shape, Target, resolve};
 use capn_words::{Place, Space, Width};
 
-/// What is somewhere in a message.
+/// A value somewhere in a message.
 #[derive(Clone, Copy, Debug, PartialEq, Eq)]
 pub struct Part {
-    /// The slot that names it, or of a row where it begins.
+    /// The slot that names it; of a row, the place at which it begins.
     pub at: Place,
-    /// What it is.
+    /// Its target.
     pub found: Target,
 }
 
-/// What is one step below what a pointer names, if anything is there.
+/// Steps down from the target `found` to the value below it that has this `number`; `None`, if nothing is there.
 pub fn step_down<S: Space>(space: &S, found: Target, number: u64) -> Option<Part>
     requires message { IsMessage (S.message space.now) }
     requires inside { IsInMessage (S.message space.now) found }
@@ -97,7 +97,7 @@ pub fn step_down<S: Space>(space: &S, found: Target, number: u64) -> Option<Part
     }
 }
 
-/// What the pointer at a place names, where a value is.
+/// Returns the target of the pointer at `at`, at which a value is.
 pub fn named<S: Space>(space: &S, at: Place) -> Target
     requires message { IsMessage (S.message space.now) }
     requires place { IsPlace (S.message space.now) at }
@@ -109,7 +109,7 @@ pub fn named<S: Space>(space: &S, at: Place) -> Target
     views_show_values();
     match resolve(space, at) {
         Ok(found) => found,
-        // A value is here, so the pointer names something.
+        // A value is here, so the pointer has a target.
         Err(_) => unreachable!(),
     }
 }

@@ -17,7 +17,7 @@ use std::io::Write;
 /// The most bytes of a text that are added at once.
 const PIECE: usize = 4096;
 
-/// Whether a byte of a text is escaped between quotes, in lines or in JSON.
+/// Returns `true` if `byte` of a text is escaped between quotes, in JSON or (without `json`) in lines.
 fn is_escaped(json: bool, byte: u8) -> bool
     ensures { result ≡ places.is_escaped json byte }
 {
@@ -28,7 +28,7 @@ fn is_escaped(json: bool, byte: u8) -> bool
     }
 }
 
-/// A byte of a text as it is written between quotes in lines.
+/// Appends `byte` of a text to `text`, as it is written between quotes in lines.
 fn put_line_escaped<W: Write, A: Allocator>(
     text: &mut Vec<u8, A>,
     writer: &mut Watched<W>,
@@ -47,7 +47,7 @@ fn put_line_escaped<W: Write, A: Allocator>(
     }
 }
 
-/// The same in JSON.
+/// Appends `byte` of a text to `text`, as it is written between quotes in JSON.
 fn put_json_escaped<W: Write, A: Allocator>(
     text: &mut Vec<u8, A>,
     writer: &mut Watched<W>,
@@ -68,7 +68,7 @@ fn put_json_escaped<W: Write, A: Allocator>(
     }
 }
 
-/// A byte of a text as it is written between quotes, in lines or in JSON.
+/// Appends `byte` of a text to `text`, as it is written between quotes, in JSON or (without `json`) in lines.
 fn put_escaped<W: Write, A: Allocator>(
     text: &mut Vec<u8, A>,
     writer: &mut Watched<W>,
@@ -87,7 +87,7 @@ fn put_escaped<W: Write, A: Allocator>(
     }
 }
 
-/// How many bytes from the first on are left as they are between quotes, at most those of a piece.
+/// Returns the number of the first `bytes` that are left as they are between quotes, at most those of a piece.
 fn bare_run(json: bool, bytes: &[u8]) -> usize
     ensures within { result ≤ length bytes.now }
     ensures bare { escapes_by (escaped_of json) (take result bytes.now) ≡ take result bytes.now }
@@ -103,8 +103,8 @@ fn bare_run(json: bool, bytes: &[u8]) -> usize
     bytes.len()
 }
 
-/// The bytes of a text as they are written between quotes, in lines or in JSON: those that are left as they are, at
-/// once, and the one after.
+/// Appends the `bytes` of a text to `text`, as they are written between quotes, in JSON or (without `json`) in lines:
+/// those that are left as they are, at once, and the one after.
 pub fn put_escapes<W: Write, A: Allocator>(
     text: &mut Vec<u8, A>,
     writer: &mut Watched<W>,

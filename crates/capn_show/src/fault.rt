@@ -7,7 +7,7 @@ ghost use Rattle.capn_show.specs.ReadyPlaces.{as_fault};
 use capn_walk::Stopped;
 use thiserror::Error;
 
-/// Why the text of a message is not written, or not the whole of it.
+/// The reason why the text of a message is not written, or not the whole of it.
 #[derive(Clone, Copy, Debug, PartialEq, Eq, Error)]
 pub enum ShowFault {
     /// The message is not accepted within the limits, or the survey was refused memory. Nothing was added.
@@ -21,7 +21,7 @@ pub enum ShowFault {
     Memory,
 }
 
-/// Why a text breaks off.
+/// The reason why a text breaks off.
 #[derive(Clone, Copy, Debug, PartialEq, Eq)]
 pub enum Broken {
     /// The writer failed.
@@ -38,7 +38,7 @@ impl From<Stopped> for ShowFault {
     }
 }
 
-/// How a text that breaks off is answered.
+/// Returns the fault of a text that breaks off for the reason `broken`.
 pub fn fault_of(broken: Broken) -> ShowFault
     ensures { result ≡ as_fault broken }
 {

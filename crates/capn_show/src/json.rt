@@ -19,7 +19,7 @@ use capn_words::{Place, Space, Watched, Width};
 use std::alloc::Allocator;
 use std::io::Write;
 
-/// The JSON of the value at a place.
+/// Appends the JSON of the value at `at` to `text`.
 #[cycle(json)]
 pub fn json_slot<S: Space, W: Write, A: Allocator, const QUOTED: bool>(
     text: &mut Vec<u8, A>,
@@ -39,12 +39,12 @@ pub fn json_slot<S: Space, W: Write, A: Allocator, const QUOTED: bool>(
     views_show_values();
     match resolve(space, at) {
         Ok(found) => json_found::<_, _, _, QUOTED>(text, writer, space, found, depth),
-        // A value is here, so the pointer names something.
+        // A value is here, so the pointer has a target.
         Err(_) => unreachable!(),
     }
 }
 
-/// The JSON of the value that a pointer names.
+/// Appends the JSON of the value with the target `found` to `text`.
 #[cycle(json)]
 pub fn json_found<S: Space, W: Write, A: Allocator, const QUOTED: bool>(
     text: &mut Vec<u8, A>,
@@ -119,7 +119,7 @@ pub fn json_found<S: Space, W: Write, A: Allocator, const QUOTED: bool>(
     }
 }
 
-/// The JSON of a struct whose content starts at a place: of one that a pointer names, or of a row.
+/// Appends the JSON of a struct whose content starts at `start` to `text`: of one that a pointer names, or of a row.
 #[cycle(json)]
 pub fn json_row<S: Space, W: Write, A: Allocator, const QUOTED: bool>(
     text: &mut Vec<u8, A>,
@@ -149,7 +149,8 @@ pub fn json_row<S: Space, W: Write, A: Allocator, const QUOTED: bool>(
     json_slots::<_, _, _, QUOTED>(text, writer, head, space, first, slots as u32, depth)
 }
 
-/// An array of what is in slots, by what comes before its first item, and the end of its object.
+/// Appends an array of the values of `count` slots to `text`, with `head` before its first item, and the end of its
+/// object.
 #[cycle(json)]
 fn json_slots<S: Space, W: Write, A: Allocator, const QUOTED: bool>(
     text: &mut Vec<u8, A>,
@@ -182,7 +183,7 @@ fn json_slots<S: Space, W: Write, A: Allocator, const QUOTED: bool>(
     put(text, writer, b"]}")
 }
 
-/// The JSON of a list of structs whose first row starts at a place.
+/// Appends the JSON of a list of `count` structs, of which the first row starts at `first`, to `text`.
 #[cycle(json)]
 fn json_rows<S: Space, W: Write, A: Allocator, const QUOTED: bool>(
     text: &mut Vec<u8, A>,

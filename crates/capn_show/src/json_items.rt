@@ -13,7 +13,7 @@ use capn_words::{Watched, Width};
 use std::alloc::Allocator;
 use std::io::Write;
 
-/// A comma, unless the item is the first.
+/// Appends a comma to `text`, unless `item` is 0, the first.
 #[inline]
 pub fn separate<W: Write, A: Allocator>(
     text: &mut Vec<u8, A>,
@@ -31,7 +31,7 @@ pub fn separate<W: Write, A: Allocator>(
     put(text, writer, b",")
 }
 
-/// A number.
+/// Appends the number `n` to `text`.
 fn put_plain<W: Write, A: Allocator>(
     text: &mut Vec<u8, A>,
     writer: &mut Watched<W>,
@@ -47,7 +47,7 @@ fn put_plain<W: Write, A: Allocator>(
     put(text, writer, &digits[start..])
 }
 
-/// A number between quotes.
+/// Appends the number `n` between quotes to `text`.
 fn put_quoted<W: Write, A: Allocator>(
     text: &mut Vec<u8, A>,
     writer: &mut Watched<W>,
@@ -63,7 +63,7 @@ fn put_quoted<W: Write, A: Allocator>(
     put(text, writer, &digits[start - 1..])
 }
 
-/// A number, between quotes or not.
+/// Appends the number `n` to `text`, between quotes if it is `quoted`.
 pub fn put_value<W: Write, A: Allocator>(
     text: &mut Vec<u8, A>,
     writer: &mut Watched<W>,
@@ -81,7 +81,7 @@ pub fn put_value<W: Write, A: Allocator>(
     put_plain(text, writer, n)
 }
 
-/// Whether the numbers of a list of that width are written between quotes.
+/// Returns `true` if the numbers of a list of this `width` are written between quotes.
 pub fn is_quoted(width: Width) -> bool
     ensures { result ≡ places.is_quoted width }
 {
@@ -91,7 +91,7 @@ pub fn is_quoted(width: Width) -> bool
     }
 }
 
-/// The bytes of a data word between quotes.
+/// Returns the bytes of a data `word` between quotes.
 fn word_bytes(word: u64) -> [u8; 18]
     ensures { result ≡ word_text word }
 {
@@ -101,7 +101,7 @@ fn word_bytes(word: u64) -> [u8; 18]
     item
 }
 
-/// A data word between quotes.
+/// Appends a data `word` between quotes to `text`.
 pub fn put_word<W: Write, A: Allocator>(
     text: &mut Vec<u8, A>,
     writer: &mut Watched<W>,

@@ -25,7 +25,8 @@ use capn_words::{Place, Space, Watched, Width};
 use std::alloc::Allocator;
 use std::io::Write;
 
-/// A struct as far as its data words, without the end of their array.
+/// Appends the JSON of a struct as far as its `count` data words, which start at `start`, to `text`, without the end of
+/// their array.
 pub fn json_words<S: Space, W: Write, A: Allocator>(
     text: &mut Vec<u8, A>,
     writer: &mut Watched<W>,
@@ -52,7 +53,7 @@ pub fn json_words<S: Space, W: Write, A: Allocator>(
     Ok(())
 }
 
-/// A list of elements without pointers.
+/// Appends the JSON of the list of `count` elements of this `width` at `start`, which are no pointers, to `text`.
 pub fn json_list<S: Space, W: Write, A: Allocator, const QUOTED: bool>(
     text: &mut Vec<u8, A>,
     writer: &mut Watched<W>,
@@ -85,7 +86,7 @@ pub fn json_list<S: Space, W: Write, A: Allocator, const QUOTED: bool>(
     }
 }
 
-/// An object of one number, by how it begins.
+/// Appends the JSON of an object of the one number `n` to `text`, after its beginning `head`.
 pub fn json_member<W: Write, A: Allocator>(
     text: &mut Vec<u8, A>,
     writer: &mut Watched<W>,
@@ -101,7 +102,7 @@ pub fn json_member<W: Write, A: Allocator>(
     put_number(text, writer, n as u64, b'}')
 }
 
-/// A list of bits: a digit for each.
+/// Appends the JSON of the list of `count` bits at `start` to `text`: a digit for each.
 fn json_bits<S: Space, W: Write, A: Allocator>(
     text: &mut Vec<u8, A>,
     writer: &mut Watched<W>,
@@ -123,7 +124,8 @@ fn json_bits<S: Space, W: Write, A: Allocator>(
     put(text, writer, b"\"}")
 }
 
-/// A list of numbers, by how its object begins.
+/// Appends the JSON of the list of `count` numbers of this `width` at `start` to `text`, after the beginning of its
+/// object, `head`.
 fn json_numbers<S: Space, W: Write, A: Allocator>(
     text: &mut Vec<u8, A>,
     writer: &mut Watched<W>,

@@ -21,21 +21,21 @@ use capn_words::{Place, Space, Watched};
 use std::alloc::Allocator;
 use std::io::Write;
 
-/// Whether a byte is a control character, but tab, newline and carriage return.
+/// Returns `true` if `byte` is a control character, but tab, newline and carriage return.
 fn is_control(byte: u8) -> bool
     ensures { result ≡ texts.is_control byte }
 {
     (byte <= 31 && !(byte == b'\t' || byte == b'\n' || byte == b'\r')) || byte == 127
 }
 
-/// Whether two bytes are one.
+/// Returns `true` if two bytes, `first` and `second`, are a control character.
 fn is_long_control(first: u8, second: u8) -> bool
     ensures { result ≡ texts.is_long_control first second }
 {
     first == 194 && second <= 159
 }
 
-/// Whether a control character stands in a text.
+/// Returns `true` if a control character stands in `bytes`.
 fn has_control(bytes: &[u8]) -> bool
     ensures { result ≡ texts.has_control bytes.now }
 {
@@ -51,7 +51,7 @@ fn has_control(bytes: &[u8]) -> bool
     is_control(bytes[last])
 }
 
-/// Whether bytes are well-formed UTF-8.
+/// Returns `true` if `bytes` are well-formed UTF-8.
 fn is_well_formed(bytes: &[u8]) -> bool
     ensures { result ≡ is_utf8 bytes.now }
 {
@@ -61,7 +61,8 @@ fn is_well_formed(bytes: &[u8]) -> bool
     }
 }
 
-/// Whether bytes are a text: the last is zero, and those before it are well-formed UTF-8 without control characters.
+/// Returns `true` if `bytes` are a text: the last is zero, and those before it are well-formed UTF-8 without control
+/// characters.
 fn is_json_text(bytes: &[u8]) -> bool
     ensures { result ≡ texts.is_json_text bytes.now }
 {
@@ -76,7 +77,7 @@ fn is_json_text(bytes: &[u8]) -> bool
     is_well_formed(front) && !has_control(front)
 }
 
-/// A list of bytes as a text, without its last byte.
+/// Appends the JSON of the list `bytes` to `text` as a text, without its last byte.
 fn json_text<W: Write, A: Allocator>(
     text: &mut Vec<u8, A>,
     writer: &mut Watched<W>,
@@ -92,7 +93,7 @@ fn json_text<W: Write, A: Allocator>(
     put(text, writer, b"\"}")
 }
 
-/// A list of bytes: two digits for each.
+/// Appends the JSON of the list of `count` bytes at `start` to `text`: two digits for each.
 fn json_digits<S: Space, W: Write, A: Allocator>(
     text: &mut Vec<u8, A>,
     writer: &mut Watched<W>,
@@ -114,7 +115,7 @@ fn json_digits<S: Space, W: Write, A: Allocator>(
     put(text, writer, b"\"}")
 }
 
-/// A list of bytes as a text, or the digits of one that is none.
+/// Appends the JSON of the list of `count` bytes at `start` to `text`: as a text, or in digits if it is none.
 fn json_text_or_digits<S: Space, W: Write, A: Allocator>(
     text: &mut Vec<u8, A>,
     writer: &mut Watched<W>,
@@ -139,7 +140,8 @@ fn json_text_or_digits<S: Space, W: Write, A: Allocator>(
     }
 }
 
-/// A list of bytes, as a text where it is one and texts are asked for.
+/// Appends the JSON of the list of `count` bytes at `start` to `text`: as a text, if it is one and texts are asked for
+/// (`QUOTED`), else in digits.
 pub fn json_byte_list<S: Space, W: Write, A: Allocator, const QUOTED: bool>(
     text: &mut Vec<u8, A>,
     writer: &mut Watched<W>,

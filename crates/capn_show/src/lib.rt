@@ -4,7 +4,7 @@
 //! it writes what `capn_value::show` writes of the value that `capn_walk::walk` answers: it goes from slot to slot as
 //! the walk did, and adds each line to a text that the caller keeps. So small texts of many messages make one write. A
 //! text of 65,536 bytes or more is written and emptied, so that it takes the same memory for every message.
-//! [`show_part`] does so for what is at a way of numbers from the root, in one of four styles.
+//! [`show_part`] does so for the value at a way of numbers from the root, in one of four styles.
 //!
 //! ```text
 //! let mut text = Vec::new(alloc);
@@ -20,7 +20,6 @@ mod bits;
 mod byte_digits;
 mod bytes;
 mod descent;
-mod digits;
 mod escapes;
 mod fault;
 mod json;
@@ -42,12 +41,11 @@ pub use message::show_message;
 pub use part::show_part;
 pub use style::Style;
 
-// What texts of other forms are made of: a text on its way, lines and lists in it, and the steps of a way.
+// The parts of texts of other forms: a text on its way, lines and lists in it, and the steps of a way.
 pub use bits::show_bits;
 pub use byte_digits::show_bytes;
 pub use bytes::{is_text, show_quoted};
 pub use descent::{Part, named, step_down};
-pub use digits::per_word;
 pub use fault::{Broken, fault_of};
 pub use lines::{body_line, named_line, number_line, plain_line, put_number, word_line};
 pub use numbers::number_at;

@@ -10,9 +10,9 @@ ghost use Rattle.std.specs.Int.{to_le_bytes, w64};
 ghost use Rattle.hex.specs.Hex.{encode_lower};
 ghost use Rattle.capn_show.specs.Outgoing.{Adds, BreaksOff, outgoing};
 
-use crate::digits::digit;
 use crate::fault::Broken;
 use crate::output::put;
+use capn_walk::digit;
 use capn_words::{Watched, Width};
 use std::alloc::Allocator;
 use std::io::Write;
@@ -20,7 +20,7 @@ use std::io::Write;
 /// The spaces of 32 levels.
 const SPACES: [u8; 64] = [b' '; 64];
 
-/// The spaces of a level.
+/// Appends the spaces of `level` to `text`.
 pub fn indent<W: Write, A: Allocator>(
     text: &mut Vec<u8, A>,
     writer: &mut Watched<W>,
@@ -39,7 +39,7 @@ pub fn indent<W: Write, A: Allocator>(
     put(text, writer, &SPACES[..2 * (level - done) as usize])
 }
 
-/// The end of a line.
+/// Appends the end of a line to `text`.
 pub fn end_line<W: Write, A: Allocator>(
     text: &mut Vec<u8, A>,
     writer: &mut Watched<W>,
@@ -52,7 +52,7 @@ pub fn end_line<W: Write, A: Allocator>(
     put(text, writer, b"\n")
 }
 
-/// A number, and a byte after it.
+/// Appends the number `n` and the byte `after` to `text`.
 pub fn put_number<W: Write, A: Allocator>(
     text: &mut Vec<u8, A>,
     writer: &mut Watched<W>,
@@ -69,7 +69,7 @@ pub fn put_number<W: Write, A: Allocator>(
     put(text, writer, &digits[start..])
 }
 
-/// A line of one word.
+/// Appends a line of one `word` to `text`, at this `level`.
 pub fn plain_line<W: Write, A: Allocator>(
     text: &mut Vec<u8, A>,
     writer: &mut Watched<W>,
@@ -86,7 +86,7 @@ pub fn plain_line<W: Write, A: Allocator>(
     end_line(text, writer)
 }
 
-/// A line of a word and a number.
+/// Appends a line of a `name` and the number `n` to `text`, at this `level`.
 pub fn named_line<W: Write, A: Allocator>(
     text: &mut Vec<u8, A>,
     writer: &mut Watched<W>,
@@ -105,7 +105,7 @@ pub fn named_line<W: Write, A: Allocator>(
     put_number(text, writer, n as u64, b'\n')
 }
 
-/// The first line of a struct: how many words and slots it has.
+/// Appends the first line of a struct to `text`, at this `level`: its number of `words` and of `slots`.
 pub fn body_line<W: Write, A: Allocator>(
     text: &mut Vec<u8, A>,
     writer: &mut Watched<W>,
@@ -124,7 +124,7 @@ pub fn body_line<W: Write, A: Allocator>(
     put_number(text, writer, slots as u64, b'\n')
 }
 
-/// A line of one number.
+/// Appends a line of the number `n` to `text`, at this `level`.
 pub fn number_line<W: Write, A: Allocator>(
     text: &mut Vec<u8, A>,
     writer: &mut Watched<W>,
@@ -140,7 +140,7 @@ pub fn number_line<W: Write, A: Allocator>(
     put_number(text, writer, n, b'\n')
 }
 
-/// The bytes of the line of one data word, as a number: its most significant digit comes first.
+/// Returns the bytes of the line of one data `word`, as a number: its most significant digit comes first.
 fn word_bytes(word: u64) -> [u8; 22]
     ensures { result ≡ codes "word " ++ (form.hex16 word ++ 10 ∷ []) }
 {
@@ -150,7 +150,7 @@ fn word_bytes(word: u64) -> [u8; 22]
     line
 }
 
-/// The line of one data word.
+/// Appends the line of one data `word` to `text`, at this `level`.
 pub fn word_line<W: Write, A: Allocator>(
     text: &mut Vec<u8, A>,
     writer: &mut Watched<W>,
@@ -166,7 +166,7 @@ pub fn word_line<W: Write, A: Allocator>(
     put(text, writer, &word_bytes(word))
 }
 
-/// The digits of the bits of a word, the least significant first.
+/// Returns the digits of the bits of `word`, the least significant first.
 pub fn word_bits(word: u64) -> [u8; 64]
     ensures size { length result ≡ 64 }
     ensures each { (i : ℕ) → i < 64 → slice_index result i ≡ 48 + seen.digit widths.W1 word i }
@@ -178,7 +178,7 @@ pub fn word_bits(word: u64) -> [u8; 64]
     digits
 }
 
-/// The digits of the bytes of a word, the least significant byte first.
+/// Returns the digits of the bytes of `word`, the least significant byte first.
 pub fn word_digits(word: u64) -> [u8; 16]
     ensures { result ≡ encode_lower (to_le_bytes w64 word) }
 {

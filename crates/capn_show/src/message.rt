@@ -13,11 +13,11 @@ use capn_words::{Place, Space, Watched};
 use std::alloc::Allocator;
 use std::io::Write;
 
-/// Adds the text of the value that a message denotes within limits.
+/// Appends the text of the value that the message `space` denotes within `limits` to `text`.
 ///
-/// The message is surveyed first, and nothing is added of one that is refused. The text is added to one that is kept;
-/// that is written and emptied whenever it has 65,536 bytes or more, and what is left of it is written by the caller.
-/// It takes no memory beside that text and what a survey takes, which is none for a depth of at most 64.
+/// The message is surveyed first, and nothing is added of one that is refused. `text` is kept by the caller: it is
+/// written to `writer` and emptied whenever it has 65,536 bytes or more, and what is left of it is written by the
+/// caller. It takes no memory beside that text and what a survey takes, which is none for a depth of at most 64.
 pub fn show_message<S: Space, W: Write, A: Allocator, B: Allocator + Copy>(
     alloc: B,
     text: &mut Vec<u8, A>,

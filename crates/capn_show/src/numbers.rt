@@ -11,14 +11,15 @@ ghost use Rattle.capn_walk.specs.View as seen;
 ghost use Rattle.capn_show.specs.ReadyPlaces.{HasNumbers, WordsShown, NumbersShown};
 ghost use Rattle.capn_show.specs.Outgoing.{Adds, BreaksOff, outgoing};
 
-use crate::digits::{digit, per_word};
 use crate::fault::Broken;
 use crate::lines::{number_line, word_line};
+use capn_walk::{digit, per_word};
 use capn_words::{Place, Space, Watched, Width};
 use std::alloc::Allocator;
 use std::io::Write;
 
-/// Element `i` of a list of bits, bytes, pairs, quads or octs whose content starts at a place.
+/// Returns element `i` of a list of bits, bytes, pairs, quads or octs, by their `width`, whose content starts at
+/// `start`.
 pub fn number_at<S: Space>(space: &S, start: Place, width: Width, i: u32) -> u64
     requires message { IsMessage (S.message space.now) }
     requires there { IsContent (S.message space.now) start (i / seen.per_word width + 1) }
@@ -33,7 +34,7 @@ pub fn number_at<S: Space>(space: &S, start: Place, width: Width, i: u32) -> u64
     digit(width, word, i % many)
 }
 
-/// A line for each data word of a struct.
+/// Appends a line for each of the `count` data words at `start` to `text`, at this `level`.
 pub fn show_words<S: Space, W: Write, A: Allocator>(
     text: &mut Vec<u8, A>,
     writer: &mut Watched<W>,
@@ -59,7 +60,7 @@ pub fn show_words<S: Space, W: Write, A: Allocator>(
     Ok(())
 }
 
-/// A line for each number of a list.
+/// Appends a line for each of the `count` numbers of this `width` at `start` to `text`, at this `level`.
 pub fn show_numbers<S: Space, W: Write, A: Allocator>(
     text: &mut Vec<u8, A>,
     writer: &mut Watched<W>,

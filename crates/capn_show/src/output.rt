@@ -12,10 +12,10 @@ use capn_words::Watched;
 use std::alloc::Allocator;
 use std::io::Write;
 
-/// A text is written once it has this number of bytes.
+/// The number of bytes from which on a text is written.
 const BLOCK: usize = 65536;
 
-/// Writes a text, and empties it.
+/// Writes `text` to `writer`, and empties it.
 #[inline(never)]
 fn send<W: Write, A: Allocator>(
     text: &mut Vec<u8, A>,
@@ -37,7 +37,7 @@ fn send<W: Write, A: Allocator>(
     }
 }
 
-/// Writes the text if it has grown long.
+/// Writes `text` to `writer` and empties it, if it has grown long.
 #[inline]
 fn settle<W: Write, A: Allocator>(
     text: &mut Vec<u8, A>,
@@ -54,7 +54,7 @@ fn settle<W: Write, A: Allocator>(
     send(text, writer)
 }
 
-/// Adds bytes to the text, and writes it if it has grown long.
+/// Appends `bytes` to `text`, and writes that to `writer` if it has grown long.
 #[inline]
 pub fn put<W: Write, A: Allocator>(
     text: &mut Vec<u8, A>,

@@ -22,13 +22,13 @@ use capn_words::{Place, Space, Watched};
 use std::alloc::Allocator;
 use std::io::Write;
 
-/// Adds the text of what is at a way of numbers from the root of a message, in a style.
+/// Appends the text of the value at a `way` of numbers from the root of the message `space` to `text`, in this `style`.
 ///
-/// Where nothing is there, it is the line `none`, or in JSON an empty line.
+/// If nothing is there, it is the line `none`, or in JSON an empty line.
 ///
 /// A number leads from a struct to a slot, from a list of pointers to an element, and from a list of structs to a row,
-/// which is written as a struct. The whole message is surveyed first, as by [`show_message`](crate::show_message), and
-/// the text is added, kept and written as there.
+/// which is written as a struct. The whole message is surveyed within `limits` first, as by
+/// [`show_message`](crate::show_message), and the text is added, kept and written as there.
 pub fn show_part<S: Space, W: Write, A: Allocator, B: Allocator + Copy>(
     alloc: B,
     text: &mut Vec<u8, A>,
@@ -38,7 +38,7 @@ pub fn show_part<S: Space, W: Write, A: Allocator, B: Allocator + Copy>(
     style: Style,
     way: &[u64],
 ) -> Result<(), ShowFault>
-    // An answer: the message is accepted, and the text of what is there is added.
+    // An answer: the message is accepted, and the text of the value there is added.
     ensures shown { OnOk result (IsWritten (S.message space.now) limits (styled style way.now)
         (outgoing W.contents writer.old text.old.items) (outgoing W.contents writer.new text.new.items)) }
     // A refusal is as that of `show_message`.
@@ -54,7 +54,7 @@ pub fn show_part<S: Space, W: Write, A: Allocator, B: Allocator + Copy>(
     }
 }
 
-/// The text of what is at a way from the root.
+/// Appends the text of the value at this `way` from the root to `text`.
 fn write_part<S: Space, W: Write, A: Allocator>(
     text: &mut Vec<u8, A>,
     writer: &mut Watched<W>,
@@ -79,7 +79,7 @@ fn write_part<S: Space, W: Write, A: Allocator>(
     }
 }
 
-/// What is at a way from what a pointer names, if anything is there.
+/// Follows `way` from the target `found`; `None`, if nothing is there.
 fn follow<S: Space>(space: &S, found: Target, way: &[u64]) -> Option<Target>
     requires message { IsMessage (S.message space.now) }
     requires inside { IsInMessage (S.message space.now) found }

@@ -22,7 +22,7 @@ use capn_words::{Place, Space, Watched, Width};
 use std::alloc::Allocator;
 use std::io::Write;
 
-/// The text of the value at a place.
+/// Appends the text of the value at `at` to `text`, at this `level`.
 #[cycle(slots)]
 pub fn show_slot<S: Space, W: Write, A: Allocator, const QUOTED: bool>(
     text: &mut Vec<u8, A>,
@@ -44,12 +44,12 @@ pub fn show_slot<S: Space, W: Write, A: Allocator, const QUOTED: bool>(
     views_show_values();
     match resolve(space, at) {
         Ok(found) => show_found::<_, _, _, QUOTED>(text, writer, space, found, level, depth),
-        // A value is here, so the pointer names something.
+        // A value is here, so the pointer has a target.
         Err(_) => unreachable!(),
     }
 }
 
-/// The text of the value that a pointer names.
+/// Appends the text of the value with the target `found` to `text`, at this `level`.
 #[cycle(slots)]
 pub fn show_found<S: Space, W: Write, A: Allocator, const QUOTED: bool>(
     text: &mut Vec<u8, A>,
@@ -143,7 +143,7 @@ pub fn show_found<S: Space, W: Write, A: Allocator, const QUOTED: bool>(
     }
 }
 
-/// The text of a list of elements without pointers.
+/// Appends the text of the list of `count` elements of this `width` at `start`, which are no pointers, to `text`.
 fn show_list<S: Space, W: Write, A: Allocator, const QUOTED: bool>(
     text: &mut Vec<u8, A>,
     writer: &mut Watched<W>,
@@ -190,7 +190,7 @@ fn show_list<S: Space, W: Write, A: Allocator, const QUOTED: bool>(
     }
 }
 
-/// The text of a struct: its first line, its words, and its slots with all below them.
+/// Appends the text of a struct to `text`: its first line, its words, and its slots with all below them.
 #[cycle(slots)]
 fn show_body<S: Space, W: Write, A: Allocator, const QUOTED: bool>(
     text: &mut Vec<u8, A>,
@@ -222,7 +222,7 @@ fn show_body<S: Space, W: Write, A: Allocator, const QUOTED: bool>(
     show_slots::<_, _, _, QUOTED>(text, writer, space, first, slots as u32, level + 1, depth)
 }
 
-/// The text of what is in slots, one after the other.
+/// Appends the text of the values of `count` slots, one after the other, to `text`.
 #[cycle(slots)]
 fn show_slots<S: Space, W: Write, A: Allocator, const QUOTED: bool>(
     text: &mut Vec<u8, A>,
@@ -253,7 +253,7 @@ fn show_slots<S: Space, W: Write, A: Allocator, const QUOTED: bool>(
     Ok(())
 }
 
-/// The text of rows, one after the other.
+/// Appends the text of `count` rows, one after the other, to `text`.
 #[cycle(slots)]
 fn show_rows<S: Space, W: Write, A: Allocator, const QUOTED: bool>(
     text: &mut Vec<u8, A>,

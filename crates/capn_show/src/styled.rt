@@ -17,7 +17,7 @@ use capn_words::{Space, Watched};
 use std::alloc::Allocator;
 use std::io::Write;
 
-/// The text of the value that a pointer names, in a style.
+/// Appends the text of the value with the target `found` to `text`, in this `style`.
 pub fn show_there<S: Space, W: Write, A: Allocator>(
     text: &mut Vec<u8, A>,
     writer: &mut Watched<W>,
@@ -43,7 +43,7 @@ pub fn show_there<S: Space, W: Write, A: Allocator>(
     }
 }
 
-/// The line of JSON of the value that a pointer names.
+/// Appends the line of JSON of the value with the target `found` to `text`.
 fn show_json<S: Space, W: Write, A: Allocator, const QUOTED: bool>(
     text: &mut Vec<u8, A>,
     writer: &mut Watched<W>,
@@ -63,7 +63,7 @@ fn show_json<S: Space, W: Write, A: Allocator, const QUOTED: bool>(
     end_line(text, writer)
 }
 
-/// The line of what isn't there, in a style.
+/// Appends the line for no value to `text`, in this `style`.
 pub fn show_nothing<W: Write, A: Allocator>(
     text: &mut Vec<u8, A>,
     writer: &mut Watched<W>,

@@ -1,4 +1,4 @@
--- Where a piece adds bytes to a frame.
+-- The cases in which a piece adds bytes to a frame. (For `fill`.)
 use Rattle.std.proofs.Common.{◌≡◌, ◌⊎◌, inl, inr, ℕ, ◌-◌, ◌<◌, ◌≤◌, List, length, take, drop, ap, sym, subst, ◌∙◌}
 use Rattle.std.proofs.Common.{arith, length-append, length-drop, length-take}
 use Rattle.capn_stream.specs.inner.Stages.{Extends, IsDone, Rests, need}

@@ -1,4 +1,4 @@
--- One more part of a frame that comes in pieces.
+-- One more part of a frame that comes in pieces. (For `fill`.)
 use Rattle.std.proofs.Common.{◌≡◌, inl, inr, ℕ, ◌+◌, ◌-◌, ◌<◌, ◌≤◌, List, ◌++◌, length, take, drop}
 use Rattle.std.proofs.Common.{refl, ap, sym, subst, ◌∙◌, arith, append_assoc, length-drop}
 use Rattle.std.proofs.Math.Seq.{take-add}

@@ -1,6 +1,4 @@
 pub mod shared
-pub mod Cutting
-pub mod WholeFrames
 pub mod Filling
 pub mod Came
 pub mod Waiting

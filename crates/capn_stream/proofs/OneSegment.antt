@@ -1,10 +1,10 @@
--- Frames of one segment.
+-- Frames of one segment. (For `first_bare`.)
 use Rattle.std.proofs.Common.{◌≡◌, ℕ, ◌+◌, ◌-◌, ◌*◌, ◌^◌, ◌≤◌, List, [], ◌∷◌, length, take, drop, sum, refl, ap, arith}
 use Rattle.capn_words.specs.Message.{AreBytes, IsBare}
 use Rattle.capn_stream.specs.Frames.{StandsFirst}
 use Rattle.capn_stream.specs.FrameRefusal.{IsWhole, announced_words, entries, entry_number, head_length}
 use Rattle.capn_stream.proofs.shared.FrameLaws.{announces, whole_of}
-use Rattle.capn_stream.proofs.WholeFrames.{read_stands}
+use Rattle.capn_stream.proofs.shared.WholeFrames.{read_stands}
 
 -- bytes that announce one segment announce the words of its size
 one_size : (bs : List ℕ) → entry_number bs ≡ 0 → announced_words bs ≡ entry_number (drop 4 bs)

@@ -1,4 +1,4 @@
--- What a read answers, of all that the reader had to give.
+-- The answer of a read, of all that the reader had to give. (For `read_message`.)
 use Rattle.std.proofs.Common.{◌≡◌, inl, inr, ℕ, ◌<◌, ◌≤◌, List, [], ◌++◌, length, take, Bool, IsErrOf}
 use Rattle.std.proofs.Common.{Option, Some, None, IfSome, Result, Ok, Err, refl, ap, sym, subst, ◌∙◌, arith, append-nil}
 use Rattle.std.proofs.Common.{length-append}

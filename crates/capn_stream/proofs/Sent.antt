@@ -1,4 +1,4 @@
--- What was written.
+-- The bytes that were written. (For `put_head` and `write_message`.)
 use Rattle.std.proofs.Common.{◌≡◌, ℕ, ◌+◌, ◌<◌, inl, inr, min, List, [], ◌++◌, length, take, drop}
 use Rattle.std.proofs.Common.{Option, ap, sym, subst, ◌∙◌, arith}
 use Rattle.std.specs.List.{flat_map}

@@ -1,4 +1,4 @@
--- A frame that came in pieces is whole.
+-- A frame that came in pieces is whole. (For `feed`, `finish` and `take`.)
 use Rattle.std.proofs.Common.{◌≡◌, ◌⊎◌, inl, inr, ℕ, ◌*◌, ◌/◌, ◌^◌, ◌<◌, ◌≤◌, List, [], ◌∷◌, ◌++◌}
 use Rattle.std.proofs.Common.{length, take, drop, Bool, false, Some, Result, Ok, Err, IfOk, IfErr, is_err}
 use Rattle.std.proofs.Common.{refl, ap, sym, subst, ◌∙◌, arith, length-drop}
@@ -16,7 +16,7 @@ use Rattle.capn_stream.specs.declared.fault.FrameFault.TheVariants.{Failed}
 use Rattle.capn_stream.specs.declared.stage.Stage.{Stage}
 use Rattle.capn_stream.specs.declared.stage.Stage.TheVariants as stages
 use Rattle.capn_stream.proofs.shared.FrameLaws.{frames_all}
-use Rattle.capn_stream.proofs.WholeFrames.{ends_are, stands}
+use Rattle.capn_stream.proofs.shared.WholeFrames.{ends_are, stands}
 
 -- the words after the head
 abbrev pub tail : ℕ → List ℕ → List ℕ

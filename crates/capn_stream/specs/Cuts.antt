@@ -19,7 +19,7 @@ pub record AreEnds (ends ws : List ℕ) : Type 0 where
   pub room : length ws ≤ most_words
   pub each : AreWords ws
 
--- where the segments of these sizes end, the first beginning at a place
+-- the ends of the segments of these sizes, the first beginning at a place
 abbrev pub ends_from : ℕ → List ℕ → List ℕ
 ends_from from [] = []
 ends_from from (size ∷ sizes) = (from + size) ∷ ends_from (from + size) sizes

@@ -6,7 +6,7 @@ use Rattle.capn_stream.specs.declared.fault.FrameFault.TheVariants as frames
 use Rattle.capn_stream.specs.declared.fault.ReadFault.{ReadFault}
 use Rattle.capn_stream.specs.declared.fault.ReadFault.TheVariants as reads
 
--- why bytes are no frame
+-- the reason why bytes are no frame
 abbrev pub frame_text : FrameFault → List ℕ
 frame_text frames.Memory = codes "out of memory"
 frame_text frames.Empty = codes "Empty"
@@ -15,7 +15,7 @@ frame_text (frames.TooManyWords n) = codes "TooManyWords(" ++ decimal n ++ codes
 frame_text frames.Cut = codes "Cut"
 frame_text frames.Failed = codes "Failed"
 
--- why no message was read
+-- the reason why no message was read
 abbrev pub read_text : ReadFault → List ℕ
 read_text reads.Memory = codes "out of memory"
 read_text reads.Io = codes "input or output failed"

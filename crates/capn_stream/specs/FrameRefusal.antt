@@ -1,5 +1,5 @@
--- What the beginning of a stream announces, and why it is refused. (Page: serialization over a stream; the order of
--- the tests is our own.)
+-- The numbers that the table of a stream announces, and the reason why the stream is refused. (Page: serialization over
+-- a stream; the order of the tests is our own.)
 use Rattle.std.specs.Prelude.{◌≡◌, ◌⊎◌, ℕ, zero, suc, ◌+◌, ◌*◌, ◌<◌, ◌≤◌, List, [], ◌∷◌, length, drop, sum, ⊤}
 use Rattle.byteorder.specs.Endian.{little_number}
 use Rattle.capn_words.specs.Message.{most_segments}
@@ -17,19 +17,19 @@ abbrev pub entries : ℕ → List ℕ → List ℕ
 entries zero bs = []
 entries (suc n) bs = entry_number bs ∷ entries n (drop 4 bs)
 
--- how many segments are announced
+-- the number of segments that are announced
 abbrev pub announced_segments : List ℕ → ℕ
 announced_segments bs = entry_number bs + 1
 
--- how many words are announced: the sum of the sizes after the count
+-- the number of words that are announced: the sum of the sizes after the count
 abbrev pub announced_words : List ℕ → ℕ
 announced_words bs = sum (entries (announced_segments bs) (drop 4 bs))
 
--- how many bytes the table of `count` segments and its padding take
+-- the number of bytes that the table of `count` segments and its padding take
 abbrev pub head_length : ℕ → ℕ
 head_length count = 4 + 4 * count + padding count
 
--- how many bytes the announced frame takes
+-- the number of bytes that the announced frame takes
 abbrev pub frame_length : List ℕ → ℕ
 frame_length bs = head_length (announced_segments bs) + 8 * announced_words bs
 
@@ -66,8 +66,8 @@ EndsWithin bs most =
     ⊎ (HasCount bs × (length bs ≤ head_length (announced_segments bs)))
     ⊎ (HasHead bs × (announced_words bs ≤ most) × (length bs ≤ frame_length bs))
 
--- why bytes are refused under a number of words, each test being made once those before it have passed (running out of
--- memory says nothing of the bytes)
+-- bytes are refused under a number of words, for this fault; each test is made once those before it have passed
+-- (running out of memory says nothing of the bytes)
 abbrev pub IsFrameRefused : List ℕ → ℕ → FrameFault → Type 0
 IsFrameRefused bs most Memory = ⊤
 IsFrameRefused bs most Empty = length bs ≡ 0

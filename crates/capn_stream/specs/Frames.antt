@@ -18,7 +18,7 @@ entry n = little_bytes 4 n
 abbrev pub table : List (List ℕ) → List ℕ
 table message = entry (length message - 1) ++ flat_map (λ ws. entry (length ws)) message
 
--- how many bytes of padding follow the table: 4 exactly where the number of segments is even
+-- the number of bytes of padding after the table: 4 exactly if the number of segments is even
 abbrev pub padding : ℕ → ℕ
 padding count = if count % 2 == 0 then 4 else 0
 
@@ -26,8 +26,8 @@ padding count = if count % 2 == 0 then 4 else 0
 abbrev pub contents : List (List ℕ) → List ℕ
 contents message = flat_map bytes message
 
--- what a table that is accepted can say: 1 to 4,096 segments (own: no more), each of fewer than 2^32 words, which are
--- below 2^64
+-- a table that is accepted can announce this message: 1 to 4,096 segments (own: no more), each of fewer than 2^32
+-- words, which are below 2^64
 pub record FitsTable (message : List (List ℕ)) : Type 0 where
   pub some : 0 < length message
   pub few : length message ≤ most_segments

@@ -24,7 +24,7 @@ IsUnread bs most new (frames.TooManyWords n) = IsFrameRefused bs most (frames.To
 IsUnread bs most new frames.Cut = IsFrameRefused bs most frames.Cut × IsAtEnd new
 IsUnread bs most new frames.Failed = ⊥
 
--- what a read that gave these bytes answers
+-- the answer of a read that gave these bytes
 abbrev pub ReadAnswers : List ℕ → ℕ → Option (List ℕ) → Bool → Result (Option (List (List ℕ))) ReadFault → Type 0
 ReadAnswers bs most new failed (Ok (Some message)) = Frames bs message × (total message ≤ most) × (failed ≡ false)
 ReadAnswers bs most new failed (Ok None) = (bs ≡ []) × IsAtEnd new × (failed ≡ false)
@@ -39,13 +39,14 @@ pub record Received (old new : Option (List ℕ)) (failed : Bool) (most : ℕ)
   pub bounded : length bytes ≤ most_bytes most
   pub answer : ReadAnswers bytes most new failed result
 
--- a reader gave some bytes, and a read answers what they call for
+-- a reader gave some bytes, and a read gives the answer for them
 abbrev pub ReadGives : Option (List ℕ) → Option (List ℕ) → Bool → ℕ → Result (Option (List (List ℕ))) ReadFault → Type 0
 ReadGives old new failed most result = (bytes : List ℕ) × Received old new failed most result bytes
 
--- Where a read that took these bytes has left its reader: after a refusal it is inside the message. That is exactly
--- after the count if it announces too many segments, after the table and its padding if they announce too many words,
--- and at the end of the input if the message is cut. Memory is needed once a byte has come, and not beyond the message.
+-- The place at which a read that took these bytes has left its reader: after a refusal it is inside the message. That
+-- is exactly after the count if it announces too many segments, after the table and its padding if they announce too
+-- many words, and at the end of the input if the message is cut. Memory is needed once a byte has come, and not beyond
+-- the message.
 abbrev pub StandsInside : List ℕ → ℕ → Option (List ℕ) → Result (Option (List (List ℕ))) ReadFault → Type 0
 StandsInside bs most new (Ok answer) = ⊤
 StandsInside bs most new (Err faults.Memory) = (0 < length bs) × EndsWithin bs most
@@ -57,13 +58,13 @@ StandsInside bs most new (Err (faults.Frame (frames.TooManyWords n))) = length b
 StandsInside bs most new (Err (faults.Frame frames.Cut)) = IsAtEnd new
 StandsInside bs most new (Err (faults.Frame frames.Failed)) = ⊥
 
--- a reader gave some bytes, a read answers what they call for, and a refusal leaves the reader inside the message
+-- a reader gave some bytes, a read gives the answer for them, and a refusal leaves the reader inside the message
 abbrev pub StopsInside : Option (List ℕ) → Option (List ℕ) → Bool → ℕ → Result (Option (List (List ℕ))) ReadFault
     → Type 0
 StopsInside old new failed most result = (bytes : List ℕ) × Received old new failed most result bytes
     × StandsInside bytes most new result
 
--- bytes that follow what a framer holds were all taken: they make a message whole, or none, or are refused
+-- bytes that follow those that a framer holds were all taken: they make a message whole, or none, or are refused
 abbrev pub TakesIn : Framing → List ℕ → Result (Option (List (List ℕ))) ReadFault → Framing → Type 0
 TakesIn before piece (Ok (Some message)) after = Frames (before.rest ++ piece) message × (total message ≤ before.most)
 TakesIn before piece (Ok None) after =
@@ -93,8 +94,8 @@ EndGives rest most (Err (faults.Frame (frames.TooManyWords n))) = ⊥
 EndGives rest most (Err (faults.Frame frames.Cut)) = IsFrameRefused rest most frames.Cut
 EndGives rest most (Err (faults.Frame frames.Failed)) = ⊥
 
--- What a read answers, of all that the reader had to give: the first message in it; none, where it has no
--- bytes; or why no message comes first. Nothing is said where memory was refused or the reader failed.
+-- The answer of a read, of all that the reader had to give: the first message in it; none, if it has no bytes; or the
+-- reason why no message comes first. Nothing is said if memory was refused or the reader failed.
 abbrev pub ReadsFirst : ℕ → Result (Option (List (List ℕ))) ReadFault → List ℕ → Type 0
 ReadsFirst most (Ok (Some message)) input = (taken : ℕ) × StandsFirst input most message taken
 ReadsFirst most (Ok None) input = input ≡ []

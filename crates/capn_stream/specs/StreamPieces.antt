@@ -11,8 +11,8 @@ use Rattle.capn_stream.specs.declared.fault.FrameFault.TheVariants.{Memory, Empt
 use Rattle.capn_stream.specs.declared.fault.FrameFault.TheVariants.{Failed}
 use Rattle.capn_stream.specs.declared.stage.Stage.{Stage}
 
--- what a framer holds: the bytes since the last message that was taken, how many words a message may have, and whether
--- a call has refused
+-- the state of a framer: the bytes since the last message that was taken, the most words of a message, and whether a
+-- call has refused
 pub record Framing : Type 0 where
   pub rest : List ℕ
   pub most : ℕ
@@ -41,8 +41,8 @@ pub record Stops (before after : Framing) : Type 0 where
   pub was_good : before.failed ≡ false
   pub is_failed : after.failed ≡ true
 
--- what is held after a refusal of a table that announces too many words: a beginning of what came, up to the end of the
--- table and its padding or further, which is refused for the same
+-- the bytes that are held after a refusal of a table that announces too many words: a beginning of those that came, up
+-- to the end of the table and its padding or further, which is refused for the same
 abbrev pub KeepsHead : List ℕ → List ℕ → ℕ → List ℕ → FrameFault → Type 0
 KeepsHead rest piece most held (TooManyWords n) =
     ((k : ℕ) × (held ≡ rest ++ take k piece)) × IsFrameRefused held most (TooManyWords n)
@@ -52,8 +52,8 @@ KeepsHead rest piece most held (TooManySegments n) = ⊤
 KeepsHead rest piece most held Cut = ⊤
 KeepsHead rest piece most held Failed = ⊤
 
--- What a feed answers: how many bytes it took; a refusal of the bytes with the piece, which comes once; or that an
--- earlier call has refused.
+-- The answer of a feed: the number of bytes that it took; a refusal of the bytes with the piece, which comes once; or
+-- that an earlier call has refused.
 abbrev pub FeedGives : Framing → List ℕ → Result ℕ FrameFault → Framing → Type 0
 FeedGives before piece (Ok n) after = Feeds before piece n after
 FeedGives before piece (Err Memory) after = Stops before after
@@ -65,15 +65,16 @@ FeedGives before piece (Err (TooManyWords n)) after = Stops before after
 FeedGives before piece (Err Cut) after = ⊥
 FeedGives before piece (Err Failed) after = (before.failed ≡ true) × (after ≡ before)
 
--- what is taken: the message that the bytes are a frame of, and then no bytes are left; or none, and nothing changes
+-- the answer of a take: the message that the bytes are a frame of, and then no bytes are left; or none, and nothing
+-- changes
 abbrev pub TakeGives : Framing → Option (List (List ℕ)) → Framing → Type 0
 TakeGives before (Some message) after =
     Frames before.rest message × (total message ≤ before.most) × (before.failed ≡ false)
     × (after ≡ record { rest = []; most = before.most; failed = false })
 TakeGives before None after = ((before.failed ≡ true) ⊎ IsUnfinished before.rest before.most) × (after ≡ before)
 
--- what the end of the stream answers: that none or a whole message is left, or that one is cut, or that an earlier call
--- has refused
+-- the answer of the end of the stream: that none or a whole message is left, or that one is cut, or that an earlier
+-- call has refused
 abbrev pub FinishGives : Framing → Result (Unit {0}) FrameFault → Framing → Type 0
 FinishGives before (Ok u) after = (before.failed ≡ false) × ((before.rest ≡ []) ⊎ IsFrame before.rest before.most)
     × (after ≡ before)

@@ -4,7 +4,7 @@ use std::alloc::AllocError;
 use std::error::Error;
 use std::{fmt, io};
 
-/// Why bytes are no frame, in the order in which the tests are made.
+/// The reason why bytes are no frame, in the order in which the tests are made.
 #[derive(Clone, Copy, Debug, PartialEq, Eq)]
 pub enum FrameFault {
     /// A growth was refused.
@@ -32,7 +32,7 @@ impl From<AllocError> for FrameFault {
     }
 }
 
-/// Why no message was read.
+/// The reason why no message was read.
 #[derive(Clone, Copy, Debug, PartialEq, Eq)]
 pub enum ReadFault {
     /// A growth was refused.

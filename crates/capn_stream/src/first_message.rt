@@ -11,14 +11,13 @@ use crate::table::{ends_of, entry_at, head_of, read_head};
 use capn_words::Bare;
 use std::alloc::Allocator;
 
-/// The message whose frame comes first in the bytes, and the number of bytes that it takes.
+/// Reads the message whose frame comes first in `bytes`; returns it and the number of bytes that its frame takes.
 ///
-/// The message borrows the bytes; memory is taken for a table of segments alone, and none where there is
-/// one segment. The refusals are tested in this order: `Empty`; `Cut` within the count;
-/// `TooManySegments`; `Cut` within the table or its padding; `TooManyWords`, with the sum of the sizes,
-/// where it is above `max_words`; `Cut` within the contents. `Memory` comes only where a growth was
-/// refused, after all of these; `Failed` never comes. Padding is ignored.
-/// (Page: serialization over a stream; the order of the tests is our own.)
+/// The message borrows `bytes`; memory is taken from `alloc` for a table of segments alone, and none for one segment.
+/// The refusals are tested in this order: `Empty`; `Cut` within the count; `TooManySegments`; `Cut` within the table or
+/// its padding; `TooManyWords`, with the sum of the sizes, if it is above `max_words`; `Cut` within the contents.
+/// `Memory` comes only if a growth was refused, after all of these; `Failed` never comes. Padding is ignored. (Page:
+/// serialization over a stream; the order of the tests is our own.)
 pub fn first<'a, A: Allocator + Copy>(
     alloc: A,
     bytes: &'a [u8],
@@ -43,11 +42,12 @@ pub fn first<'a, A: Allocator + Copy>(
     }
 }
 
-/// The message of one segment whose frame comes first in the bytes, and the number of bytes that it takes.
+/// Reads the message of one segment whose frame comes first in `bytes`; returns it and the number of bytes that its
+/// frame takes.
 ///
-/// It answers what [`first`] answers where the message has one segment, and takes no memory. `None` exactly where no
-/// such message comes first; why none does is for `first` to say.
-/// (Page: serialization over a stream.)
+/// It answers what [`first`] answers if the message has one segment and at most `max_words` words, and takes no memory.
+/// `None` exactly if no such message comes first; why none does is for `first` to say. (Page: serialization over a
+/// stream.)
 #[inline(always)]
 pub fn first_bare<'a>(bytes: &'a [u8], max_words: u32) -> Option<(Bare<'a>, usize)>
     requires { max_words ≤ most_message_words }

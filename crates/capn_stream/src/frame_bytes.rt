@@ -9,7 +9,7 @@ use crate::table::head_of;
 use capn_words::{Memory, Place, Space, total_words};
 use std::alloc::{AllocError, Allocator};
 
-/// A number as its 4 bytes.
+/// Appends `number` to `text`, as its 4 bytes.
 #[tactic(auto, unfolding(crate::specs::Frames::entry))]
 fn put_entry<A: Allocator>(text: &mut Vec<u8, A>, number: u32) -> Result<(), AllocError>
     ensures { OnOk result (text.new.items ≡ text.old.items ++ entry number) }
@@ -18,7 +18,7 @@ fn put_entry<A: Allocator>(text: &mut Vec<u8, A>, number: u32) -> Result<(), All
     Ok(())
 }
 
-/// The table of a message.
+/// Appends the table of the message `space` to `text`.
 fn put_table<S: Space, A: Allocator>(text: &mut Vec<u8, A>, space: &S) -> Result<(), AllocError>
     ensures { OnOk result (text.new.items ≡ text.old.items ++ table (S.message space.now)) }
 {
@@ -32,7 +32,7 @@ fn put_table<S: Space, A: Allocator>(text: &mut Vec<u8, A>, space: &S) -> Result
     Ok(())
 }
 
-/// The padding after the table of `segments` segments.
+/// Appends the padding after the table of `segments` segments to `text`.
 fn put_padding<A: Allocator>(text: &mut Vec<u8, A>, segments: u32) -> Result<(), AllocError>
     ensures { OnOk result (text.new.items ≡ text.old.items ++ replicate (padding segments) 0) }
 {
@@ -42,7 +42,7 @@ fn put_padding<A: Allocator>(text: &mut Vec<u8, A>, segments: u32) -> Result<(),
     Ok(())
 }
 
-/// The bytes of a segment of `words` words.
+/// Returns the bytes of `segment` of the message `space`, which has `words` words.
 pub(crate) fn bytes_of<S: Space>(space: &S, segment: u32, words: u32) -> &[u8]
     requires { words_of (S.message space.now) segment ≡ Some words }
     ensures { result.now ≡ bytes (segment_at (S.message space.now) segment) }
@@ -50,7 +50,7 @@ pub(crate) fn bytes_of<S: Space>(space: &S, segment: u32, words: u32) -> &[u8]
     space.bytes(Place { segment, word: 0 }, 8 * words as usize)
 }
 
-/// The bytes of the segments of a message.
+/// Appends the bytes of the segments of the message `space` to `text`.
 fn put_contents<S: Space, A: Allocator>(text: &mut Vec<u8, A>, space: &S) -> Result<(), AllocError>
     ensures { OnOk result (text.new.items ≡ text.old.items ++ contents (S.message space.now)) }
 {
@@ -62,11 +62,11 @@ fn put_contents<S: Space, A: Allocator>(text: &mut Vec<u8, A>, space: &S) -> Res
     Ok(())
 }
 
-/// The frame of a message: its table, padding of zeros, and its contents.
+/// Returns the frame of the message `space`: its table, padding of zeros, and its contents.
 ///
-/// [`first`](crate::first) of these bytes gives the message back. Memory is asked for once, for exactly
-/// the frame; `Memory` comes only where that was refused.
-/// (Page: serialization over a stream; that padding is zero is our own.)
+/// [`first`](crate::first) of these bytes gives the message back. Memory is asked of `alloc` once, for exactly the
+/// frame; `Memory` comes only if that was refused. (Page: serialization over a stream; that padding is zero is our
+/// own.)
 pub fn frame<S: Space, A: Allocator + Copy>(alloc: A, space: &S) -> Result<Vec<u8, A>, Memory>
     ensures exact { IfOk result (λ text. text.items ≡ frame_text (S.message space.now)) }
     ensures frames { IfOk result (λ text. Frames text.items (S.message space.now)) }

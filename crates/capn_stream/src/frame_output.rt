@@ -15,13 +15,13 @@ use std::io::Write;
 /// The most segments whose table is put together in the small buffer.
 const FEW_SEGMENTS: u32 = 62;
 
-/// The bytes of the small buffer.
+/// The number of bytes of the small buffer.
 const SMALL_HEAD: usize = 256;
 
-/// The bytes of the longest table and its padding.
+/// The number of bytes of the longest table and its padding.
 const MOST_HEAD: usize = 8 * MOST_TABLE_WORDS as usize;
 
-/// Copies bytes to a place.
+/// Copies `bytes` to `head`, from offset `at` on.
 fn put(head: &mut [u8], at: usize, bytes: &[u8])
     requires { at + length bytes.now ≤ length head.old }
     ensures front { take at head.new ≡ take at head.old }
@@ -31,7 +31,7 @@ fn put(head: &mut [u8], at: usize, bytes: &[u8])
     head[at..end].copy_from_slice(bytes);
 }
 
-/// Puts a number as its 4 bytes.
+/// Writes `number`, as its 4 bytes, to `head` from offset `at` on.
 #[tactic(auto, unfolding(crate::specs::Frames::entry))]
 fn put_entry(head: &mut [u8], at: usize, number: u32)
     requires { at + 4 ≤ length head.old }
@@ -40,7 +40,8 @@ fn put_entry(head: &mut [u8], at: usize, number: u32)
     put(head, at, &number.to_le_bytes());
 }
 
-/// Puts the table of a message, and its padding of zeros, and answers how many bytes they are.
+/// Writes the table of the message `space` and its padding of zeros to the front of `head`, and returns how many bytes
+/// they are.
 fn put_head<S: Space>(head: &mut [u8], space: &S) -> usize
     requires { 8 + 4 * length (S.message space.now) ≤ length head.old }
     ensures inside { result ≤ length head.old }
@@ -60,7 +61,8 @@ fn put_head<S: Space>(head: &mut [u8], space: &S) -> usize
     at
 }
 
-/// Writes the table of a message and its padding, put together in a buffer that has room for them.
+/// Writes the table of the message `space` and its padding to `writer`, put together in `head`, which has room for
+/// them.
 fn write_head<W: Write, S: Space>(
     writer: &mut Watched<W>,
     space: &S,
@@ -79,7 +81,8 @@ fn write_head<W: Write, S: Space>(
     Ok(())
 }
 
-/// Writes the table of a message and its padding. Most tables are short, and a small buffer is soon cleared.
+/// Writes the table of the message `space` and its padding to `writer`. Most tables are short, and a small buffer is
+/// soon cleared.
 fn write_table<W: Write, S: Space>(writer: &mut Watched<W>, space: &S) -> Result<(), Io>
     requires { has_failed writer.old ≡ false }
     ensures ok { OnOk result (Appends (W.contents (inner_of writer.old)) (W.contents (inner_of writer.new))
@@ -95,9 +98,9 @@ fn write_table<W: Write, S: Space>(writer: &mut Watched<W>, space: &S) -> Result
     }
 }
 
-/// Writes the frame of a message: its table, padding of zeros, and its contents.
+/// Writes the frame of the message `space` to `writer`: its table, padding of zeros, and its contents.
 ///
-/// `Io` exactly where the writer fails, and then a beginning of the frame was written. It takes no memory.
+/// `Io` exactly if the writer fails, and then a beginning of the frame was written. It takes no memory.
 pub fn write_message<W: Write, S: Space>(writer: &mut Watched<W>, space: &S) -> Result<(), Io>
     requires { has_failed writer.old ≡ false }
     ensures ok { OnOk result (Appends (W.contents (inner_of writer.old)) (W.contents (inner_of writer.new))

@@ -9,8 +9,8 @@ use std::marker::Model;
 
 /// A message whose segments follow one another in borrowed bytes.
 ///
-/// It copies none of them. Beside the borrow it keeps where each segment but the last ends, so a message
-/// of one segment takes no memory, and every segment is found in constant time.
+/// It copies none of them. Beside the borrow it keeps the ends of all segments but the last, so a message of one
+/// segment takes no memory, and every segment is found in constant time.
 #[derive(Debug, Drop)]
 pub struct Framed<'a, A: Allocator = Global> {
     words: Bare<'a>,
@@ -28,7 +28,7 @@ impl<'a, A: Allocator> Model for Framed<'a, A> {
     ghost invariant = { λ f. AreEnds f.ends.items f.words };
 }
 
-/// Where a segment begins.
+/// Returns the word at which `segment` begins.
 pub(crate) fn start_of(ends: &[u32], segment: usize) -> u32
     requires { segment ≤ length ends.now }
     ensures { result ≡ slice_index (0 ∷ ends.now) segment }
@@ -36,7 +36,7 @@ pub(crate) fn start_of(ends: &[u32], segment: usize) -> u32
     if segment == 0 { 0 } else { ends[segment - 1] }
 }
 
-/// Where a segment ends: for the last one, at the end of the message, which has `words` words.
+/// Returns the word at which `segment` ends: for the last one, the end of the message, which has `words` words.
 pub(crate) fn end_of(ends: &[u32], words: u32, segment: usize) -> u32
     requires { segment ≤ length ends.now }
     ensures { result ≡ slice_index (ends.now ++ words ∷ []) segment }
@@ -49,7 +49,7 @@ pub(crate) fn end_of(ends: &[u32], words: u32, segment: usize) -> u32
 }
 
 impl<'a, A: Allocator> Framed<'a, A> {
-    /// The words, cut at the ends.
+    /// Cuts `words` at `ends`.
     pub(crate) fn new(words: Bare<'a>, ends: Vec<u32, A>) -> Framed<'a, A>
         requires { AreEnds ends.items words }
         ensures { result ≡ cut 0 ends.items words.entry }

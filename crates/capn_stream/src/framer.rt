@@ -40,7 +40,7 @@ impl<A: Allocator + Copy> Model for Framer<A> {
 }
 
 impl<A: Allocator + Copy> Framer<A> {
-    /// At the beginning of a stream, for messages of at most `max_words` words. It takes no memory.
+    /// Returns a framer at the beginning of a stream, for messages of at most `max_words` words. It takes no memory.
     pub fn new(alloc: A, max_words: u32) -> Framer<A>
         requires { max_words ≤ most_message_words }
         ensures { result ≡ record { rest = []; most = max_words; failed = false } }
@@ -55,10 +55,10 @@ impl<A: Allocator + Copy> Framer<A> {
         }
     }
 
-    /// Takes bytes of the piece until a message is whole or the piece ends, and answers how many.
+    /// Takes bytes of `piece` until a message is whole or `piece` ends, and returns their number.
     ///
     /// While a message waits it takes none. Refusals: `TooManySegments` once the count is there, `TooManyWords` once
-    /// the table and its padding are there, `Memory` where a growth was refused, `Failed` after an earlier refusal.
+    /// the table and its padding are there, `Memory` if a growth was refused, `Failed` after an earlier refusal.
     #[inline]
     pub fn feed(&mut self, piece: &[u8]) -> Result<usize, FrameFault>
         ensures gives { FeedGives self.old piece.now result self.new }
@@ -83,7 +83,8 @@ impl<A: Allocator + Copy> Framer<A> {
         fed
     }
 
-    /// How many bytes there have to be for the part that is waited for: no message is whole before that.
+    /// Returns the number of bytes that are missing of the part that is waited for: no message is whole before they
+    /// came.
     pub(crate) fn wanted(&self) -> usize
         requires { self.now.failed ≡ false }
         ensures least { (more : List ℕ) → IsFrame (self.now.rest ++ more) self.now.most → result ≤ length more }
@@ -94,7 +95,7 @@ impl<A: Allocator + Copy> Framer<A> {
         part_left(self.stage, &self.frame)
     }
 
-    /// Whether it holds no byte: none has come since the last message was taken.
+    /// Returns `true` if it holds no byte: none has come since the last message was taken.
     #[inline]
     pub fn is_empty(&self) -> bool
         ensures { IsTrue result ↔ (self.now.rest ≡ []) }
@@ -102,8 +103,8 @@ impl<A: Allocator + Copy> Framer<A> {
         self.frame.is_empty()
     }
 
-    /// The bytes that came since the last message was taken, while no call has refused: the frame of the message that
-    /// waits, or the beginning of one. After `TooManyWords` a beginning of it, with its whole table.
+    /// Returns the bytes that came since the last message was taken, while no call has refused: the frame of the
+    /// message that waits, or the beginning of one. After `TooManyWords` a beginning of it, with its whole table.
     #[inline]
     pub fn held(&self) -> &[u8]
         ensures { result.now ≡ self.now.rest }
@@ -111,7 +112,7 @@ impl<A: Allocator + Copy> Framer<A> {
         &self.frame
     }
 
-    /// The message that waits, if one does, once. It takes no memory: the bytes are moved.
+    /// Takes the message that waits, if one does, once. It takes no memory: the bytes are moved.
     #[inline]
     pub fn take(&mut self) -> Option<Stored<A>>
         ensures { TakeGives self.old result self.new }
@@ -130,7 +131,7 @@ impl<A: Allocator + Copy> Framer<A> {
         }
     }
 
-    /// The end of the stream.
+    /// Tells the framer that the stream ends here.
     ///
     /// `Cut` if a message has begun and is not whole, `Failed` after an earlier refusal. After Ok the stream may go on.
     /// It takes no memory.

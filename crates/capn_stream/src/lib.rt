@@ -11,7 +11,8 @@
 //! Here `text` is the first `taken` bytes of `input`, except for the padding of its table. Any bytes may be given:
 //! `first` answers a message if and only if a frame within the limits comes first, and else says why none does. What a
 //! table announces is never allocated. [`laws`] has what holds of frames apart from any call: one frame comes first at
-//! most, and bytes are refused for one reason.
+//! most, and bytes are refused for one reason. [`table`] reads a table alone, for a caller that keeps the ends of the
+//! segments in its own way.
 #![tactic(auto)]
 
 mod fault;
@@ -24,7 +25,7 @@ pub mod laws;
 mod next_message;
 mod stage;
 mod stored;
-mod table;
+pub mod table;
 
 pub use fault::{FrameFault, Io, ReadFault};
 pub use first_message::{first, first_bare};
@@ -36,5 +37,5 @@ pub use next_message::read_message;
 pub use stored::Stored;
 pub use table::MOST_TABLE_WORDS;
 
-// What the signatures above name.
+// The types in the signatures above.
 pub use capn_words::Memory;

@@ -16,7 +16,8 @@ use std::io::Read;
 /// The most bytes that one call of a reader is asked for.
 const PIECE: usize = 16_384;
 
-/// Feeds bytes that all belong to the frame that is being read, and takes its message if they complete it.
+/// Feeds `piece`, all of which belongs to the frame that is being read, to `framer`, and takes its message if that is
+/// whole then.
 fn take_in<A: Allocator + Copy>(
     framer: &mut Framer<A>,
     piece: &[u8],
@@ -33,7 +34,7 @@ fn take_in<A: Allocator + Copy>(
     }
 }
 
-/// How a read ends that found the end of the input.
+/// Returns the end of a read that found the end of the input: `None` between messages, else `Cut`.
 fn end_of<A: Allocator + Copy>(mut framer: Framer<A>) -> Result<Option<Stored<A>>, ReadFault>
     requires good { framer.failed ≡ false }
     requires part { IsUnfinished framer.rest framer.most }
@@ -45,7 +46,7 @@ fn end_of<A: Allocator + Copy>(mut framer: Framer<A>) -> Result<Option<Stored<A>
     }
 }
 
-/// Reads the next message: its bytes and no others, in pieces.
+/// Reads the next message of `reader`: its bytes and no others, in pieces.
 fn receive<R: Read, A: Allocator + Copy>(
     alloc: A,
     reader: &mut Watched<R>,
@@ -73,15 +74,15 @@ fn receive<R: Read, A: Allocator + Copy>(
     }
 }
 
-/// The next message of a reader, of at most `max_words` words: its bytes and no others are taken.
+/// Reads the next message of `reader`, of at most `max_words` words: its bytes and no others are taken.
 ///
 /// No call asks the reader for more than 16,384 bytes, nor for more than the part of the message that is waited for
-/// still needs. The message grows with bytes that came, never by what its table announces.
+/// still needs. The message grows on `alloc` with bytes that came, never by what its table announces.
 ///
-/// None exactly where the input ends between messages. Refusals: `Memory` where a growth was refused, which takes a
-/// byte of a message; `Io` exactly where the reader fails; `Frame` with `TooManySegments`, `TooManyWords` or `Cut`.
-/// After a refusal the reader is inside the message: after the 4 bytes of the count at `TooManySegments`, after the
-/// table and its padding at `TooManyWords`, at the end of the input at `Cut`, and never beyond the message.
+/// `None` exactly if the input ends between messages. Refusals: `Memory` if a growth was refused, which takes a byte of
+/// a message; `Io` exactly if the reader fails; `Frame` with `TooManySegments`, `TooManyWords` or `Cut`. After a
+/// refusal the reader is inside the message: after the 4 bytes of the count at `TooManySegments`, after the table and
+/// its padding at `TooManyWords`, at the end of the input at `Cut`, and never beyond the message.
 pub fn read_message<R: Read, A: Allocator + Copy>(
     alloc: A,
     reader: &mut Watched<R>,
@@ -89,14 +90,14 @@ pub fn read_message<R: Read, A: Allocator + Copy>(
 ) -> Result<Option<Stored<A>>, ReadFault>
     requires small { max_words ≤ most_message_words }
     requires fine { has_failed reader.old ≡ false }
-    // What it answers, of all that the reader had to give; and that a message that comes first is answered.
+    // The answer, of all that the reader had to give; and a message that comes first is answered.
     ensures exact { IfSome (R.remaining (inner_of reader.old)) (ReadsFirst max_words result) }
     ensures only { IfSome (R.remaining (inner_of reader.old)) (OnlyFirst max_words result) }
     // It takes the bytes of that message and no others, and reports a reader that failed.
     ensures gives { ReadGives (R.remaining (inner_of reader.old)) (R.remaining (inner_of reader.new))
         (has_failed reader.new)
         max_words result }
-    // After a refusal the reader is inside the message, and exactly where.
+    // After a refusal the reader is inside the message, at exactly this place.
     ensures inside { StopsInside (R.remaining (inner_of reader.old)) (R.remaining (inner_of reader.new))
         (has_failed reader.new)
         max_words result }

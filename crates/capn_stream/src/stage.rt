@@ -14,7 +14,7 @@ use crate::table::{ends_of, entry_at, head_of, total_of};
 use capn_words::MOST_SEGMENTS;
 use std::alloc::{AllocError, Allocator, Global};
 
-/// Which part of a frame is waited for.
+/// The part of a frame that is waited for.
 #[derive(Clone, Copy, Debug)]
 pub(crate) enum Stage {
     /// The count of segments.
@@ -25,7 +25,7 @@ pub(crate) enum Stage {
     Contents(usize, usize),
 }
 
-/// How many bytes of the frame are there once that part is whole.
+/// Returns the number of bytes of the frame that are there once the part of this `stage` is whole.
 #[inline]
 fn end_of(stage: Stage) -> usize
     requires { FitsStage stage }
@@ -38,7 +38,7 @@ fn end_of(stage: Stage) -> usize
     }
 }
 
-/// How many bytes that part still needs.
+/// Returns the number of bytes that the part of this `stage` still needs after `bytes`.
 pub(crate) fn part_left(stage: Stage, bytes: &[u8]) -> usize
     requires fits { FitsStage stage }
     requires within { length bytes.now ≤ spec.need stage }
@@ -50,8 +50,8 @@ pub(crate) fn part_left(stage: Stage, bytes: &[u8]) -> usize
 /// The room for which the first bytes of a frame ask, so that a small one takes memory once.
 const FIRST_ROOM: usize = 64;
 
-/// Room for `count` bytes, if they are the first. It never grows what has some, so that those that follow grow it by
-/// its own rule.
+/// Makes room in `bytes` for `count` more, if they are the first. It never grows what has some, so that those that
+/// follow grow it by its own rule.
 #[inline]
 fn make_room<A: Allocator>(bytes: &mut Vec<u8, A>, count: usize) -> Result<(), AllocError>
     ensures same { bytes.new.items ≡ bytes.old.items }
@@ -64,7 +64,7 @@ fn make_room<A: Allocator>(bytes: &mut Vec<u8, A>, count: usize) -> Result<(), A
     Ok(())
 }
 
-/// Adds bytes of the piece until there are `end` bytes, and answers how many it took.
+/// Appends bytes of `piece` to `bytes` until there are `end` bytes, and returns how many it took.
 #[inline]
 fn fill_to<A: Allocator>(
     bytes: &mut Vec<u8, A>,
@@ -82,7 +82,7 @@ fn fill_to<A: Allocator>(
     Ok(count)
 }
 
-/// How many segments are announced.
+/// Returns the number of segments that `bytes` announce.
 fn read_count(bytes: &[u8]) -> Result<usize, FrameFault>
     requires { length bytes.now ≡ 4 }
     ensures counted { IfOk result (λ n. HasCount bytes.now × (n ≡ announced_segments bytes.now)) }
@@ -96,7 +96,7 @@ fn read_count(bytes: &[u8]) -> Result<usize, FrameFault>
     Ok(count as usize)
 }
 
-/// Where the contents begin and end, and where the segments end within them.
+/// The offsets at which the contents begin and end, and the ends of the segments within them.
 #[derive(Drop)]
 struct Bounds<A: Allocator = Global> {
     start: usize,
@@ -104,7 +104,7 @@ struct Bounds<A: Allocator = Global> {
     ends: Vec<u32, A>,
 }
 
-/// What the table announces.
+/// Reads the table of `segments` segments at the front of `bytes`, which may announce at most `most` words.
 fn read_table<A: Allocator>(
     alloc: A,
     bytes: &[u8],
@@ -130,7 +130,8 @@ fn read_table<A: Allocator>(
     })
 }
 
-/// Takes bytes of a piece until the frame is whole or the piece ends, and answers how many.
+/// Appends bytes of `piece` to the frame `bytes` until it is whole or `piece` ends, and returns their number. Brings
+/// `stage` and `ends` up to date. The message may have at most `most` words.
 pub(crate) fn fill<A: Allocator + Copy>(
     alloc: A,
     bytes: &mut Vec<u8, A>,

@@ -30,7 +30,7 @@ impl<A: Allocator> Model for Words<A> {
     ghost invariant = { λ w. IsTail w.frame.items w.start };
 }
 
-/// How many words there are from `start` on.
+/// Returns the number of words of `frame` from byte `start` on.
 fn count_of(frame: &[u8], start: usize) -> usize
     requires { start ≤ length frame.now }
     ensures { result ≡ length (drop start frame.now) / 8 }
@@ -38,7 +38,7 @@ fn count_of(frame: &[u8], start: usize) -> usize
     (frame.len() - start) / 8
 }
 
-/// The word at byte 8 * `index` after `start`.
+/// Returns the word at byte `8 * index` of `frame` after `start`.
 #[tactic(auto, unfolding(capn_words::specs::Message::word_number))]
 fn word_of(frame: &[u8], start: usize, index: usize) -> u64
     requires { start + (8 * index + 8) ≤ length frame.now }
@@ -48,7 +48,7 @@ fn word_of(frame: &[u8], start: usize, index: usize) -> u64
     LittleEndian::read_u64(&tail[8 * index..])
 }
 
-/// `len` bytes from byte `from` after `start` on.
+/// Returns the `len` bytes of `frame` from byte `from` after `start` on.
 fn part(frame: &[u8], start: usize, from: usize, len: usize) -> &[u8]
     requires { start + (from + len) ≤ length frame.now }
     ensures { result.now ≡ take len (drop from (drop start frame.now)) }
@@ -58,14 +58,14 @@ fn part(frame: &[u8], start: usize, from: usize, len: usize) -> &[u8]
 }
 
 impl<A: Allocator> Words<A> {
-    /// How many there are.
+    /// Returns the number of words.
     fn len(&self) -> usize
         ensures { result ≡ length self.now }
     {
         count_of(&self.frame, self.start)
     }
 
-    /// The word at an index.
+    /// Returns word `index`.
     fn word(&self, index: usize) -> u64
         requires { index < length self.now }
         ensures { result ≡ slice_index self.now index }
@@ -73,7 +73,7 @@ impl<A: Allocator> Words<A> {
         word_of(&self.frame, self.start, index)
     }
 
-    /// `len` bytes from the start of word `index` on.
+    /// Returns the `len` bytes from the start of word `index` on.
     fn bytes(&self, index: usize, len: usize) -> &[u8]
         requires { 8 * index + len ≤ 8 * length self.now }
         ensures { result.now ≡ take len (drop (8 * index) (bytes self.now)) }
@@ -85,7 +85,7 @@ impl<A: Allocator> Words<A> {
 /// A message that owns its segments.
 ///
 /// It is made by [`Framer`](crate::Framer) and [`read_message`](crate::read_message): the frame as it came, in one
-/// buffer, and where its segments end, so that every segment is found in constant time.
+/// buffer, and the ends of its segments, so that every segment is found in constant time.
 #[derive(Debug, Drop)]
 pub struct Stored<A: Allocator = Global> {
     words: Words<A>,
@@ -104,7 +104,7 @@ impl<A: Allocator> Model for Stored<A> {
 }
 
 impl<A: Allocator> Stored<A> {
-    /// The words of a frame after its head, cut at the ends.
+    /// Cuts the words of `frame` from byte `start` on at `ends`.
     pub(crate) fn new(frame: Vec<u8, A>, start: usize, ends: Vec<u32, A>) -> Stored<A>
         requires tail { IsTail frame.items start }
         requires ends { AreEnds ends.items (words_in (length (drop start frame.items) / 8) (drop start frame.items)) }

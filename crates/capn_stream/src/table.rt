@@ -13,20 +13,21 @@ use byteorder::{ByteOrder, LittleEndian};
 use capn_words::MOST_SEGMENTS;
 use std::alloc::{AllocError, Allocator};
 
-/// The words of the longest table of segments and its padding.
+/// The number of words of the longest table of segments and its padding.
 pub const MOST_TABLE_WORDS: u32 = MOST_SEGMENTS / 2 + 1;
 
-/// The number of 4 bytes that begins at byte 4 times the index.
+/// Returns the number of 4 bytes that begins at byte `4 * index`. (Page: serialization over a stream.)
 #[tactic(auto, unfolding(crate::specs::FrameRefusal::entry_number))]
-pub(crate) fn entry_at(bytes: &[u8], index: usize) -> u32
+#[inline(always)]
+pub fn entry_at(bytes: &[u8], index: usize) -> u32
     requires { 4 * index + 4 ≤ length bytes.now }
     ensures { result ≡ entry_number (drop (4 * index) bytes.now) }
 {
     LittleEndian::read_u32(&bytes[4 * index..])
 }
 
-/// The sum of the sizes.
-pub(crate) fn total_of(sizes: &[u8], count: usize) -> u64
+/// Returns the sum of the first `count` sizes, in words.
+pub fn total_of(sizes: &[u8], count: usize) -> u64
     requires few { count ≤ most_segments }
     requires inside { 4 * count ≤ length sizes.now }
     ensures { result ≡ sum (entries count sizes.now) }
@@ -38,7 +39,8 @@ pub(crate) fn total_of(sizes: &[u8], count: usize) -> u64
     total
 }
 
-/// Where the segments of the sizes end, counted in words. Its one growth is for exactly the sizes, which are there.
+/// Returns the ends of the first `count` segments of `sizes`, in words. Its one growth is for exactly the sizes, which
+/// are there.
 pub(crate) fn ends_of<A: Allocator>(
     alloc: A,
     sizes: &[u8],
@@ -60,25 +62,29 @@ pub(crate) fn ends_of<A: Allocator>(
     Ok(ends)
 }
 
-/// How many bytes the table of `count` segments and its padding take.
-pub(crate) fn head_of(count: usize) -> usize
+/// Returns the number of bytes that the table of `count` segments and its padding take.
+#[inline(always)]
+pub fn head_of(count: usize) -> usize
     requires { count ≤ most_segments }
     ensures { result ≡ head_length count }
 {
     8 * (count / 2 + 1)
 }
 
-/// What a table announces: how many segments, and how many words in all.
+/// The numbers that a table announces: of segments, and of words in all.
 #[derive(Clone, Copy)]
-pub(crate) struct Head {
+pub struct Head {
     /// The number of segments.
     pub segments: usize,
-    /// The words of all segments together.
+    /// The number of words of all segments together.
     pub words: usize,
 }
 
-/// What the table announces, where its frame is there whole and has at most `max_words` words.
-pub(crate) fn read_head(bytes: &[u8], max_words: u32) -> Result<Head, FrameFault>
+/// Reads the table at the front of `bytes`, if its frame is whole and has at most `max_words` words.
+///
+/// It refuses what [`first`](crate::first) refuses, by the same tests in the same order, but never for memory: it takes
+/// none. (Page: serialization over a stream; the order of the tests is our own.)
+pub fn read_head(bytes: &[u8], max_words: u32) -> Result<Head, FrameFault>
     requires { max_words ≤ most_message_words }
     ensures whole { IfOk result (λ head. IsWhole bytes.now max_words) }
     ensures segments { IfOk result (λ head. head.segments ≡ announced_segments bytes.now) }

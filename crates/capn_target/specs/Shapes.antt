@@ -1,4 +1,4 @@
--- What an object's form says of its size, and that an object lies inside its message.
+-- The size of an object by its form, and that an object lies inside its message.
 use Rattle.std.specs.Prelude.{ℕ, ◌+◌, ◌*◌, ◌<◌, ◌≤◌, List, length, ⊤}
 use Rattle.capn_words.specs.Message.{segment_at}
 use Rattle.capn_words.specs.declared.space.Place.{Place}
@@ -12,7 +12,7 @@ use Rattle.capn_target.specs.declared.target.Shape.{Shape}
 use Rattle.capn_target.specs.declared.target.Shape.TheVariants as shapes
 use Rattle.capn_target.specs.Target.{content_words}
 
--- how many slots an object has
+-- the number of slots of an object
 abbrev pub slot_count : Shape → ℕ
 slot_count (shapes.Node a b) = b
 slot_count (shapes.Many Link n) = n

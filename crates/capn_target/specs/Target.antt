@@ -1,4 +1,4 @@
--- What the pointer at a place of a message names, or the first fault.
+-- The target of the pointer at a place of a message, or the first fault.
 use Rattle.std.specs.Prelude.{ℕ, ◌+◌, ◌-◌, ◌*◌, ◌/◌, nat_lt, ◌==◌, ℤ, pos, negsuc, Bool, true, false, List, length}
 use Rattle.std.specs.Prelude.{slice_index, Result, Ok, Err, if◌then◌else◌}
 use Rattle.capn_words.specs.Message.{segment_at}
@@ -15,7 +15,7 @@ use Rattle.capn_target.specs.declared.target.Fault.{Fault}
 use Rattle.capn_target.specs.declared.target.Fault.TheVariants as faults
 use Rattle.capn_words.specs.Pointers.{field, pointer_of}
 
--- how a pointer to a list of numbers says their width
+-- the width of a list of numbers in its pointer
 abbrev pub list_width : NumberWidth → Width
 list_width bit = W1
 list_width byte = W8
@@ -38,7 +38,7 @@ content_words W64 n = n
 content_words Link n = n
 content_words Rows n = 1 + n
 
--- where an offset leads from the word after a pointer, if not before word 0
+-- the word to which an offset leads from the word after a pointer, if not before word 0
 abbrev pub moved : ℕ → ℤ → Result ℕ Fault
 moved w (pos n) = Ok (w + 1 + n)
 moved w (negsuc n) = if nat_lt w n then Err faults.Range else Ok (w - n)
@@ -89,14 +89,14 @@ module _ (message : List (List ℕ)) where
   second_pad s start (Many o width n) = list s start 2 width n
   second_pad s start _ = Err faults.BadPad
 
-  -- whether this may be such a word: null, or a pointer to a struct or a list
+  -- true if this may be such a word: null, or a pointer to a struct or a list
   abbrev pub is_second_pad : Pointer → Bool
   is_second_pad Nil = true
   is_second_pad (Node o a b) = true
   is_second_pad (Many o width n) = true
   is_second_pad _ = false
 
-  -- what a pad of two words names: its first is a far pointer to the content, its second describes that
+  -- the target of a pad of two words: its first is a far pointer to the content, its second describes that
   abbrev pub two_pads : Pointer → Pointer → Result Target Fault
   two_pads (Far false w s) tag =
       if is_second_pad tag
@@ -115,7 +115,7 @@ module _ (message : List (List ℕ)) where
       then if nat_lt (length (segment_at message s)) (w + n) then Err faults.PadRange else found
       else Err faults.NoSegment
 
-  -- what a pointer at word w of segment s names
+  -- the target of a pointer at word w of segment s
   abbrev pub named : ℕ → ℕ → Pointer → Result Target Fault
   named s w Nil = Ok targets.Nil
   named s w (Cap k) = Ok (targets.Cap k)
@@ -124,7 +124,7 @@ module _ (message : List (List ℕ)) where
   named s w (Far true v t) = landing t v 2 (two_pads (pointer_in t v) (pointer_in t (v + 1)))
   named s w near_pointer = near s w 0 near_pointer
 
-  -- what the pointer at a place names
+  -- the target of the pointer at a place
   unfoldable pub target : Place → Result Target Fault
   target at = named at.segment at.word (pointer_in at.segment at.word)
 

@@ -1,5 +1,5 @@
--- How a pointer leads to content: near, by a landing pad of one word, or by one of two. (Page: structs, lists,
--- inter-segment pointers.) These say what `target` computes, apart from the order of its tests.
+-- The ways in which a pointer leads to content: near, by a landing pad of one word, or by one of two. (Page: structs,
+-- lists, inter-segment pointers.) These say what `target` computes, apart from the order of its tests.
 use Rattle.std.specs.Prelude.{◌≡◌, ◌⊎◌, ℕ, ◌+◌, ◌*◌, ◌<◌, ◌≤◌, true, false, List, length, slice_index, Ok}
 use Rattle.capn_words.specs.Message.{segment_at}
 use Rattle.capn_words.specs.Pointers.{field}
@@ -28,7 +28,8 @@ module _ (message : List (List ℕ)) where
   abbrev pub Lies : ℕ → ℕ → ℕ → Type 0
   Lies s start n = start + n ≤ length (segment_at message s)
 
-  -- what the pointer describes, except its offset, starts there: content of this shape, inside the segment
+  -- the content that the pointer describes, except for its offset, starts there: content of this shape, inside the
+  -- segment
   abbrev pub Describes : Pointer → ℕ → ℕ → Shape → Type 0
   Describes Nil s start shape = (shape ≡ shapes.Node 0 0) × Lies s start 0
   Describes (Node offset words slots) s start shape = (shape ≡ shapes.Node words slots) × Lies s start (words + slots)

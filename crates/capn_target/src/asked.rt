@@ -13,18 +13,18 @@ use capn_words::Space;
 use std::marker::Brand;
 use std::sync::ledger::{Blank, Ledger};
 
-/// What is done on a message by calls that count.
+/// A task on a message, done by calls that count.
 pub trait CountedTask {
-    /// What is answered.
+    /// The answer.
     type Told;
 
-    /// Of a message this is answered.
+    /// The answer that the task gives of a message.
     ghost tells: { Self → List (List ℕ) → Self.Told → Type 0 };
 
-    /// How often it asks the message and turns its loops at most, whatever the message.
+    /// The most times that it asks the message and turns its loops, whatever the message.
     ghost most: { Self → ℕ };
 
-    /// Does it.
+    /// Does the task on the message `space`, whose reads count in `reads`.
     fn run<S: Space, L: Ledger>(
         self,
         space: &CountedSpace<'_, S, L>,
@@ -34,18 +34,18 @@ pub trait CountedTask {
         ensures work { reads.new ≤ reads.old + most self };
 }
 
-/// What is done on a message and a buffer by calls that count.
+/// A task on a message and a buffer, done by calls that count.
 pub trait CountedWriter {
-    /// What is answered.
+    /// The answer.
     type Told;
 
-    /// Of a message this is answered, and the buffer has changed like this.
+    /// The answer that the task gives of a message, and the change of the buffer.
     ghost tells: { Self → List (List ℕ) → List ℕ → List ℕ → Self.Told → Type 0 };
 
-    /// How often it asks the message and turns its loops at most, whatever the message.
+    /// The most times that it asks the message and turns its loops, whatever the message.
     ghost most: { Self → ℕ };
 
-    /// Does it.
+    /// Does the task on the message `space` and the buffer `out`; reads count in `reads`.
     fn run<S: Space, L: Ledger>(
         self,
         space: &CountedSpace<'_, S, L>,
@@ -61,17 +61,17 @@ pub trait Asked {
     /// The segments, each the list of its words.
     ghost message: { Self → List (List ℕ) };
 
-    /// It may be asked so often.
+    /// The message may be asked so often.
     ghost allows: { Self → ℕ → Type 0 };
 
-    /// Does a task with a new count, which is opened by one look at the number of segments.
+    /// Does `task` with a new count, which is opened by one read of the number of segments: that is the one more.
     fn ask<T: CountedTask>(self, task: T) -> T::Told
-        requires { allows self (T.most task) }
+        requires { allows self (T.most task + 1) }
         ensures { T.tells task (message self) result };
 
-    /// The same, with a buffer.
+    /// Does `task` on the buffer `out` with a new count, which is opened by one read of the number of segments.
     fn ask_into<T: CountedWriter>(self, task: T, out: &mut [u8]) -> T::Told
-        requires { allows self (T.most task) }
+        requires { allows self (T.most task + 1) }
         ensures { T.tells task (message self) out.old out.new result };
 }
 
@@ -93,7 +93,7 @@ impl<'s, S: Space> Asked for &'s S {
     }
 }
 
-/// Does a task with a new count.
+/// Does `task` on the message `space` with a new count.
 #[inline(always)]
 fn run_counted<S: Space, T: CountedTask>(space: &S, task: T) -> T::Told
     ensures { T.tells task (S.message space.now) result }
@@ -101,7 +101,7 @@ fn run_counted<S: Space, T: CountedTask>(space: &S, task: T) -> T::Told
     run_with_ledger::<S, T, Brand>(space, task, Blank::new(1))
 }
 
-/// The same, with a new ledger.
+/// Does `task` on the message `space` with a count in the new ledger `blank`.
 #[inline(always)]
 fn run_with_ledger<S: Space, T: CountedTask, L: Ledger>(space: &S, task: T, blank: Blank) -> T::Told
     requires name { blank.name ≡ L.name }
@@ -113,7 +113,7 @@ fn run_with_ledger<S: Space, T: CountedTask, L: Ledger>(space: &S, task: T, blan
     task.run(&space, &mut reads)
 }
 
-/// Does a task on a buffer with a new count.
+/// Does `task` on the message `space` and the buffer `out` with a new count.
 #[inline(always)]
 fn write_counted<S: Space, T: CountedWriter>(space: &S, task: T, out: &mut [u8]) -> T::Told
     ensures { T.tells task (S.message space.now) out.old out.new result }
@@ -121,7 +121,7 @@ fn write_counted<S: Space, T: CountedWriter>(space: &S, task: T, out: &mut [u8])
     write_with_ledger::<S, T, Brand>(space, task, out, Blank::new(1))
 }
 
-/// The same, with a new ledger.
+/// Does `task` on the message `space` and the buffer `out` with a count in the new ledger `blank`.
 #[inline(always)]
 fn write_with_ledger<S: Space, T: CountedWriter, L: Ledger>(
     space: &S,

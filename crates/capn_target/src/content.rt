@@ -9,7 +9,7 @@ use crate::target::{Fault, Shape, Target};
 use capn_words::{Place, Space, Width};
 use std::sync::ledger::Ledger;
 
-/// The words of a segment, none where there is no such segment.
+/// Returns the number of words of `segment`; 0, if there is no such segment.
 #[tactic(auto, using(crate::proofs::shared::Segments::length_of_none, crate::proofs::shared::Segments::length_of_some))]
 #[inline(always)]
 pub fn segment_length<S: Space, L: Ledger>(
@@ -23,7 +23,7 @@ pub fn segment_length<S: Space, L: Ledger>(
     space.words(segment, reads).unwrap_or(0)
 }
 
-/// The words of a segment, where those of another, or the same, are known.
+/// Returns the number of words of `segment`, if that of the segment `known`, which may be the same, is `size`.
 #[inline(always)]
 pub fn size_of<S: Space, L: Ledger>(
     space: &CountedSpace<'_, S, L>,
@@ -43,7 +43,7 @@ pub fn size_of<S: Space, L: Ledger>(
     }
 }
 
-/// A word of a segment.
+/// Returns the place of `word` of `segment`.
 #[inline(always)]
 pub fn place(segment: u32, word: u32) -> Place
     ensures { result ≡ record { segment = segment; word = word } }
@@ -51,7 +51,7 @@ pub fn place(segment: u32, word: u32) -> Place
     Place { segment, word }
 }
 
-/// Where an offset leads from the word after a pointer.
+/// Returns the word to which `offset` leads from the pointer at `word`; `Range` if it is before word 0.
 #[inline(always)]
 pub fn start_of(word: u32, offset: i32) -> Result<u64, Fault>
     ensures { result ≡ spec.moved word offset }
@@ -64,7 +64,7 @@ pub fn start_of(word: u32, offset: i32) -> Result<u64, Fault>
     }
 }
 
-/// The bits of an element of a list, or of a word of the rows of a composite one.
+/// Returns the bits of an element of a list of this `width`, or of a word of the rows of a composite one.
 #[inline(always)]
 fn bits_of(width: Width) -> u64
     ensures value { result ≡ spec.bits_of width }
@@ -80,7 +80,7 @@ fn bits_of(width: Width) -> u64
     }
 }
 
-/// The words that the content of a list takes, with the tag of a composite one.
+/// Returns the number of words that the content of a list of `count` elements takes, with the tag of a composite one.
 #[inline(always)]
 pub fn content_words(width: Width, count: u32) -> u64
     ensures { result ≡ spec.content_words width count }
@@ -92,7 +92,8 @@ pub fn content_words(width: Width, count: u32) -> u64
     words
 }
 
-/// A struct whose content starts at a word.
+/// Returns the struct of `words` and `slots` whose content begins at word `start` of `segment`, which has `size` words,
+/// behind `pads` words of a landing pad; `Range` if it ends past the segment.
 #[inline(always)]
 pub fn node_at<S: Space, L: Ledger>(
     space: &CountedSpace<'_, S, L>,
@@ -119,7 +120,8 @@ pub fn node_at<S: Space, L: Ledger>(
     })
 }
 
-/// A list whose content starts at a word.
+/// Returns the list of `count` elements whose content begins at word `start` of `segment`, which has `size` words,
+/// behind `pads` words of a landing pad; `Range` if it ends past the segment, or the fault of its tag.
 #[inline(always)]
 pub fn many_at<S: Space, L: Ledger>(
     space: &CountedSpace<'_, S, L>,
@@ -151,7 +153,8 @@ pub fn many_at<S: Space, L: Ledger>(
     })
 }
 
-/// A composite list of `span` words after its tag, which is at a word.
+/// Returns the composite list of `span` words after its tag, which is at word `start` of `segment`, or the fault of the
+/// tag.
 #[tactic(auto, using(std::proofs::lemmas::Grind::common_steps))]
 #[inline(always)]
 fn rows_at<S: Space, L: Ledger>(

@@ -8,8 +8,8 @@ use capn_value::Items;
 use std::alloc::{AllocError, Allocator};
 use std::marker::Model;
 
-/// Bytes of a message, which were counted when they were given. Each is had once: what is read is gone, or all that
-/// are left are copied. So what was counted bounds what is read, and no call gives the slice.
+/// Bytes of a message, which were counted when they were given. Each is had once: what is read is gone, or all that are
+/// left are copied. So the count bounds what is read, and no call gives the slice.
 #[derive(Drop)]
 pub struct PaidBytes<'s> {
     bytes: &'s [u8],
@@ -24,7 +24,7 @@ impl<'s> Model for PaidBytes<'s> {
 }
 
 impl<'s> PaidBytes<'s> {
-    /// These bytes, once.
+    /// Wraps `bytes`, each to be had once.
     #[inline(always)]
     pub(crate) fn of(bytes: &'s [u8]) -> PaidBytes<'s>
         ensures { result ≡ bytes.now }
@@ -32,7 +32,7 @@ impl<'s> PaidBytes<'s> {
         PaidBytes { bytes }
     }
 
-    /// How many are left.
+    /// Returns the number of bytes that are left.
     #[inline(always)]
     pub fn len(&self) -> usize
         ensures { result ≡ length self.now }
@@ -40,7 +40,7 @@ impl<'s> PaidBytes<'s> {
         self.bytes.len()
     }
 
-    /// The next byte.
+    /// Reads the next byte.
     #[inline(always)]
     pub fn next_byte(&mut self) -> u8
         requires { 1 ≤ length self.old }
@@ -52,7 +52,7 @@ impl<'s> PaidBytes<'s> {
         byte
     }
 
-    /// The number of the next two bytes.
+    /// Reads the next two bytes as a number.
     #[inline(always)]
     pub fn next_pair(&mut self) -> u16
         requires { 2 ≤ length self.old }
@@ -64,7 +64,7 @@ impl<'s> PaidBytes<'s> {
         pair
     }
 
-    /// The number of the next four bytes.
+    /// Reads the next four bytes as a number.
     #[inline(always)]
     pub fn next_quad(&mut self) -> u32
         requires { 4 ≤ length self.old }
@@ -76,7 +76,7 @@ impl<'s> PaidBytes<'s> {
         quad
     }
 
-    /// The number of the next eight bytes.
+    /// Reads the next eight bytes as a number.
     #[inline(always)]
     pub fn next_word(&mut self) -> u64
         requires { 8 ≤ length self.old }
@@ -88,7 +88,7 @@ impl<'s> PaidBytes<'s> {
         word
     }
 
-    /// Copies all that are left over just as many.
+    /// Copies all that are left over `out`, which has just as many.
     #[inline(always)]
     pub fn copy_to(self, out: &mut [u8])
         requires { length self ≡ length out.old }
@@ -97,7 +97,7 @@ impl<'s> PaidBytes<'s> {
         out.copy_from_slice(self.bytes);
     }
 
-    /// A copy of all that are left, in memory of just their size.
+    /// Copies all that are left to memory of `alloc`, of just their size.
     #[inline(always)]
     pub fn into_items<A: Allocator>(self, alloc: A) -> Result<Items<u8, A>, AllocError>
         ensures { IfOk result (λ bytes. bytes ≡ self.entry) }

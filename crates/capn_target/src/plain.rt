@@ -1,19 +1,19 @@
 //! The steps to a slot's target, without a count.
 //! They are those of [`counted`](crate::counted), with a ledger of their own.
 
-ghost use Rattle.std.specs.Prelude.{◌≡◌, ◌<◌, ◌≤◌, ◌^◌, length, IfOk};
+ghost use Rattle.std.specs.Prelude.{◌≡◌, ◌<◌, length, IfOk};
 ghost use Rattle.capn_words.specs.Message.{segment_at, IsPlace};
 ghost use Rattle.capn_target.specs.Target as spec;
 ghost use Rattle.capn_target.specs.Shapes.{IsInMessage};
 
 use crate::reader::count_reads;
+use crate::slot_target;
 use crate::target::{Fault, Target};
-use crate::{content, slot_target};
-use capn_words::{Place, Pointer, Space, Width, split};
+use capn_words::{Place, Pointer, Space, split};
 use std::marker::Brand;
 use std::sync::ledger::{Blank, Ledger};
 
-/// The words of a segment, none where there is no such segment.
+/// Returns the number of words of `segment`; 0, if there is no such segment.
 #[tactic(auto, using(crate::proofs::shared::Segments::length_of_none, crate::proofs::shared::Segments::length_of_some))]
 #[inline(always)]
 pub fn segment_length<S: Space>(space: &S, segment: u32) -> u32
@@ -22,90 +22,22 @@ pub fn segment_length<S: Space>(space: &S, segment: u32) -> u32
     space.words(segment).unwrap_or(0)
 }
 
-/// The words of a segment, where those of another, or the same, are known.
-#[inline(always)]
-pub fn size_of<S: Space>(space: &S, segment: u32, known: u32, size: u32) -> u32
-    requires { size ≡ length (segment_at (S.message space.now) known) }
-    ensures { result ≡ length (segment_at (S.message space.now) segment) }
-{
-    if segment == known {
-        size
-    } else {
-        segment_length(space, segment)
-    }
-}
-
-/// A struct whose content starts at a word.
-#[inline(always)]
-pub fn node_at<S: Space>(
-    space: &S,
-    segment: u32,
-    size: u32,
-    start: u64,
-    pads: u8,
-    words: u16,
-    slots: u16,
-) -> Result<Target, Fault>
-    requires size { size ≡ length (segment_at (S.message space.now) segment) }
-    requires start { start < 2 ^ 34 }
-    ensures { result ≡ spec.struct (S.message space.now) segment start pads words slots }
-{
-    node_at_with_ledger::<S, Brand>(
-        space,
-        segment,
-        size,
-        start,
-        pads,
-        words,
-        slots,
-        Blank::new(1),
-    )
-}
-
-/// A list whose content starts at a word.
-#[inline(always)]
-pub fn many_at<S: Space>(
-    space: &S,
-    segment: u32,
-    size: u32,
-    start: u64,
-    pads: u8,
-    width: Width,
-    count: u32,
-) -> Result<Target, Fault>
-    requires size { size ≡ length (segment_at (S.message space.now) segment) }
-    requires start { start < 2 ^ 34 }
-    ensures { result ≡ spec.list (S.message space.now) segment start pads width count }
-{
-    many_at_with_ledger::<S, Brand>(
-        space,
-        segment,
-        size,
-        start,
-        pads,
-        width,
-        count,
-        Blank::new(1),
-    )
-}
-
-/// What the pointer at a place names, or the first fault of that slot.
+/// Finds the target of the pointer at `at`, or the first fault of that slot.
 ///
-/// The place has to be in range. A refusal is one of `Reserved` to `TagOverrun`, as a slot is tested: the
-/// word itself, then its landing pad, then the content's range, then the tag of a composite list. It reads
-/// at most four words and takes no memory. (Page: structs, lists, inter-segment pointers, capabilities;
-/// the order of the tests is our own.)
+/// The place has to be in range. A refusal is one of `Reserved` to `TagOverrun`, as a slot is tested: the word itself,
+/// then its landing pad, then the content's range, then the tag of a composite list. It reads at most four words and
+/// takes no memory. (Page: structs, lists, inter-segment pointers, capabilities; the order of the tests is our own.)
 #[inline(always)]
 pub fn resolve<S: Space>(space: &S, at: Place) -> Result<Target, Fault>
     requires { IsPlace (S.message space.now) at }
     ensures exact { result ≡ spec.target (S.message space.now) at }
-    // Content lies inside its segment, which exists, and rows within what their list's pointer says.
+    // Content lies inside its segment, which exists, and rows within the words that their list's pointer gives.
     ensures inside { IfOk result (λ t. IsInMessage (S.message space.now) t) }
 {
     resolve_with_ledger::<S, Brand>(space, at, Blank::new(1))
 }
 
-/// The pointer at a word.
+/// Reads the pointer at `word` of `segment`.
 #[inline(always)]
 pub fn pointer_at<S: Space>(space: &S, segment: u32, word: u32) -> Pointer
     requires { word < length (segment_at (S.message space.now) segment) }
@@ -114,69 +46,7 @@ pub fn pointer_at<S: Space>(space: &S, segment: u32, word: u32) -> Pointer
     split(space.word(Place { segment, word }))
 }
 
-/// The content of the struct or list pointer at a word, which is the slot itself or a pad of one word.
-#[inline(always)]
-pub fn near<S: Space>(
-    space: &S,
-    segment: u32,
-    size: u32,
-    word: u32,
-    pads: u8,
-    pointer: Pointer,
-) -> Result<Target, Fault>
-    requires { size ≡ length (segment_at (S.message space.now) segment) }
-    ensures { result ≡ spec.near (S.message space.now) segment word pads pointer }
-{
-    near_with_ledger::<S, Brand>(space, segment, size, word, pads, pointer, Blank::new(1))
-}
-
-/// The same, with a new ledger.
-#[inline(always)]
-fn node_at_with_ledger<S: Space, L: Ledger>(
-    space: &S,
-    segment: u32,
-    size: u32,
-    start: u64,
-    pads: u8,
-    words: u16,
-    slots: u16,
-    blank: Blank,
-) -> Result<Target, Fault>
-    requires name { blank.name ≡ L.name }
-    requires parts { blank.parts ≡ L.parts }
-    requires one { 0 < blank.parts }
-    requires size { size ≡ length (segment_at (S.message space.now) segment) }
-    requires start { start < 2 ^ 34 }
-    ensures { result ≡ spec.struct (S.message space.now) segment start pads words slots }
-{
-    let (space, _reads) = count_reads::<S, L>(space, blank);
-    content::node_at(&space, segment, size, start, pads, words, slots)
-}
-
-/// The same, with a new ledger.
-#[inline(always)]
-fn many_at_with_ledger<S: Space, L: Ledger>(
-    space: &S,
-    segment: u32,
-    size: u32,
-    start: u64,
-    pads: u8,
-    width: Width,
-    count: u32,
-    blank: Blank,
-) -> Result<Target, Fault>
-    requires name { blank.name ≡ L.name }
-    requires parts { blank.parts ≡ L.parts }
-    requires one { 0 < blank.parts }
-    requires size { size ≡ length (segment_at (S.message space.now) segment) }
-    requires start { start < 2 ^ 34 }
-    ensures { result ≡ spec.list (S.message space.now) segment start pads width count }
-{
-    let (space, mut reads) = count_reads::<S, L>(space, blank);
-    content::many_at(&space, segment, size, start, pads, width, count, &mut reads)
-}
-
-/// The same, with a new ledger.
+/// Finds the target of the pointer at `at`, or the first fault of that slot, with a count in the new ledger `blank`.
 #[inline(always)]
 fn resolve_with_ledger<S: Space, L: Ledger>(
     space: &S,
@@ -188,30 +58,9 @@ fn resolve_with_ledger<S: Space, L: Ledger>(
     requires one { 0 < blank.parts }
     requires place { IsPlace (S.message space.now) at }
     ensures exact { result ≡ spec.target (S.message space.now) at }
-    // Content lies inside its segment, which exists, and rows within what their list's pointer says.
+    // Content lies inside its segment, which exists, and rows within the words that their list's pointer gives.
     ensures inside { IfOk result (λ t. IsInMessage (S.message space.now) t) }
 {
     let (space, mut reads) = count_reads::<S, L>(space, blank);
     slot_target::resolve(&space, at, &mut reads)
-}
-
-/// The same, with a new ledger.
-#[inline(always)]
-fn near_with_ledger<S: Space, L: Ledger>(
-    space: &S,
-    segment: u32,
-    size: u32,
-    word: u32,
-    pads: u8,
-    pointer: Pointer,
-    blank: Blank,
-) -> Result<Target, Fault>
-    requires name { blank.name ≡ L.name }
-    requires parts { blank.parts ≡ L.parts }
-    requires one { 0 < blank.parts }
-    requires size { size ≡ length (segment_at (S.message space.now) segment) }
-    ensures { result ≡ spec.near (S.message space.now) segment word pads pointer }
-{
-    let (space, mut reads) = count_reads::<S, L>(space, blank);
-    slot_target::near(&space, segment, size, word, pads, pointer, &mut reads)
 }

@@ -15,8 +15,8 @@ use capn_words::{Bare, Place, Space};
 use std::marker::{Model, PhantomData};
 use std::sync::ledger::{Blank, Book, Ledger, Share};
 
-/// How often the message of its ledger was read, and how many turns of loops were counted with the reads. It takes no
-/// bytes, and no call lowers it.
+/// The number of times that the message of its ledger was read, and of turns of loops that were counted with the reads.
+/// It takes no bytes, and no call lowers it.
 #[derive(Drop)]
 pub struct Reads<L: Ledger> {
     book: Book<L>,
@@ -34,7 +34,8 @@ impl<L: Ledger> Model for Reads<L> {
 }
 
 impl<L: Ledger> Reads<L> {
-    /// One more: a read, or a turn of a loop. Whoever writes a loop has to call it once a turn: nothing makes him.
+    /// Counts one more: a read, or a turn of a loop. Whoever writes a loop has to call it once a turn: nothing makes
+    /// him.
     #[inline(always)]
     pub fn tick(&mut self)
         ensures { self.new ≡ self.old + 1 }
@@ -61,7 +62,8 @@ impl<'s, S: Space, L: Ledger> Model for CountedSpace<'s, S, L> {
     ghost invariant = { λ c. IsMessage (S.message c.space.now) };
 }
 
-/// The message of a space, to be read by calls that count, and the count of its reads, which is 0. The ledger is new.
+/// Opens the count of a message's reads: returns the message of `space`, to be read by calls that count, and a count of
+/// 1, since the number of segments is read once here. The ledger `blank` is new.
 #[inline(always)]
 pub fn count_reads<'s, S: Space, L: Ledger>(
     space: &'s S,
@@ -71,19 +73,21 @@ pub fn count_reads<'s, S: Space, L: Ledger>(
     requires parts { blank.parts ≡ L.parts }
     requires some { 0 < blank.parts }
     ensures message { result.0 ≡ S.message space.now }
-    ensures none { result.1 ≡ 0 }
+    ensures look { result.1 ≡ 1 }
 {
     let _bounds = space.segments();
     let (book, share) = blank.open::<L>();
+    let mut reads = Reads { book, share };
+    reads.tick();
     let message = CountedSpace {
         space,
         ledger: PhantomData,
     };
-    (message, Reads { book, share })
+    (message, reads)
 }
 
 impl<'s, S: Space, L: Ledger> CountedSpace<'s, S, L> {
-    /// The same message, for a function that takes it by value: a reference to it would be one to a reference.
+    /// Returns the message again, for a function that takes it by value: a reference to it would be one to a reference.
     #[inline(always)]
     pub fn again(&self) -> CountedSpace<'s, S, L>
         ensures { result ≡ self.now }
@@ -94,7 +98,7 @@ impl<'s, S: Space, L: Ledger> CountedSpace<'s, S, L> {
         }
     }
 
-    /// Reads nothing: it gives a proof the bounds of the message.
+    /// Gives a proof the bounds of the message. It reads nothing.
     #[inline(always)]
     pub fn bounds(&self)
         ensures { IsMessage self.now }
@@ -102,7 +106,7 @@ impl<'s, S: Space, L: Ledger> CountedSpace<'s, S, L> {
         let _space = self.space;
     }
 
-    /// How many segments there are. It counts as one read.
+    /// Returns the number of segments. It counts in `reads` as one read.
     #[inline(always)]
     pub fn segments(&self, reads: &mut Reads<L>) -> u32
         ensures count { result ≡ length self.now }
@@ -112,7 +116,8 @@ impl<'s, S: Space, L: Ledger> CountedSpace<'s, S, L> {
         self.space.segments()
     }
 
-    /// How many words a segment has, or `None` exactly where there is no such segment. It counts as one read.
+    /// Returns the number of words of `segment`, or `None` exactly if there is no such segment. It counts in `reads` as
+    /// one read.
     #[inline(always)]
     pub fn words(&self, segment: u32, reads: &mut Reads<L>) -> Option<u32>
         ensures words { result ≡ words_of self.now segment }
@@ -122,7 +127,7 @@ impl<'s, S: Space, L: Ledger> CountedSpace<'s, S, L> {
         self.space.words(segment)
     }
 
-    /// The word at a place, which has to be in range. It counts as one read.
+    /// Returns the word at `at`, which has to be in range. It counts in `reads` as one read.
     #[inline(always)]
     pub fn word(&self, at: Place, reads: &mut Reads<L>) -> u64
         requires { IsPlace self.now at }
@@ -133,8 +138,8 @@ impl<'s, S: Space, L: Ledger> CountedSpace<'s, S, L> {
         self.space.word(at)
     }
 
-    /// `len` bytes from the start of a word on, as [`Space::bytes`] says, each of which is had once. It counts as one
-    /// read for each word that they take.
+    /// Returns the `len` bytes from the start of the word at `at` on, as [`Space::bytes`] does, each of which is had
+    /// once. It counts in `reads` as one read for each word that they take.
     #[inline(always)]
     pub fn bytes(&self, at: Place, len: usize, reads: &mut Reads<L>) -> PaidBytes<'s>
         requires { IsRange self.now at len }
@@ -145,8 +150,8 @@ impl<'s, S: Space, L: Ledger> CountedSpace<'s, S, L> {
         PaidBytes::of(self.space.bytes(at, len))
     }
 
-    /// The only segment of a message as its words alone, which are faster to read; none if there are more. It counts as
-    /// at most three reads. What it gives is read by calls that count in the same ledger.
+    /// Returns the only segment of a message as its words alone, which are faster to read; `None` if there are more. It
+    /// counts in `reads` as at most three reads. The words are read by calls that count in the same ledger.
     #[inline(always)]
     pub fn only_segment(&self, reads: &mut Reads<L>) -> Option<OnlySegment<'s, L>>
         ensures one { IfSome result (λ words. self.now ≡ words ∷ []) }
@@ -185,7 +190,7 @@ impl<'s, L: Ledger> Model for OnlySegment<'s, L> {
 }
 
 impl<'s, L: Ledger> OnlySegment<'s, L> {
-    /// The message of this segment, whose reads count in the same ledger.
+    /// Returns the message of this segment, whose reads count in the same ledger.
     #[inline(always)]
     pub fn space(&self) -> CountedSpace<'_, Bare<'s>, L>
         ensures { result ≡ self.now ∷ [] }

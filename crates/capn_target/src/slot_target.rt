@@ -12,12 +12,12 @@ use crate::target::{Fault, Target};
 use capn_words::{Place, Pointer, Space, split};
 use std::sync::ledger::Ledger;
 
-/// What the pointer at a place names, or the first fault of that slot.
+/// Finds the target of the pointer at `at`, or the first fault of that slot.
 ///
-/// The place has to be in range. A refusal is one of `Reserved` to `TagOverrun`, as a slot is tested: the
-/// word itself, then its landing pad, then the content's range, then the tag of a composite list. It reads
-/// at most four words and takes no memory. (Page: structs, lists, inter-segment pointers, capabilities;
-/// the order of the tests is our own.)
+/// The place has to be in range. A refusal is one of `Reserved` to `TagOverrun`, as a slot is tested: the word itself,
+/// then its landing pad, then the content's range, then the tag of a composite list. It reads at most four words,
+/// counted in `reads`, and takes no memory. (Page: structs, lists, inter-segment pointers, capabilities; the order of
+/// the tests is our own.)
 #[tactic(auto, unfolding(crate::specs::Target::target))]
 #[inline(always)]
 pub fn resolve<S: Space, L: Ledger>(
@@ -27,7 +27,7 @@ pub fn resolve<S: Space, L: Ledger>(
 ) -> Result<Target, Fault>
     requires { IsPlace space.now at }
     ensures exact { result ≡ spec.target space.now at }
-    // Content lies inside its segment, which exists, and rows within what their list's pointer says.
+    // Content lies inside its segment, which exists, and rows within the words that their list's pointer gives.
     ensures inside { IfOk result (λ t. IsInMessage space.now t) }
     ensures reads { reads.new ≤ reads.old + 8 }
 {
@@ -35,7 +35,7 @@ pub fn resolve<S: Space, L: Ledger>(
     named(space, at.segment, at.word, pointer, reads)
 }
 
-/// What the pointer at a word of a segment names.
+/// Finds the target of the `pointer` at `word` of `segment`.
 #[inline(always)]
 fn named<S: Space, L: Ledger>(
     space: &CountedSpace<'_, S, L>,
@@ -69,7 +69,7 @@ fn named<S: Space, L: Ledger>(
     }
 }
 
-/// The pointer at a word.
+/// Reads the pointer at `word` of `segment`. It counts in `reads` as one read.
 #[inline(always)]
 pub fn pointer_at<S: Space, L: Ledger>(
     space: &CountedSpace<'_, S, L>,
@@ -84,7 +84,8 @@ pub fn pointer_at<S: Space, L: Ledger>(
     split(space.word(Place { segment, word }, reads))
 }
 
-/// The content of the struct or list pointer at a word, which is the slot itself or a pad of one word.
+/// Returns the content of the struct or list `pointer` at `word` of `segment`, which has `size` words. The word is the
+/// slot itself, or a pad of one word: `pads` is 0 or 1. Another pointer is `BadPad`.
 #[inline(always)]
 pub fn near<S: Space, L: Ledger>(
     space: &CountedSpace<'_, S, L>,
@@ -120,7 +121,7 @@ pub fn near<S: Space, L: Ledger>(
     }
 }
 
-/// What a far pointer names by a landing pad of one word.
+/// Finds the target of a far pointer by the landing pad of one word at `word` of `segment`.
 #[inline(never)]
 fn behind_one<S: Space, L: Ledger>(
     space: &CountedSpace<'_, S, L>,
@@ -139,7 +140,7 @@ fn behind_one<S: Space, L: Ledger>(
     near(space, segment, size, word, 1, pointer, reads)
 }
 
-/// What a far pointer names by a landing pad of two words.
+/// Finds the target of a far pointer by the landing pad of two words at `word` of `segment`.
 #[inline(never)]
 fn behind_two<S: Space, L: Ledger>(
     space: &CountedSpace<'_, S, L>,
@@ -159,7 +160,8 @@ fn behind_two<S: Space, L: Ledger>(
     named_by_two(space, first, second, reads)
 }
 
-/// What the two words of a landing pad name: a far pointer to the content, and the content's form.
+/// Finds the target of the two words of a landing pad: `first` is a far pointer to the content, and `second` the
+/// content's form.
 fn named_by_two<S: Space, L: Ledger>(
     space: &CountedSpace<'_, S, L>,
     first: Pointer,
@@ -205,7 +207,7 @@ fn named_by_two<S: Space, L: Ledger>(
     }
 }
 
-/// Refuses a landing pad of `pads` words that isn't inside its segment.
+/// Refuses a landing pad of `pads` words at `word` of `segment` that isn't inside its segment.
 fn landing<S: Space, L: Ledger>(
     space: &CountedSpace<'_, S, L>,
     segment: u32,
@@ -225,7 +227,7 @@ fn landing<S: Space, L: Ledger>(
     Ok(())
 }
 
-/// Refuses a segment that doesn't exist.
+/// Refuses a `segment` that doesn't exist.
 fn exists<S: Space, L: Ledger>(
     space: &CountedSpace<'_, S, L>,
     segment: u32,

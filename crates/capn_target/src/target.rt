@@ -34,7 +34,7 @@ pub enum Shape {
     },
 }
 
-/// What the pointer at a place names.
+/// The target of a pointer.
 #[derive(Clone, Copy, Debug, PartialEq, Eq)]
 pub enum Target {
     /// Null.
@@ -54,7 +54,7 @@ pub enum Target {
     },
 }
 
-/// Why a slot is refused. At one slot the tests are made in this order, and the first that fails is the
+/// The reason why a slot is refused. At one slot the tests are made in this order, and the first that fails is the
 /// answer; but at a landing pad of two words the segment of the content is looked up last. (Own.)
 #[derive(Clone, Copy, Debug, PartialEq, Eq)]
 pub enum Fault {
@@ -75,7 +75,7 @@ pub enum Fault {
     Range,
     /// The tag of a composite list isn't spelt as a struct pointer.
     BadTag,
-    /// The structs of a composite list take more words than its pointer says.
+    /// The structs of a composite list take more words than its pointer gives.
     TagOverrun,
     /// The object is deeper than the limit.
     TooDeep,

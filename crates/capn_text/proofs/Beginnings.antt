@@ -1,4 +1,4 @@
--- A line of which a beginning can't be one between quotes stays as it is.
+-- A line of which a beginning can't be one between quotes stays as it is. (For `Unquotings`.)
 use Rattle.std.proofs.Common.{◌≡◌, ℕ, zero, suc, ◌+◌, ◌==◌, ◌||◌, ◌⊎◌, inl, inr, Bool, true, false, cond}
 use Rattle.std.proofs.Common.{List, [], ◌∷◌, ◌++◌, codes, take, drop, Option, Some, None, refl, sym, ap, ap₂, ◌∙◌}
 use Rattle.std.proofs.Common.{append_assoc, arith}

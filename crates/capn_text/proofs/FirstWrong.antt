@@ -1,4 +1,4 @@
--- The first line that doesn't go on with a text, and texts that go too deep.
+-- The first line that doesn't go on with a text, and texts that go too deep. (For `first_value`.)
 use Rattle.std.proofs.Common.{◌≡◌, ◌≤◌, ◌+◌, ◌-◌, ℕ, List, [], ◌∷◌, ◌++◌, length, take, Some, None}
 use Rattle.std.proofs.Common.{refl, sym, ap, subst, ◌∙◌, append_assoc, arith}
 use Rattle.std.proofs.Math.Nat.{lt_of_not-le}

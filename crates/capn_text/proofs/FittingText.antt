@@ -1,4 +1,4 @@
--- What is read of the text of a value.
+-- The value that is read of a text, if it fits. (For `first_value`, `read` and `read_next`.)
 use Rattle.std.proofs.Common.{◌≡◌, ◌≤◌, ◌+◌, ◌-◌, ℕ, List, [], ◌++◌, length, take, Some, None, sym, ap, ◌∙◌, arith}
 use Rattle.std.proofs.Math.Seq.{take-append_seam}
 use Rattle.std.proofs.lemmas.List.{length-append, append-nil}

@@ -1,4 +1,4 @@
--- First lines: each name, and the numbers after it.
+-- First lines: each name, and the numbers after it. (For `FirstLine`, `LineBytes`, `LineStops` and others.)
 use Rattle.std.proofs.Common.{◌≡◌, ℕ, ◌^◌, ◌<◌, ◌≤◌, arith, List, [], ◌∷◌, ◌++◌, Option, Some, None, codes, refl, sym}
 use Rattle.std.proofs.Common.{ap, subst}
 use Rattle.std.proofs.Common.{◌∙◌, append_assoc}

@@ -1,4 +1,4 @@
--- What is read as a tree is as high as the reader goes at most.
+-- A tree that is read is as high as the reader goes at most. (For `first_value`.)
 use Rattle.std.proofs.Common.{◌≡◌, ℕ, zero, suc, ◌+◌, ◌≤◌, arith, List, [], ◌∷◌, Option, Some, subst, map}
 use Rattle.std.proofs.Math.Nat.{max-le}
 use Rattle.std.specs.List.{AllByRecursion}

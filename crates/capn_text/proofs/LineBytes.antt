@@ -1,4 +1,4 @@
--- Each line is one: no newline is within what a line says.
+-- Each line is one: no newline is within what a line says. (For `LineStops`, `OwnLines` and `PartStops`.)
 use Rattle.std.proofs.Common.{◌≡◌, ◌+◌, ◌/◌, ◌%◌, ◌^◌, ◌<◌, ◌==◌, ℕ, suc, Bool, true, false, cond}
 use Rattle.std.proofs.Common.{List, [], ◌∷◌}
 use Rattle.std.proofs.Common.{◌++◌, length, codes, refl, ap, ap₂, ◌∙◌, arith}

@@ -1,4 +1,4 @@
--- Where the reading of one line stops.
+-- The stop on one line. (For `leaves.rt`.)
 use Rattle.std.proofs.Common.{◌≡◌, ◌^◌, ◌<◌, ℕ, zero, suc, Bool, true, List, [], ◌∷◌, ◌++◌, length}
 use Rattle.std.proofs.Common.{Option, Some, None, refl, sym, ap, subst, arith}
 use Rattle.std.specs.Prelude.{⊤}

@@ -1,4 +1,4 @@
--- Reading one thing after the other, as a loop does.
+-- Reading one thing after the other, as a loop does. (For `contents.rt`, `leaves.rt` and `tokens.rt`.)
 use Rattle.std.proofs.Common.{◌≡◌, ℕ, suc, ◌-◌, ◌+◌, ◌≤◌, ◌<◌, List, [], ◌∷◌, ◌++◌, Option, Some, None, refl, sym, ap}
 use Rattle.std.proofs.Common.{◌∙◌}
 use Rattle.std.proofs.Common.{append_assoc, arith, codes}

@@ -1,4 +1,5 @@
--- Lines that are none whatever follows, and lines that can still become one.
+-- Lines that are none whatever follows, and lines that can still become one. (For `head_at`, `number_line_at` and
+-- `word_line_at`.)
 use Rattle.std.proofs.Common.{◌≡◌, ◌+◌, ◌*◌, ◌≤◌, ◌<◌, ◌^◌, ℕ, suc, Bool, true, false, cond}
 use Rattle.std.proofs.Common.{List, [], ◌∷◌, ◌++◌, length, replicate, Option, Some, None, codes}
 use Rattle.std.proofs.Common.{refl, sym, ap, ◌∙◌, arith}

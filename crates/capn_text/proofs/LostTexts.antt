@@ -1,4 +1,4 @@
--- Texts that are refused whatever follows, and texts that may go on.
+-- Texts that are refused whatever follows, and texts that may go on. (For `one_text.rt` and `texts.rt`.)
 use Rattle.std.proofs.Common.{◌≡◌, ◌≢◌, ◌≤◌, ◌+◌, ◌-◌, ℕ, List, [], ◌++◌, length, take, Option, Some, None, inl, inr}
 use Rattle.std.proofs.Common.{refl, sym, ap, subst, ◌∙◌, append_assoc, arith}
 use Rattle.std.proofs.Common.{Bool, true, false, cond}

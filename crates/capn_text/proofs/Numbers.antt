@@ -1,4 +1,4 @@
--- Lines of numbers, and one line of many digits.
+-- Lines of numbers, and one line of many digits. (For `HeadText`, `LineBytes`, `LineStops` and others.)
 use Rattle.std.proofs.Common.{◌≡◌, ℕ, zero, suc, ◌*◌, ◌^◌, ◌<◌, Bool, true, false, cond, List, [], ◌∷◌, ◌++◌}
 use Rattle.std.proofs.Common.{length, Option, Some, None, codes, replicate, refl, sym, ap, subst, ◌∙◌, append_assoc}
 use Rattle.std.proofs.Common.{arith, inl, inr}

@@ -1,4 +1,4 @@
--- Which line of a text a line of its plain form is.
+-- The line of a text to which a line of its plain form belongs. (For `count_to` and `plain_forms`.)
 use Rattle.std.proofs.Common.{◌≡◌, ℕ, zero, suc, ◌+◌, ◌-◌, ◌^◌, ◌<◌, ◌≤◌, ◌==◌, ◌||◌, ◌&&◌}
 use Rattle.std.proofs.Common.{Bool, true, false, cond, nat_le}
 use Rattle.std.proofs.Common.{List, [], ◌∷◌, ◌++◌, length, codes, Option, Some, None, refl, sym, ap, ap₂, ◌∙◌}

@@ -1,4 +1,4 @@
--- Where the parts of a value stop, as the code reads them.
+-- The stops in the parts of a value, as the code reads them. (For the cycle `value_at`, `first_value` and `leaf_at`.)
 use Rattle.std.proofs.Common.{◌≡◌, ◌+◌, ◌-◌, ◌^◌, ◌<◌, ◌≤◌, ℕ, zero, suc, List, [], ◌++◌, length, Option}
 use Rattle.std.proofs.Common.{Some, None, Bool, true, false, cond, append_assoc}
 use Rattle.std.specs.Prelude.{nat_lt}

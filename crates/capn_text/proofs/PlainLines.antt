@@ -1,4 +1,4 @@
--- The lines of bytes, written part by part; and a line, found byte by byte.
+-- The lines of bytes, written part by part; and a line, found byte by byte. (For `plain_form.rt`.)
 use Rattle.std.proofs.Common.{◌≡◌, ℕ, ◌+◌, ◌*◌, ◌<◌, ◌==◌, cond, Bool, List, [], ◌∷◌, ◌++◌, length, take}
 use Rattle.std.proofs.Common.{get_or, codes, replicate, sym, ap, refl, ◌∙◌, append_assoc, arith}
 use Rattle.std.specs.Prelude.{slice_index}

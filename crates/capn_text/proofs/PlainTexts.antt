@@ -1,4 +1,4 @@
--- The plain form of a text is one, and the only one.
+-- The plain form of a text is one, and the only one. (For `plain_forms` and `plain_text`.)
 use Rattle.std.proofs.Common.{◌≡◌, ℕ, suc, ◌+◌, ◌^◌, ◌<◌, ◌==◌, Bool, true, false, cond}
 use Rattle.std.proofs.Common.{List, [], ◌∷◌, ◌++◌, length, Option, Some, None, refl, sym, ap, ap₂, ◌∙◌}
 use Rattle.std.proofs.Common.{append_assoc, arith, inl, inr, subst}

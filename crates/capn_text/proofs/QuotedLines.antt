@@ -1,4 +1,5 @@
--- A line of bytes between quotes is read as it is written.
+-- A line of bytes between quotes is read as it is written. (For `Beginnings`, `OwnLines`, `PlainTexts` and
+-- `ShownPlain`.)
 use Rattle.std.proofs.Common.{◌≡◌, ℕ, zero, suc, ◌+◌, ◌*◌, ◌^◌, ◌%◌, ◌≤◌, ◌<◌, ◌==◌, ◌&&◌, ◌||◌, ◌⊎◌}
 use Rattle.std.proofs.Common.{Bool, true, false, cond}
 use Rattle.std.proofs.Common.{List, [], ◌∷◌, ◌++◌, length, codes, Option}

@@ -1,4 +1,4 @@
--- Bytes between quotes are read as they are written.
+-- Bytes between quotes are read as they are written. (For `levels_at` and `unquoted`.)
 use Rattle.std.proofs.Common.{◌≡◌, drop, take, ◌-◌, ℕ, suc, ◌+◌}
 use Rattle.std.proofs.Common.{◌≤◌, ◌==◌, ◌⊎◌, ◌&&◌, ◌||◌, Bool, true, false, cond}
 use Rattle.std.proofs.Common.{List, [], ◌∷◌, ◌++◌, length, codes, Option}

@@ -1,4 +1,5 @@
--- A value that fits and is in range has only numbers and counts that a text can show.
+-- A value that fits and is in range has only numbers and counts that a text can show. (For `first_value`, `read`,
+-- `read_next` and `texts`.)
 use Rattle.std.proofs.Common.{◌≡◌, ℕ, ◌^◌, ◌<◌, false, List, length, arith}
 use Rattle.std.specs.Prelude.{nat_lt}
 use Rattle.std.proofs.lemmas.Bool.{or_parts, ltb-false}

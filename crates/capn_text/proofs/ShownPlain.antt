@@ -1,4 +1,5 @@
--- What is shown of a value with texts between quotes has as its plain form what is shown of it without.
+-- The text that is shown of a value with texts between quotes has as its plain form the one that is shown of it
+-- without. (For `plain_forms`.)
 use Rattle.std.proofs.Common.{◌≡◌, ◌+◌, ◌*◌, ◌/◌, ◌%◌, ◌^◌, ◌<◌, ◌≤◌, ◌==◌, ◌&&◌, ◌||◌, ℕ, zero, suc}
 use Rattle.std.proofs.Common.{Bool, true, false}
 use Rattle.std.proofs.Common.{cond, not, List, [], ◌∷◌, ◌++◌, length, codes}

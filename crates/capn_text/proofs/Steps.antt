@@ -1,4 +1,5 @@
--- Steps that gave something, and things that are read one after the other.
+-- Steps that gave something, and things that are read one after the other. (For `FittingText`, `HeadText`, `Heights`
+-- and others.)
 use Rattle.std.proofs.Common.{◌≡◌, ℕ, zero, suc, Bool, true, false, cond, List, [], ◌∷◌, ◌++◌, length, Option, Some}
 use Rattle.std.proofs.Common.{None, ◌⊎◌, inl, inr}
 use Rattle.std.proofs.Common.{refl, sym, ap, subst, ◌∙◌, append_assoc}

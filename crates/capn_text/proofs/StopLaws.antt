@@ -1,4 +1,4 @@
--- Where reading stops, of what is read one after the other.
+-- The stops of parts that are read one after the other. (For `contents.rt`, `heads.rt`, `leaves.rt` and `tokens.rt`.)
 use Rattle.std.proofs.Common.{◌≡◌, ◌+◌, ◌-◌, ◌≤◌, ◌<◌, ℕ, zero, suc, List, [], ◌∷◌, ◌++◌, length, Option, Some, None}
 use Rattle.std.proofs.Common.{refl, sym, ap, subst, ◌∙◌, append_assoc, arith}
 use Rattle.std.proofs.lemmas.List.{append-nil}

@@ -1,4 +1,4 @@
--- The text at the front of an input, and its line `end`.
+-- The text at the front of an input, and its line `end`. (For `first_value`, `read`, `read_next` and `streams`.)
 use Rattle.std.proofs.Common.{◌≡◌, ◌≤◌, ◌<◌, ◌+◌, ◌-◌, ℕ, zero, suc, List, [], ◌∷◌, ◌++◌}
 use Rattle.std.proofs.Common.{length, take, Some, None}
 use Rattle.std.proofs.Common.{refl, sym, ap, ap₂, ◌∙◌, append_assoc, arith}

@@ -1,4 +1,4 @@
--- What is read as a tree is what is shown of that tree.
+-- A text that is read as a tree is the one that is shown of that tree. (For `first_value`.)
 use Rattle.std.proofs.Common.{◌≡◌, ℕ, zero, suc, ◌+◌, ◌^◌, ◌≤◌, ◌<◌, arith, List, [], ◌∷◌, ◌++◌, length, Option, Some}
 use Rattle.std.proofs.Common.{codes, map, refl, sym, ap, ap₂, subst, ◌∙◌}
 use Rattle.std.specs.Prelude.{⊤}

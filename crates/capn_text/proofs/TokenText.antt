@@ -1,5 +1,5 @@
--- What is read within a line is what is written there: each reader takes just the text of what it gives, and gives what
--- a text was written for.
+-- The tokens of a line: each reader takes just the text of the token that it gives, and gives the token for which a
+-- text was written. (For `levels_at`.)
 use Rattle.std.proofs.Common.{◌≡◌, ℕ, zero, suc, ◌+◌, ◌-◌, ◌*◌, ◌/◌, ◌%◌, ◌^◌, ◌≤◌, ◌<◌, Bool, true, false, cond}
 use Rattle.std.proofs.Common.{List, [], ◌∷◌, ◌++◌}
 use Rattle.std.proofs.Common.{get_or, Option, Some, None, codes, replicate, refl, sym, ap, ap₂, subst, ◌∙◌}

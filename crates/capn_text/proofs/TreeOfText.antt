@@ -1,4 +1,5 @@
--- Trees: what is shown of a tree is read as that tree, and what is read as a tree is what is shown of it.
+-- Trees: what is shown of a tree is read as that tree, and what is read as a tree is what is shown of it. (For
+-- `texts`.)
 use Rattle.std.proofs.Common.{◌≡◌, ℕ, zero, suc, ◌+◌, ◌^◌, ◌≤◌, ◌<◌, Bool, List, [], ◌∷◌, ◌++◌, length, Option}
 use Rattle.std.proofs.Common.{Some}
 use Rattle.std.proofs.Common.{map, refl, sym, ap, ap₂, ◌∙◌, append_assoc, arith}

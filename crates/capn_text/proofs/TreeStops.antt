@@ -1,4 +1,4 @@
--- Where the reading of a tree stops.
+-- The stops in a tree. (For `contents.rt` and `leaves.rt`.)
 use Rattle.std.proofs.Common.{◌≡◌, ◌+◌, ◌^◌, ◌<◌, ◌≤◌, ℕ, zero, suc, List, [], ◌++◌, Some}
 use Rattle.std.proofs.Common.{map, refl, ap, subst, ◌∙◌, arith}
 use Rattle.std.specs.Int.{from_bool}

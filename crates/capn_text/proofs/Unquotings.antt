@@ -1,4 +1,4 @@
--- A text, read piece by piece.
+-- A text, read piece by piece. (For `unquoter.rt`.)
 use Rattle.std.proofs.Common.{◌≡◌, ℕ, suc, ◌+◌, ◌-◌, ◌<◌, ◌≤◌, ◌==◌, Bool, true, false, cond, nat_le}
 use Rattle.std.proofs.Common.{List, [], ◌∷◌, ◌++◌, length, take, drop, get_or, refl, sym, ap, ap₂, ◌∙◌}
 use Rattle.std.proofs.Common.{if◌then◌else◌, append_assoc, arith, subst}

@@ -1,4 +1,4 @@
--- What a step of reading gives, as the value that is made of it.
+-- The finding of a step of reading, as the value that is made of it. (For `contents.rt` and `one_text.rt`.)
 use Rattle.std.proofs.Common.{◌≡◌, ℕ, zero, suc, None, ◌+◌, ◌-◌, ◌<◌, List, [], ◌∷◌, map, Option, Some, refl, sym, ap}
 use Rattle.std.proofs.Common.{ap₂, ◌∙◌}
 use Rattle.std.proofs.Common.{arith}

@@ -1,4 +1,4 @@
--- What whole lines say of a text, whatever follows them.
+-- The facts about a text that its whole lines decide, whatever follows them. (For `whole_lines`.)
 use Rattle.std.proofs.Common.{◌≡◌, inl, inr, ◌++◌, sym, ap, ◌∙◌, append_assoc, arith}
 use Rattle.std.proofs.lemmas.Bool.{cases_lt}
 use Rattle.capn_value.specs.Text.{show_text}

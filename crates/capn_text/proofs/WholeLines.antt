@@ -1,4 +1,4 @@
--- Whole lines, and the first lines of a text.
+-- Whole lines, and the first lines of a text. (For `FirstWrong`, `LineBytes`, `LostTexts` and others.)
 use Rattle.std.proofs.Common.{◌≡◌, ◌+◌, ◌==◌, ℕ, zero, suc, Bool, true, false, cond, List, [], ◌∷◌, ◌++◌, replicate}
 use Rattle.std.proofs.Common.{refl, sym, ap, ◌∙◌, append_assoc, arith, ◌*◌}
 use Rattle.capn_value.specs.Text.{line}

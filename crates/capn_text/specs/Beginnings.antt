@@ -1,4 +1,4 @@
--- What a line of bytes between quotes begins with. (Own.)
+-- The beginnings of a line of bytes between quotes. (Own.)
 use Rattle.std.specs.Prelude.{◌≡◌, ℕ, List, [], ◌∷◌, codes, ◌==◌, ◌||◌, Bool, true, false, Option, Some, None, refl}
 use Rattle.capn_text.specs.inner.Tokens.{strip, is_digit}
 use Rattle.capn_text.specs.inner.QuotedLines.{levels_at}
@@ -7,22 +7,22 @@ abbrev pub is_some : Option (List ℕ) → Bool
 is_some (Some rest) = true
 is_some None = false
 
--- whether bytes are a beginning of these
+-- true if bytes are a beginning of these
 abbrev pub begins : List ℕ → List ℕ → Bool
 begins whole front = is_some (strip front whole)
 
--- whether the first of these bytes, if there is one, is a quote or a digit
+-- true if the first of these bytes, if there is one, is a quote or a digit
 abbrev pub may_follow : List ℕ → Bool
 may_follow [] = true
 may_follow (c ∷ cs) = c == 34 || is_digit c
 
--- the same of what comes after a name, where that is
+-- true if the bytes after a name, if there is one, begin so
 abbrev pub may_follow_in : Option (List ℕ) → Bool
 may_follow_in (Some rest) = may_follow rest
 may_follow_in None = false
 
--- whether a line that begins so may be one of bytes between quotes: after its indent `bytes `, and then a quote or a
--- digit; or a beginning of these
+-- true if a line with this beginning may be one of bytes between quotes: after its indent `bytes `, and then a quote or
+-- a digit; or a beginning of these
 abbrev pub may_begin : List ℕ → Bool
 may_begin front = begins (codes " ") (levels_at front).1
     || (begins (codes "bytes ") (levels_at front).1 || may_follow_in (strip (codes "bytes ") (levels_at front).1))

@@ -1,4 +1,4 @@
--- What holds of texts.
+-- Laws of texts.
 use Rattle.std.specs.Prelude.{◌≡◌, ◌<◌, ◌≤◌, ℕ, List, [], ◌∷◌, ◌++◌}
 use Rattle.std.specs.List.{AllByRecursion}
 use Rattle.capn_value.specs.Tree.{Tree}
@@ -10,7 +10,7 @@ use Rattle.capn_text.specs.Showable.{IsShowable}
 use Rattle.capn_text.specs.Streams.{end_line, ended_lines, stream_text, ended_text, BeginsAs, IsFirstWrong}
 use Rattle.capn_text.specs.Streams.{GoesTooDeep}
 
--- values whose texts begin one text are equal, and so is what comes after them: no text of a value begins another's
+-- values whose texts begin one text are equal, and so are the bytes after them: no text of a value begins another's
 abbrev pub TextsAreApart : Type 0
 TextsAreApart = (level : ℕ) (v w : Tree) (x y : List ℕ) → IsShowable v → IsShowable w
     → shown level v ++ x ≡ shown level w ++ y → (v ≡ w) × (x ≡ y)

@@ -31,30 +31,30 @@ abbrev pub is_there : Option (ℕ × List ℕ) → Bool
 is_there (Some q) = true
 is_there None = false
 
--- whether a line, which stands here without its end, is of bytes between quotes
+-- true if a line, which stands here without its end, is of bytes between quotes
 abbrev pub is_quoted : List ℕ → Bool
 is_quoted text = is_there (quoted_at text)
 
--- how many lines its plain form has
+-- the number of lines of its plain form
 abbrev pub lines_of : List ℕ → ℕ
 lines_of text = cond (is_quoted text) 2 1
 
--- where its plain form has a line of digits that the text hasn't, if it begins at line n of the plain form
+-- the line of digits of its plain form that the text hasn't, if there is one and it begins at line n of the plain form
 abbrev pub digits_of : ℕ → List ℕ → List ℕ
 digits_of n text = cond (is_quoted text) ((n + 1) ∷ []) []
 
--- the same of a text, after the front of its first line
+-- those lines of a text, after the front of its first line
 abbrev pub digits_after : ℕ → List ℕ → List ℕ → List ℕ
 digits_after n front [] = []
 digits_after n front (c ∷ cs) =
     cond (c == 10) (digits_of n front ++ digits_after (n + lines_of front) [] cs) (digits_after n (front ++ c ∷ []) cs)
 
--- the same of the rest of a line that stays as it is
+-- those lines after the rest of a line that stays as it is
 abbrev pub digits_through : ℕ → List ℕ → List ℕ
 digits_through n [] = []
 digits_through n (c ∷ cs) = cond (c == 10) (digits_after (n + 1) [] cs) (digits_through n cs)
 
--- how many of these are at most n
+-- the number of these that are at most n
 abbrev pub count_to : ℕ → List ℕ → ℕ
 count_to n [] = 0
 count_to n (q ∷ qs) = cond (nat_le q n) 1 0 + count_to n qs

@@ -1,4 +1,4 @@
--- What holds of the plain form of a text.
+-- Laws of the plain form of a text.
 use Rattle.std.specs.Prelude.{◌≡◌, ◌<◌, ◌^◌, ℕ, List, [], ◌∷◌, ◌++◌, length}
 use Rattle.std.specs.List.{AllByRecursion}
 use Rattle.capn_value.specs.Tree.{Tree}
@@ -8,12 +8,12 @@ use Rattle.capn_text.specs.PlainForm.{plain, own_line}
 use Rattle.capn_text.specs.Showable.{IsShowable}
 use Rattle.capn_text.specs.Streams.{end_line, stream_text}
 
--- the texts of these values with what is a text between quotes, each followed by the line `end`
+-- the texts of these values with texts between quotes, each followed by the line `end`
 abbrev pub quoted_stream : List Tree → List ℕ
 quoted_stream [] = []
 quoted_stream (v ∷ vs) = shown_by quoted_bytes 0 v ++ (end_line ++ quoted_stream vs)
 
--- their plain form is what is shown of these values without quotes
+-- their plain form is the text that is shown of these values without quotes
 abbrev pub QuotedIsPlain : Type 0
 QuotedIsPlain = (vs : List Tree) → AllByRecursion IsShowable vs → IsPlain (quoted_stream vs) (stream_text vs)
 

@@ -17,8 +17,8 @@ abbrev pub IsPlainLine : List ℕ → List ℕ → Type 0
 IsPlainLine text plain = ((level : ℕ) × (xs : List ℕ) × IsQuoted text level xs × (plain ≡ plain_bytes level xs))
     ⊎ ((plain ≡ text) × ((level : ℕ) (xs : List ℕ) → IsQuoted text level xs → ⊥))
 
--- the plain form of a text of these lines, which stand here without their ends: that of each, and what is left after
--- the last, as it is
+-- the plain form of a text of these lines, which stand here without their ends: that of each, and the bytes that are
+-- left after the last, as it is
 abbrev pub IsPlainBy : List (List ℕ) → List ℕ → List ℕ → Type 0
 IsPlainBy [] text plain = (ended_lines text ≡ 0) × (plain ≡ text)
 IsPlainBy (front ∷ fronts) text plain = (ended_lines front ≡ 0) × (first : List ℕ) × (after : List ℕ)

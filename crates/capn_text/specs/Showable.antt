@@ -1,4 +1,5 @@
--- Values whose numbers a text can show: each is below what its type holds, and so is each count of what a value holds.
+-- Values whose numbers a text can show: each is in the range of its type, and so is each count of the values in a
+-- value.
 use Rattle.std.specs.Prelude.{◌<◌, ◌^◌, length, ⊤}
 use Rattle.capn_value.specs.InRange.{AllBelow}
 use Rattle.capn_value.specs.NumberWidth.{bits_in}

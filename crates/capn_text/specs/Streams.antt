@@ -22,7 +22,7 @@ stream_text (v ∷ vs) = show_text v ++ (end_line ++ stream_text vs)
 abbrev pub ended_text : Tree → List ℕ
 ended_text v = show_text v ++ end_line
 
--- how many lines end within these bytes
+-- the number of lines that end within these bytes
 abbrev pub ended_lines : List ℕ → ℕ
 ended_lines [] = 0
 ended_lines (c ∷ cs) = cond (c == 10) 1 0 + ended_lines cs
@@ -33,7 +33,8 @@ first_lines zero text = []
 first_lines (suc n) [] = []
 first_lines (suc n) (c ∷ cs) = c ∷ cond (c == 10) (first_lines n cs) (first_lines (suc n) cs)
 
--- How far such an input was read: what is still to be read, and the number of the line at which it begins.
+-- The place in such an input up to which it was read: the bytes that are still to be read, and the number of the line
+-- at which they begin.
 pub record Place : Type 0 where
   pub rest : List ℕ
   pub line : ℕ

@@ -2,9 +2,9 @@
 use Rattle.std.specs.Prelude.{◌≡◌, ◌≤◌, ℕ, ◌+◌, ◌-◌, List, [], ◌∷◌, ◌++◌, length, ⊤, cond, Bool, true, false}
 use Rattle.capn_text.specs.PlainForm.{plain_after, plain_through, digits_after, digits_through, count_to}
 
--- What was read: the front of the line that is unfinished, the line of the plain form at which it begins, where that
--- form has lines of digits that the text hasn't, how many it has before these, and whether the front of that line was
--- given already, as it is.
+-- The state of an unquoter: the front of the line that is unfinished, the line of the plain form at which it begins,
+-- the lines of digits of that form that the text hasn't, the number of those that it has before these, and whether the
+-- front of that line was given already, as it is.
 pub record Unquoting : Type 0 where
   pub front : List ℕ
   pub line : ℕ
@@ -16,7 +16,7 @@ pub record Unquoting : Type 0 where
 abbrev pub first_unquoting : Unquoting
 first_unquoting = record { front = []; line = 1; digits = []; passed = 0; through = false }
 
--- the plain form of what comes
+-- the plain form of the bytes that come
 abbrev pub plain_on : Unquoting → List ℕ → List ℕ
 plain_on u more = cond u.through (plain_through more) (plain_after u.front more)
 

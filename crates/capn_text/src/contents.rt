@@ -15,7 +15,8 @@ use crate::leaves::{leaf_at, words_at};
 use capn_value::{Body, Items, Value};
 use std::alloc::Allocator;
 
-/// The value at the front of the text, of a height of at most `room`, its first line at this level.
+/// Reads the value at the front of `text`, of a height of at most `room`, its first line at this `level`. Returns it
+/// with the bytes after it.
 #[cycle(value_at)]
 pub fn value_at<'t, A: Allocator + Copy>(
     alloc: A,
@@ -33,7 +34,7 @@ pub fn value_at<'t, A: Allocator + Copy>(
     content_at(alloc, room - 1, level, head, rest)
 }
 
-// A value of height 0, by its first line.
+// Reads a value of height 0, by its first line.
 #[tactic(auto, using(crate::proofs::ValueOfParts::steps_and_views))]
 fn low_at<'t, A: Allocator>(head: Head, text: &'t [u8]) -> Result<(Value<A>, &'t [u8]), Stop>
     requires { Holds head }
@@ -47,7 +48,7 @@ fn low_at<'t, A: Allocator>(head: Head, text: &'t [u8]) -> Result<(Value<A>, &'t
     }
 }
 
-// A value by its first line, which was at this level; what it holds is of a height of at most `room`.
+// Reads a value by its first line, which was at this level; the values that it holds are of a height of at most `room`.
 #[cycle(value_at)]
 #[tactic(auto, using(crate::proofs::ValueOfParts::steps_and_views))]
 fn content_at<'t, A: Allocator + Copy>(
@@ -83,7 +84,7 @@ fn content_at<'t, A: Allocator + Copy>(
     }
 }
 
-// The words and slots of a struct, whose first line was at this level.
+// Reads the words and slots of a struct, whose first line was at this level.
 #[cycle(value_at)]
 #[tactic(auto, unfolding(crate::specs::inner::Values::body_at))]
 fn body_at<'t, A: Allocator + Copy>(
@@ -107,7 +108,7 @@ fn body_at<'t, A: Allocator + Copy>(
     Ok((body, rest))
 }
 
-// `count` values.
+// Reads `count` values.
 #[cycle(value_at)]
 fn values_at<'t, A: Allocator + Copy>(
     alloc: A,
@@ -130,7 +131,7 @@ fn values_at<'t, A: Allocator + Copy>(
     Ok((items, rest))
 }
 
-// One row.
+// Reads one row.
 #[cycle(value_at)]
 #[tactic(auto, unfolding(crate::specs::inner::Values::row_at))]
 fn row_at<'t, A: Allocator + Copy>(
@@ -150,7 +151,7 @@ fn row_at<'t, A: Allocator + Copy>(
     }
 }
 
-// `count` rows.
+// Reads `count` rows.
 #[cycle(value_at)]
 fn rows_at<'t, A: Allocator + Copy>(
     alloc: A,

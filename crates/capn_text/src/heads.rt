@@ -30,7 +30,7 @@ pub enum Name {
     Leaf(Leaf),
 }
 
-/// What a first line says: the kind of a value, and its sizes.
+/// A first line, read: the kind of a value, and its sizes.
 #[derive(Clone, Copy)]
 pub enum Head {
     Null,
@@ -40,7 +40,7 @@ pub enum Head {
     Named(Name, u64),
 }
 
-/// The first line at the front of the text, at a level.
+/// Reads the first line at the front of `text`, at this `level`. Returns it with the bytes after it.
 pub fn head_at(level: u32, text: &[u8]) -> Result<(Head, &[u8]), Stop>
     requires { level ≤ 600 }
     ensures value { GivesLine (λ x. (x.0, x.1.now)) result (values.head_at level) text.now }

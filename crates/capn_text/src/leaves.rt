@@ -16,7 +16,8 @@ use crate::tokens::{
 use capn_value::{Items, Value};
 use std::alloc::Allocator;
 
-/// A list whose elements hold no other value, by their kind and number; its first line was at this level.
+/// Reads a list whose elements hold no other value, by their kind `leaf` and their number `count`; its first line was
+/// at this `level`. Returns it with the bytes after it.
 #[tactic(auto, using(crate::proofs::ValueOfParts::steps_and_views), unfolding(crate::specs::inner::Values::leaf_at))]
 pub fn leaf_at<'t, A: Allocator>(
     alloc: A,
@@ -54,7 +55,7 @@ pub fn leaf_at<'t, A: Allocator>(
     }
 }
 
-/// Where the reading of a line of bits stops that is none: whether it can still become one.
+/// Returns the stop for a `text` that doesn't begin with a line of `count` bits: `Cut` if it can still become one.
 fn stop_in_bits(level: u32, count: u64, text: &[u8]) -> Stop
     requires level { level ≤ 600 }
     requires none { tokens.row_line_at tokens.bit_at level count text.now ≡ None }
@@ -125,7 +126,7 @@ fn bit_digits_at<A: Allocator>(
     Ok((items, rest))
 }
 
-/// The same for a line of bytes.
+/// Returns the stop for a `text` that doesn't begin with a line of `count` bytes: `Cut` if it can still become one.
 fn stop_in_bytes(level: u32, count: u64, text: &[u8]) -> Stop
     requires level { level ≤ 600 }
     requires none { tokens.row_line_at tokens.byte_at level count text.now ≡ None }
@@ -257,7 +258,7 @@ fn octs_at<A: Allocator>(
     Ok((items, rest))
 }
 
-/// The lines of data words.
+/// Reads the lines of `count` data words at this `level`. Returns them with the bytes after them.
 pub fn words_at<A: Allocator>(
     alloc: A,
     level: u32,

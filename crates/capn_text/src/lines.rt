@@ -3,7 +3,7 @@
 ghost use Rattle.std.specs.Prelude.{◌≡◌, ◌+◌, ◌-◌, ◌≤◌, length, take};
 ghost use Rattle.capn_text.specs.Streams.{ended_lines};
 
-/// How many lines end within these bytes: a last one without its line end is not counted. Takes no memory.
+/// Counts the lines that end within `bytes`: a last one without its line end is not counted. Takes no memory.
 #[tactic(auto, using(crate::proofs::LineCounts::lines_within))]
 pub fn lines_in(bytes: &[u8]) -> u64
     ensures exact { result ≡ ended_lines bytes.now }
@@ -20,7 +20,7 @@ pub fn lines_in(bytes: &[u8]) -> u64
     lines
 }
 
-/// How many lines of a text end before its last `left` bytes.
+/// Counts the lines of `text` that end before its last `left` bytes.
 #[tactic(auto, using(crate::proofs::LineCounts::lines_before))]
 pub fn lines_before(text: &[u8], left: usize) -> u64
     ensures exact { result ≡ ended_lines (take (length text.now - left) text.now) }

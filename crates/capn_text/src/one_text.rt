@@ -26,13 +26,13 @@ use crate::tokens::is_short;
 use capn_value::{MOST_HEIGHT, Misfit, Tree, Value};
 use std::alloc::Allocator;
 
-/// The tree of a text: the one for which [`capn_value::show`] writes this text.
+/// Reads `text` as a tree: the one for which [`capn_value::show`] writes this text.
 ///
 /// Refuses with [`TextFault::Line`] if the bytes are not the text of a value, then with [`TextFault::Misfit`] if that
 /// value fits into no message. A text of more than 256 levels is `Tall`, whatever follows. Linear in the text. Memory:
-/// the tree's own, up to twice for lists as they grow. The stack holds at most 257 values.
+/// the tree's own on `alloc`, up to twice for lists as they grow. The stack holds at most 257 values.
 pub fn read<A: Allocator + Copy>(alloc: A, text: &[u8]) -> Result<Tree<A>, TextFault>
-    // What is read has this text.
+    // The tree that is read has this text.
     ensures found { IfOk result (λ t. text.now ≡ show_text t) }
     // A tree that has this text is read, unless memory runs out.
     ensures only { (v : trees.Tree) → Fits v → InRange v → text.now ≡ show_text v →
@@ -62,7 +62,7 @@ pub fn read<A: Allocator + Copy>(alloc: A, text: &[u8]) -> Result<Tree<A>, TextF
     Ok(tree)
 }
 
-// The fault of a text to which nothing follows.
+// Returns the fault of a text to which nothing follows.
 fn ended(fault: TextFault) -> TextFault
     ensures memory { fault ≡ faults.Memory → result ≡ faults.Memory }
     ensures line { (n : ℕ) → result ≡ faults.Line n → Names fault n }
@@ -77,7 +77,7 @@ fn ended(fault: TextFault) -> TextFault
     }
 }
 
-/// Whether any bytes are left.
+/// Returns `true` if `rest` has any bytes.
 pub fn has_more(rest: &[u8]) -> bool
     ensures more { result ≡ true → rest.now ≢ [] }
     ensures over { result ≡ false → rest.now ≡ [] }
@@ -88,7 +88,8 @@ pub fn has_more(rest: &[u8]) -> bool
     }
 }
 
-/// The value whose text is at the front of these bytes, whether it fits or not, and the bytes after that text.
+/// Reads the value whose text is at the front of `text`, whether it fits or not. Returns it with the bytes after that
+/// text.
 pub fn first_value<A: Allocator + Copy>(
     alloc: A,
     text: &[u8],
@@ -115,7 +116,7 @@ pub fn first_value<A: Allocator + Copy>(
     ensures none { IfErr result (λ e. (n : ℕ) → e ≡ faults.Line n → (more : List ℕ) → (v : trees.Tree)
         (rest : List ℕ) → IsShowable v → height v ≤ most_height → text.now ++ more ≢ show_text v ++ rest) }
     ensures open { IfErr result (λ e. (n : ℕ) → e ≡ faults.Cut n → MayGoOn text.now) }
-    // So is the line after what was read, if there is one, or no end.
+    // So is the line after the value that was read, if there is one, or no end.
     ensures more { IfOk result (λ x. x.1.now ≢ [] →
         IsFirstWrong show_text (ended_lines (show_text (tree_of x.0)) + 1) text.now) }
     ensures no_end { IfOk result (λ x. (more : List ℕ) → strip end_line (x.1.now ++ more) ≡ None →
@@ -137,7 +138,8 @@ pub fn first_value<A: Allocator + Copy>(
     }
 }
 
-/// Whether the first line is that of a value, or why not.
+/// Tests that the first line of `text` is that of a value: if not, the fault is `Cut` if more bytes may make it one,
+/// else `Line`.
 pub fn first_line(text: &[u8]) -> Result<(), TextFault>
     ensures some { OnOk result ((v : trees.Tree) × BeginsAs text.now v) }
     ensures other { OnErr result ((v : trees.Tree) → BeginsAs text.now v → ⊥) }
@@ -159,7 +161,7 @@ pub fn first_line(text: &[u8]) -> Result<(), TextFault>
     }
 }
 
-/// A value as a tree, if it fits into a message.
+/// Makes a tree of `value`, if it fits into a message; else the fault is its misfit.
 pub fn fitting<A: Allocator>(value: Value<A>) -> Result<Tree<A>, TextFault>
     ensures found { IfOk result (λ t. t ≡ tree_of value) }
     ensures fits { IfOk result (λ t. Fits t) }

@@ -13,7 +13,7 @@ use crate::fault::Stop;
 use crate::quoted_line::quoted_at;
 use std::alloc::{AllocError, Allocator};
 
-/// The spaces of a level.
+/// Appends the spaces of `level` to `out`.
 fn push_indent<A: Allocator>(out: &mut Vec<u8, A>, level: usize) -> Result<(), AllocError>
     ensures { OnOk result (out.new.items ≡ out.old.items ++ replicate (2 * level) 32) }
 {
@@ -23,7 +23,7 @@ fn push_indent<A: Allocator>(out: &mut Vec<u8, A>, level: usize) -> Result<(), A
     Ok(())
 }
 
-/// A number and the end of its line.
+/// Appends `n` in decimal digits and the end of its line to `out`.
 fn push_number<A: Allocator>(out: &mut Vec<u8, A>, n: u64) -> Result<(), AllocError>
     ensures { OnOk result (out.new.items ≡ out.old.items ++ (decimal n ++ 10 ∷ [])) }
 {
@@ -32,7 +32,7 @@ fn push_number<A: Allocator>(out: &mut Vec<u8, A>, n: u64) -> Result<(), AllocEr
     out.extend_from_slice(&digits[start..])
 }
 
-/// Two digits of a byte.
+/// Appends the two digits of `byte` to `out`.
 fn push_byte<A: Allocator>(out: &mut Vec<u8, A>, byte: u8) -> Result<(), AllocError>
     ensures { OnOk result (out.new.items ≡ out.old.items ++ encode_lower (byte ∷ [])) }
 {
@@ -42,7 +42,7 @@ fn push_byte<A: Allocator>(out: &mut Vec<u8, A>, byte: u8) -> Result<(), AllocEr
     out.extend_from_slice(&digits)
 }
 
-/// Two digits of each byte.
+/// Appends two digits of each of `bytes` to `out`.
 #[tactic(auto, using(std::proofs::lemmas::Grind::common_steps, crate::proofs::PlainLines::digits))]
 fn push_digits<A: Allocator>(out: &mut Vec<u8, A>, bytes: &[u8]) -> Result<(), AllocError>
     ensures { OnOk result (out.new.items ≡ out.old.items ++ encode_lower bytes.now) }
@@ -53,7 +53,7 @@ fn push_digits<A: Allocator>(out: &mut Vec<u8, A>, bytes: &[u8]) -> Result<(), A
     Ok(())
 }
 
-/// The lines of some bytes.
+/// Appends the lines of the list `bytes` at this `level` to `out`.
 fn push_bytes<A: Allocator>(
     out: &mut Vec<u8, A>,
     level: usize,
@@ -72,8 +72,8 @@ fn push_bytes<A: Allocator>(
     Ok(())
 }
 
-/// Adds the plain form of a line, which stands here without its end, and answers whether that is of bytes between
-/// quotes. Memory: the lines that are added, and those bytes.
+/// Appends the plain form of `line`, which stands here without its end, to `out`, and returns `true` if that is of
+/// bytes between quotes. Memory: the lines that are added, and those bytes.
 pub fn push_plain<A: Allocator + Copy>(
     alloc: A,
     out: &mut Vec<u8, A>,
@@ -96,7 +96,8 @@ pub fn push_plain<A: Allocator + Copy>(
     }
 }
 
-/// The first line, without its end, and what comes after that; or none if no line ends here. Takes no memory.
+/// Splits `text` into its first line, without the end of it, and the bytes after that; `None` if no line ends here.
+/// Takes no memory.
 pub fn next_line(text: &[u8]) -> Option<(&[u8], &[u8])>
     ensures { MatchOption result (ended_lines text.now ≡ 0)
         (λ x. (text.now ≡ x.0.now ++ 10 ∷ x.1.now) × (ended_lines x.0.now ≡ 0)) }
@@ -109,12 +110,12 @@ pub fn next_line(text: &[u8]) -> Option<(&[u8], &[u8])>
     None
 }
 
-/// The plain form of a text in which a list of bytes may stand between quotes: that of each such line, `bytes N "T"` or
-/// `bytes "T"`, is the lines that [`capn_value::show`] writes of the bytes of T, and any other line stays as it is.
-/// Those bytes are from 0x20 to 0x7e, except that the last may be zero; there is one at least. In T a quote is `\"`, a
-/// backslash `\\`, a last zero `\0`. (Own.)
+/// Writes the plain form of `text`, in which a list of bytes may stand between quotes: that of each such line, `bytes N
+/// "T"` or `bytes "T"`, is the lines that [`capn_value::show`] writes of the bytes of T, and any other line stays as it
+/// is. Those bytes are from 0x20 to 0x7e, except that the last may be zero; there is one at least. In T a quote is
+/// `\"`, a backslash `\\`, a last zero `\0`. (Own.)
 ///
-/// Linear in the text. Memory: the plain form, up to twice as it grows, and the bytes of one line.
+/// Linear in the text. Memory: the plain form on `alloc`, up to twice as it grows, and the bytes of one line.
 pub fn plain_text<A: Allocator + Copy>(alloc: A, text: &[u8]) -> Result<Vec<u8, A>, AllocError>
     ensures found { IfOk result (λ plain. IsPlain text.now plain.items) }
     // Memory is needed only for some bytes.
@@ -133,7 +134,7 @@ pub fn plain_text<A: Allocator + Copy>(alloc: A, text: &[u8]) -> Result<Vec<u8, 
     Ok(out)
 }
 
-/// How many of these numbers are at most n. Takes no memory.
+/// Counts the numbers of `lines` that are at most `n`. Takes no memory.
 #[tactic(auto, using(crate::proofs::OwnLines::count_within))]
 pub fn count_to(lines: &[u64], n: u64) -> u64
     ensures exact { result ≡ form.count_to n lines.now }

@@ -10,21 +10,21 @@ use crate::fault::Stop;
 use crate::tokens::{decimal_at, is_digit, pass, skip};
 use std::alloc::Allocator;
 
-/// Whether a byte is from 0x20 to 0x7e.
+/// Returns `true` if `byte` is from 0x20 to 0x7e.
 fn is_printable(byte: u8) -> bool
     ensures { result ≡ quoting.is_printable byte }
 {
     b' ' <= byte && byte <= b'~'
 }
 
-/// Whether a byte has a backslash before it between quotes.
+/// Returns `true` if `byte` has a backslash before it between quotes.
 fn is_marked(byte: u8) -> bool
     ensures { result ≡ (byte == 34 || byte == 92) }
 {
     byte == b'"' || byte == b'\\'
 }
 
-/// The bytes up to the second quote, with which the line ends.
+/// Reads the bytes of `text` up to the second quote, with which the line ends.
 pub fn unquoted<A: Allocator>(alloc: A, text: &[u8]) -> Result<Vec<u8, A>, Stop>
     ensures { Gives (λ x. x.items) result (quotes.unquoted text.now) }
 {
@@ -64,7 +64,7 @@ pub fn unquoted<A: Allocator>(alloc: A, text: &[u8]) -> Result<Vec<u8, A>, Stop>
     Err(Stop::Left(0))
 }
 
-/// The bytes after the first quote of a line: some.
+/// Reads the bytes of `text` after the first quote of a line: one at least.
 fn text_in<A: Allocator>(alloc: A, text: &[u8]) -> Result<Vec<u8, A>, Stop>
     ensures found { Gives (λ x. x.items) result (quotes.text_in text.now) }
     ensures some { IfOk result (λ x. 0 < length x.items) }
@@ -76,7 +76,7 @@ fn text_in<A: Allocator>(alloc: A, text: &[u8]) -> Result<Vec<u8, A>, Stop>
     Ok(bytes)
 }
 
-/// The same with their count before that quote.
+/// Reads the bytes after the first quote of a line, one at least, behind their count: `text` begins with the count.
 fn counted_text<A: Allocator>(alloc: A, text: &[u8]) -> Result<Vec<u8, A>, Stop>
     ensures found { Gives (λ x. x.items) result (quotes.counted_text text.now) }
     ensures some { IfOk result (λ x. 0 < length x.items) }
@@ -90,7 +90,7 @@ fn counted_text<A: Allocator>(alloc: A, text: &[u8]) -> Result<Vec<u8, A>, Stop>
     Ok(bytes)
 }
 
-/// The levels of a line, by its spaces, and what comes after these.
+/// Counts the levels of a line by its spaces; returns them and the bytes after these.
 fn levels_at(text: &[u8]) -> (usize, &[u8])
     ensures levels { (result.0, result.1.now) ≡ quotes.levels_at text.now }
     ensures within { 2 * result.0 ≤ length text.now }
@@ -104,7 +104,7 @@ fn levels_at(text: &[u8]) -> (usize, &[u8])
     (level, rest)
 }
 
-/// The level and the bytes of a line between quotes, which stands here without its end.
+/// Reads `text`, a line between quotes that stands here without its end: returns its level and its bytes.
 #[tactic(auto, unfolding(crate::specs::inner::QuotedLines::quoted_at))]
 pub fn quoted_at<A: Allocator>(alloc: A, text: &[u8]) -> Result<(usize, Vec<u8, A>), Stop>
     ensures found { Gives (λ x. (x.0, x.1.items)) result (quotes.quoted_at text.now) }
@@ -120,7 +120,7 @@ pub fn quoted_at<A: Allocator>(alloc: A, text: &[u8]) -> Result<(usize, Vec<u8, 
     Ok((level, bytes))
 }
 
-/// As many of the first bytes of a line as are looked at while it is unfinished.
+/// Returns the first bytes of `line`, as many as are looked at while it is unfinished.
 pub fn looked_at(line: &[u8]) -> &[u8]
     ensures { result.now ≡ take beginnings.looked_at line.now }
 {
@@ -131,7 +131,7 @@ pub fn looked_at(line: &[u8]) -> &[u8]
     }
 }
 
-/// Whether bytes are a beginning of these.
+/// Returns `true` if `front` is a beginning of `whole`, or all of it.
 fn begins(whole: &[u8], front: &[u8]) -> bool
     ensures { result ≡ beginnings.begins whole.now front.now }
 {
@@ -141,7 +141,7 @@ fn begins(whole: &[u8], front: &[u8]) -> bool
     }
 }
 
-/// Whether bytes, or the first of them, are what may come after the name of a list of bytes.
+/// Returns `true` if `rest`, or its first bytes, may come after the name of a list of bytes.
 fn may_follow(rest: &[u8]) -> bool
     ensures { result ≡ beginnings.may_follow rest.now }
 {
@@ -151,7 +151,7 @@ fn may_follow(rest: &[u8]) -> bool
     }
 }
 
-/// Whether a line that begins so may be one of bytes between quotes.
+/// Returns `true` if a line that begins with `front` may be one of bytes between quotes.
 pub fn may_begin(front: &[u8]) -> bool
     ensures { result ≡ beginnings.may_begin front.now }
 {

@@ -43,7 +43,7 @@ impl<'t> Model for Texts<'t> {
 }
 
 impl<'t> Texts<'t> {
-    /// All texts of an input. Takes no memory.
+    /// Returns all texts of `input`. Takes no memory.
     pub fn new(input: &'t [u8]) -> Texts<'t>
         ensures { result ≡ record { rest = input.now; line = 1 } }
     {
@@ -53,8 +53,8 @@ impl<'t> Texts<'t> {
         }
     }
 
-    /// The texts of what is left of an input from the beginning of this line on, or none where the number of its last
-    /// line might pass 64 bits. Takes no memory.
+    /// Returns the texts of `input`, which is what is left of one from the beginning of `line` on; `None` if the number
+    /// of its last line might pass 64 bits. Takes no memory.
     pub fn from_line(input: &'t [u8], line: u64) -> Option<Texts<'t>>
         ensures found { IfSome result (λ t. t ≡ record { rest = input.now; line = line }) }
         ensures only { line + length input.now < 2 ^ 64 → IsSome result }
@@ -65,21 +65,22 @@ impl<'t> Texts<'t> {
         Some(Texts { rest: input, line })
     }
 
-    /// The line, counted from 1 over the whole input, at which the next text begins, or the line after the last.
+    /// Returns the line, counted from 1 over the whole input, at which the next text begins, or the line after the
+    /// last.
     pub fn line(&self) -> u64
         ensures { result ≡ self.now.line }
     {
         self.line
     }
 
-    /// How many bytes are left. Takes no memory.
+    /// Returns the number of bytes that are left. Takes no memory.
     pub fn left(&self) -> usize
         ensures { result ≡ length self.now.rest }
     {
         self.rest.len()
     }
 
-    /// Whether the end of the input is reached. Takes no memory.
+    /// Returns `true` if the end of the input is reached. Takes no memory.
     pub fn is_done(&self) -> bool
         ensures over { result ≡ true → self.now.rest ≡ [] }
         ensures more { result ≡ false → self.now.rest ≢ [] }
@@ -87,7 +88,7 @@ impl<'t> Texts<'t> {
         !has_more(self.rest)
     }
 
-    /// Whether the first line of what is left is that of a value. Takes no memory.
+    /// Returns `true` if the first line of what is left is that of a value. Takes no memory.
     pub fn begins(&self) -> bool
         ensures begun { result ≡ true → (v : trees.Tree) × BeginsAs self.now.rest v }
         ensures other { result ≡ false → (v : trees.Tree) → BeginsAs self.now.rest v → ⊥ }
@@ -98,8 +99,8 @@ impl<'t> Texts<'t> {
         }
     }
 
-    /// Whether more bytes may make the first line of what is left that of a value, which it isn't yet: then few are
-    /// left. Takes no memory.
+    /// Returns `true` if more bytes may make the first line of what is left that of a value, which it isn't yet: then
+    /// few are left. Takes no memory.
     pub fn may_begin(&self) -> bool
         ensures lost { result ≡ false → ((v : trees.Tree) → BeginsAs self.now.rest v → ⊥) →
             (more : List ℕ) (v : trees.Tree) → BeginsAs (self.now.rest ++ more) v → ⊥ }
@@ -111,12 +112,12 @@ impl<'t> Texts<'t> {
         }
     }
 
-    /// The tree of the next text, or none at the end of the input.
+    /// Reads the next text: returns its tree, or `None` at the end of the input.
     ///
     /// A text is taken with its line `end`: another line in its place is refused before a misfit is. A text of more
     /// than 256 levels is `Tall`, whatever follows. After a refusal the place is as it was, so each later call answers
     /// the same. A line that is refused is counted over the whole input; a misfit is that of the text that begins at
-    /// [`Texts::line`]. Memory as for [`crate::read`].
+    /// [`Texts::line`]. Memory on `alloc` as for [`crate::read`].
     pub fn read_next<A: Allocator + Copy>(&mut self, alloc: A) -> Result<Option<Tree<A>>, TextFault>
         // The text of what is read came next with its end, and what comes after it is left; or nothing was left.
         ensures found { IfOk result (λ o. MatchOption o ((self.old.rest ≡ []) × (self.new ≡ self.old))
@@ -131,7 +132,7 @@ impl<'t> Texts<'t> {
         ensures counted { self.new.line + ended_lines self.new.rest ≡ self.old.line + ended_lines self.old.rest }
         // After a refusal nothing has changed.
         ensures kept { OnErr result (self.new ≡ self.old) }
-        // Where a line is refused, no text of a value of at most 256 levels, fit or not, comes next with its end.
+        // If a line is refused, no text of a value of at most 256 levels, fit or not, comes next with its end.
         ensures line { IfErr result (λ e. (n : ℕ) → Names e n → (v : trees.Tree) (rest : List ℕ) →
             IsShowable v → height v ≤ most_height → self.old.rest ≢ show_text v ++ (end_line ++ rest)) }
         // That line is not before the text, and not after the line that follows the last.
@@ -178,7 +179,7 @@ impl<'t> Texts<'t> {
     }
 }
 
-// The same fault, where the text begins at this line.
+// Counts the line of a fault from this line on, at which the text begins.
 fn counted_from(line: u64, fault: TextFault) -> TextFault
     requires { (n : ℕ) → Names fault n → line + (n - 1) < 2 ^ 64 }
     ensures memory { fault ≡ faults.Memory → result ≡ faults.Memory }
@@ -196,7 +197,7 @@ fn counted_from(line: u64, fault: TextFault) -> TextFault
     }
 }
 
-// Why a text that is followed by this on a line isn't taken: another line than `end` is there, or too little of one.
+// Returns the fault of a text that is followed by other bytes than its line `end`: `Cut` if they are too few for one.
 fn end_fault(line: u64, after: &[u8]) -> TextFault
     ensures named { (n : ℕ) → Names result n → n ≡ line }
     ensures line { (n : ℕ) → result ≡ faults.Line n → 4 ≤ length after.now }

@@ -1,4 +1,4 @@
-//! What is within a line, read from left to right: what was read, and the bytes after it.
+//! Tokens of a line, read from left to right: each is given with the bytes after it.
 
 ghost use Rattle.std.specs.Prelude.{◌≡◌, ◌≤◌, ◌<◌, nat_lt, length, MatchOption, IfOk, IfSome, Some, None};
 ghost use Rattle.capn_text.specs.Streams.{few};
@@ -9,7 +9,7 @@ ghost use Rattle.capn_text.specs.inner.Stops.{GivesLine};
 
 use crate::fault::Stop;
 
-/// The text after its front, if it begins so.
+/// Returns the bytes of `text` after `front`, if it begins with that.
 pub fn skip<'t>(text: &'t [u8], front: &[u8]) -> Option<&'t [u8]>
     ensures { MatchOption result (tokens.strip front.now text.now ≡ None)
         (λ rest. tokens.strip front.now text.now ≡ Some rest.now) }
@@ -29,7 +29,7 @@ pub fn skip<'t>(text: &'t [u8], front: &[u8]) -> Option<&'t [u8]>
     Some(rest)
 }
 
-/// The same, where a text that begins otherwise ends the reading.
+/// Returns the bytes of `text` after `front`; a text that begins otherwise ends the reading.
 pub fn pass<'t>(text: &'t [u8], front: &[u8]) -> Result<&'t [u8], Stop>
     ensures { GivesIdly (λ rest. rest.now) result (tokens.strip front.now text.now) }
 {
@@ -39,7 +39,7 @@ pub fn pass<'t>(text: &'t [u8], front: &[u8]) -> Result<&'t [u8], Stop>
     }
 }
 
-/// The text after two spaces for each level.
+/// Returns the bytes of `text` after two spaces for each `level`.
 pub fn indent_at(level: u32, text: &[u8]) -> Result<&[u8], Stop>
     ensures { GivesIdly (λ rest. rest.now) result (tokens.indent_at level text.now) }
 {
@@ -51,7 +51,7 @@ pub fn indent_at(level: u32, text: &[u8]) -> Result<&[u8], Stop>
     Ok(rest)
 }
 
-/// A number in decimal digits.
+/// Reads the number at the front of `text`, in decimal digits.
 pub fn decimal_at(text: &[u8]) -> Result<(u64, &[u8]), Stop>
     ensures { GivesIdly (λ x. (x.0, x.1.now)) result (tokens.decimal_at text.now) }
 {
@@ -83,14 +83,14 @@ fn digits_at(text: &[u8]) -> Result<(u64, &[u8]), Stop>
     Ok((number, rest))
 }
 
-/// Whether it is a decimal digit.
+/// Returns `true` if `c` is a decimal digit.
 pub fn is_digit(c: u8) -> bool
     ensures { result ≡ tokens.is_digit c }
 {
     b'0' <= c && c <= b'9'
 }
 
-/// A byte in two hexadecimal digits.
+/// Reads the byte at the front of `text`, in two hexadecimal digits.
 pub fn byte_at(text: &[u8]) -> Result<(u8, &[u8]), Stop>
     ensures { Gives (λ x. (x.0, x.1.now)) result (tokens.byte_at text.now) }
 {
@@ -106,7 +106,7 @@ pub fn byte_at(text: &[u8]) -> Result<(u8, &[u8]), Stop>
     Ok((a * 16 + b, rest))
 }
 
-/// Whether all of these bytes are hexadecimal digits in lower case.
+/// Returns `true` if all bytes of `text` are hexadecimal digits in lower case.
 pub fn are_hex(text: &[u8]) -> bool
     ensures { result ≡ tokens.are_all tokens.is_hex text.now }
 {
@@ -120,7 +120,7 @@ pub fn are_hex(text: &[u8]) -> bool
     true
 }
 
-/// Whether all of these bytes are digits of bits.
+/// Returns `true` if all bytes of `text` are digits of bits.
 pub fn are_bits(text: &[u8]) -> bool
     ensures { result ≡ tokens.are_all tokens.is_bit text.now }
 {
@@ -145,7 +145,7 @@ fn nibble(c: u8) -> Option<u8>
     }
 }
 
-/// A bit as a digit.
+/// Reads the bit at the front of `text`, in one digit.
 pub fn bit_at(text: &[u8]) -> Result<(bool, &[u8]), Stop>
     ensures { Gives (λ x. (x.0, x.1.now)) result (tokens.bit_at text.now) }
 {
@@ -156,7 +156,7 @@ pub fn bit_at(text: &[u8]) -> Result<(bool, &[u8]), Stop>
     }
 }
 
-// The eight bytes of a word, the most significant first.
+// Reads the eight bytes of a word, the most significant first.
 fn eight_at(text: &[u8]) -> Result<([u8; 8], &[u8]), Stop>
     ensures { Gives (λ x. (x.0, x.1.now)) result (tokens.many tokens.byte_at 8 text.now) }
 {
@@ -170,7 +170,7 @@ fn eight_at(text: &[u8]) -> Result<([u8; 8], &[u8]), Stop>
     Ok((bytes, rest))
 }
 
-/// A number in sixteen hexadecimal digits.
+/// Reads the number at the front of `text`, in sixteen hexadecimal digits.
 pub fn word_at(text: &[u8]) -> Result<(u64, &[u8]), Stop>
     ensures { Gives (λ x. (x.0, x.1.now)) result (tokens.word_at text.now) }
 {
@@ -178,17 +178,18 @@ pub fn word_at(text: &[u8]) -> Result<(u64, &[u8]), Stop>
     Ok((u64::from_be_bytes(bytes), rest))
 }
 
-/// Only a line of the digits of a list has more bytes than this.
+/// The most bytes of a line, except for one of the digits of a list.
 const FEW: usize = 2048;
 
-/// Whether a text has fewer bytes.
+/// Returns `true` if `text` has fewer than [`FEW`] bytes.
 pub fn is_short(text: &[u8]) -> bool
     ensures { result ≡ nat_lt (length text.now) few }
 {
     text.len() < FEW
 }
 
-/// Where the reading of a line stops that is none, and never a long one.
+/// Returns the stop for a `text` that doesn't begin with the line that was to be read, which is never a long one: `Cut`
+/// if `text` is short, so that more bytes may make it one; else `Left`.
 pub fn stop_in(text: &[u8]) -> Stop
     ensures { result ≡ spec.stop_in text.now }
 {
@@ -199,7 +200,7 @@ pub fn stop_in(text: &[u8]) -> Stop
     }
 }
 
-/// The line of a data word.
+/// Reads the line of a data word at this `level` at the front of `text`.
 pub fn word_line_at(level: u32, text: &[u8]) -> Result<(u64, &[u8]), Stop>
     requires { level ≤ 600 }
     ensures { GivesLine (λ x. (x.0, x.1.now)) result (tokens.word_line_at level) text.now }
@@ -224,7 +225,7 @@ fn word_in_line(level: u32, text: &[u8]) -> Result<(u64, &[u8]), Stop>
     Ok((word, rest))
 }
 
-/// The line of a number up to the greatest.
+/// Reads the line of a number up to `greatest` at this `level` at the front of `text`.
 pub fn number_line_at(greatest: u64, level: u32, text: &[u8]) -> Result<(u64, &[u8]), Stop>
     requires { level ≤ 600 }
     ensures value { GivesLine (λ x. (x.0, x.1.now)) result (tokens.number_line_at greatest level) text.now }

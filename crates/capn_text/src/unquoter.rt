@@ -14,9 +14,9 @@ use std::marker::Model;
 
 /// Takes a text with lists of bytes between quotes, which comes in pieces, cut anywhere, and gives its plain form.
 ///
-/// It keeps the line that is unfinished, while by its first 1,024 bytes that may be one between quotes, and, to tell
-/// which line of the text a line of the plain form is of, eight bytes for each line between quotes, up to those that
-/// it may forget.
+/// It keeps the line that is unfinished, while by its first 1,024 bytes that may be one between quotes. To find the
+/// line of the text that a line of the plain form is of, it keeps eight bytes for each line between quotes, up to those
+/// that it may forget.
 #[derive(Debug, Drop)]
 pub struct Unquoter<A: Allocator + Copy> {
     alloc: A,
@@ -46,7 +46,7 @@ impl<A: Allocator + Copy> Model for Unquoter<A> {
     ghost invariant = { λ u. (ended_lines u.front.items ≡ 0) × (u.passed + length u.digits.items < u.line) };
 }
 
-/// How many lines of digits at the front are before a line.
+/// Returns the number of lines of `digits` at the front that are before `line`.
 #[tactic(auto, using(crate::proofs::Unquotings::starts_here, crate::proofs::Unquotings::none_starts))]
 fn gone_before(digits: &[u64], line: u64) -> usize
     ensures within { result ≤ length digits.now }
@@ -61,7 +61,7 @@ fn gone_before(digits: &[u64], line: u64) -> usize
     digits.len()
 }
 
-/// Drops the first numbers.
+/// Drops the first `count` numbers of `digits`.
 fn drop_front<A: Allocator>(digits: &mut Vec<u64, A>, count: usize)
     requires { count ≤ length digits.old.items }
     ensures { digits.new.items ≡ drop count digits.old.items }
@@ -72,7 +72,7 @@ fn drop_front<A: Allocator>(digits: &mut Vec<u64, A>, count: usize)
 }
 
 impl<A: Allocator + Copy> Unquoter<A> {
-    /// At the beginning of a text. It takes no memory.
+    /// Returns an unquoter at the beginning of a text. It takes no memory.
     pub fn new(alloc: A) -> Unquoter<A>
         ensures { result ≡ spec.first_unquoting }
     {
@@ -86,7 +86,7 @@ impl<A: Allocator + Copy> Unquoter<A> {
         }
     }
 
-    /// Keeps bytes that end no line with the one that is unfinished.
+    /// Keeps `part`, which ends no line, with the line that is unfinished.
     fn keep(&mut self, part: &[u8]) -> Result<(), AllocError>
         requires { ended_lines part.now ≡ 0 }
         ensures quiet { ended_lines self.new.front ≡ 0 }
@@ -99,7 +99,7 @@ impl<A: Allocator + Copy> Unquoter<A> {
         self.front.extend_from_slice(part)
     }
 
-    /// Takes bytes that end no line.
+    /// Takes `part`, which ends no line.
     fn take(&mut self, part: &[u8], out: &mut Vec<u8, A>) -> Result<(), AllocError>
         requires { ended_lines part.now ≡ 0 }
         ensures { OnOk result ((added : List ℕ) × (out.new.items ≡ out.old.items ++ added)
@@ -113,7 +113,7 @@ impl<A: Allocator + Copy> Unquoter<A> {
         Ok(())
     }
 
-    /// Ends a line of which nothing was given: its plain form is added. Fails, too, for a text of 2^64 lines.
+    /// Ends a line of which nothing was given: appends its plain form to `out`. Fails, too, for a text of 2^64 lines.
     fn end_kept(&mut self, out: &mut Vec<u8, A>) -> Result<(), AllocError>
         ensures front { OnOk result (self.new.front ≡ []) }
         ensures line { OnOk result (self.new.line ≡ self.old.line + form.lines_of self.old.front) }
@@ -135,7 +135,7 @@ impl<A: Allocator + Copy> Unquoter<A> {
         Ok(())
     }
 
-    /// Ends the line that is unfinished. Fails, too, for a text of 2^64 lines.
+    /// Ends the line that is unfinished, and gives the rest of it to `out`. Fails, too, for a text of 2^64 lines.
     fn end_line(&mut self, out: &mut Vec<u8, A>) -> Result<(), AllocError>
         ensures { OnOk result ((added : List ℕ) × (out.new.items ≡ out.old.items ++ added)
             × Unquotes self.old self.new (10 ∷ []) added) }
@@ -154,7 +154,7 @@ impl<A: Allocator + Copy> Unquoter<A> {
         Ok(())
     }
 
-    /// Gives the line that is unfinished as it is, if that can't be one between quotes.
+    /// Gives the line that is unfinished to `out` as it is, if that can't be one between quotes.
     fn pass_on(&mut self, out: &mut Vec<u8, A>) -> Result<(), AllocError>
         ensures read { OnOk result ((added : List ℕ) × (out.new.items ≡ out.old.items ++ added)
             × Unquotes self.old self.new [] added) }
@@ -175,9 +175,9 @@ impl<A: Allocator + Copy> Unquoter<A> {
         Ok(())
     }
 
-    /// Takes the next piece, and adds the plain form of each line that is whole by now, and of the unfinished one what
-    /// came of it, if by its first 1,024 bytes that can't be one between quotes. After a failure nothing is known of
-    /// it.
+    /// Takes the next `piece`, and appends to `out` the plain form of each line that is whole by now, and of the
+    /// unfinished one what came of it, if by its first 1,024 bytes that can't be one between quotes. After a failure
+    /// nothing is known of it.
     pub fn push(&mut self, piece: &[u8], out: &mut Vec<u8, A>) -> Result<(), AllocError>
         ensures quiet { OnOk result (ended_lines self.new.front ≡ 0) }
         ensures empty { OnOk result (self.new.through ≡ true → self.new.front ≡ []) }
@@ -196,7 +196,7 @@ impl<A: Allocator + Copy> Unquoter<A> {
         Ok(())
     }
 
-    /// Adds what is left of a text that ended: a line without its end.
+    /// Appends what is left of a text that ended to `out`: a line without its end.
     pub fn finish(&self, out: &mut Vec<u8, A>) -> Result<(), AllocError>
         ensures memory { OnErr result (self.now.front ≢ []) }
         ensures added { OnOk result (out.new.items ≡ out.old.items ++ self.now.front) }
@@ -204,7 +204,7 @@ impl<A: Allocator + Copy> Unquoter<A> {
         out.extend_from_slice(&self.front)
     }
 
-    /// Forgets where lines of digits stand before this line of the plain form. Takes no memory.
+    /// Forgets the lines of digits before this `line` of the plain form. Takes no memory.
     pub fn forget(&mut self, line: u64)
         ensures { Forgets line self.old self.new }
     {
@@ -213,8 +213,8 @@ impl<A: Allocator + Copy> Unquoter<A> {
         self.passed += gone as u64;
     }
 
-    /// The line of the text whose plain form has this line, if that is none of those before what was forgotten. Takes
-    /// no memory.
+    /// Returns the line of the text whose plain form has this `line`, if that is none of those before what was
+    /// forgotten. Takes no memory.
     pub fn own_line(&self, line: u64) -> u64
         ensures { result ≡ spec.own_at self.now line }
     {

@@ -6,17 +6,15 @@
 //! parts of them, are shown in a style, by [`show_parts`]; that a message is explained, by [`capn_report`]; a run over
 //! an archive, which is a stream of messages of any length, by [`capn_archive`] or [`capn_serve`]; that bytes are
 //! packed or unpacked while they come in, by [`capn_flow`]; or that messages are made from texts, by [`capn_make`].
-//! [`end`], [`end_archive`], [`end_pick`], [`end_flow`] and [`end_make`] report how such a run ended. [`command_of`]
-//! reads the words where they order a command of [`capn_commands`], and [`run`] carries it out.
+//! [`end`] reports how such a run ended. [`command_of`] reads the words where they order a command of
+//! [`capn_commands`], and [`run`] carries it out.
 //!
 //! ```text
 //! let order = order_of(alloc, &["capn", "list", "--keep-going"])?;
 //! ```
 #![tactic(auto)]
 
-mod archive_faults;
 mod chosen_runs;
-mod endings;
 pub mod laws;
 mod message_run;
 mod only_run;
@@ -26,8 +24,6 @@ mod program_run;
 mod run_end;
 mod unordered;
 
-pub use archive_faults::archive_text;
-pub use endings::{end_archive, end_flow, end_make, end_pick, status_of_archive};
 pub use only_run::pick_only;
 pub use part_run::show_parts;
 pub use program_run::program;

@@ -1,4 +1,4 @@
--- A value of one kind is the same as no value of another.
+-- A value of one kind is the same as no value of another. (For `sameness.rt`.)
 use Rattle.std.proofs.Common.{◌≡◌, ℕ, List, Bool, false, refl, sym, ap, ap₂, ◌∙◌, ◌≢◌, suc, true, ◌&&◌, arith, min}
 use Rattle.std.proofs.Common.{length}
 use Rattle.std.proofs.Common.{take, drop, ◌-◌, length-drop, inl, inr}

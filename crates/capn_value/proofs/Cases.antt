@@ -1,4 +1,5 @@
--- What holds of a value of one kind, or of none of several kinds, as the arms of a match show it.
+-- The properties of a value of one kind, or of none of several kinds, as the arms of a match show it. (For
+-- `cost_and_height.rt`, `flaws.rt`, `part_flaws.rt` and `value.rt`.)
 use Rattle.std.proofs.Common.{◌≡◌, ℕ, List, Bool, true, false, ◌||◌, None, ◌⊎◌, inl, inr, refl, length, ap, ap₂, sym}
 use Rattle.std.proofs.Common.{◌∙◌, nat_lt}
 use Rattle.capn_value.specs.NumberWidth.{NumberWidth}

@@ -1,4 +1,5 @@
--- A value over another allocator: its tree is the same if its content is, or trimmed if its content is.
+-- A value over another allocator: its tree is the same if its content is, or trimmed if its content is. (For the cycle
+-- `anew` and `copy_of_plain`.)
 use Rattle.std.proofs.Common.{◌≡◌, ℕ, List, length, Bool, true, false, Option, ◌⊎◌, inl, inr, refl, sym, ap, ap₂, ◌∙◌}
 use Rattle.std.specs.Prelude.{Result}
 use Rattle.std.specs.Result.{IfOk}

@@ -1,4 +1,4 @@
--- The cost of a value, capped, from those of its parts.
+-- The cost of a value, capped, from those of its parts. (For the cycle `cost`.)
 use Rattle.std.proofs.Common.{◌≡◌, ℕ, ◌+◌, ◌<◌, ◌≤◌, ◌^◌, List, length, get_or, drop, min, refl, sym, ap, ap₂}
 use Rattle.std.proofs.Common.{◌∙◌, arith}
 use Rattle.std.proofs.Math.Path.{subst}

@@ -1,4 +1,5 @@
--- What a value holds is less deep than the value: why the functions on its parts end.
+-- The values below a value are less deep: so the functions on its parts end. (For `cost_and_height.rt`, `flaws.rt`,
+-- `sameness.rt` and others.)
 use Rattle.std.proofs.Common.{◌≡◌, ℕ, ◌+◌, ◌*◌, ◌<◌, ◌≤◌, List, length, get_or, ap, arith, rules}
 use denote.Param.Weighed.{most, at_most}
 use Rattle.capn_value.specs.declared.value.Value.{Value, Node, Links, Rows, size-Value, the_lemmas}

@@ -1,4 +1,4 @@
--- Repeated bytes, and the digits of bytes and of bits.
+-- Repeated bytes, and the digits of bytes and of bits. (For `text_lines.rt`.)
 use Rattle.std.proofs.Common.{rules, ◌≡◌, ℕ, zero, suc, ◌+◌, ◌*◌, ◌++◌, ◌<◌, ◌/◌, ◌%◌, Bool, true, false, List, [], ◌∷◌}
 use Rattle.std.proofs.Common.{◌≤◌, length, take, set, get_or, replicate, IsAscii, ap, ap₂, sym, refl, arith, ◌∙◌}
 use Rattle.std.specs.Prelude.{slice_index, Result, Ok, Err, IsOk, OnOk, is_ok, if◌then◌else◌}

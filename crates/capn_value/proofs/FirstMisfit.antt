@@ -1,4 +1,4 @@
--- The misfit of a value is the first of the six that holds.
+-- The misfit of a value is the first of the six that holds. (For `trimming`.)
 use Rattle.std.proofs.Common.{◌≡◌, ◌↔◌, Bool, true, false, cond, nat_lt, refl, Option, Some, None}
 use Rattle.capn_value.specs.Tree.{Tree}
 use Rattle.capn_value.specs.Cost.{height, base, cost, most_cost, most_height}

@@ -1,4 +1,4 @@
--- The first n trees of some.
+-- The first n trees of some. (For the cycle `anew` and `kept_slots`.)
 use Rattle.std.proofs.Common.{◌≡◌, ℕ, zero, suc, ◌+◌, ◌<◌, List, [], ◌∷◌, ◌++◌, length, min, take, drop, refl, sym, ap}
 use Rattle.std.proofs.Common.{ap₂, ◌∙◌, arith, get_or, add-one, Bool, true, false, Option, Some, None}
 use Rattle.std.proofs.lemmas.List.{take_all, take_min, length-take-le}

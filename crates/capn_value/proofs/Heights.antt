@@ -1,4 +1,4 @@
--- The height of a value, capped, from those of its parts.
+-- The height of a value, capped, from those of its parts. (For the cycle `height`.)
 use Rattle.std.proofs.Common.{◌≡◌, ℕ, ◌+◌, ◌<◌, ◌≤◌, List, length, get_or, drop, min, max, refl, ap, ◌∙◌, arith}
 use Rattle.capn_value.specs.TreeOf.{tree_of, trees_of, rows_of}
 use Rattle.capn_value.specs.Views.{tree_of-Node, tree_of-Links, tree_of-Rows}

@@ -1,4 +1,5 @@
--- How many words and slots are kept of a front, one shorter at a time.
+-- The numbers of words and slots that are kept of a front, one shorter at a time. (For `kept_slots`,
+-- `kept_slots_of_rows`, `kept_words` and `kept_words_of_rows`.)
 use Rattle.std.proofs.Common.{◌≡◌, ◌≢◌, ℕ, zero, suc, ◌+◌, ◌<◌, List, [], ◌∷◌, length, get_or, take, drop, max, arith}
 use Rattle.std.proofs.Common.{ap, ◌∙◌, Bool, true, false}
 use Rattle.std.proofs.lemmas.Bool.Decides.{nat_tests}

@@ -1,4 +1,5 @@
--- Which lists of numbers the five kinds of list are, as the arms of a match show it.
+-- The lists of numbers that the five kinds of list are, as the arms of a match show it. (For `cost_and_height.rt`,
+-- `part_flaws.rt`, `sameness.rt` and others.)
 use Rattle.std.proofs.Common.{◌≡◌, ℕ, List, [], ◌∷◌, Bool, true, false, map, refl, ap, ◌∙◌}
 use Rattle.std.specs.Prelude.{◌==◌}
 use Rattle.std.specs.Int.{from_bool}

@@ -1,4 +1,5 @@
--- A loop that writes a line for each number or word: one more, and all of them.
+-- A loop that writes a line for each number or word: one more, and all of them. (For `show_octs`, `show_pairs`,
+-- `show_quads` and `word_lines`.)
 use Rattle.std.proofs.Common.{◌≡◌, ℕ, ◌+◌, ◌<◌, List, ◌∷◌, ◌++◌, length, drop, codes, sym, ap, ◌∙◌, add-one}
 use Rattle.std.proofs.Common.{append_assoc}
 use Rattle.std.proofs.Math.Seq.{drop-cons}

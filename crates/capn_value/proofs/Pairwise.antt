@@ -1,4 +1,4 @@
--- A test of two lists, one pair after another, and a test of one.
+-- A test of two lists, one pair after another, and a test of one. (For the cycle `sameness` and `are_null`.)
 use Rattle.std.proofs.Common.{◌≡◌, ℕ, ◌+◌, ◌<◌, ◌≤◌, List, Bool, true, false, ◌&&◌, length, get_or, drop, min, arith}
 use Rattle.std.proofs.Common.{sym, ap, ap₂, ◌∙◌}
 use Rattle.capn_value.specs.TreeOf.{tree_of, trees_of, rows_of}

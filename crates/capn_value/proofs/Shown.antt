@@ -1,4 +1,4 @@
--- The text of a value, from those of its parts, and the room that its levels have.
+-- The text of a value, from those of its parts, and the room that its levels have. (For the cycle `show`.)
 use Rattle.std.proofs.Common.{◌≡◌, ℕ, ◌+◌, ◌*◌, ◌<◌, ◌≤◌, List, ◌++◌, length, codes, get_or, drop, max, sym, ap}
 use Rattle.std.proofs.Common.{ap₂, ◌∙◌, arith, append_assoc}
 use Rattle.std.proofs.lemmas.List.{append-nil}

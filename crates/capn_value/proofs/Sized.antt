@@ -1,4 +1,5 @@
--- A loop that tests or counts the sizes of rows: one more, and all of them.
+-- A loop that tests or counts the sizes of rows: one more, and all of them. (For `are_even`, `has_long_rows` and
+-- `has_wide_row`.)
 use Rattle.std.proofs.Common.{◌≡◌, ℕ, ◌+◌, ◌-◌, ◌^◌, ◌<◌, ◌≤◌, List, Bool, true, false, ◌||◌, ◌&&◌, length, get_or}
 use Rattle.std.proofs.Common.{drop, min, nat_lt, sym, ap, ap₂, ◌∙◌, arith}
 use Rattle.std.proofs.lemmas.Bool.Decides.{nat_tests}

@@ -1,4 +1,4 @@
--- What the getters tell of worked values, and what readers miss that don't ask for the kind.
+-- The answers of the getters for worked values, and those that readers miss who don't ask for the kind.
 use Rattle.std.proofs.Common.{◌≡◌, ℕ, zero, suc, ◌+◌, List, [], ◌∷◌, refl, sym}
 use Rattle.capn_value.specs.Tree.{Tree, nil, node, voids, numbers, rows, cap, no_trees, tree, no_bodies, body}
 use Rattle.capn_value.specs.NumberWidth.{byte}

@@ -17,7 +17,7 @@ use Rattle.capn_value.specs.declared.value.Value.{Cap}
 use Rattle.capn_value.specs.declared.value.Body.{Body}
 use Rattle.capn_value.specs.contracts.value.Value as stored
 
--- the declared value of a tree, and the lists that it holds, by what stands for a list of bits
+-- the declared value of a tree, and the lists that it holds; `bits_from` makes those of bits
 module _ (A : Type 0) (bits_from : List ℕ → List Bool) where
   -- a list of numbers
   abbrev pub numbers_of : NumberWidth → List ℕ → Value A
@@ -78,7 +78,7 @@ abbrev numbers_from : NumberWidth → List ℕ → List ℕ
 numbers_from bit xs = from_bits xs
 numbers_from _ xs = xs
 
--- a tree, and what it holds, from the tree of the value that it is stored as
+-- a tree, and the trees in it, from the tree of the value as which it is stored
 abbrev mutual
   pub stored_tree : Tree → Tree
   stored_tree (node ws ss) = node ws (stored_each ss)

@@ -1,4 +1,5 @@
--- Height and cost: how deep a reader goes, and what it pays. (Page: security considerations; the prices are our own.)
+-- Height and cost: the depth to which a reader goes, and the words that it pays. (Page: security considerations; the
+-- prices are our own.)
 use Rattle.std.specs.Prelude.{ℕ, ◌+◌, ◌*◌, ◌^◌, ◌==◌, max, length, cond}
 use Rattle.std.specs.Int.{div_ceil}
 use Rattle.capn_value.specs.declared.tariff.Tariff.{Tariff}
@@ -7,7 +8,7 @@ use Rattle.capn_value.specs.NumberWidth.{per_word}
 use Rattle.capn_value.specs.Tree.{Tree, nil, node, voids, numbers, links, rows, cap, Trees}
 use Rattle.capn_value.specs.Tree.{no_trees, tree, Bodies, no_bodies, body, count, count_rows, row_words}
 
--- what each content costs beside its size
+-- the cost of each content beside its size
 abbrev pub base : Tariff → ℕ
 base Strict = 1
 base Plain = 0
@@ -33,7 +34,7 @@ abbrev mutual
   greatest_in_rows no_bodies = 0
   greatest_in_rows (body ws slots bs) = max (greatest slots) (greatest_in_rows bs)
 
--- what a composite list costs beside its pointer and its tag: its words, or one for each row where rows have none
+-- the cost of a composite list beside its pointer and its tag: its words, or one for each row if rows have none
 unfoldable pub rows_price : Bodies → ℕ
 rows_price bs = cond (row_words bs == 0) (count_rows bs) (row_words bs)
 

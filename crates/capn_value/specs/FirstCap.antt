@@ -4,7 +4,8 @@ use Rattle.std.specs.Option.{option_or}
 use Rattle.capn_value.specs.Tree.{Tree, node, links, rows, cap, Trees}
 use Rattle.capn_value.specs.Tree.{no_trees, tree, Bodies, no_bodies, body}
 
--- in preorder: a value, then what its slots, rows or elements hold, in order, each with all below it before the next
+-- in preorder: a value, then the values in its slots, rows or elements, in order, each with all below it before the
+-- next
 abbrev mutual
   pub first_cap : Tree → Option ℕ
   first_cap (cap k) = Some k

@@ -1,4 +1,4 @@
--- Which values fit into a message, and the first reason why one doesn't. The greatest sizes are those that the
+-- The values that fit into a message, and the first reason why one doesn't. The greatest sizes are those that the
 -- pointers can count. (Page: structs, lists; the bounds on cost and height are our own.)
 use Rattle.std.specs.Prelude.{ℕ, ◌≡◌, ◌≤◌, Bool, true, false, cond, ◌||◌, ◌&&◌, not, nat_lt, ◌==◌, length, Option}
 use Rattle.std.specs.Prelude.{Some, None, List}
@@ -9,7 +9,7 @@ use Rattle.capn_value.specs.Cost.{height, base, cost, most_cost, most_height}
 use Rattle.capn_value.specs.declared.misfit.Misfit.{Misfit}
 use Rattle.capn_value.specs.declared.misfit.Misfit.TheVariants.{Wide, Long, Ragged, Costly, Tall, BadRoot}
 
--- whether a test holds of the value, or of one below it
+-- true if a test holds of the value, or of one below it
 module _ (test : Tree → Bool) where
   abbrev mutual
     pub anywhere : Tree → Bool
@@ -44,7 +44,7 @@ is_wide (node ws ss) = is_wide_body ws ss
 is_wide (rows bs) = has_wide_row bs
 is_wide _ = false
 
--- how many elements a list has
+-- the number of elements of a list
 abbrev pub elements : Tree → ℕ
 elements (voids n) = n
 elements (numbers w xs) = length xs
@@ -52,7 +52,7 @@ elements (links ts) = count ts
 elements (rows bs) = count_rows bs
 elements _ = 0
 
--- how many words the rows of a list have together, data words and slots
+-- the number of words that the rows of a list have together, data words and slots
 abbrev pub words_in_rows : Tree → ℕ
 words_in_rows (rows bs) = row_words bs
 words_in_rows _ = 0

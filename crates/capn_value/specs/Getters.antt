@@ -1,11 +1,12 @@
--- What a reader can ask of a value, whatever its schema: the getters, and what they tell along a path. (Page: structs,
--- lists, capabilities, default values.)
+-- The questions of a reader to a value, whatever its schema: the getters, and their answers along a path. (Page:
+-- structs, lists, capabilities, default values.)
 use Rattle.std.specs.Prelude.{ℕ, zero, suc, List, [], ◌∷◌, slice_index}
 use Rattle.capn_value.specs.NumberWidth.{NumberWidth}
 use Rattle.capn_value.specs.Tree.{Tree, nil, node, voids, numbers, links, rows, cap, Bodies, no_bodies, body, tree_at}
 use Rattle.capn_value.specs.Fits.{elements}
 
--- the kinds of what a pointer denotes: null, which `has` tells apart, a struct, a list by its elements, a capability
+-- the kinds of values that a pointer denotes: null, which `has` tells apart, a struct, a list by its elements, a
+-- capability
 pub data Kind : Type 0 where
   null : Kind
   struct : Kind
@@ -15,7 +16,7 @@ pub data Kind : Type 0 where
   list_of_structs : Kind
   capability : Kind
 
--- which kind it is of
+-- the kind of a value
 abbrev pub kind : Tree → Kind
 kind nil = null
 kind (node ws ss) = struct
@@ -25,12 +26,12 @@ kind (links ts) = list_of_pointers
 kind (rows bs) = list_of_structs
 kind (cap k) = capability
 
--- data word i of a struct, 0 past its end and where there is no struct
+-- data word i of a struct, 0 past its end and if there is no struct
 abbrev pub word : Tree → ℕ → ℕ
 word (node ws ss) i = slice_index ws i
 word _ i = 0
 
--- pointer j of a struct, null past its end and where there is no struct
+-- pointer j of a struct, null past its end and if there is no struct
 abbrev pub pointer : Tree → ℕ → Tree
 pointer (node ws ss) j = tree_at ss j
 pointer _ j = nil
@@ -46,7 +47,7 @@ row_at no_bodies i = nil
 row_at (body ws ss bs) zero = node ws ss
 row_at (body ws ss bs) (suc i) = row_at bs i
 
--- element i of a list of pointers, or of structs: of a struct neither its number of words nor of pointers is told
+-- element i of a list of pointers, or of structs: of a struct neither its number of words nor of pointers is given
 abbrev pub element : Tree → ℕ → Tree
 element (links ts) i = tree_at ts i
 element (rows bs) i = row_at bs i
@@ -62,17 +63,17 @@ pub data Step : Type 0 where
   to_pointer : ℕ → Step
   to_element : ℕ → Step
 
--- where a step leads
+-- the value to which a step leads
 abbrev pub next : Tree → Step → Tree
 next t (to_pointer j) = pointer t j
 next t (to_element i) = element t i
 
--- where a path leads, step by step
+-- the value to which a path leads, step by step
 abbrev pub at : Tree → List Step → Tree
 at t [] = t
 at t (s ∷ p) = at (next t s) p
 
--- all that is told of one value without a further step
+-- all answers about one value without a further step
 pub record Answer : Type 0 where
   pub kind : Kind
   pub word : ℕ → ℕ
@@ -83,6 +84,6 @@ pub record Answer : Type 0 where
 abbrev pub told : Tree → Answer
 told t = record { kind = kind t; word = word t; elements = elements t; number = number t; index = index t }
 
--- what the getters tell at the end of a path
+-- the answer of the getters at the end of a path
 abbrev pub get : Tree → List Step → Answer
 get t p = told (at t p)

@@ -1,4 +1,4 @@
--- What holds of the definitions, whatever the code does. (Own.)
+-- Laws of the definitions, whatever the code does. (Own.)
 use Rattle.std.specs.Prelude.{◌≡◌, ◌≤◌, ◌↔◌, List, Some}
 use Rattle.capn_value.specs.Tree.{Tree}
 use Rattle.capn_value.specs.Same.{Same}
@@ -31,14 +31,14 @@ FittingIsSixFacts = (t : Tree) → Fits t ↔ IsFit t
 abbrev pub MisfitIsFirst : Type 0
 MisfitIsFirst = (t : Tree) (k : Misfit) → (misfit t ≡ Some k) ↔ IsFirst k t
 
--- values are the same if and only if the getters tell the same of both along every path
+-- values are the same if and only if the getters give the same answers for both along every path
 abbrev pub SameExactlyToGetters : Type 0
 SameExactlyToGetters = (v w : Tree) → Same v w ↔ ((p : List Step) → get v p ≡ get w p)
 
--- then whatever is computed from what they tell is the same of both
+-- then anything that is computed from their answers is the same for both
 abbrev pub SameToReaders : Type 0
 SameToReaders = (v w : Tree) → Same v w ↔ (get v ≡ get w)
 
--- trimming changes nothing that they tell
+-- trimming changes no answer of theirs
 abbrev pub TrimmedIsToldAlike : Type 0
 TrimmedIsToldAlike = (v : Tree) (p : List Step) → get (trimmed v) p ≡ get v p

@@ -17,13 +17,13 @@ bits_in pair = 16
 bits_in quad = 32
 bits_in oct = 64
 
--- how many numbers are in a word
+-- the most numbers that a word holds
 abbrev pub per_word : NumberWidth → ℕ
 per_word w = 64 / bits_in w
 
 -- ---- read to here for the theorem
 
--- whether a number is a bit that is set
+-- true if a number is a bit that is set
 abbrev pub is_set : ℕ → Bool
 is_set n = n == 1
 

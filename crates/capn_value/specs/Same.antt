@@ -1,5 +1,4 @@
--- When two values are the same, up to trailing zero words and trailing null slots of structs. (Page:
--- canonicalization.)
+-- The sameness of two values, up to trailing zero words and trailing null slots of structs. (Page: canonicalization.)
 use Rattle.std.specs.Prelude.{ℕ, ◌≡◌, List, ⊤, slice_index}
 use Rattle.capn_value.specs.Tree.{Tree, nil, node, voids, numbers, links, rows, cap, Trees}
 use Rattle.capn_value.specs.Tree.{no_trees, tree, Bodies, no_bodies, body}

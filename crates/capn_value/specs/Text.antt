@@ -45,7 +45,7 @@ abbrev pub number_lines : ℕ → List ℕ → List ℕ
 number_lines level [] = []
 number_lines level (n ∷ ns) = line level (decimal n) ++ number_lines level ns
 
--- what the first line of a list of numbers calls it
+-- the name of a list of numbers in its first line
 abbrev pub numbers_name : NumberWidth → List ℕ
 numbers_name bit = codes "bits"
 numbers_name byte = codes "bytes"
@@ -63,7 +63,7 @@ numbers_lines _ level xs = number_lines level xs
 abbrev pub body_line : ℕ → ℕ → ℕ → List ℕ
 body_line level w s = line level (codes "struct " ++ (decimal w ++ 32 ∷ decimal s))
 
--- a first line with kind and size, then what it holds one level deeper
+-- a first line with kind and size, then the values in it, one level deeper
 abbrev mutual
   pub shown : ℕ → Tree → List ℕ
   shown level nil = line level (codes "null")

@@ -2,8 +2,8 @@
 use Rattle.std.specs.Prelude.{ℕ, zero, suc, ◌+◌, List, Bool, true, false, length}
 use Rattle.capn_value.specs.NumberWidth.{NumberWidth}
 
--- what a pointer denotes: null, a struct by its data words and slots, a list of elements of no size, of numbers of one
--- width, of pointers or of structs, or a capability by its index. Nothing bounds the numbers here
+-- the value that a pointer denotes: null, a struct by its data words and slots, a list of elements of no size, of
+-- numbers of one width, of pointers or of structs, or a capability by its index. Nothing bounds the numbers here
 mutual
   pub data Tree : Type 0 where
     nil : Tree
@@ -24,17 +24,17 @@ mutual
     no_bodies : Bodies
     body : List ℕ → Trees → Bodies → Bodies
 
--- how many there are
+-- the number of trees
 abbrev pub count : Trees → ℕ
 count no_trees = 0
 count (tree t ts) = suc (count ts)
 
--- how many rows there are
+-- the number of rows
 abbrev pub count_rows : Bodies → ℕ
 count_rows no_bodies = 0
 count_rows (body ws ss bs) = suc (count_rows bs)
 
--- whether it is null
+-- true if it is null
 abbrev pub is_null : Tree → Bool
 is_null nil = true
 is_null _ = false
@@ -63,7 +63,7 @@ abbrev pub joined : Trees → Trees → Trees
 joined no_trees us = us
 joined (tree t ts) us = tree t (joined ts us)
 
--- the same for rows
+-- the first rows, then the second
 abbrev pub joined_rows : Bodies → Bodies → Bodies
 joined_rows no_bodies cs = cs
 joined_rows (body ws ss bs) cs = body ws ss (joined_rows bs cs)

@@ -33,24 +33,24 @@ module _ {A : Type 0} where
   value_step (Value-F.Rows bs) = rows (rows_from bs)
   value_step (Value-F.Cap k) = cap k
 
-  -- what a body stands for: its words, and its slots as trees
+  -- the tree of a body: its words, and its slots as trees
   abbrev pub body_step : Body-F A Tree (List ℕ × Trees) → List ℕ × Trees
   body_step b = (b.words, trees b.slots)
 
-  -- what a value stands for
+  -- the tree of a value
   unfoldable pub tree_of : Value A → Tree
   tree_of = fold-Value A Tree (List ℕ × Trees) value_step body_step
 
-  -- what a body stands for
+  -- the tree of a body
   abbrev pub body_of : Body A → List ℕ × Trees
   body_of b = (b.words, trees (map tree_of b.slots))
 
-  -- what a list of values stands for
+  -- the trees of a list of values
   abbrev pub trees_of : List (Value A) → Trees
   trees_of [] = no_trees
   trees_of (v ∷ vs) = tree (tree_of v) (trees_of vs)
 
-  -- what a list of bodies stands for
+  -- the rows of a list of bodies
   abbrev pub rows_of : List (Body A) → Bodies
   rows_of [] = no_bodies
   rows_of (b ∷ bs) = body b.words (trees_of b.slots) (rows_of bs)

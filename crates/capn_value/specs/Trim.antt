@@ -3,7 +3,7 @@ use Rattle.std.specs.Prelude.{ℕ, ◌+◌, max, List, [], ◌∷◌, take, Bool
 use Rattle.capn_value.specs.Tree.{Tree, nil, node, voids, numbers, links, rows, cap, Trees}
 use Rattle.capn_value.specs.Tree.{no_trees, tree, Bodies, no_bodies, body, front, is_null}
 
--- one more than what is kept after it, unless this is empty too
+-- one more than the number that is kept after it, unless this is empty too
 abbrev pub kept_behind : Bool → ℕ → ℕ
 kept_behind empty n = cond (empty && (n == 0)) 0 (n + 1)
 
@@ -22,7 +22,7 @@ abbrev pub kept_words_of_rows : Bodies → ℕ
 kept_words_of_rows no_bodies = 0
 kept_words_of_rows (body ws ss bs) = max (kept_words ws) (kept_words_of_rows bs)
 
--- the same for slots
+-- the number of slots that each row of a list keeps: the most that one of them keeps
 abbrev pub kept_slots_of_rows : Bodies → ℕ
 kept_slots_of_rows no_bodies = 0
 kept_slots_of_rows (body ws ss bs) = max (kept_slots ss) (kept_slots_of_rows bs)

@@ -10,7 +10,7 @@ use Rattle.capn_value.specs.declared.value.Value.{Value, Nil, Node, Voids, Bits,
 use Rattle.capn_value.specs.declared.value.Value.{Cap, the_lemmas}
 use Rattle.capn_value.specs.declared.value.Body.{Body}
 
--- what each kind of declared value is seen as
+-- the view of each kind of declared value
 pub tree_of-Nil : (A : Type 0) → tree_of {A = A} Nil ≡ nil
 unfolding tree_of
 tree_of-Nil A = search (rules, the_lemmas)

@@ -20,17 +20,17 @@ pub const MOST_COST: u32 = 1 << 28;
 /// The greatest height of a value that fits.
 pub const MOST_HEIGHT: u32 = 256;
 
-/// One more than any value that fits costs, by either tariff.
+/// One more than the greatest cost of a value that fits, by either tariff.
 const DEAR: usize = 2 * MOST_COST as usize + 2;
 
-// The sum, or `DEAR` where it is more.
+// Returns `a + b`, or `DEAR` if that is more.
 fn plus(a: usize, b: usize) -> usize
     ensures { result ≡ min (a + b) sizes.dear }
 {
     a.saturating_add(b).min(DEAR)
 }
 
-// The words of a list of bytes.
+// Returns the number of words that the bytes `xs` take.
 fn byte_words(xs: &[u8]) -> usize
     ensures words { result ≡ div_ceil (length xs.now) 8 }
     ensures in_range { AllBelow (2 ^ 8) xs.now }
@@ -59,7 +59,7 @@ fn oct_words(xs: &[u64]) -> usize
     xs.len()
 }
 
-// What the rows of a list cost beside its pointer and tag, if they have `words` words together.
+// Returns the cost of the rows of a list beside its pointer and tag, if they have `words` words together.
 #[tactic(auto, using(std::proofs::lemmas::Grind::common_steps, crate::proofs::shared::Prices::prices))]
 fn capped_rows_price<A: Allocator>(bodies: &[Body<A>], words: usize) -> usize
     requires { words ≡ min (row_words (rows_of bodies.now)) sizes.dear }
@@ -72,7 +72,7 @@ fn capped_rows_price<A: Allocator>(bodies: &[Body<A>], words: usize) -> usize
     }
 }
 
-/// What the value costs in words, where each content costs `base` beside its size, or `DEAR` where that is more.
+/// Returns the cost of `v` in words, if each content costs `base` beside its size; or `DEAR`, if that is more.
 #[cycle(cost)]
 #[tactic(auto, using(std::proofs::lemmas::Grind::common_steps, crate::specs::Views::views))]
 pub fn capped_cost<A: Allocator>(v: &Value<A>, base: usize) -> usize
@@ -123,7 +123,7 @@ fn capped_costs<A: Allocator>(items: &[Value<A>], base: usize) -> usize
     sum
 }
 
-// The words of all rows together, and what their slots cost.
+// The number of words of all rows together, and the cost of their slots.
 #[derive(Drop)]
 struct RowSums {
     words: usize,
@@ -147,7 +147,7 @@ fn measured_rows<A: Allocator>(bodies: &[Body<A>], base: usize) -> RowSums
     RowSums { words, costs }
 }
 
-/// One more than the height of any value that fits.
+/// One more than the greatest height of a value that fits.
 const TALL: u32 = MOST_HEIGHT + 1;
 
 fn taller(below: u32) -> u32
@@ -156,7 +156,7 @@ fn taller(below: u32) -> u32
     below.saturating_add(1).min(TALL)
 }
 
-/// The height, or `TALL` where that is more.
+/// Returns the height of `v`, or `TALL` if that is more.
 #[cycle(height)]
 #[tactic(auto, using(std::proofs::lemmas::Grind::common_steps, crate::specs::Views::views))]
 pub fn capped_height<A: Allocator>(v: &Value<A>) -> u32

@@ -12,7 +12,7 @@ use crate::tariff::Tariff;
 use crate::value::{Body, Value};
 use std::alloc::Allocator;
 
-/// Which of the flaws that a part can have are in a value.
+/// The flaws found in a value, of those that a part can have.
 #[derive(Clone, Copy)]
 struct Flaws {
     wide: bool,
@@ -27,7 +27,7 @@ impl Flaws {
         ragged: false,
     };
 
-    // Those of either.
+    // Joins the flaws of both.
     fn or(self, other: Flaws) -> Flaws
         ensures wide { result.wide ≡ (self.wide || other.wide) }
         ensures long { result.long ≡ (self.long || other.long) }
@@ -41,7 +41,7 @@ impl Flaws {
     }
 }
 
-/// The first misfit of the value. One that has none is also in range.
+/// Finds the first misfit of `v`. A value that has none is also in range.
 #[tactic(auto, unfolding(crate::specs::Fits::misfit))]
 pub fn misfit<A: Allocator>(v: &Value<A>) -> Option<Misfit>
     ensures reason { result ≡ fits.misfit (tree_of v.now) }
@@ -75,7 +75,7 @@ fn is_root<A: Allocator>(v: &Value<A>) -> bool
     }
 }
 
-// The flaws of the value and of all below it.
+// Finds the flaws of `v` and of all below it.
 #[cycle(flaws_of)]
 fn flaws_of<A: Allocator>(v: &Value<A>) -> Flaws
     ensures wide { result.wide ≡ fits.anywhere fits.is_wide (tree_of v.now) }
@@ -117,7 +117,7 @@ fn flaws_of_rows<A: Allocator>(bodies: &[Body<A>]) -> Flaws
     found
 }
 
-// The flaws of the value itself.
+// Finds the flaws of `v` itself.
 #[tactic(auto, using(std::proofs::lemmas::Grind::common_steps, crate::specs::Views::views))]
 fn own_flaws<A: Allocator>(v: &Value<A>) -> Flaws
     ensures wide { result.wide ≡ fits.is_wide (tree_of v.now) }

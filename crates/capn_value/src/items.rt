@@ -29,7 +29,7 @@ impl<T, A: Allocator> Model for Items<T, A> {
 }
 
 impl<T, A: Allocator> Items<T, A> {
-    /// No elements. Takes no memory.
+    /// Returns an empty list over `alloc`. Takes no memory.
     pub fn new(alloc: A) -> Items<T, A>
         ensures { result ≡ [] }
     {
@@ -38,8 +38,8 @@ impl<T, A: Allocator> Items<T, A> {
         }
     }
 
-    /// No elements. Room for `capacity` of them is asked for at once, so that they are put in without taking more; for
-    /// none, nothing is.
+    /// Returns an empty list over `alloc`. Room for `capacity` elements is asked for at once, so that they are put in
+    /// without taking more; for none, nothing is.
     pub fn with_capacity(alloc: A, capacity: usize) -> Result<Items<T, A>, AllocError>
         ensures ok { IfOk result (λ it. it ≡ []) }
         ensures memory { OnErr result (0 < capacity) }
@@ -48,35 +48,35 @@ impl<T, A: Allocator> Items<T, A> {
         Ok(Items { items })
     }
 
-    /// The elements of a `Vec`. Takes no memory.
+    /// Wraps a `Vec`. Takes no memory.
     pub fn from_vec(items: Vec<T, A>) -> Items<T, A>
         ensures { result ≡ items.items }
     {
         Items { items }
     }
 
-    /// The `Vec` back. Takes no memory.
+    /// Gives the `Vec` back. Takes no memory.
     pub fn into_vec(self) -> Vec<T, A>
         ensures { result.items ≡ self }
     {
         self.items
     }
 
-    /// The elements in order.
+    /// Returns the elements in order.
     pub fn as_slice(&self) -> &[T]
         ensures { result.now ≡ self.now }
     {
         self.items.as_slice()
     }
 
-    /// How many elements there are.
+    /// Returns the number of elements.
     pub fn len(&self) -> usize
         ensures { result ≡ length self.now }
     {
         self.items.len()
     }
 
-    /// Whether there are none.
+    /// Returns `true` if there are no elements.
     pub fn is_empty(&self) -> bool
         ensures { IsTrue result ↔ (self.now ≡ []) }
     {
@@ -85,7 +85,7 @@ impl<T, A: Allocator> Items<T, A> {
 }
 
 impl<T: Copy, A: Allocator> Items<T, A> {
-    /// A copy of the slice, in memory of just its size.
+    /// Copies the slice `items`, in memory of just its size.
     pub fn from_slice(alloc: A, items: &[T]) -> Result<Items<T, A>, AllocError>
         ensures { IfOk result (λ it. it ≡ items.now) }
     {
@@ -95,7 +95,7 @@ impl<T: Copy, A: Allocator> Items<T, A> {
 }
 
 impl<T: Drop, A: Allocator> Items<T, A> {
-    /// Puts the element after the others. After a refusal the list is as it was.
+    /// Puts `item` after the others. After a refusal the list is as it was.
     pub fn push(&mut self, item: T) -> Result<(), AllocError>
         ensures ok { OnOk result (self.new ≡ self.old ++ item ∷ []) }
         ensures err { OnErr result (self.new ≡ self.old) }

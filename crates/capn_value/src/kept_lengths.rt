@@ -8,7 +8,7 @@ use crate::sameness::is_null;
 use crate::value::{Body, Value};
 use std::alloc::Allocator;
 
-/// How many words of a data section are kept: the least number after which every word is 0.
+/// Returns the number of `words` of a data section that are kept: the least after which every word is 0.
 #[tactic(auto, using(std::proofs::lemmas::Grind::common_steps, crate::proofs::Kept::kept))]
 pub fn kept_words(words: &[u64]) -> usize
     ensures { result ≡ cut.kept_words words.now }
@@ -20,7 +20,7 @@ pub fn kept_words(words: &[u64]) -> usize
     n
 }
 
-/// How many slots of a pointer section are kept: the least number after which every slot is null.
+/// Returns the number of `slots` of a pointer section that are kept: the least after which every slot is null.
 #[tactic(auto, using(std::proofs::lemmas::Grind::common_steps, crate::specs::Views::views, crate::proofs::Kept::kept))]
 pub fn kept_slots<A: Allocator>(slots: &[Value<A>]) -> usize
     ensures { result ≡ cut.kept_slots (trees_of slots.now) }
@@ -32,7 +32,7 @@ pub fn kept_slots<A: Allocator>(slots: &[Value<A>]) -> usize
     n
 }
 
-/// How many words each row of a list keeps: the most that one of them keeps by itself.
+/// Returns the number of words that each of the `rows` of a list keeps: the most that one of them keeps by itself.
 #[tactic(auto, using(std::proofs::lemmas::Grind::common_steps, crate::specs::Views::views))]
 pub fn kept_words_of_rows<A: Allocator>(rows: &[Body<A>]) -> usize
     ensures { result ≡ cut.kept_words_of_rows (rows_of rows.now) }
@@ -44,7 +44,7 @@ pub fn kept_words_of_rows<A: Allocator>(rows: &[Body<A>]) -> usize
     most
 }
 
-/// How many slots each row of a list keeps: the most that one of them keeps by itself.
+/// Returns the number of slots that each of the `rows` of a list keeps: the most that one of them keeps by itself.
 #[tactic(auto, using(std::proofs::lemmas::Grind::common_steps, crate::specs::Views::views))]
 pub fn kept_slots_of_rows<A: Allocator>(rows: &[Body<A>]) -> usize
     ensures { result ≡ cut.kept_slots_of_rows (rows_of rows.now) }

@@ -48,5 +48,5 @@ pub use tariff::Tariff;
 pub use tree::{Tree, copy, cost, height, show, trim};
 pub use value::{Body, Value, first_cap};
 
-// What the signatures above name.
+// The types in the signatures above.
 pub use capn_words::Memory;

@@ -3,7 +3,7 @@
 use std::error::Error;
 use std::fmt;
 
-/// Why a value fits into no message. (Own.) The reasons are in the order in which they are tested, and each
+/// The reason why a value fits into no message. (Own.) The reasons are in the order in which they are tested, and each
 /// is looked for in the whole value before the next.
 #[derive(Clone, Copy, Debug, PartialEq, Eq)]
 pub enum Misfit {

@@ -8,7 +8,7 @@ ghost use Rattle.capn_value.specs.Fits as fits;
 use crate::value::{Body, Value};
 use std::alloc::Allocator;
 
-/// Whether a struct here has more words or slots than its pointer can count.
+/// Returns `true` if `v` is a struct, or a list of structs, with more words or slots than a pointer can count.
 #[tactic(auto, using(std::proofs::lemmas::Grind::common_steps, crate::specs::Views::views))]
 pub fn is_wide<A: Allocator>(v: &Value<A>) -> bool
     ensures { result ≡ fits.is_wide (tree_of v.now) }
@@ -39,10 +39,10 @@ fn has_wide_row<A: Allocator>(bodies: &[Body<A>]) -> bool
     false
 }
 
-/// As many elements as a list pointer can count.
+/// The most elements that a list pointer can count.
 const MOST_ELEMENTS: usize = 536_870_911;
 
-/// Whether a list here has more elements, or words in rows, than its pointer can count.
+/// Returns `true` if `v` is a list of more elements, or more words in rows, than a pointer can count.
 #[tactic(auto, using(std::proofs::lemmas::Grind::common_steps, crate::specs::Views::views))]
 pub fn is_long<A: Allocator>(v: &Value<A>) -> bool
     ensures { result ≡ fits.is_long (tree_of v.now) }
@@ -60,7 +60,7 @@ pub fn is_long<A: Allocator>(v: &Value<A>) -> bool
     }
 }
 
-// Whether the rows have more words together than a list may.
+// Returns `true` if the rows have more words together than a list may.
 #[tactic(auto, using(std::proofs::lemmas::Grind::common_steps, crate::specs::Views::views))]
 fn has_long_rows<A: Allocator>(bodies: &[Body<A>]) -> bool
     ensures { result ≡ nat_lt 536870911 (trees.row_words (rows_of bodies.now)) }
@@ -74,7 +74,7 @@ fn has_long_rows<A: Allocator>(bodies: &[Body<A>]) -> bool
     words > MOST_ELEMENTS
 }
 
-/// Whether two rows of a list here differ in size.
+/// Returns `true` if `v` is a composite list of which two rows differ in size.
 #[tactic(auto, using(std::proofs::lemmas::Grind::common_steps, crate::specs::Views::views))]
 pub fn is_ragged<A: Allocator>(v: &Value<A>) -> bool
     ensures { result ≡ fits.is_ragged (tree_of v.now) }
@@ -95,7 +95,7 @@ fn are_ragged<A: Allocator>(bodies: &[Body<A>]) -> bool
     }
 }
 
-// Whether each row has `words` words and `slots` slots.
+// Returns `true` if each row has `words` words and `slots` slots.
 #[tactic(auto, using(std::proofs::lemmas::Grind::common_steps, crate::specs::Views::views))]
 fn are_even<A: Allocator>(bodies: &[Body<A>], words: usize, slots: usize) -> bool
     ensures { result ≡ fits.are_even words slots (rows_of bodies.now) }

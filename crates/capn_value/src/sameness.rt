@@ -9,11 +9,11 @@ ghost use Rattle.capn_value.specs.inner.SameTest.{test, test_words, test_slots, 
 use crate::value::{Body, Value};
 use std::alloc::Allocator;
 
-/// Whether two values are equal up to trailing zero words and trailing null slots of structs, at every level.
-/// (Page: canonicalization.)
+/// Returns `true` if `v` and `w` are equal up to trailing zero words and trailing null slots of structs, at every
+/// level. (Page: canonicalization.)
 ///
-/// A pointer to an empty struct isn't null, elements of a list are all compared, and kinds of list stay apart.
-/// The values needn't fit. Takes no memory.
+/// A pointer to an empty struct isn't null, elements of a list are all compared, and kinds of list stay apart. The
+/// values needn't fit. Takes no memory.
 #[tactic(auto, using(crate::proofs::Decided::test_decides))]
 pub fn same<A: Allocator, B: Allocator>(v: &Value<A>, w: &Value<B>) -> bool
     ensures { IsTrue result ↔ Same (tree_of v.now) (tree_of w.now) }
@@ -21,7 +21,7 @@ pub fn same<A: Allocator, B: Allocator>(v: &Value<A>, w: &Value<B>) -> bool
     test(v, w)
 }
 
-/// Whether the value is null.
+/// Returns `true` if `v` is null.
 #[tactic(auto, using(std::proofs::lemmas::Grind::common_steps, crate::proofs::Apart::apart))]
 pub fn is_null<A: Allocator>(v: &Value<A>) -> bool
     ensures { result ≡ is_null (tree_of v.now) }
@@ -44,7 +44,7 @@ fn are_null<A: Allocator>(items: &[Value<A>]) -> bool
     true
 }
 
-// Word i of each is equal, 0 past the end.
+// Returns `true` if word i of each is equal, 0 past the end.
 fn test_words(a: &[u64], b: &[u64]) -> bool
     ensures { result ≡ test_words a.now b.now }
 {
@@ -88,7 +88,7 @@ fn test_bodies<A: Allocator, B: Allocator>(a: &Body<A>, b: &Body<B>) -> bool
         && test_slots(a.slots.as_slice(), b.slots.as_slice())
 }
 
-// Slot i of each is the same, null past the end.
+// Returns `true` if slot i of each is the same, null past the end.
 #[cycle(sameness)]
 #[tactic(auto, using(std::proofs::lemmas::Grind::common_steps, crate::proofs::Apart::apart))]
 fn test_slots<A: Allocator, B: Allocator>(a: &[Value<A>], b: &[Value<B>]) -> bool

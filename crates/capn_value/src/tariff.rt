@@ -3,8 +3,8 @@
 ghost use Rattle.std.specs.Prelude.{◌≡◌, ◌≤◌};
 ghost use Rattle.capn_value.specs.Cost as sizes;
 
-/// How visits are priced: each pays the words of the content that its slot leads to, and one for each element that has
-/// no size. (Own, after the page's security considerations.)
+/// The price of a visit: the words of the content that its slot leads to, and one for each element that has no size.
+/// (Own, after the page's security considerations.)
 #[derive(Clone, Copy, Debug, PartialEq, Eq)]
 pub enum Tariff {
     /// Each content costs 1 beside its size.
@@ -14,7 +14,7 @@ pub enum Tariff {
 }
 
 impl Tariff {
-    /// What each content costs beside its size, in words.
+    /// Returns the cost of each content beside its size, in words.
     #[inline(always)]
     pub fn base(self) -> u32
         ensures value { result ≡ sizes.base self }

@@ -7,7 +7,7 @@ ghost use Rattle.hex.specs.Hex.{encode_lower};
 
 use std::alloc::{AllocError, Allocator};
 
-// Two spaces for each level.
+// Appends two spaces for each level.
 fn indent<A: Allocator>(out: &mut String<A>, level: u32) -> Result<(), AllocError>
     ensures { OnOk result (string_bytes out.new ≡ string_bytes out.old ++ replicate (2 * level) 32) }
 {
@@ -17,7 +17,7 @@ fn indent<A: Allocator>(out: &mut String<A>, level: u32) -> Result<(), AllocErro
     Ok(())
 }
 
-/// A line of one word.
+/// Appends a line of one `word` at this `level` to `out`.
 #[tactic(auto, using(std::proofs::lemmas::Grind::common_steps), unfolding(crate::specs::Text::line))]
 pub fn plain_line<A: Allocator>(
     out: &mut String<A>,
@@ -30,7 +30,7 @@ pub fn plain_line<A: Allocator>(
     writeln!(out, "{word}")
 }
 
-/// A line of a word and a number.
+/// Appends a line of a `name` and the number `n` at this `level` to `out`.
 #[tactic(auto, using(std::proofs::lemmas::Grind::common_steps), unfolding(crate::specs::Text::line))]
 pub fn named_line<A: Allocator>(
     out: &mut String<A>,
@@ -44,7 +44,7 @@ pub fn named_line<A: Allocator>(
     writeln!(out, "{name} {n}")
 }
 
-/// The first line of a struct: how many words and slots it has.
+/// Appends the first line of a struct at this `level` to `out`: its number of `words` and of `slots`.
 #[tactic(auto, using(std::proofs::lemmas::Grind::common_steps), unfolding(crate::specs::Text::line))]
 pub fn body_line<A: Allocator>(
     out: &mut String<A>,
@@ -58,7 +58,7 @@ pub fn body_line<A: Allocator>(
     writeln!(out, "struct {words} {slots}")
 }
 
-/// A line of one number.
+/// Appends a line of the number `n` at this `level` to `out`.
 #[tactic(auto, using(std::proofs::lemmas::Grind::common_steps), unfolding(crate::specs::Text::line))]
 pub fn number_line<A: Allocator>(out: &mut String<A>, level: u32, n: u64) -> Result<(), AllocError>
     ensures { OnOk result (string_bytes out.new ≡ string_bytes out.old ++ text.line level (decimal n)) }
@@ -67,7 +67,7 @@ pub fn number_line<A: Allocator>(out: &mut String<A>, level: u32, n: u64) -> Res
     writeln!(out, "{n}")
 }
 
-/// The line of one data word, as a number: its most significant digit comes first.
+/// Appends the line of one data `word` at this `level` to `out`, as a number: its most significant digit comes first.
 #[tactic(auto, using(std::proofs::lemmas::Grind::common_steps), unfolding(crate::specs::Text::line))]
 pub fn word_line<A: Allocator>(out: &mut String<A>, level: u32, word: u64) -> Result<(), AllocError>
     ensures { OnOk result
@@ -79,7 +79,7 @@ pub fn word_line<A: Allocator>(out: &mut String<A>, level: u32, word: u64) -> Re
     out.push_str("\n")
 }
 
-/// A line of the bytes' digits.
+/// Appends a line of the digits of `bytes` at this `level` to `out`.
 #[tactic(auto, using(std::proofs::lemmas::Grind::common_steps), unfolding(crate::specs::Text::line))]
 pub fn bytes_line<A: Allocator>(
     out: &mut String<A>,
@@ -93,7 +93,7 @@ pub fn bytes_line<A: Allocator>(
     out.push_str("\n")
 }
 
-/// A line of a digit for each bit.
+/// Appends a line of a digit for each of `bits` at this `level` to `out`.
 #[tactic(auto, using(std::proofs::lemmas::Grind::common_steps), unfolding(crate::specs::Text::line))]
 pub fn bits_line<A: Allocator>(
     out: &mut String<A>,
@@ -131,7 +131,7 @@ fn push_block<A: Allocator>(out: &mut String<A>, bits: &[bool]) -> Result<(), Al
     out.push_str(text)
 }
 
-// Two digits for each byte.
+// Appends two digits for each byte.
 #[tactic(auto, using(std::proofs::lemmas::Grind::common_steps, crate::proofs::Digits::digits))]
 fn push_hex<A: Allocator>(out: &mut String<A>, bytes: &[u8]) -> Result<(), AllocError>
     ensures { OnOk result (string_bytes out.new ≡ string_bytes out.old ++ encode_lower bytes.now) }

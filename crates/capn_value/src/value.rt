@@ -7,7 +7,7 @@ ghost use Rattle.capn_value.specs.FirstCap as caps;
 use crate::items::Items;
 use std::alloc::{Allocator, Global};
 
-/// What a pointer denotes. (Page: structs, lists, capabilities.)
+/// The value that a pointer denotes. (Page: structs, lists, capabilities.)
 ///
 /// Kinds of list stay apart: an empty list of bytes is no empty list of voids.
 #[cycle(value)]
@@ -29,7 +29,7 @@ pub enum Value<A: Allocator = Global> {
     Quads(Items<u32, A>),
     /// A list of elements of eight bytes that are no pointers.
     Octs(Items<u64, A>),
-    /// A list of pointers, each by what it denotes.
+    /// A list of pointers, each as the value that it denotes.
     Links(Items<Value<A>, A>),
     /// A composite list: its elements are structs of one size.
     Rows(Items<Body<A>, A>),
@@ -43,14 +43,14 @@ pub enum Value<A: Allocator = Global> {
 pub struct Body<A: Allocator = Global> {
     /// The data section, word by word.
     pub words: Items<u64, A>,
-    /// The pointer section, each pointer by what it denotes.
+    /// The pointer section, each pointer as the value that it denotes.
     pub slots: Items<Value<A>, A>,
 }
 
-/// The index of the first capability in preorder; `None` if there is none.
+/// Returns the index of the first capability of `v` in preorder; `None` if there is none.
 ///
-/// Preorder: a value, then what its slots, rows or elements hold, in order, each with all below it before the
-/// next. (Own.) Takes no memory.
+/// Preorder: a value, then the values in its slots, rows or elements, in order, each with all below it before the next.
+/// (Own.) Takes no memory.
 #[cycle(first_cap)]
 pub fn first_cap<A: Allocator>(v: &Value<A>) -> Option<u32>
     ensures { result ≡ caps.first_cap (tree_of v.now) }

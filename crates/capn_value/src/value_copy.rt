@@ -14,7 +14,7 @@ use crate::sameness::is_null;
 use crate::value::{Body, Value};
 use std::alloc::{AllocError, Allocator};
 
-/// A list of plain elements, copied as a whole.
+/// Copies a list of plain elements as a whole.
 fn copied<T: Copy, A: Allocator, B: Allocator>(
     alloc: A,
     items: &Items<T, B>,
@@ -24,7 +24,7 @@ fn copied<T: Copy, A: Allocator, B: Allocator>(
     Items::from_slice(alloc, items.as_slice())
 }
 
-/// Puts what was made after the others, if it was made. After a refusal the list is as it was.
+/// Puts what was `made` after the others of `out`, if it was made. After a refusal the list is as it was.
 #[inline]
 pub fn push_made<T: Drop, A: Allocator>(
     out: &mut Items<T, A>,
@@ -36,7 +36,7 @@ pub fn push_made<T: Drop, A: Allocator>(
     out.push(made?)
 }
 
-/// The same value, over another allocator. Null takes no memory.
+/// Copies `v` to memory of `alloc`. Null takes no memory.
 pub fn copy_value<A: Allocator + Copy, B: Allocator>(
     alloc: A,
     v: &Value<B>,
@@ -50,7 +50,7 @@ pub fn copy_value<A: Allocator + Copy, B: Allocator>(
     anew(alloc, v, false)
 }
 
-/// The same value, which holds no other, over another allocator.
+/// Copies `v`, which holds no other value, to memory of `alloc`.
 pub fn copy_of_plain<A: Allocator, B: Allocator>(
     alloc: A,
     v: &Value<B>,
@@ -73,7 +73,7 @@ pub fn copy_of_plain<A: Allocator, B: Allocator>(
     }
 }
 
-/// The value with every body cut to what it keeps, at every level. Null takes no memory.
+/// Copies `v` with every body cut to what it keeps, at every level, to memory of `alloc`. Null takes no memory.
 pub fn trim_value<A: Allocator + Copy, B: Allocator>(
     alloc: A,
     v: &Value<B>,
@@ -87,7 +87,7 @@ pub fn trim_value<A: Allocator + Copy, B: Allocator>(
     anew(alloc, v, true)
 }
 
-// How many words and slots of the body are kept, if it is cut.
+// Returns the numbers of words and slots of the body that are kept, if it is cut.
 fn kept_of_body<A: Allocator>(body: &Body<A>, cut: bool) -> Option<(usize, usize)>
     ensures { result ≡ made.kept_of_body cut body.now.words (trees_of body.now.slots) }
 {
@@ -100,7 +100,7 @@ fn kept_of_body<A: Allocator>(body: &Body<A>, cut: bool) -> Option<(usize, usize
     ))
 }
 
-// How many words and slots of each row are kept, if they are cut.
+// Returns the numbers of words and slots of each row that are kept, if they are cut.
 fn kept_of_rows<A: Allocator>(rows: &[Body<A>], cut: bool) -> Option<(usize, usize)>
     ensures { result ≡ made.kept_of_rows cut (rows_of rows.now) }
 {
@@ -110,8 +110,8 @@ fn kept_of_rows<A: Allocator>(rows: &[Body<A>], cut: bool) -> Option<(usize, usi
     Some((kept_words_of_rows(rows), kept_slots_of_rows(rows)))
 }
 
-/// The value in new memory, over another allocator: with every body cut to what it keeps, or as it is. Null is a value
-/// like any other.
+/// Copies `v` to memory of `alloc`: with every body cut to what it keeps, if `cut` is true, or as it is. Null is a
+/// value like any other.
 #[cycle(anew)]
 pub fn anew<A: Allocator + Copy, B: Allocator>(
     alloc: A,
@@ -133,7 +133,7 @@ pub fn anew<A: Allocator + Copy, B: Allocator>(
     }
 }
 
-// The body cut to the words and slots that are kept, or whole.
+// Copies the body, cut to the words and slots that are kept, or whole.
 #[cycle(anew)]
 fn anew_body<A: Allocator + Copy, B: Allocator>(
     alloc: A,
@@ -150,7 +150,7 @@ fn anew_body<A: Allocator + Copy, B: Allocator>(
     Ok(Body { words, slots })
 }
 
-// The first `most` values, each in new memory.
+// Copies the first `most` values, each to new memory.
 #[cycle(anew)]
 fn anew_front<A: Allocator + Copy, B: Allocator>(
     alloc: A,
@@ -168,7 +168,7 @@ fn anew_front<A: Allocator + Copy, B: Allocator>(
     Ok(out)
 }
 
-// The rows, each cut to the words and slots that are kept, or whole.
+// Copies the rows, each cut to the words and slots that are kept, or whole.
 #[cycle(anew)]
 fn anew_rows<A: Allocator + Copy, B: Allocator>(
     alloc: A,

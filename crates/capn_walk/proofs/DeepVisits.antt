@@ -1,4 +1,5 @@
--- How many objects are one below another in a survey under way: what was met, and what is to come.
+-- The depth of a survey under way: of the visits that were made, and of those to come. (For `survey_in_room` and
+-- `survey_root`.)
 use Rattle.std.proofs.Common.{◌≡◌, ℕ, zero, suc, ◌+◌, ◌-◌, ◌<◌, ◌≤◌, max, List, [], ◌∷◌, ◌++◌, Result, Ok, Err, Option}
 use Rattle.std.proofs.Common.{refl, ap, sym, ◌∙◌, arith}
 use Rattle.capn_words.specs.declared.space.Place.{Place}

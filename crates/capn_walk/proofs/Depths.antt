@@ -1,4 +1,4 @@
--- The least depth under which a message is accepted.
+-- The least depth under which a message is accepted. (For `survey_depth_counted`.)
 use Rattle.std.proofs.Common.{◌≡◌, true, ℕ, zero, suc, ◌+◌, ◌-◌, ◌≤◌, List, [], ◌∷◌, ◌++◌, Result, Ok, Err, refl}
 use Rattle.std.proofs.Common.{ap, ap₂, sym, ◌∙◌, arith}
 use Rattle.capn_words.specs.declared.space.Place.{Place}

@@ -1,4 +1,4 @@
--- Where no visit is a fault, a value is at the place.
+-- If no visit is a fault, a value is at the place. (For `Answering` and `RootSurveys`.)
 use Rattle.std.proofs.Common.{◌≡◌, ℕ, zero, suc, ◌+◌, ◌-◌, ◌*◌, ◌≤◌, List, length, take}
 use Rattle.std.proofs.Common.{Result, Ok, Err, refl, ap, subst, arith, length-drop}
 use Rattle.std.specs.List.{flat_map}

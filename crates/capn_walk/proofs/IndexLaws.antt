@@ -1,4 +1,4 @@
--- The index of an accepted message can be read.
+-- The index of an accepted message can be read. (For `indexes`.)
 use Rattle.std.proofs.Common.{◌≡◌, ◌⊎◌, inl, inr, ℕ, zero, suc, ◌+◌, ◌-◌, ◌*◌, ◌<◌, ◌≤◌, List, [], ◌∷◌, ◌++◌}
 use Rattle.std.proofs.Common.{length, get_or, map}
 use Rattle.std.proofs.Common.{Result, Ok, Err, refl, ap, ap₂, sym, subst, ◌∙◌, arith, length-append}

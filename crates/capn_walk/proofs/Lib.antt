@@ -14,7 +14,6 @@ pub mod FilledRoom
 pub mod RootIndexes
 pub mod IndexLaws
 pub mod ValuesRead
-pub mod CapsMet
 pub mod Exists
 pub mod RootSurveys
 pub mod OwnReads

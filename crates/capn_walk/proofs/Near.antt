@@ -1,4 +1,5 @@
--- What a slot names, by the pointer that is there.
+-- The target of a slot, by the pointer that is there. (For the cycle `index_slots`, the cycle `walk` and
+-- `survey_in_room`.)
 use Rattle.std.proofs.Common.{◌≡◌, ◌∙◌, ℕ, ℤ, List, ap, sym}
 use Rattle.capn_words.specs.Message.{word_at}
 use Rattle.capn_words.specs.Pointers.{pointer_of}

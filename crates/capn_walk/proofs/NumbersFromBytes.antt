@@ -1,4 +1,4 @@
--- Numbers read from bytes, one after the other.
+-- Numbers read from bytes, one after the other. (For `bits_at`, `pairs_at`, `quads_at` and `words_at`.)
 use Rattle.std.proofs.Common.{◌≡◌, ℕ, ◌+◌, ◌*◌, ◌≤◌, List, [], ◌∷◌, ◌++◌, drop, slice_index, length, subst, sym, ap}
 use Rattle.std.proofs.Common.{◌∙◌, arith, length-drop}
 use Rattle.std.proofs.lemmas.Grind.{common_steps}

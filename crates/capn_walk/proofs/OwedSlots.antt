@@ -1,4 +1,4 @@
--- The slots of a frame, one by one.
+-- The slots of a frame, one by one. (For `index_visits.rt`, `slots_left.rt` and `survey_loop.rt`.)
 use Rattle.std.proofs.Common.{Bool, true, false, IsTrue, ◌↔◌, ◌≡◌, ℕ, zero, suc, ◌+◌, ◌-◌, ◌*◌, ◌<◌, [], ◌∷◌, ◌++◌}
 use Rattle.std.proofs.Common.{refl, arith}
 use Rattle.capn_walk.specs.Visits.{places, row_places}

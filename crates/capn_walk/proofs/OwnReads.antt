@@ -1,4 +1,4 @@
--- What is paid for an object pays for what is read of its own words.
+-- The price of an object pays for the reads of its own words. (For the cycle `walk`.)
 use Rattle.std.proofs.Common.{ℕ, zero, suc, ◌+◌, ◌*◌, ◌≡◌, ◌≤◌, ◌==◌, arith, false, if◌then◌else◌}
 use Rattle.std.proofs.lemmas.Bool.Decides.{nat_tests}
 use Rattle.capn_words.specs.declared.pointer.Width.TheVariants.{W0, W1, W8, W16, W32, W64, Link, Rows}

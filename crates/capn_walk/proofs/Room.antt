@@ -1,4 +1,4 @@
--- How long a segment may be.
+-- The greatest length of a segment. (For the cycle `walk`.)
 use Rattle.std.proofs.Common.{◌≡◌, ℕ, zero, suc, ◌+◌, ◌^◌, ◌≤◌, List, [], ◌∷◌, length, arith}
 use Rattle.std.proofs.lemmas.List.Sums.{sum_by-cons}
 use Rattle.capn_words.specs.Message.{IsMessage, segment_at, total}

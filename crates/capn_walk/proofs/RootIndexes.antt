@@ -1,4 +1,4 @@
--- An index of a whole message.
+-- An index of a whole message. (For `index_into_counted`.)
 use Rattle.std.proofs.Common.{◌≡◌, ◌⊎◌, inl, inr, true, ℕ, suc, ◌<◌, List, [], ◌∷◌, length, map, set}
 use Rattle.std.proofs.Common.{Ok, Err, refl, ap, sym, ◌∙◌}
 use Rattle.capn_words.specs.Message.{segment_at}

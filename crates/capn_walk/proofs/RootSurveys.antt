@@ -1,4 +1,4 @@
--- A survey of a whole message.
+-- A survey of a whole message. (For `survey_counted`, `survey_depth_counted` and `survey_root`.)
 use Rattle.std.proofs.Common.{◌≡◌, true, ℕ, ◌+◌, ◌-◌, ◌<◌, ◌≤◌, List, [], ◌∷◌, length, Option, Ok}
 use Rattle.std.proofs.Common.{ap, ap₂, sym, ◌∙◌, arith}
 use Rattle.std.specs.Option.{option_or}
@@ -23,7 +23,7 @@ use Rattle.capn_walk.proofs.shared.Judge.{judge-pays}
 use Rattle.capn_walk.proofs.shared.Stops.{accepted-within}
 use Rattle.capn_walk.proofs.RootWalks.{from-root}
 use Rattle.capn_walk.proofs.UnderWay.{option_or-none}
-use Rattle.capn_walk.proofs.CapsMet.{caps-at}
+use Rattle.capn_walk.proofs.shared.CapsMet.{caps-at}
 use Rattle.capn_walk.proofs.Exists.{exists-at}
 
 module _ (m : List (List ℕ)) (base : ℕ) where

@@ -1,4 +1,4 @@
--- What a walk from the root knows.
+-- The state of a walk from the root. (For `message_index.rt`, `message_survey.rt` and `message_walk.rt`.)
 use Rattle.std.proofs.Common.{◌≡◌, ◌⊎◌, inl, inr, Bool, true, false, if◌then◌else◌, ℕ, ◌^◌, ◌<◌, ◌≤◌, List, [], ◌∷◌}
 use Rattle.std.proofs.Common.{length, Ok, Err, refl, ap, ◌∙◌, arith}
 use Rattle.capn_words.specs.Message.{segment_at}

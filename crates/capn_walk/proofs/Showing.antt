@@ -1,4 +1,4 @@
--- A view of a slot shows the value there.
+-- A view of a slot shows the value there. (For `views_show_values`.)
 use Rattle.std.proofs.Common.{◌≡◌, ℕ, zero, suc, ◌+◌, ◌*◌, ◌<◌, List, length, slice_index, Ok, refl, ap, sym, ◌∙◌}
 use Rattle.std.proofs.Common.{arith}
 use Rattle.std.proofs.lemmas.List.{get_or-take}

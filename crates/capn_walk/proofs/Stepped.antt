@@ -1,4 +1,4 @@
--- A step of a view is one visit of a walk.
+-- A step of a view is one visit of a walk. (For `index_visits.rt`, `message_walk.rt`, `survey_loop.rt` and others.)
 use Rattle.std.proofs.Common.{◌≡◌, ℕ, ◌+◌, ◌-◌, ◌<◌, ◌≤◌, ◌==◌, nat_lt, List, [], ◌∷◌, length, Result, Ok}
 use Rattle.std.proofs.Common.{Err, None, refl, ap, sym, subst, ◌∙◌, arith, inr, true}
 use Rattle.std.proofs.lemmas.Bool.Decides.{nat_tests}

@@ -1,4 +1,4 @@
--- What a survey knows while it is under way.
+-- The state of a survey while it is under way. (For the cycle `index_slots` and `survey_in_room`.)
 use Rattle.std.proofs.Common.{◌*◌, ◌≡◌, inr, ℕ, ◌+◌, ◌-◌, ◌<◌, ◌≤◌, List, [], ◌∷◌, ◌++◌, length, Option, Some, None}
 use Rattle.std.proofs.Common.{Ok, refl, ap, sym, ◌∙◌, arith}
 use Rattle.std.proofs.lemmas.List.{append-nil}

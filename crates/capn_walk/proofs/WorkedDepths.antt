@@ -1,4 +1,4 @@
--- How many objects are one below another in small messages, computed from the definitions.
+-- The depths of small messages, computed from the definitions.
 use Rattle.std.proofs.Common.{◌≡◌, ℕ, List, [], ◌∷◌, refl}
 use Rattle.capn_words.specs.Pointers.{pointer_of}
 use Rattle.capn_target.specs.Target.{target}

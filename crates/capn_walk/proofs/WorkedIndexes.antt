@@ -1,4 +1,4 @@
--- What the indexes of small messages are, computed from the definitions.
+-- The indexes of small messages, computed from the definitions.
 use Rattle.std.proofs.Common.{◌≡◌, ℕ, zero, suc, List, [], ◌∷◌, refl, arith}
 use Rattle.capn_words.specs.Pointers.{pointer_of}
 use Rattle.capn_value.specs.NumberWidth.{byte}

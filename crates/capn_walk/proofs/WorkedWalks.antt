@@ -1,4 +1,4 @@
--- What the walks of small messages come to, computed from the definitions.
+-- The walks of small messages, computed from the definitions.
 use Rattle.std.proofs.Common.{◌≡◌, ℕ, List, [], ◌∷◌, refl}
 use Rattle.capn_words.specs.declared.space.Place.{Place}
 use Rattle.capn_words.specs.Pointers.{pointer_of}

@@ -1,4 +1,5 @@
 -- Lemmas that other crates may cite.
+pub mod CapsMet
 pub mod Costs
 pub mod Elements
 pub mod Fitting

@@ -1,5 +1,5 @@
--- Which messages are accepted within limits, what they denote and pay, and how the others are refused. (Page: security
--- considerations; own.)
+-- The messages that are accepted within limits, the values that they denote and the words that they pay, and the
+-- refusals of the others. (Page: security considerations; own.)
 use Rattle.std.specs.Prelude.{◌≡◌, ℕ, ◌+◌, ◌<◌, ◌≤◌, List, [], ◌∷◌, ◌++◌, length, Bool, true, false, Result, Ok, Err}
 use Rattle.std.specs.Prelude.{if◌then◌else◌, ⊤, ◌⊎◌}
 use Rattle.capn_words.specs.declared.space.Place.{Place}
@@ -15,7 +15,8 @@ use Rattle.capn_value.specs.Tree.{Tree}
 use Rattle.capn_walk.specs.Limits.{Bounds}
 use Rattle.capn_walk.specs.ValueAt.{IsAt}
 
--- ---- which visits are accepted within a budget, and which visit ends a walk. (Page: security considerations; own.)
+-- ---- the visits that are accepted within a budget, and the visit that ends a walk. (Page: security considerations;
+-- own.)
 
 -- the sum of the prices
 abbrev pub paid_of : List Visit → ℕ
@@ -50,17 +51,17 @@ pub record IsStop (budget : ℕ) (vs : List Visit) (fault : Fault) (at : Place) 
   pub sum : paid ≡ paid_of before
   pub number : visits ≡ 1 + length before
 
--- where the pointer to the root is
+-- the place of the root pointer
 abbrev pub root : Place
 root = record { segment = 0; word = 0 }
 
--- what the root of a message may be: anything but a capability (Own.)
+-- true if the root of a message may be this: anything but a capability (Own.)
 abbrev pub may_be_root : Target → Bool
 may_be_root (targets.Cap index) = false
 may_be_root _ = true
 
 module _ (message : List (List ℕ)) (base : ℕ) where
-  -- whether the root may be what it is, is tested once its target is known
+  -- if the root's pointer is good but names a capability, the only visit is the fault RootKind
   abbrev pub visits_at_root : Result Target Fault → List Visit → List Visit
   visits_at_root (Ok found) vs = if may_be_root found then vs else fails root faults.RootKind ∷ []
   visits_at_root (Err e) vs = vs
@@ -69,7 +70,7 @@ module _ (message : List (List ℕ)) (base : ℕ) where
   unfoldable pub root_visits : ℕ → List Visit
   root_visits depth = visits_at_root (target message root) (visits message base depth root)
 
--- ---- which messages are accepted within limits, what they denote and pay, and how the others are refused.
+-- ---- the messages that are accepted within limits, their values and prices, and the refusals of the others.
 
 -- the visits of a walk from the root, priced by the tariff of the limits and as deep as they go
 abbrev pub visits_within : List (List ℕ) → Bounds → List Visit
@@ -80,11 +81,11 @@ pub record IsAccepted (message : List (List ℕ)) (limits : Bounds) : Type 0 whe
   pub some : 0 < length (segment_at message 0)
   pub within : IsWithin limits.budget (visits_within message limits)
 
--- what the walk of an accepted message pays
+-- the words that the walk of an accepted message pays
 abbrev pub paid : List (List ℕ) → Bounds → ℕ
 paid message limits = paid_of (visits_within message limits)
 
--- how many visits it makes
+-- the number of visits that it makes
 abbrev pub number_of_visits : List (List ℕ) → Bounds → ℕ
 number_of_visits message limits = length (visits_within message limits)
 

@@ -1,9 +1,9 @@
--- How deep a message is. (Page: security considerations; own.)
+-- The depth of a message. (Page: security considerations; own.)
 use Rattle.std.specs.Prelude.{ℕ, ◌<◌, List}
 use Rattle.capn_walk.specs.Limits.{Bounds}
 use Rattle.capn_walk.specs.Accepted.{IsAccepted}
 
--- the same limits with another depth
+-- these limits with another depth
 abbrev pub at_depth : Bounds → ℕ → Bounds
 at_depth limits n = record {
   message_words = limits.message_words;

@@ -4,7 +4,7 @@ use Rattle.std.specs.Fmt.{decimal}
 use Rattle.capn_target.specs.Display.{fault_name}
 use Rattle.capn_walk.specs.declared.walk_answer.Stopped.{Stopped}
 
--- why and where a walk stopped, with what was paid and visited
+-- the reason and the place at which a walk stopped, with the words paid and the visits made
 abbrev pub stopped_text : Stopped → List ℕ
 stopped_text stopped =
     fault_name stopped.fault

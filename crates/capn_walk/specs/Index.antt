@@ -20,7 +20,7 @@ use Rattle.capn_walk.specs.Limits.{Bounds}
 use Rattle.capn_walk.specs.View.{slots_below, kind_of_list}
 use Rattle.capn_target.specs.Shapes.{IsInMessage}
 
--- what an entry says of what a pointer names, with the number of entries that the slot takes
+-- the entry of a slot by its target, with the number of entries that the slot takes
 abbrev pub entry_of : Target → ℕ → Entry
 entry_of targets.Nil n =
     record { start = 0; segment = 0; count = 0; span = n; words = 0; slots = 0; kind = kinds.Nil }
@@ -38,7 +38,7 @@ abbrev pub entered : Target → List Entry → List Entry
 entered found below = entry_of found (1 + length below) ∷ below
 
 module _ (message : List (List ℕ)) where
-  -- the entries of a slot by its target, and of what is below it (an accepted message has no slot that names nothing)
+  -- the entries of a slot by its target, and of the slots below it (an accepted message has no slot without a target)
   abbrev pub entries_by : (Place → List Entry) → Result Target Fault → List Entry
   entries_by below (Ok found) = entered found (flat_map below (slots_below found))
   entries_by below (Err e) = entered targets.Nil []
@@ -48,7 +48,7 @@ module _ (message : List (List ℕ)) where
   entries zero at = entries_by (λ p. []) (target message at)
   entries (suc d) at = entries_by (entries d) (target message at)
 
-  -- those of several slots, one after the other
+  -- the entries of several slots, one after the other
   abbrev pub entries_of : ℕ → List Place → List Entry
   entries_of d ps = flat_map (entries d) ps
 
@@ -56,11 +56,12 @@ module _ (message : List (List ℕ)) where
 abbrev pub index_of : List (List ℕ) → Bounds → List Entry
 index_of message limits = entries message limits.depth root
 
--- the room has the first entries, as many as go into it, and after them what it had
+-- the room has the first entries, as many as go into it, and after them its old ones
 abbrev pub filled : {A : Type 0} → List A → List A → List A
 filled es room = take (length room) es ++ drop (length es) room
 
--- the message is accepted, and the room has its index; the answer has what its walk pays and how many slots it visits
+-- the message is accepted, and the room has its index; the answer has the words that its walk pays and the number of
+-- slots that it visits
 pub record IsIndexed (message : List (List ℕ)) (limits : Bounds) (old new : List Entry) (t : Indexed) : Type 0 where
   pub accepted : IsAccepted message limits
   pub entries : new ≡ filled (index_of message limits) old
@@ -68,7 +69,7 @@ pub record IsIndexed (message : List (List ℕ)) (limits : Bounds) (old new : Li
   pub counts : t.visits ≡ number_of_visits message limits
   pub each : length (index_of message limits) ≡ number_of_visits message limits
 
--- the same, where a room has each entry in a form
+-- the room has the index, with each entry in a form
 pub record IsIndexedAs {A : Type 0} (form : Entry → A) (message : List (List ℕ)) (limits : Bounds) (old new : List A)
     (t : Indexed) : Type 0 where
   pub accepted : IsAccepted message limits
@@ -77,13 +78,13 @@ pub record IsIndexedAs {A : Type 0} (form : Entry → A) (message : List (List �
   pub counts : t.visits ≡ number_of_visits message limits
   pub each : length (index_of message limits) ≡ number_of_visits message limits
 
--- ---- what a reader of an index needs
+-- ---- the reader of an index
 
 -- a list of elements of one width, from a word on
 abbrev pub elements : Entry → Width → Target
 elements e width = targets.Content e.segment e.start (shapes.Many width e.count) 0
 
--- what an entry says that its slot names, by its kind
+-- the target of a slot by its entry and its kind
 abbrev pub by_kind : Kind → Entry → Target
 by_kind kinds.Nil e = targets.Nil
 by_kind kinds.Cap e = targets.Cap e.count
@@ -101,8 +102,9 @@ by_kind kinds.Links e = elements e Link
 abbrev pub entry_target : Entry → Target
 entry_target e = by_kind e.kind e
 
--- what an entry keeps of a target: all except its landing pads and the length of a composite list. So spare words after
--- the list's last row can't be found through an index; no value has them. (No target is a list of the width of rows.)
+-- the part of a target that an entry keeps: all except its landing pads and the length of a composite list. So spare
+-- words after the list's last row can't be found through an index; no value has them. (No target is a list of the width
+-- of rows.)
 abbrev pub kept : Target → Target
 kept (targets.Content s start (shapes.Rows c a b span) pads) =
     targets.Content s start (shapes.Rows c a b (c * (a + b))) 0
@@ -110,7 +112,7 @@ kept (targets.Content s start (shapes.Many Rows c) pads) = targets.Content s sta
 kept (targets.Content s start shape pads) = targets.Content s start shape 0
 kept found = found
 
--- what an entry keeps of what a slot names, or its fault
+-- the part of the target of a slot, or of its fault, that an entry keeps
 abbrev pub kept_of : Result Target Fault → Result Target Fault
 kept_of (Ok found) = Ok (kept found)
 kept_of (Err e) = Err e
@@ -129,7 +131,7 @@ beside es i zero = i
 beside es i (suc j) = beside es (i + (entry_at es i).span) j
 
 -- an entry of an index: its content lies inside its segment; the entries of its slots are, from the next entry on, one
--- after the other, each with what that slot names; and its own span ends with the last of them
+-- after the other, each with the target of that slot; and its own span ends with the last of them
 pub record IsReadable (message : List (List ℕ)) (es : List Entry) (i : ℕ) : Type 0 where
   pub inside : IsInMessage message (entry_target (entry_at es i))
   pub below : (j : ℕ) → j < length (slots_at es i) → (beside es (i + 1) j < i + (entry_at es i).span)
@@ -144,12 +146,12 @@ IndexesAreReadable = (message : List (List ℕ)) (limits : Bounds) → IsAccepte
     → (kept_of (target message root) ≡ Ok (entry_target (entry_at (index_of message limits) 0)))
     × ((i : ℕ) → i < length (index_of message limits) → IsReadable message (index_of message limits) i)
 
--- where a visit was made
+-- the place of a visit
 abbrev pub place_of : Visit → Place
 place_of (pays at n) = at
 place_of (fails at e) = at
 
--- the entries of an accepted message are those of its visits, one for one: each says what its visit's place names
+-- the entries of an accepted message are those of its visits, one for one: each has the target of its visit's place
 abbrev pub IndexesFollowVisits : Type 0
 IndexesFollowVisits = (message : List (List ℕ)) (limits : Bounds) → IsAccepted message limits
     → map (λ e. Ok (entry_target e)) (index_of message limits)

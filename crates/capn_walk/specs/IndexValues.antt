@@ -1,4 +1,4 @@
--- Which value an index says with the words of its message: no pointer is read again.
+-- The value that an index and the words of its message give: no pointer is read again.
 use Rattle.std.specs.Prelude.{◌≡◌, ◌↔◌, ℕ, suc, ◌+◌, ◌*◌, ◌<◌, List, length, Ok, ⊤}
 use Rattle.capn_words.specs.Message.{IsPlace}
 use Rattle.capn_words.specs.declared.space.Place.{Place}
@@ -16,7 +16,7 @@ use Rattle.capn_walk.specs.ValueAt.{IsAt, StandAt, AreNumbers, words_from}
 use Rattle.capn_walk.specs.Index.{index_of, entry_target, entry_at, beside, kept_of}
 
 module _ (message : List (List ℕ)) (es : List Entry) where
-  -- entry i says that its slot names an object of that shape, and what is said holds where its content starts
+  -- entry i says that its slot names an object of that shape, and the statement holds at the start of its content
   pub record EntryNames (i : ℕ) (shape : Shape) (Inside : ℕ → ℕ → Type 0) : Type 0 where
     pub segment : ℕ
     pub start : ℕ

@@ -52,7 +52,7 @@ abbrev pub ValuesFit : Type 0
 ValuesFit = (message : List (List ℕ)) (limits : Bounds) (v : Tree) → limits.budget ≤ most_cost
     → limits.depth ≤ most_height → IsValueOf message limits v → Fits v
 
--- the same by what it costs and how high it is
+-- the value of a message that is accepted costs at most what its walk pays, and is no higher than the limit
 abbrev pub ValuesAreCheap : Type 0
 ValuesAreCheap = (message : List (List ℕ)) (limits : Bounds) (v : Tree) → IsValueOf message limits v
     → (cost (base limits.tariff) v ≤ paid message limits) × (height v ≤ limits.depth)
@@ -64,7 +64,7 @@ DepthsAreHeights = (message : List (List ℕ)) (limits : Bounds) (v : Tree) (dep
 
 -- ---- targets
 
--- what the pointer at a place names lies inside its segment, which exists
+-- the target of the pointer at a place lies inside its segment, which exists
 abbrev pub TargetsLieInside : Type 0
 TargetsLieInside = (message : List (List ℕ)) (at : Place) (found : Target) → IsPlace message at
     → target message at ≡ Ok found → IsInMessage message found
@@ -92,7 +92,7 @@ abbrev pub StopsAreOne : Type 0
 StopsAreOne = (budget : ℕ) (vs : List Visit) (e f : Fault) (at to : Place) (p q k j : ℕ)
     → IsStop budget vs e at p k → IsStop budget vs f to q j → (e ≡ f) × (at ≡ to) × (p ≡ q) × (k ≡ j)
 
--- a message is refused for what its bytes are, never because memory runs out
+-- a message is refused for its bytes, never because memory runs out
 abbrev pub RefusedForTheirWords : Type 0
 RefusedForTheirWords = (message : List (List ℕ)) (limits : Bounds) (fault : Fault) (at : Place) (paid visits : ℕ)
     → IsWalkRefused message limits fault at paid visits → fault ≢ faults.Memory

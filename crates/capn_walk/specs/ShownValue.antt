@@ -1,4 +1,4 @@
--- What a view of a slot says of the value there.
+-- The value that a view of a slot shows.
 use Rattle.std.specs.Prelude.{◌≡◌, ℕ, zero, suc, ◌<◌, List, [], length, slice_index, Ok}
 use Rattle.capn_words.specs.declared.space.Place.{Place}
 use Rattle.capn_value.specs.Tree.{Tree, nil, node, voids, numbers, links, rows, cap, Trees}
@@ -54,7 +54,7 @@ pub record ShowsRows (message : List (List ℕ)) (found : Target) (bs : Bodies) 
   pub rows : rows_in found ≡ count_rows bs
   pub row : (i : ℕ) → i < count_rows bs → ShowsStruct message (row_of found i) (words_of_row bs i) (slots_of_row bs i)
 
--- what a view says of a target is what this value has
+-- a view shows of a target what this value has
 abbrev pub Shows : List (List ℕ) → Target → Tree → Type 0
 Shows message found nil = found ≡ targets.Nil
 Shows message found (cap k) = found ≡ targets.Cap k

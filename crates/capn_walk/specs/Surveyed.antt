@@ -1,4 +1,4 @@
--- What a survey reports of a list of visits beside its verdict.
+-- The report of a survey on a list of visits, beside its verdict.
 use Rattle.std.specs.Prelude.{◌≡◌, ℕ, List, [], ◌∷◌, Result, Ok, Option, Some, None}
 use Rattle.std.specs.Option.{option_or}
 use Rattle.capn_value.specs.Tree.{Tree}
@@ -17,14 +17,14 @@ abbrev pub cap_of : Result Target Fault → Option ℕ
 cap_of (Ok (targets.Cap k)) = Some k
 cap_of _ = None
 
--- that of the first visit of a capability
+-- the index of the first capability that is visited
 abbrev pub first_cap_of : List (List ℕ) → List Visit → Option ℕ
 first_cap_of message [] = None
 first_cap_of message (pays at n ∷ vs) = option_or (cap_of (target message at)) (first_cap_of message vs)
 first_cap_of message (fails at e ∷ vs) = first_cap_of message vs
 
--- the message is accepted, and a survey reports what its walk pays, how many visits it makes, and the first capability
--- of its value
+-- the message is accepted, and a survey reports the words that its walk pays, the number of its visits, and the first
+-- capability of its value
 pub record IsSurvey (message : List (List ℕ)) (limits : Bounds) (s : Surveyed) : Type 0 where
   pub value : Tree
   pub is : IsValueOf message limits value

@@ -1,4 +1,4 @@
--- What a view shows of a message: the target that a step found, and how many objects may be below it.
+-- The view of a message: the target that a step found, and the most objects that may be below it.
 use Rattle.std.specs.Prelude.{ℕ, ◌+◌, ◌*◌, ◌/◌, ◌%◌, ◌^◌, ◌==◌, nat_lt, List, [], length, slice_index, Result, Ok, Err}
 use Rattle.std.specs.Prelude.{Option, Some, None, if◌then◌else◌, ⊤}
 use Rattle.capn_words.specs.Message.{segment_at}
@@ -19,7 +19,7 @@ use Rattle.capn_walk.specs.Visits.{price, slots}
 use Rattle.capn_walk.specs.Accepted.{root, may_be_root}
 use Rattle.capn_walk.specs.ValueAt.{element, words_from}
 
--- a message, what was found in it, and how many objects may be below that
+-- a message, the target that was found in it, and the most objects that may be below that
 pub record Seen : Type 0 where
   pub message : List (List ℕ)
   pub found : Target
@@ -45,7 +45,7 @@ abbrev pub IsEntered : Result Target Fault → Type 0
 IsEntered (Ok (targets.Content s start shape pads)) = ⊤
 IsEntered _ = ⊥
 
--- the target of the root, where the root may be that
+-- the target of the root, if the root may be that
 abbrev pub rooted : Result Target Fault → Result Target Fault
 rooted (Ok found) = if may_be_root found then Ok found else Err faults.RootKind
 rooted (Err e) = Err e
@@ -56,7 +56,7 @@ stepped_to_root message base depth budget =
     if length (segment_at message 0) == 0 then Err faults.NoRoot else stepped base depth budget
     (rooted (target message root))
 
--- ---- what a view says
+-- ---- the answers of a view
 
 -- the kind of a list, by the width of its elements
 abbrev pub kind_of_list : Width → Kind
@@ -69,7 +69,7 @@ kind_of_list W64 = kinds.Octs
 kind_of_list Link = kinds.Links
 kind_of_list Rows = kinds.Rows
 
--- the kind of what a pointer names
+-- the kind of the target of a pointer
 abbrev pub kind_of : Target → Kind
 kind_of targets.Nil = kinds.Nil
 kind_of (targets.Cap k) = kinds.Cap
@@ -107,7 +107,7 @@ links_in _ = 0
 abbrev pub steps_in : Target → ℕ
 steps_in t = slots_in t + links_in t
 
--- where one of these is
+-- the place of one of these
 abbrev pub step_place : Target → ℕ → Place
 step_place (targets.Content s start (shapes.Node a b) pads) i = record { segment = s; word = start + a + i }
 step_place (targets.Content s start shape pads) i = record { segment = s; word = start + i }
@@ -126,7 +126,7 @@ number_in W16 ws i = element 4 16 ws i
 number_in W32 ws i = element 2 32 ws i
 number_in _ ws i = slice_index ws i
 
--- how many of them a word holds
+-- the number of them that a word holds
 abbrev pub per_word : Width → ℕ
 per_word W1 = widths.per_word bit
 per_word W8 = widths.per_word byte
@@ -148,7 +148,7 @@ number_of message (targets.Content s start (shapes.Many width n) pads) i =
     number_in width (words_from message s start) i
 number_of message _ i = 0
 
--- how many numbers a list has
+-- the length of a list of numbers
 abbrev pub numbers_in : Target → ℕ
 numbers_in (targets.Content s start (shapes.Many W0 n) pads) = 0
 numbers_in (targets.Content s start (shapes.Many Link n) pads) = 0
@@ -167,7 +167,7 @@ row_of (targets.Content s start (shapes.Rows n a b span) pads) i =
     targets.Content s (start + 1 + i * (a + b)) (shapes.Node a b) 0
 row_of found i = found
 
--- where the slots below a target are
+-- the places of the slots below a target
 abbrev pub slots_below : Target → List Place
 slots_below (targets.Content s start shape pads) = slots s start shape
 slots_below _ = []

@@ -16,7 +16,7 @@ pub data Visit : Type 0 where
   pays : Place → ℕ → Visit
   fails : Place → Fault → Visit
 
--- what an object costs beside its pads: `base` and its size, where a void counts as a word, and so does a row that has
+-- the cost of an object beside its pads: `base` and its size, where a void counts as a word, and so does a row that has
 -- none
 abbrev pub price : ℕ → Shape → ℕ
 price base (shapes.Node a b) = base + a + b
@@ -34,7 +34,7 @@ abbrev pub row_places : ℕ → ℕ → ℕ → ℕ → ℕ → List Place
 row_places s w a b zero = []
 row_places s w a b (suc n) = places s (w + a) b ++ row_places s (w + a + b) a b n
 
--- where the slots of an object are, in order
+-- the places of the slots of an object, in order
 abbrev pub slots : ℕ → ℕ → Shape → List Place
 slots s start (shapes.Node a b) = places s (start + a) b
 slots s start (shapes.Many Link n) = places s start n
@@ -42,13 +42,13 @@ slots s start (shapes.Many width n) = []
 slots s start (shapes.Rows n a b span) = row_places s (start + 1) a b n
 
 module _ (message : List (List ℕ)) (base : ℕ) where
-  -- a visit of a slot, where none may have content
+  -- a visit of a slot, if none may have content
   abbrev pub last_visit : Place → Result Target Fault → List Visit
   last_visit at (Ok (targets.Content s start shape pads)) = fails at faults.TooDeep ∷ []
   last_visit at (Ok found) = pays at 0 ∷ []
   last_visit at (Err e) = fails at e ∷ []
 
-  -- a visit of a slot, and of what is below it
+  -- a visit of a slot, and of the slots below it
   abbrev pub visit : (Place → List Visit) → Place → Result Target Fault → List Visit
   visit below at (Ok (targets.Content s start shape pads)) =
       pays at (price base shape + pads) ∷ flat_map below (slots s start shape)
@@ -61,6 +61,6 @@ module _ (message : List (List ℕ)) (base : ℕ) where
 
   -- ---- read to here for the theorem
 
-  -- those of several slots, one after the other
+  -- the visits of several slots, one after the other
   abbrev pub visits_of : ℕ → List Place → List Visit
   visits_of d ps = flat_map (visits d) ps

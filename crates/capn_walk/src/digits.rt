@@ -5,7 +5,8 @@ ghost use Rattle.capn_walk.specs.View as seen;
 
 use capn_words::Width;
 
-/// How many numbers of that width a word holds.
+/// Returns the most numbers of `width` that a word holds.
+#[inline(always)]
 pub fn per_word(width: Width) -> u32
     ensures value { result ≡ seen.per_word width }
     ensures some { 0 < result }
@@ -19,7 +20,8 @@ pub fn per_word(width: Width) -> u32
     }
 }
 
-/// The number of that width at a place of a word, counted from the least significant.
+/// Returns the number of `width` at `place` of `word`, counted from the least significant.
+#[inline(always)]
 pub fn digit(width: Width, word: u64, place: u32) -> u64
     requires { place < seen.per_word width }
     ensures { result ≡ seen.digit width word place }

@@ -9,7 +9,8 @@ use capn_target::{Shape, Target};
 use std::alloc::{Allocator, Global};
 use std::mem::size_of;
 
-/// A slot of a message: what its pointer names, and how many entries it takes with all below it. An entry is 24 bytes.
+/// A slot of a message: the target of its pointer, and the number of entries that it takes with all below it. An entry
+/// is 24 bytes.
 #[derive(Clone, Copy, Debug, PartialEq, Eq)]
 pub struct Entry {
     /// The index of the first word of the content in its segment; of a composite list that is its tag. Else 0.
@@ -18,33 +19,33 @@ pub struct Entry {
     pub segment: u32,
     /// The number of elements of a list, or of rows of a composite one; the index of a capability; else 0.
     pub count: u32,
-    /// How many entries it takes: its own and those of all slots below it. The next slot beside it has the entry that
-    /// is this number further on.
+    /// The number of entries that it takes: its own and those of all slots below it. The next slot beside it has the
+    /// entry that is this number further on.
     pub span: u32,
     /// The data words of a struct, or of each row of a composite list; else 0.
     pub words: u16,
     /// The pointers of a struct, or of each row of a composite list; else 0.
     pub slots: u16,
-    /// The kind of what its pointer names.
+    /// The kind of its target.
     pub kind: Kind,
 }
 
 impl Entry {
-    /// The size of an entry in bytes.
+    /// Returns the size of an entry in bytes.
     pub fn bytes() -> usize
         ensures { result ≡ 24 }
     {
         size_of::<Entry>()
     }
 
-    /// Null.
+    /// Returns the entry of a null slot.
     pub fn nil() -> Entry
         ensures { result ≡ entry_of Nil 1 }
     {
         Entry::of(Target::Nil, 1)
     }
 
-    /// The entry of a slot whose pointer names this, with its span.
+    /// Returns the entry of a slot with this `target`, which takes `span` entries.
     #[inline(always)]
     pub(crate) fn of(target: Target, span: u32) -> Entry
         ensures { result ≡ entry_of target span }
@@ -111,7 +112,7 @@ impl Entry {
     }
 }
 
-/// What an index comes to: the words that the walk of the message pays, and the number of entries.
+/// The sums of an index: the words that the walk of the message pays, and the number of entries.
 #[derive(Clone, Copy, Debug, PartialEq, Eq)]
 pub struct Indexed {
     /// The words paid: the sum of the prices of all visits.

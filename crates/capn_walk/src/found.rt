@@ -7,7 +7,7 @@ ghost use Rattle.capn_value.specs.TreeOf.{tree_of, trees_of, rows_of};
 use capn_value::{Body, Items, Value};
 use std::alloc::Allocator;
 
-/// The value of a slot, what was paid for it, and how many visits were made.
+/// The value of a slot, the words that were paid for it, and the number of visits that were made.
 #[derive(Drop)]
 pub struct Found<A: Allocator> {
     pub value: Value<A>,
@@ -16,7 +16,7 @@ pub struct Found<A: Allocator> {
 }
 
 impl<A: Allocator> Found<A> {
-    /// The value of a slot that has no content, which costs nothing.
+    /// Returns the finding of a slot with a `value` that has no content, which costs nothing.
     pub fn without_content(value: Value<A>) -> Found<A>
         ensures value { result.value ≡ value }
         ensures paid { result.paid ≡ 0 }
@@ -29,7 +29,7 @@ impl<A: Allocator> Found<A> {
         }
     }
 
-    /// The value of an object that has no slots, whose own price has been paid.
+    /// Returns the finding of an object with a `value` that has no slots, and whose own price has been paid.
     #[inline(always)]
     pub fn without_slots(value: Value<A>) -> Found<A>
         ensures value { result.value ≡ value }
@@ -54,7 +54,7 @@ pub struct FoundSlots<A: Allocator> {
 
 #[tactic(auto, using(capn_value::specs::Views::views))]
 impl<A: Allocator> FoundSlots<A> {
-    /// The struct of these slots.
+    /// Makes a struct of these slots and the data `words`.
     pub fn into_struct(self, words: Items<u64, A>) -> Found<A>
         ensures value { tree_of result.value ≡ trees.node words (trees_of self.items) }
         ensures paid { result.paid ≡ self.paid }
@@ -68,7 +68,7 @@ impl<A: Allocator> FoundSlots<A> {
         }
     }
 
-    /// The list of these pointers.
+    /// Makes a list of these pointers.
     pub fn into_list(self) -> Found<A>
         ensures value { tree_of result.value ≡ trees.links (trees_of self.items) }
         ensures paid { result.paid ≡ self.paid }
@@ -92,7 +92,7 @@ pub struct FoundRows<A: Allocator> {
 
 #[tactic(auto, using(capn_value::specs::Views::views))]
 impl<A: Allocator> FoundRows<A> {
-    /// The list of these rows.
+    /// Makes a composite list of these rows.
     pub fn into_list(self) -> Found<A>
         ensures value { tree_of result.value ≡ trees.rows (rows_of self.rows) }
         ensures paid { result.paid ≡ self.paid }

@@ -1,7 +1,7 @@
 //! The entries of slots, in preorder, put into a room.
 //!
 //! A slot costs at most thirteen reads and turns: its turn of the loop, and one before it that begins its row; its
-//! word; eight to find what it names; the length of the segment below it, and the last turn there.
+//! word; eight to find its target; the length of the segment below it, and the last turn there.
 
 ghost use Rattle.std.specs.Prelude.{◌≡◌, ◌+◌, ◌*◌, ◌<◌, ◌≤◌, ◌^◌, length, MatchResult};
 ghost use Rattle.capn_words.specs.Message.{segment_at, IsMessage, IsPlace};
@@ -22,7 +22,7 @@ use capn_target::{Fault, Target};
 use capn_words::{Place, Pointer, Space, split};
 use std::sync::ledger::Ledger;
 
-/// The entries of a slot whose target is known, from an index on.
+/// Writes the entries of the slot at `at`, whose target `found` is known, to `room` from index `first` on.
 #[cycle(index_slots)]
 #[inline(always)]
 pub fn index_found<S: Space, L: Ledger, F: EntryForm>(
@@ -90,7 +90,8 @@ pub fn index_found<S: Space, L: Ledger, F: EntryForm>(
     }
 }
 
-/// The entries of a slot whose pointer is that of a struct or list that is near.
+/// Writes the entries of the slot at `at`, whose `pointer` is that of a struct or list that is near, to `room` from
+/// index `first` on.
 #[cycle(index_slots)]
 #[inline(always)]
 fn index_near<S: Space, L: Ledger, F: EntryForm>(
@@ -124,7 +125,7 @@ fn index_near<S: Space, L: Ledger, F: EntryForm>(
     )
 }
 
-/// The entries of a slot, whatever its pointer names.
+/// Writes the entries of the slot at `at`, whatever its target, to `room` from index `first` on.
 #[cycle(index_slots)]
 #[inline(never)]
 fn index_elsewhere<S: Space, L: Ledger, F: EntryForm>(
@@ -155,8 +156,8 @@ fn index_elsewhere<S: Space, L: Ledger, F: EntryForm>(
     )
 }
 
-/// The entries of a slot, from an index on. Near structs and near lists have an arm each, so that each is compiled for
-/// its form alone.
+/// Writes the entries of the slot at `at` to `room` from index `first` on. Near structs and near lists have an arm
+/// each, so that each is compiled for its form alone.
 #[cycle(index_slots)]
 #[inline(always)]
 fn index_slot<S: Space, L: Ledger, F: EntryForm>(
@@ -209,7 +210,8 @@ fn index_slot<S: Space, L: Ledger, F: EntryForm>(
     }
 }
 
-/// The entries of the slots of a frame, one after the other, each with all below it.
+/// Writes the entries of the `slots` of a frame to `room` from index `first` on, one after the other, each with all
+/// below it.
 #[cycle(index_slots)]
 #[inline(never)]
 fn index_frame<S: Space, L: Ledger, F: EntryForm>(

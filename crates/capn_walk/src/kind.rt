@@ -6,7 +6,7 @@ ghost use Rattle.capn_walk.specs.View as seen;
 use capn_target::{Shape, Target};
 use capn_words::Width;
 
-/// The kinds of what a pointer denotes, as those of a value.
+/// The kinds of the values that a pointer denotes.
 #[derive(Clone, Copy, Debug, PartialEq, Eq)]
 pub enum Kind {
     /// Null.
@@ -33,7 +33,7 @@ pub enum Kind {
     Cap,
 }
 
-/// The kind of what a pointer names.
+/// Returns the kind of the value that `target` is.
 #[inline(always)]
 pub fn kind_of(target: Target) -> Kind
     ensures { result ≡ seen.kind_of target }
@@ -54,7 +54,7 @@ pub fn kind_of(target: Target) -> Kind
     }
 }
 
-/// The kind of a list of elements of that width.
+/// Returns the kind of a list of elements of this `width`.
 #[inline(always)]
 pub fn kind_of_list(width: Width) -> Kind
     ensures { result ≡ seen.kind_of_list width }

@@ -10,14 +10,14 @@ ghost use Rattle.capn_walk.specs.ShownValue.{ViewsShow};
 ghost use Rattle.capn_walk.specs.Index.{IndexesAreReadable, IndexesFollowVisits};
 ghost use Rattle.capn_walk.specs.IndexValues.{IndexesSayValues, EntriesSayValues};
 
-/// A view of a slot shows the value that is there.
+/// States: a view of a slot shows the value that is there.
 pub fn views_show_values()
     ensures { (message : List (List ℕ)) (at : Place) (found : Target) (v : Tree) → ViewsShow message at found v }
 {}
 
-/// A message that is accepted has a value at its root. At most one value is at a place, one list of values in a number
-/// of slots, and one list of bodies in a number of rows; numbers are in range. The value of an accepted message fits,
-/// and costs at most what was paid. The least depth under which a message is accepted is the height of its value.
+/// States: a message that is accepted has a value at its root. At most one value is at a place, one list of values in a
+/// number of slots, and one list of bodies in a number of rows; numbers are in range. The value of an accepted message
+/// fits, and costs at most what was paid. The least depth under which a message is accepted is the height of its value.
 pub fn values()
     ensures readable { laws.AcceptedAreReadable }
     ensures one { laws.PlacesHaveOneValue }
@@ -29,17 +29,17 @@ pub fn values()
     ensures deep { laws.DepthsAreHeights }
 {}
 
-/// What the pointer at a place of a message names lies inside its segment, which exists; a value whose content is
-/// there is the value at that place. It names content exactly by one of three ways: near, by a landing pad of one word,
-/// by one of two.
+/// States: the target of the pointer at a place of a message lies inside its segment, which exists; a value whose
+/// content is there is the value at that place. A pointer names content exactly by one of three ways: near, by a
+/// landing pad of one word, by one of two.
 pub fn targets()
     ensures inside { laws.TargetsLieInside }
     ensures content { laws.ContentIsValue }
     ensures ways { laws.ContentByThreeWays }
 {}
 
-/// No message is both accepted and refused. Visits are within a budget, or have a first one that isn't, which is one.
-/// A message is refused for what it says, never because memory ran out.
+/// States: no message is both accepted and refused. Visits are within a budget, or have a first one that isn't, which
+/// is one. A message is refused for its own words, never because memory ran out.
 pub fn verdicts()
     ensures apart { laws.Apart }
     ensures decided { laws.Decided }
@@ -47,9 +47,10 @@ pub fn verdicts()
     ensures their_words { laws.RefusedForTheirWords }
 {}
 
-/// The index of an accepted message begins with its root. Each entry's content lies inside its segment, and the entries
-/// of its slots come after it, each a span further on, with what that slot names. There is one entry for each visit, in
-/// order. The value of the message is the one that its entries say with its words, and so is the value at each entry.
+/// States: the index of an accepted message begins with its root. Each entry's content lies inside its segment, and the
+/// entries of its slots come after it, each a span further on, with the target of that slot. There is one entry for
+/// each visit, in order. The value of the message is the one that its entries and its words give, and so is the value
+/// at each entry.
 pub fn indexes()
     ensures readable { IndexesAreReadable }
     ensures visits { IndexesFollowVisits }

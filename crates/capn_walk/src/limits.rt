@@ -16,9 +16,8 @@ const USUAL_WORDS: u32 = 8_388_608;
 /// The usual depth.
 const USUAL_DEPTH: u32 = 64;
 
-/// How much a reader takes on: the words of one framed message, from 1 to 2^28; the words that a walk pays,
-/// at most 2^28; the depth of objects, from 1 to 256, where the root object has depth 1; and the tariff by which visits
-/// are priced.
+/// The limits of a reader: the words of one framed message, from 1 to 2^28; the words that a walk pays, at most 2^28;
+/// the depth of objects, from 1 to 256, where the root object has depth 1; and the tariff by which visits are priced.
 /// (Page: security considerations; the ranges are our own.)
 #[derive(Clone, Copy, Debug, PartialEq, Eq)]
 pub struct Limits {
@@ -43,7 +42,8 @@ impl Model for Limits {
 }
 
 impl Limits {
-    /// Limits of these numbers, with the strict prices, or `None` exactly where one is out of its range.
+    /// Returns limits of `message_words`, `budget` and `depth`, with the strict prices, or `None` exactly if one is out
+    /// of its range.
     pub fn new(message_words: u32, budget: u32, depth: u32) -> Option<Limits>
         ensures some { IsSome result ↔ AreLimits message_words budget depth }
         ensures message_words { IfSome result (λ l. l.message_words ≡ message_words) }
@@ -65,8 +65,7 @@ impl Limits {
         }
     }
 
-    /// The usual limits: 8,388,608 words of a message and of a budget, a depth of 64, and the strict
-    /// prices.
+    /// Returns the usual limits: 8,388,608 words of a message and of a budget, a depth of 64, and the strict prices.
     pub fn usual() -> Limits
         ensures message_words { result.message_words ≡ 8388608 }
         ensures budget { result.budget ≡ 8388608 }
@@ -81,7 +80,7 @@ impl Limits {
         }
     }
 
-    /// The same limits with the prices of a tariff.
+    /// Returns these limits with the prices of `tariff`.
     pub fn with_tariff(self, tariff: Tariff) -> Limits
         ensures tariff { result.tariff ≡ tariff }
         ensures message_words { result.message_words ≡ self.message_words }
@@ -91,7 +90,7 @@ impl Limits {
         Limits { tariff, ..self }
     }
 
-    /// The tariff by which visits are priced.
+    /// Returns the tariff by which visits are priced.
     #[inline(always)]
     pub fn tariff(self) -> Tariff
         ensures { result ≡ self.tariff }
@@ -99,7 +98,7 @@ impl Limits {
         self.tariff
     }
 
-    /// The most words of one framed message.
+    /// Returns the most words of one framed message.
     pub fn message_words(self) -> u32
         ensures value { result ≡ self.message_words }
         ensures some { 1 ≤ result }
@@ -108,7 +107,7 @@ impl Limits {
         self.message_words
     }
 
-    /// The most words that a walk pays.
+    /// Returns the most words that a walk pays.
     pub fn budget(self) -> u32
         ensures value { result ≡ self.budget }
         ensures within { result ≤ most_cost }
@@ -116,7 +115,7 @@ impl Limits {
         self.budget
     }
 
-    /// The greatest depth of an object; that of the root is 1.
+    /// Returns the greatest depth of an object; that of the root is 1.
     pub fn depth(self) -> u32
         ensures value { result ≡ self.depth }
         ensures some { 1 ≤ result }

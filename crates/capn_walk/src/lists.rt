@@ -18,7 +18,7 @@ use capn_words::{Place, Space, Width};
 use std::alloc::{AllocError, Allocator};
 use std::sync::ledger::Ledger;
 
-/// The list of `count` elements whose content starts at a place.
+/// Copies the list of `count` elements of this `width` whose content starts at `at` to memory of `alloc`.
 #[tactic(auto, using(capn_value::specs::Views::views))]
 pub fn list_at<S: Space, A: Allocator + Copy, L: Ledger>(
     alloc: A,
@@ -46,7 +46,7 @@ pub fn list_at<S: Space, A: Allocator + Copy, L: Ledger>(
     }
 }
 
-/// `count` words.
+/// Copies `count` words from `at` on.
 #[inline(always)]
 pub fn words_at<S: Space, A: Allocator, L: Ledger>(
     alloc: A,
@@ -70,7 +70,7 @@ pub fn words_at<S: Space, A: Allocator, L: Ledger>(
     Ok(Items::from_vec(words))
 }
 
-/// `count` elements of four bytes.
+/// Copies `count` elements of four bytes from `at` on.
 fn quads_at<S: Space, A: Allocator, L: Ledger>(
     alloc: A,
     space: &CountedSpace<'_, S, L>,
@@ -93,7 +93,7 @@ fn quads_at<S: Space, A: Allocator, L: Ledger>(
     Ok(Items::from_vec(quads))
 }
 
-/// `count` elements of two bytes.
+/// Copies `count` elements of two bytes from `at` on.
 fn pairs_at<S: Space, A: Allocator, L: Ledger>(
     alloc: A,
     space: &CountedSpace<'_, S, L>,
@@ -116,7 +116,7 @@ fn pairs_at<S: Space, A: Allocator, L: Ledger>(
     Ok(Items::from_vec(pairs))
 }
 
-/// `count` bytes, by one copy.
+/// Copies `count` bytes from `at` on, by one copy.
 fn bytes_at<S: Space, A: Allocator, L: Ledger>(
     alloc: A,
     space: &CountedSpace<'_, S, L>,
@@ -133,7 +133,7 @@ fn bytes_at<S: Space, A: Allocator, L: Ledger>(
     space.bytes(at, count as usize, reads).into_items(alloc)
 }
 
-/// `count` bits, the least significant of each byte first.
+/// Copies `count` bits from `at` on, the least significant of each byte first.
 fn bits_at<S: Space, A: Allocator, L: Ledger>(
     alloc: A,
     space: &CountedSpace<'_, S, L>,
@@ -160,8 +160,8 @@ fn bits_at<S: Space, A: Allocator, L: Ledger>(
     Ok(Items::from_vec(bits))
 }
 
-/// The first `count` bits of a byte, the least significant first. Inlined, so that the loop over a whole byte is
-/// unrolled.
+/// Appends the first `count` bits of `byte` to `bits`, the least significant first. Inlined, so that the loop over a
+/// whole byte is unrolled.
 #[inline(always)]
 fn push_bits<A: Allocator>(bits: &mut Vec<bool, A>, byte: u8, count: usize)
     requires within { count ≤ 8 }
@@ -176,7 +176,7 @@ fn push_bits<A: Allocator>(bits: &mut Vec<bool, A>, byte: u8, count: usize)
     }
 }
 
-/// The bit at a place of a byte, counted from the least significant.
+/// Returns the bit at `place` of `byte`, counted from the least significant.
 fn bit_of(byte: u8, place: usize) -> bool
     requires { place < 8 }
     ensures { from_bool result ≡ byte / 2 ^ place % 2 }

@@ -20,15 +20,15 @@ use std::alloc::Allocator;
 use std::marker::Brand;
 use std::sync::ledger::{Blank, Ledger};
 
-/// Writes the index of a message that is accepted within the limits into a room, and answers how many entries there are
-/// and what the walk pays.
+/// Writes the index of the message `space`, if it is accepted within `limits`, to `room`, and returns the number of
+/// entries and the words that the walk pays.
 ///
 /// The room gets the first entries, as many as go into it, and keeps what it had after them: nothing is refused if it
 /// is too small. There is an entry for each visit, so `budget + 1` entries are always enough, and a room of 0 counts
 /// them.
 ///
-/// It visits the slots as [`walk`](crate::walk) and [`survey`] do and refuses what they refuse, in the same way. What
-/// the room has after a refusal is not said.
+/// It visits the slots as [`walk`](crate::walk) and [`survey`] do and refuses what they refuse, in the same way.
+/// Nothing is said of the room after a refusal.
 ///
 /// Memory: none but the stack, which has one frame for each object on the way down, at most as many as the depth limit.
 pub fn index_into<S: Space>(
@@ -48,9 +48,9 @@ pub fn index_into<S: Space>(
     index_into_with_ledger::<S, Brand, Plain>(space, limits, &Plain, room, Blank::new(1))
 }
 
-/// The same index, each of its entries written in a form.
+/// Writes the index of the message `space` to `room`, each of its entries in this `form`.
 ///
-/// It reads, answers, refuses and pays as [`index_into`] does, and takes no memory but the stack.
+/// It reads, answers, refuses under `limits` and pays as [`index_into`] does, and takes no memory but the stack.
 pub fn index_into_form<S: Space, F: EntryForm>(
     space: &S,
     limits: Limits,
@@ -70,7 +70,7 @@ pub fn index_into_form<S: Space, F: EntryForm>(
     index_into_with_ledger::<S, Brand, F>(space, limits, form, room, Blank::new(1))
 }
 
-/// The same, with a new ledger.
+/// Does what [`index_into_form`] does, with a count in the new ledger `blank`.
 fn index_into_with_ledger<S: Space, L: Ledger, F: EntryForm>(
     space: &S,
     limits: Limits,
@@ -95,7 +95,7 @@ fn index_into_with_ledger<S: Space, L: Ledger, F: EntryForm>(
     index_into_counted(&space, limits, form, room, &mut reads)
 }
 
-/// What [`index_into_form`] answers, by calls that count what they read, as for
+/// Does what [`index_into_form`] does, by calls that count their reads in `reads`, as for
 /// [`survey_counted`](crate::survey_counted). With the reads it counts the turns of its one loop.
 ///
 /// It reads and turns at most thirteen times for each visit that it answers or refuses with, and once more. So the
@@ -140,9 +140,9 @@ pub fn index_into_counted<S: Space, L: Ledger, F: EntryForm>(
     Ok(told)
 }
 
-/// The index of a message that is accepted within the limits, and what its walk pays.
+/// Makes the index of the message `space`, if it is accepted within `limits`, with the words that its walk pays.
 ///
-/// It refuses what [`survey`] refuses, in the same way. `Memory` comes only where a growth was refused.
+/// It refuses what [`survey`] refuses, in the same way. `Memory` comes only if a growth on `alloc` was refused.
 ///
 /// Memory: the entries, 24 bytes each, for which it asks once the message is accepted.
 pub fn index<S: Space, A: Allocator + Copy>(
@@ -150,7 +150,7 @@ pub fn index<S: Space, A: Allocator + Copy>(
     space: &S,
     limits: Limits,
 ) -> Result<Index<A>, Stopped>
-    // An answer: the message is accepted, and these are its entries and what its walk pays.
+    // An answer: the message is accepted, and these are its entries and the words that its walk pays.
     ensures accepted { OnOk result (IsAccepted (S.message space.now) limits) }
     ensures entries { IfOk result (λ x. x.entries.items ≡ index_of (S.message space.now) limits) }
     ensures pays { IfOk result (λ x. x.paid ≡ paid (S.message space.now) limits) }

@@ -23,20 +23,21 @@ use std::alloc::Allocator;
 use std::marker::Brand;
 use std::sync::ledger::{Blank, Ledger};
 
-/// What a message denotes, read from its root within limits, and what that paid.
+/// Reads the value that the message `space` denotes, from its root, within `limits`; returns it with the words that
+/// this paid and the number of visits.
 ///
-/// Slots are visited in preorder, each as often as a pointer leads to it, and each visit pays its price
-/// before anything of its content is read or memory is taken for it. So a hostile message, with cycles or
-/// shared objects, costs at most the budget.
+/// Slots are visited in preorder, each as often as a pointer leads to it, and each visit pays its price before anything
+/// of its content is read or memory is taken for it. So a hostile message, with cycles or shared objects, costs at most
+/// the budget.
 ///
-/// Refused with `NoRoot` at 0:0, paid 0 and visits 0, where segment 0 has no word. Else with the first visit
-/// that is a fault or brings the sum above the budget: the place of its slot, what was paid before it, and
-/// its number. At one visit the faults of `resolve` come first, then `RootKind`, `TooDeep` and `OverBudget`.
-/// `Memory` comes only where a growth was refused, in place of any later answer; its `paid` is at most the
-/// budget, and its `visits` at most one more than that `paid`.
+/// Refused with `NoRoot` at 0:0, paid 0 and visits 0, if segment 0 has no word. Else with the first visit that is a
+/// fault or brings the sum above the budget: the place of its slot, the words paid before it, and its number. At one
+/// visit the faults of `resolve` come first, then `RootKind`, `TooDeep` and `OverBudget`. `Memory` comes only if a
+/// growth was refused, in place of any later answer; its `paid` is at most the budget, and its `visits` at most one
+/// more than that `paid`.
 ///
-/// Memory: the tree's own. The stack holds at most as many objects as the depth limit.
-/// (Page: security considerations; the tariffs and the order of the faults are our own.)
+/// Memory: the tree's own, on `alloc`. The stack holds at most as many objects as the depth limit. (Page: security
+/// considerations; the tariffs and the order of the faults are our own.)
 pub fn walk<S: Space, A: Allocator + Copy>(
     alloc: A,
     space: &S,
@@ -69,7 +70,7 @@ pub fn walk<S: Space, A: Allocator + Copy>(
     walk_with_ledger::<S, A, Brand>(alloc, space, limits, Blank::new(1))
 }
 
-/// The same, with a new ledger.
+/// Does what [`walk`] does, with a count in the new ledger `blank`.
 fn walk_with_ledger<S: Space, A: Allocator + Copy, L: Ledger>(
     alloc: A,
     space: &S,
@@ -107,12 +108,12 @@ fn walk_with_ledger<S: Space, A: Allocator + Copy, L: Ledger>(
     walk_counted(alloc, &space, limits, &mut reads)
 }
 
-/// What [`walk`] answers, by calls that count what they read, as for [`survey_counted`](crate::survey_counted). Bytes
-/// count as one read for each word that they take. With the reads it counts the turns of its loops over slots and over
-/// rows.
+/// Reads the value that the message `space` denotes within `limits`, as [`walk`] does, by calls that count in `reads`,
+/// as for [`survey_counted`](crate::survey_counted). Bytes count as one read for each word that they take. With the
+/// reads it counts the turns of its loops over slots and over rows.
 ///
 /// It reads and turns at most ten times for each visit that it answers or refuses with, twice for each word paid, and
-/// once more. So the budget alone bounds its work, whatever the message says. Memory: as for [`walk`].
+/// once more. So the budget alone bounds its work, whatever the message says. Memory on `alloc`: as for [`walk`].
 pub fn walk_counted<S: Space, A: Allocator + Copy, L: Ledger>(
     alloc: A,
     space: &CountedSpace<'_, S, L>,
@@ -168,7 +169,8 @@ pub fn walk_counted<S: Space, A: Allocator + Copy, L: Ledger>(
     })
 }
 
-/// What the pointer to the root names: anything but a capability.
+/// Finds the target of the root pointer of the message `space`, or the first fault: `NoRoot`, if segment 0 has no word;
+/// `RootKind`, if it is a capability. It counts in `reads`.
 #[inline(always)]
 pub fn root_target<S: Space, L: Ledger>(
     space: &CountedSpace<'_, S, L>,
@@ -203,7 +205,7 @@ pub fn root_target<S: Space, L: Ledger>(
     }
 }
 
-/// Whether a target may be that of the root.
+/// Returns `true` if `target` may be that of the root.
 pub fn may_be_root(target: Target) -> bool
     ensures { result ≡ accepted.may_be_root target }
 {

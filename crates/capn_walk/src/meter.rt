@@ -29,7 +29,7 @@ impl Model for Meter {
 }
 
 impl Meter {
-    /// One that has paid nothing, of a budget of at most 2^28 words, with the strict prices.
+    /// Returns a meter that has paid nothing of a `budget` of at most 2^28 words, with the strict prices.
     pub fn new(budget: u32) -> Meter
         requires { budget ≤ most_cost }
         ensures budget { result.budget ≡ budget }
@@ -39,7 +39,7 @@ impl Meter {
         Meter::with_tariff(budget, Tariff::Strict)
     }
 
-    /// One that has paid nothing, of a budget of at most 2^28 words, with the prices of a tariff.
+    /// Returns a meter that has paid nothing of a `budget` of at most 2^28 words, with the prices of `tariff`.
     pub fn with_tariff(budget: u32, tariff: Tariff) -> Meter
         requires { budget ≤ most_cost }
         ensures budget { result.budget ≡ budget }
@@ -53,7 +53,7 @@ impl Meter {
         }
     }
 
-    /// The tariff by which its steps pay.
+    /// Returns the tariff by which its steps pay.
     #[inline(always)]
     pub fn tariff(&self) -> Tariff
         ensures { result ≡ self.now.tariff }
@@ -61,7 +61,7 @@ impl Meter {
         self.tariff
     }
 
-    /// The words paid.
+    /// Returns the words paid.
     pub fn paid(&self) -> u32
         ensures value { result ≡ self.now.paid }
         ensures within { result ≤ self.now.budget }
@@ -69,7 +69,7 @@ impl Meter {
         self.paid
     }
 
-    /// The words that may still be paid.
+    /// Returns the words that may still be paid.
     #[inline(always)]
     pub fn left(&self) -> u32
         ensures sum { self.now.paid + result ≡ self.now.budget }
@@ -79,7 +79,7 @@ impl Meter {
         self.left
     }
 
-    /// Pays a price, for which enough is left.
+    /// Pays `price`, for which enough is left.
     #[inline(always)]
     pub(crate) fn pay(&mut self, price: u32)
         requires { price ≤ left_of self.old }

@@ -6,8 +6,8 @@ ghost use Rattle.capn_walk.specs.Visits.{price};
 use capn_target::{Shape, content_words};
 use capn_words::Width;
 
-/// The price of an object after `pads` words of landing pad, in words: `base`, its words, and 1 for
-/// each element that has no size. A composite list pays all the words that its pointer says.
+/// Returns the price of an object of `shape` after `pads` words of landing pad, in words: `base`, its words, and 1 for
+/// each element that has no size. A composite list pays all the words that its pointer gives.
 #[inline(always)]
 pub fn price_of(shape: Shape, pads: u8, base: u32) -> u64
     ensures { result ≡ price base shape + pads }

@@ -6,7 +6,7 @@ ghost use Rattle.capn_walk.specs.declared.kind.Kind.TheVariants as kinds;
 
 use capn_target::{Shape, Target};
 
-/// The elements of a list; else 0.
+/// Returns the number of elements of a list `target`; else 0.
 #[inline(always)]
 pub fn len_of(target: Target) -> u32
     ensures value { result ≡ seen.len_of target }
@@ -27,7 +27,7 @@ pub fn len_of(target: Target) -> u32
     }
 }
 
-/// The data words of a struct; else 0.
+/// Returns the number of data words of a struct `target`; else 0.
 #[inline(always)]
 pub fn words_in(target: Target) -> u16
     ensures { result ≡ seen.words_in target }
@@ -43,7 +43,7 @@ pub fn words_in(target: Target) -> u16
     }
 }
 
-/// The slots of a struct; else 0.
+/// Returns the number of slots of a struct `target`; else 0.
 #[inline(always)]
 pub fn slots_in(target: Target) -> u16
     ensures { result ≡ seen.slots_in target }

@@ -31,12 +31,12 @@ pub struct SlotsLeft {
 pub struct Waiting {
     /// Its slots after that one.
     pub frame: SlotsLeft,
-    /// How many objects may be one below another, from each of these on.
+    /// The most objects that may be one below another, from each of these on.
     pub depth: u32,
 }
 
 impl SlotsLeft {
-    /// The slots of an object whose content starts at a place.
+    /// Returns the slots of an object of this `shape` whose content starts at `start`.
     #[inline(always)]
     pub fn of_object(start: Place, shape: Shape) -> SlotsLeft
         requires fits { RowsFit shape }
@@ -80,7 +80,7 @@ impl SlotsLeft {
         }
     }
 
-    /// Whether no slot is left.
+    /// Returns `true` if no slot is left.
     #[inline(always)]
     pub fn is_done(&self) -> bool
         requires { HasRows self.now }
@@ -89,7 +89,7 @@ impl SlotsLeft {
         self.left == 0 && self.rows == 0
     }
 
-    /// The same slots, of which the next row is in hand.
+    /// Returns these slots with the next row in hand.
     #[inline(always)]
     pub fn turned(self) -> SlotsLeft
         requires done { self.left ≡ 0 }
@@ -113,7 +113,7 @@ impl SlotsLeft {
         }
     }
 
-    /// The place of the next slot, and what is left after it.
+    /// Takes the next slot: returns its place, and the slots that are left after it.
     #[inline(always)]
     pub fn take(self) -> (Place, SlotsLeft)
         requires some { 0 < self.left }

@@ -14,8 +14,8 @@ use capn_target::{Fault, Target};
 use capn_words::{Place, Space};
 use std::sync::ledger::Ledger;
 
-/// The price of a step to a target, at most `depth` objects deep and with `left` words left to pay, where each content
-/// costs `base` beside its size.
+/// Returns the price of a step to `target`, at most `depth` objects deep and with `left` words left to pay, where each
+/// content costs `base` beside its size; `TooDeep` or `OverBudget`, if that is not allowed.
 #[inline(always)]
 pub fn price_within(target: Target, depth: u32, left: u32, base: u32) -> Result<u32, Fault>
     ensures found { MatchResult result (λ p. seen.stepped base depth left (Ok target) ≡ Ok target)
@@ -44,7 +44,7 @@ pub fn price_within(target: Target, depth: u32, left: u32, base: u32) -> Result<
     }
 }
 
-/// How deep a target is by itself: 1 for content, else 0.
+/// Returns the depth of `target` by itself: 1 for content, else 0.
 #[inline(always)]
 pub fn levels(target: Target) -> u32
     ensures { result ≡ level target }
@@ -55,7 +55,7 @@ pub fn levels(target: Target) -> u32
     }
 }
 
-/// The index of a capability.
+/// Returns the index of a capability; `None` of any other `target`.
 #[inline(always)]
 pub fn capability_of(target: Target) -> Option<u32>
     ensures { result ≡ seen.cap_in target }
@@ -66,7 +66,7 @@ pub fn capability_of(target: Target) -> Option<u32>
     }
 }
 
-/// The slots below a target.
+/// Returns the slots below `target`.
 #[inline(always)]
 pub fn slots_below<S: Space, L: Ledger>(space: &CountedSpace<'_, S, L>, target: Target) -> SlotsLeft
     requires message { IsMessage space.now }

@@ -1,6 +1,6 @@
 //! The answers of a survey.
 
-/// What a walk pays and visits, and the first capability that it meets.
+/// The words that a walk pays, the number of its visits, and the first capability that it meets.
 #[derive(Clone, Copy, Debug, PartialEq, Eq)]
 pub struct Surveyed {
     /// The words paid: the sum of the prices of all visits.
@@ -11,10 +11,10 @@ pub struct Surveyed {
     pub capability: Option<u32>,
 }
 
-/// What a survey answers that also learns how deep a message is.
+/// The answer of a survey that also finds the depth of a message.
 #[derive(Clone, Copy, Debug, PartialEq, Eq)]
 pub struct Measured {
-    /// What its walk pays and visits, and the first capability that it meets.
+    /// The words that its walk pays, the number of its visits, and the first capability that it meets.
     pub survey: Surveyed,
     /// The least depth under which it is accepted, or 0 if its root is null.
     pub depth: u32,

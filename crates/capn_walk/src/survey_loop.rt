@@ -25,8 +25,8 @@ use smallvec::SmallVec;
 use std::alloc::Allocator;
 use std::sync::ledger::Ledger;
 
-/// The visit of the root's slot, and then those below it, if there are any: only these need a stack. Where `DEEP`, it
-/// learns how deep they are.
+/// Visits the root's slot, whose `target` is known, and then those below it, if there are any: only these need a stack.
+/// If `DEEP`, it also finds how deep they are.
 #[inline(always)]
 pub fn survey_root<S: Space, A: Allocator + Copy, L: Ledger, const DEEP: bool>(
     alloc: A,
@@ -81,7 +81,7 @@ pub fn survey_root<S: Space, A: Allocator + Copy, L: Ledger, const DEEP: bool>(
     }
 }
 
-/// A refusal of a slot, with what was paid before it and its number.
+/// Returns a refusal of the slot at `place`: `fault`, with the words `paid` before it and its number, `visits`.
 #[inline(always)]
 fn stopped(fault: Fault, place: Place, paid: u32, visits: u32) -> Stopped
     ensures { result ≡ record { fault = fault; place = place; paid = paid; visits = visits } }
@@ -94,8 +94,8 @@ fn stopped(fault: Fault, place: Place, paid: u32, visits: u32) -> Stopped
     }
 }
 
-/// The visits of the slots of a frame, with all below them. Where `DEEP`, it learns how deep they are: it keeps the
-/// least depth that was left where content was met.
+/// Visits the slots of the frame `first`, with all below them. If `DEEP`, it also finds how deep they are: it keeps the
+/// least depth that was left at any content.
 ///
 /// Each place of a stack is filled before the first visit, so for the usual limits there is one that is smaller.
 #[inline(always)]
@@ -137,8 +137,8 @@ fn survey_slots<S: Space, A: Allocator + Copy, L: Ledger, const DEEP: bool>(
     }
 }
 
-/// The same, with a stack for `ROOM` objects that wait. Where `DEEP`, it learns how deep they are: it keeps the
-/// least depth that was left where content was met.
+/// Visits the slots of the frame `first`, with all below them, with a stack for `ROOM` objects that wait. If `DEEP`, it
+/// also finds how deep they are: it keeps the least depth that was left at any content.
 #[inline(never)]
 fn survey_in_room<S: Space, A: Allocator + Copy, L: Ledger, const DEEP: bool, const ROOM: usize>(
     alloc: A,

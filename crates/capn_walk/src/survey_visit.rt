@@ -18,7 +18,7 @@ use capn_target::{Fault, Target};
 use capn_words::{Place, Pointer, Space, Width};
 use std::sync::ledger::Ledger;
 
-/// What one visit comes to: its price, the capability that it meets, and the slots below it.
+/// The findings of one visit: its price, the capability that it meets, and the slots below it.
 #[derive(Clone, Copy)]
 pub struct Visited {
     /// Its price.
@@ -29,8 +29,8 @@ pub struct Visited {
     pub below: SlotsLeft,
 }
 
-/// One visit of a slot whose pointer is that of a near struct, at most `depth` objects deep, where `left` words
-/// are left to pay and each content costs `base` beside its size.
+/// Visits the slot at `at`, whose `pointer` is that of a near struct, at most `depth` objects deep, with `left` words
+/// left to pay; each content costs `base` beside its size.
 #[inline(always)]
 pub fn visit_struct<S: Space, L: Ledger>(
     space: &CountedSpace<'_, S, L>,
@@ -55,7 +55,8 @@ pub fn visit_struct<S: Space, L: Ledger>(
     visit_found(space, at, found, depth, left, base)
 }
 
-/// The price of a visit of a slot whose pointer is that of a near list of numbers.
+/// Returns the price of a visit of the slot at `at`, whose `pointer` is that of a near list of numbers, at most `depth`
+/// objects deep, with `left` words left to pay.
 #[inline(always)]
 pub fn visit_numbers<S: Space, L: Ledger>(
     space: &CountedSpace<'_, S, L>,
@@ -83,7 +84,7 @@ pub fn visit_numbers<S: Space, L: Ledger>(
     }
 }
 
-/// The same, whatever the slot names.
+/// Visits the slot at `at`, whatever its target, at most `depth` objects deep, with `left` words left to pay.
 #[inline(never)]
 pub fn visit_elsewhere<S: Space, L: Ledger>(
     space: CountedSpace<'_, S, L>,
@@ -103,7 +104,7 @@ pub fn visit_elsewhere<S: Space, L: Ledger>(
     visit_found(&space, at, found, depth, left, base)
 }
 
-/// What a visit of a slot answers whose target is known.
+/// Visits the slot at `at`, whose target `found` is known, at most `depth` objects deep, with `left` words left to pay.
 #[inline(always)]
 pub fn visit_found<S: Space, L: Ledger>(
     space: &CountedSpace<'_, S, L>,
@@ -133,7 +134,7 @@ pub fn visit_found<S: Space, L: Ledger>(
     }
 }
 
-/// Whether the elements of a list are numbers.
+/// Returns `true` if the elements of a list of this `width` are numbers.
 #[inline(always)]
 pub fn is_plain(width: Width) -> bool
     ensures { IsTrue result ↔ IsPlain width }
@@ -144,8 +145,8 @@ pub fn is_plain(width: Width) -> bool
     }
 }
 
-/// The lesser of two depths of which one is that of a visit, if this is a visit of content; the other where the depth
-/// isn't asked for.
+/// Returns the lesser of `least` and `depth`, that of a visit, if depths are asked for (`DEEP`) and this is a visit of
+/// content; else `least`.
 #[inline(always)]
 pub fn lowered<const DEEP: bool>(least: u32, depth: u32, capability: Option<u32>) -> u32
     ensures deep { (limit : ℕ) → IsTrue DEEP →

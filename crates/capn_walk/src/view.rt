@@ -20,7 +20,7 @@ use capn_target::{Fault, Shape, Target, resolve, segment_length};
 use capn_words::{Place, Space, Width};
 use std::marker::Model;
 
-/// What is in a slot of a message: null, a capability, or an object whose words are read where they lie.
+/// A slot of a message: null, a capability, or an object whose words are read in place.
 #[derive(Debug, Drop)]
 pub struct View<'s, S: Space> {
     space: &'s S,
@@ -41,7 +41,8 @@ impl<'s, S: Space> Model for View<'s, S> {
 }
 
 impl<'s, S: Space> View<'s, S> {
-    /// The root of a message, at most `depth` objects deep. The step pays by the tariff of the meter.
+    /// Steps to the root of the message `space`, at most `depth` objects deep. The step pays from `meter`, by its
+    /// tariff.
     pub fn root(space: &'s S, meter: &mut Meter, depth: u32) -> Result<View<'s, S>, Fault>
         ensures found { MatchResult result
             (λ v. seen.stepped_to_root (S.message space.now) (base meter.old.tariff) depth (left_of meter.old)
@@ -77,7 +78,7 @@ impl<'s, S: Space> View<'s, S> {
         }
     }
 
-    /// A slot of a struct, or an element of a list of pointers. The step pays by the tariff of the meter.
+    /// Steps to slot `i` of a struct, or element `i` of a list of pointers. The step pays from `meter`, by its tariff.
     pub fn slot(&self, i: u32, meter: &mut Meter) -> Result<View<'s, S>, Fault>
         requires { i < seen.steps_in self.now.found }
         ensures found { MatchResult result
@@ -109,14 +110,14 @@ impl<'s, S: Space> View<'s, S> {
         }
     }
 
-    /// What it shows.
+    /// Returns the kind of the value.
     pub fn kind(&self) -> Kind
         ensures { result ≡ seen.kind_of self.now.found }
     {
         kind_of(self.target)
     }
 
-    /// The elements of a list; else 0.
+    /// Returns the number of elements of a list; else 0.
     pub fn len(&self) -> u32
         ensures value { result ≡ seen.len_of self.now.found }
         ensures links { seen.kind_of self.now.found ≡ kinds.Links → result ≡ seen.links_in self.now.found }
@@ -125,28 +126,28 @@ impl<'s, S: Space> View<'s, S> {
         len_of(self.target)
     }
 
-    /// The data words of a struct; else 0.
+    /// Returns the number of data words of a struct; else 0.
     pub fn words(&self) -> u16
         ensures { result ≡ seen.words_in self.now.found }
     {
         words_in(self.target)
     }
 
-    /// The slots of a struct; else 0.
+    /// Returns the number of slots of a struct; else 0.
     pub fn slots(&self) -> u16
         ensures { result ≡ seen.slots_in self.now.found }
     {
         slots_in(self.target)
     }
 
-    /// The index of a capability.
+    /// Returns the index of a capability; else `None`.
     pub fn cap(&self) -> Option<u32>
         ensures { result ≡ seen.cap_in self.now.found }
     {
         capability_of(self.target)
     }
 
-    /// Where a struct's slot or an element of a list of pointers is.
+    /// Returns the place of slot `i` of a struct, or of element `i` of a list of pointers.
     #[inline]
     pub fn slot_place(&self, i: u32) -> Place
         requires { i < seen.steps_in self.now.found }
@@ -173,7 +174,7 @@ impl<'s, S: Space> View<'s, S> {
         }
     }
 
-    /// A data word of a struct.
+    /// Returns data word `i` of a struct.
     #[inline]
     pub fn word(&self, i: u32) -> u64
         requires { i < seen.words_in self.now.found }
@@ -193,7 +194,7 @@ impl<'s, S: Space> View<'s, S> {
         }
     }
 
-    /// A row of a list of structs, which the list has paid.
+    /// Returns row `i` of a list of structs, which the list has paid.
     #[inline]
     pub fn row(&self, i: u32) -> View<'s, S>
         requires { i < seen.rows_in self.now.found }
@@ -229,7 +230,7 @@ impl<'s, S: Space> View<'s, S> {
         }
     }
 
-    /// An element of a list of bits, bytes, pairs, quads or octs.
+    /// Returns element `i` of a list of bits, bytes, pairs, quads or octs.
     #[inline]
     pub fn number(&self, i: u32) -> u64
         requires { i < seen.numbers_in self.now.found }
@@ -256,7 +257,7 @@ impl<'s, S: Space> View<'s, S> {
         }
     }
 
-    /// The elements of a list of bytes.
+    /// Returns the elements of a list of bytes; else `None`.
     #[inline]
     pub fn bytes(&self) -> Option<&'s [u8]>
         ensures some { IsSome result ↔ (seen.kind_of self.now.found ≡ kinds.Bytes) }

@@ -10,7 +10,7 @@ use std::alloc::{Allocator, Global};
 use std::error::Error;
 use std::fmt;
 
-/// What a message denotes, with what its walk paid.
+/// The value that a message denotes, with the words that its walk paid.
 #[derive(Debug, Drop)]
 pub struct Walked<A: Allocator = Global> {
     /// The value at the root.
@@ -21,7 +21,7 @@ pub struct Walked<A: Allocator = Global> {
     pub visits: u32,
 }
 
-/// Why and where a walk stopped.
+/// The place and the reason at which a walk stopped.
 #[derive(Clone, Copy, Debug, PartialEq, Eq)]
 pub struct Stopped {
     /// The fault.
@@ -36,7 +36,7 @@ pub struct Stopped {
 }
 
 impl Stopped {
-    /// The same refusal after other visits, with what these paid and how many they were.
+    /// Returns this refusal as one after other visits, which paid `paid` words and were `visits`.
     pub(crate) fn behind(self, paid: u32, visits: u32) -> Stopped
         requires paid { paid + self.paid < 2 ^ 32 }
         requires visits { visits + self.visits < 2 ^ 32 }
@@ -71,7 +71,7 @@ impl fmt::Display for Stopped {
 
 impl Error for Stopped {}
 
-/// A refusal at the first visit.
+/// Returns a refusal of the slot at `place` for `fault`, at the first visit.
 pub(crate) fn stop(fault: Fault, place: Place) -> Stopped
     ensures { result ≡ record { fault = fault; place = place; paid = 0; visits = 1 } }
 {
@@ -83,7 +83,7 @@ pub(crate) fn stop(fault: Fault, place: Place) -> Stopped
     }
 }
 
-/// A growth was refused before any further visit.
+/// Returns the refusal of a growth before any further visit, at `place`.
 pub(crate) fn out_of_memory(place: Place) -> Stopped
     ensures { result ≡ record { fault = Memory; place = place; paid = 0; visits = 0 } }
 {

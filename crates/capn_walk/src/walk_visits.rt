@@ -1,8 +1,7 @@
-//! The visits of slots, in preorder.
-//! They find what each slot denotes, what was paid, and how many visits there were.
+//! The visits of slots, in preorder: the value of each slot, the words that were paid, and the number of visits.
 //!
-//! A slot costs at most ten reads and turns: its turn, its word, and eight to find what it names. The object that it
-//! names costs the words of its data, and a turn for each row, which is at most two for each word of its price.
+//! A slot costs at most ten reads and turns: its turn, its word, and eight to find its target. The object that it names
+//! costs the words of its data, and a turn for each row, which is at most two for each word of its price.
 
 ghost use Rattle.std.specs.Prelude.{◌≡◌, ◌≤◌, ◌+◌, ◌*◌, Ok, length, IfErr, MatchResult};
 ghost use Rattle.capn_words.specs.Message.{segment_at, IsMessage, IsPlace};
@@ -25,8 +24,8 @@ use capn_words::{Place, Pointer, Space, Width};
 use std::alloc::Allocator;
 use std::sync::ledger::Ledger;
 
-/// What a slot denotes, at most `depth` objects deep, where `left` words are left to pay and each content costs `base`
-/// beside its size. Near structs and near lists have an arm each, so that each is compiled for its form alone.
+/// Reads the value of the slot at `at`, at most `depth` objects deep, with `left` words left to pay; each content costs
+/// `base` beside its size. Near structs and near lists have an arm each, so that each is compiled for its form alone.
 #[cycle(walk)]
 #[inline(always)]
 fn walk_slot<S: Space, A: Allocator + Copy, L: Ledger>(
@@ -58,7 +57,7 @@ fn walk_slot<S: Space, A: Allocator + Copy, L: Ledger>(
     }
 }
 
-/// What a slot denotes whose pointer names near content.
+/// Reads the value of the slot at `at`, whose `pointer` names near content.
 #[cycle(walk)]
 #[inline(always)]
 fn walk_near<S: Space, A: Allocator + Copy, L: Ledger>(
@@ -87,7 +86,7 @@ fn walk_near<S: Space, A: Allocator + Copy, L: Ledger>(
     }
 }
 
-/// What a slot denotes, whatever it names.
+/// Reads the value of the slot at `at`, whatever its target.
 #[cycle(walk)]
 #[inline(never)]
 fn walk_elsewhere<S: Space, A: Allocator + Copy, L: Ledger>(
@@ -112,7 +111,8 @@ fn walk_elsewhere<S: Space, A: Allocator + Copy, L: Ledger>(
     }
 }
 
-/// What a slot denotes whose target is known. Its price is paid before anything of its content is read.
+/// Reads the value of the slot at `at`, whose `target` is known, at most `depth` objects deep, with `left` words left
+/// to pay. Its price is paid before anything of its content is read.
 #[cycle(walk)]
 #[inline(always)]
 pub fn walk_target<S: Space, A: Allocator + Copy, L: Ledger>(
@@ -162,7 +162,8 @@ pub fn walk_target<S: Space, A: Allocator + Copy, L: Ledger>(
     }
 }
 
-/// The object of the slot at a place, with what is below it. Its own price has been paid.
+/// Reads the object of the slot at `at`, with all below it; its content, of this `shape`, starts at `start`. Its own
+/// price has been paid.
 #[cycle(walk)]
 #[inline(always)]
 fn object<S: Space, A: Allocator + Copy, L: Ledger>(
@@ -253,7 +254,7 @@ fn object<S: Space, A: Allocator + Copy, L: Ledger>(
     }
 }
 
-/// The values of `count` slots, one after the other.
+/// Reads the values of `count` slots from word `start` of `segment` on, one after the other.
 #[cycle(walk)]
 #[inline(never)]
 fn walk_slots<S: Space, A: Allocator + Copy, L: Ledger>(
@@ -298,7 +299,7 @@ fn walk_slots<S: Space, A: Allocator + Copy, L: Ledger>(
     })
 }
 
-/// The bodies of `count` rows of the same sizes, one after the other.
+/// Reads the bodies of `count` rows, of `words` and `slots` each, from `start` on, one after the other.
 #[cycle(walk)]
 #[inline(never)]
 fn walk_rows<S: Space, A: Allocator + Copy, L: Ledger>(

@@ -1,4 +1,4 @@
--- A way that is followed leads where it is said to lead.
+-- A way that is followed leads where it is said to lead. (For `followed`, `held`, `holder_of` and `holders`.)
 use Rattle.std.proofs.Common.{◌≡◌, ℕ, zero, suc, ◌+◌, ◌<◌, ◌≤◌, List, [], ◌∷◌, ◌++◌, length, Result, Ok, Err}
 use Rattle.std.proofs.Common.{refl, ap, sym, ◌∙◌, arith, append_assoc, length-append, Option, Some, None}
 use Rattle.std.proofs.lemmas.List.{append-nil}

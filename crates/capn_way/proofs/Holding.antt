@@ -1,4 +1,4 @@
--- What holds the slot to which a way leads.
+-- The holder of the slot to which a way leads. (For `Followed`.)
 use Rattle.std.proofs.Common.{◌≡◌, ℕ, zero, suc, ◌+◌, ◌*◌, ◌<◌, ◌≤◌, List, [], ◌∷◌, ◌++◌, length, Result, Ok, Err}
 use Rattle.std.proofs.Common.{refl, ap, sym, ◌∙◌, arith, append_assoc, length-append, Option, Some, None, inl, inr}
 use Rattle.std.proofs.Common.{nat_lt}

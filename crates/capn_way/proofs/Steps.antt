@@ -1,4 +1,4 @@
--- The numbers of the slots of an object.
+-- The numbers of the slots of an object. (For `Followed`, `Holding`, `Leading` and others.)
 use Rattle.std.proofs.Common.{◌≡◌, ◌⊎◌, inl, inr, ℕ, zero, suc, ◌+◌, ◌*◌, ◌<◌, List, [], ◌∷◌, ◌++◌, length, map}
 use Rattle.std.proofs.Common.{refl, ap, ap₂, sym, ◌∙◌, arith, append_assoc, length-append, add_assoc}
 use Rattle.std.proofs.lemmas.List.{map-append}

@@ -1,4 +1,5 @@
--- The slot of a visit by its number, and that of the visit at which a walk stops.
+-- The slot of a visit by its number, and that of the visit at which a walk stops. (For `way_of_stop` and
+-- `way_of_visit`.)
 use Rattle.std.proofs.Common.{◌≡◌, inl, inr, ℕ, suc, ◌+◌, ◌-◌, List, [], ◌∷◌, ◌++◌, length, map}
 use Rattle.std.proofs.Common.{Result, Ok, Err, refl, ap, sym, ◌∙◌, arith}
 use Rattle.std.proofs.lemmas.List.{length-map}

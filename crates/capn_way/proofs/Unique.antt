@@ -1,4 +1,4 @@
--- A slot that a way leads to is met, and so one way at most leads to the slot of a visit.
+-- A slot that a way leads to is met, and so one way at most leads to the slot of a visit. (For `ways`.)
 use Rattle.std.proofs.Common.{◌≡◌, ℕ, zero, suc, ◌+◌, ◌-◌, ◌*◌, ◌/◌, ◌<◌, List, [], ◌∷◌, ◌++◌, length, map, Ok}
 use Rattle.std.proofs.Common.{refl, ap, ap₂, sym, ◌∙◌, arith, append_assoc}
 use Rattle.std.proofs.lemmas.List.{append-nil, length-map}

@@ -1,4 +1,5 @@
--- The slots that are met are those of the visits of a walk, in the same order.
+-- The slots that are met are those of the visits of a walk, in the same order. (For `Leading`, `Stopping` and
+-- `Unique`.)
 use Rattle.std.proofs.Common.{◌≡◌, ℕ, zero, suc, List, [], ◌∷◌, ◌++◌, length, map, Result, Ok, Err}
 use Rattle.std.proofs.Common.{refl, ap, ap₂, sym, ◌∙◌}
 use Rattle.std.proofs.lemmas.List.{map-append, length-map}

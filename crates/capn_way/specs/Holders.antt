@@ -11,16 +11,16 @@ use Rattle.capn_way.specs.declared.holder.Holder.{Holder}
 use Rattle.capn_way.specs.declared.holder.Holder.TheVariants.{Struct, Pointers, Row}
 use Rattle.capn_way.specs.Ways.{AreNumbersOf, Leads}
 
--- where word w of segment s is
+-- the place of word w of segment s
 abbrev pub place : ℕ → ℕ → Place
 place s w = record { segment = s; word = w }
 
--- where a row begins, of those of a words and b slots each of a list whose tag is word `start`
+-- the start of a row, of those of a words and b slots each of a list whose tag is word `start`
 abbrev pub row_start : ℕ → ℕ → ℕ → ℕ → ℕ
 row_start start a b row = start + 1 + row * (a + b)
 
--- what holds that slot of an object of which the numbers say which it is: the struct, the list of pointers, or of a
--- list of structs the row
+-- the holder of the slot of an object that these numbers name: the struct, the list of pointers, or of a list of
+-- structs the row
 abbrev pub IsHeldIn : Target → List ℕ → Holder → Type 0
 IsHeldIn (targets.Content s start (shapes.Node a b) pads) numbers holder = holder ≡ Struct a b (place s start)
 IsHeldIn (targets.Content s start (shapes.Many width n) pads) numbers holder = holder ≡ Pointers n (place s start)
@@ -52,7 +52,7 @@ pub record Holds (message : List (List ℕ)) (start : Place) (way : List ℕ) (t
 abbrev pub IsHolder : List (List ℕ) → List ℕ → Place → Holder → Type 0
 IsHolder message way to holder = Holds message root way to holder
 
--- what holds the slot to which a way leads; nothing holds the root's
+-- the holder of the slot to which a way leads; nothing holds the root's
 abbrev pub IsHolderOrRoot : List (List ℕ) → List ℕ → Place → Option Holder → Type 0
 IsHolderOrRoot message way to (Some holder) = IsHolder message way to holder
 IsHolderOrRoot message way to None = way ≡ []

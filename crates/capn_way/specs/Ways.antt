@@ -23,8 +23,8 @@ AreNumbersOf (targets.Content s start (shapes.Rows n a b span) pads) k numbers =
 AreNumbersOf found k (slot ∷ []) = k ≡ slot
 AreNumbersOf found k numbers = ⊥
 
--- a step from the slot at a place to one of those below what it names, and a way from there on; between are the visit
--- at the place, those of the slots before that one, and those on the way
+-- a step from the slot at a place to one of those below its target, and a way from there on; between are the visit at
+-- the place, those of the slots before that one, and those on the way
 pub record Descends (message : List (List ℕ)) (base depth : ℕ) (leads : Place → List ℕ → Place → ℕ → Type 0)
     (from : Place) (way : List ℕ) (to : Place) (between : ℕ) : Type 0 where
   pub found : Target
@@ -70,7 +70,7 @@ abbrev pub IsNotVisited : List (List ℕ) → Bounds → ℕ → Type 0
 IsNotVisited message limits number =
     (length (segment_at message 0) ≡ 0) ⊎ (number_of_visits message limits ≤ number)
 
--- a message is refused, and the way leads to the slot at which its walk stopped: none where it has no root
+-- a message is refused, and the way leads to the slot at which its walk stopped: none if it has no root
 pub record IsRefusedAt (message : List (List ℕ)) (limits : Bounds) (stopped : Stopped) (way : List ℕ) : Type 0 where
   pub refused : IsWalkRefused message limits stopped.fault stopped.place stopped.paid stopped.visits
   pub leads : 0 < stopped.visits → IsWayTo message limits (stopped.visits - 1) way stopped.place

@@ -21,23 +21,23 @@ pub enum Holder {
         words: u16,
         /// Its slots.
         slots: u16,
-        /// Where its words begin; of one without words, where its first slot is.
+        /// The place of its first word; of one without words, that of its first slot.
         at: Place,
     },
     /// A list of pointers.
     Pointers {
         /// The number of its elements.
         count: u32,
-        /// Where its elements begin.
+        /// The place of its first element.
         at: Place,
     },
     /// A struct of a list of structs.
     Row {
         /// Its number, counted from 0.
         row: u32,
-        /// How many structs the list has.
+        /// The number of structs in the list.
         count: u32,
-        /// Where it begins: its words, or where it has none its first slot.
+        /// The place of its first word; of one without words, that of its first slot.
         at: Place,
     },
 }
@@ -45,18 +45,18 @@ pub enum Holder {
 /// A slot to which a way leads.
 #[derive(Clone, Copy)]
 pub struct Spot {
-    /// What holds it; of the root's slot nothing does.
+    /// Its holder; the root's slot has none.
     pub holder: Option<Holder>,
-    /// Where it is.
+    /// Its place.
     pub place: Place,
 }
 
-/// The object that holds the slot to which a way leads from the root.
+/// Finds the object that holds the slot to which `way` leads from the root.
 ///
-/// `None` where the way is empty, since nothing holds the root's slot, and where it leads to no slot. It follows the
-/// way from the root, and reads at most four words for each step. It takes no memory, and looks at no limits.
+/// `None` if the way is empty, since nothing holds the root's slot, and if it leads to no slot. It follows the way from
+/// the root, and reads at most four words for each step. It takes no memory, and looks at no limits.
 pub fn holder_of<S: Space>(space: &S, way: &[u32]) -> Option<Holder>
-    // What is answered holds the slot to which the way leads.
+    // An answer holds the slot to which the way leads.
     ensures some { IfSome result (λ holder. (to : Place) × IsHolder (S.message space.now) way.now to holder) }
     // Where there is no answer, nothing does.
     ensures none { IfNone result
@@ -69,7 +69,7 @@ pub fn holder_of<S: Space>(space: &S, way: &[u32]) -> Option<Holder>
     held(space, way)
 }
 
-/// The same, by following the way.
+/// Finds that object by following `way`.
 fn held<S: Space>(space: &S, way: &[u32]) -> Option<Holder>
     ensures { result ≡ spec.holder_at (spec.follow (S.message space.now) (length way.now) spec.start way.now) }
 {
@@ -86,7 +86,7 @@ fn held<S: Space>(space: &S, way: &[u32]) -> Option<Holder>
     }
 }
 
-/// The slot to which a way leads from a slot.
+/// Follows `way` from the slot `from`; `None`, if it leads to no slot.
 fn followed<S: Space>(space: &S, from: Spot, way: &[u32]) -> Option<Spot>
     requires place { IsPlace (S.message space.now) from.place }
     ensures { result ≡ spec.follow (S.message space.now) (length way.now) from way.now }
@@ -105,7 +105,7 @@ fn followed<S: Space>(space: &S, from: Spot, way: &[u32]) -> Option<Spot>
     Some(spot)
 }
 
-/// The slot that is one step further along a way, and the rest of the way.
+/// Follows `way` one step from the slot at `at`: returns the slot there and the rest of the way.
 fn step<'w, S: Space>(space: &S, at: Place, way: &'w [u32]) -> Option<(Spot, &'w [u32])>
     requires place { IsPlace (S.message space.now) at }
     ensures place { IfSome result (λ x. IsPlace (S.message space.now) x.0.place) }
@@ -135,7 +135,7 @@ fn step<'w, S: Space>(space: &S, at: Place, way: &'w [u32]) -> Option<(Spot, &'w
     }
 }
 
-/// The same among the slots of an object.
+/// Follows `way` one step among the slots of an object of this `shape`, whose content starts at `start`.
 fn step_in<'w, S: Space>(
     space: &S,
     start: Place,
@@ -200,7 +200,7 @@ fn step_in<'w, S: Space>(
     }
 }
 
-/// The same among the slots of one holder, which lie one after the other.
+/// Follows `way` one step among the `count` slots of one `holder`, which lie one after the other from `first` on.
 fn step_among<'w, S: Space>(
     space: &S,
     holder: Holder,

@@ -1,13 +1,13 @@
-//! The way to a slot of a message.
-//! It is the numbers that lead to the slot from the root.
+//! The way to a slot of a message: the numbers that lead to the slot from the root.
 //!
 //! A number leads from a struct to a slot, from a list of pointers to an element, and from a list of structs to a row,
 //! whose slot the next number says. No number leads to the root.
 //!
-//! - [`way_of_refusal`] says whether a message is refused, why, and the way to the slot where its walk stopped.
-//! - [`way_of_stop`] says that way of a walk that has stopped.
-//! - [`way_of_visit`] says the way to the slot of a visit by its number.
-//! - [`holder_of`] says which object holds the slot to which a way leads.
+//! - [`way_of_refusal`] finds out if a message is refused, for which reason, and the way to the slot at which its walk
+//!   stopped.
+//! - [`way_of_stop`] finds that way of a walk that has stopped.
+//! - [`way_of_visit`] finds the way to the slot of a visit by its number.
+//! - [`holder_of`] finds the object that holds the slot to which a way leads.
 //! - Module [`laws`] has what holds of ways apart from any call: one way at most leads to the slot of a visit, and one
 //!   object holds it.
 //!

@@ -9,19 +9,20 @@ use capn_walk::{Limits, Stopped, survey};
 use capn_words::{Memory, Space};
 use std::alloc::{Allocator, Global};
 
-/// Why and where the walk of a message stopped, and the way to the slot that was visited.
+/// A message whose walk stopped: the place and the reason, and the way to the slot that was visited.
 #[derive(Debug, Drop)]
 pub struct Refused<A: Allocator = Global> {
-    /// Why and where, as [`survey`] answers it.
+    /// The place and the reason, as [`survey`] answers them.
     pub stopped: Stopped,
-    /// The numbers that lead to the slot from the root: none where it is the root's, or where there is no root.
+    /// The numbers that lead to the slot from the root: none, if it is the root's, or if there is no root.
     pub way: Vec<u32, A>,
 }
 
-/// Whether a message is refused within the limits, and where: `None` where it is accepted.
+/// Tests whether the message `space` is refused within `limits`, and finds the way to the slot at which its walk
+/// stopped: `None`, if it is accepted.
 ///
-/// It surveys the message, and where that is refused it makes the visits up to the refused one again. Memory: the way,
-/// which has at most two numbers for each level of the depth limit.
+/// It surveys the message, and if that is refused it makes the visits up to the refused one again. Memory: the way on
+/// `alloc`, which has at most two numbers for each level of the depth limit.
 pub fn way_of_refusal<S: Space, A: Allocator + Copy>(
     alloc: A,
     space: &S,
@@ -40,10 +41,11 @@ pub fn way_of_refusal<S: Space, A: Allocator + Copy>(
     }
 }
 
-/// The way to the slot at which the walk of a message stopped: none where it is the root's, or where there is no root.
+/// Finds the way to the slot at which the walk of the message `space` stopped: empty, if it is the root's, or if there
+/// is no root.
 ///
-/// `stopped` is why and where the walk of this message stops within these limits, as [`survey`] answers it. It makes
-/// the visits up to the refused one, and no survey. Memory: that of [`way_of_refusal`].
+/// `stopped` is the stop of the walk of this message within these `limits`, as [`survey`] answers it. It makes the
+/// visits up to the refused one, and no survey. Memory: that of [`way_of_refusal`].
 pub fn way_of_stop<S: Space, A: Allocator + Copy>(
     alloc: A,
     space: &S,

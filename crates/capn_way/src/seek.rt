@@ -9,7 +9,7 @@ use capn_target::{Shape, Target, resolve};
 use capn_words::{Memory, Place, Space, Width};
 use std::alloc::Allocator;
 
-/// What a search among the visits of some slots comes to.
+/// The outcome of a search among the visits of some slots.
 #[derive(Clone, Copy)]
 pub enum Sought {
     /// The slot of the visit was found, at this place.
@@ -18,8 +18,9 @@ pub enum Sought {
     Passed(u32),
 }
 
-/// Looks for the visit before which there are `number` others, from the visit of a slot on, where objects are visited
-/// at most `depth` deep. `way` has the numbers that lead to the slot, and if the visit is found, those to its slot.
+/// Looks for the visit before which there are `number` others, from the visit of the slot at `at` on, where objects are
+/// visited at most `depth` deep. `way` has the numbers that lead to that slot, and if the visit is found, those to its
+/// slot.
 #[cycle(seek)]
 pub fn seek_slot<S: Space, A: Allocator>(
     space: &S,
@@ -61,7 +62,7 @@ pub fn seek_slot<S: Space, A: Allocator>(
     }
 }
 
-/// The same among the visits of an object's slots.
+/// Looks for it among the visits of the slots of an object of this `shape`, whose content starts at `start`.
 #[cycle(seek)]
 fn seek_object<S: Space, A: Allocator>(
     space: &S,
@@ -108,7 +109,7 @@ fn seek_object<S: Space, A: Allocator>(
     }
 }
 
-/// The same among the visits of slots that lie one after the other, numbered from 0.
+/// Looks for it among the visits of `count` slots that lie one after the other from `first` on, numbered from 0.
 #[cycle(seek)]
 fn seek_slots<S: Space, A: Allocator>(
     space: &S,
@@ -141,7 +142,8 @@ fn seek_slots<S: Space, A: Allocator>(
     Ok(Sought::Passed(left))
 }
 
-/// The same among the visits of the slots of rows that lie one after the other, numbered from 0.
+/// Looks for it among the visits of the slots of `count` rows that lie one after the other from `first` on, numbered
+/// from 0.
 #[cycle(seek)]
 fn seek_rows<S: Space, A: Allocator>(
     space: &S,

@@ -12,18 +12,18 @@ use std::alloc::{Allocator, Global};
 /// A slot that a walk visits, and the way to it.
 #[derive(Debug, Drop)]
 pub struct Visited<A: Allocator = Global> {
-    /// The numbers that lead to it from the root: of the root's slot none.
+    /// The numbers that lead to it from the root: none to the root's slot.
     pub way: Vec<u32, A>,
-    /// Where it is.
+    /// Its place.
     pub place: Place,
 }
 
-/// The slot that the walk of a message visits after `number` others, and the way to it: `None` where there is no such
-/// visit.
+/// Finds the slot that the walk of the message `space` visits after `number` others, and the way to it: `None`, if
+/// there is no such visit.
 ///
-/// It makes the visits up to that one again, and reads at most four words for each. It looks at no price and no budget,
-/// so let `number` be below the visits that a survey answered or refused with. Memory: the way, which has at most two
-/// numbers for each level of the depth limit.
+/// It makes the visits up to that one again, and reads at most four words for each. Of `limits` it looks at the depth,
+/// and at no price and no budget, so let `number` be below the visits that a survey answered or refused with. Memory:
+/// the way on `alloc`, which has at most two numbers for each level of the depth limit.
 pub fn way_of_visit<S: Space, A: Allocator + Copy>(
     alloc: A,
     space: &S,

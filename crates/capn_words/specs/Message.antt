@@ -16,7 +16,7 @@ word_bytes w = little_bytes 8 w
 abbrev pub bytes : List ℕ → List ℕ
 bytes ws = flat_map word_bytes ws
 
--- the words of a segment; none where there is no such segment
+-- the words of a segment; none if there is no such segment
 abbrev pub segment_at : List (List ℕ) → ℕ → List ℕ
 segment_at message s = slice_index_or message s []
 
@@ -32,7 +32,7 @@ most_segments = 4096
 abbrev pub most_message_words : ℕ
 most_message_words = 2 ^ 28
 
--- the most words that any message has, all segments together: its root pointer, and what one may pay for
+-- the most words that any message has, all segments together: its root pointer, and the words that one may pay for
 abbrev pub most_words : ℕ
 most_words = most_message_words + 1
 
@@ -61,7 +61,7 @@ pub record IsBare (bs ws : List ℕ) : Type 0 where
   pub each : AreWords ws
   pub room : length ws ≤ most_words
 
--- what a reading of bytes as one segment answers: the words, or the first of the two refusals (Own.)
+-- bytes are read as one segment: its words, or the first of the two refusals (Own.)
 abbrev pub ReadsBare : List ℕ → Result (List ℕ) BareFault → Type 0
 ReadsBare bs (Ok ws) = IsBare bs ws
 ReadsBare bs (Err (NotWhole n)) = (n ≡ length bs) × (length bs % 8 ≢ 0)
@@ -69,7 +69,7 @@ ReadsBare bs (Err (TooLong n)) = (8 * n ≡ length bs) × (most_words < n)
 
 -- ---- a message is a list of segments, and a segment is a list of words. (Page: messages.)
 
--- how many words all segments have together
+-- the number of words that all segments have together
 abbrev pub total : List (List ℕ) → ℕ
 total message = sum_by length message
 
@@ -80,7 +80,7 @@ pub record IsMessage (message : List (List ℕ)) : Type 0 where
   pub room : total message ≤ most_words
   pub each : (s k : ℕ) → slice_index (segment_at message s) k < 2 ^ 64
 
--- how many words a segment has, if there is such a segment
+-- the number of words of a segment, if there is such a segment
 abbrev pub words_of : List (List ℕ) → ℕ → Option ℕ
 words_of message s = if nat_lt s (length message) then Some (length (segment_at message s)) else None
 

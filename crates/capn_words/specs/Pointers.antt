@@ -1,4 +1,4 @@
--- The pointer that a word is, and the word of a pointer. `split` ties both where the fields fit. (Page: structs, lists,
+-- The pointer that a word is, and the word of a pointer. `split` ties both if the fields fit. (Page: structs, lists,
 -- inter-segment pointers, capabilities.)
 use Rattle.std.specs.Prelude.{ℕ, suc, ◌-◌, ◌/◌, ◌%◌, ◌^◌, nat_lt, ◌==◌, ℤ, pos, negsuc, [], ◌∷◌, slice_index_or}
 use Rattle.std.specs.Prelude.{if◌then◌else◌, ◌≡◌, ◌+◌, ◌*◌, ◌<◌, ⊤}
@@ -83,6 +83,6 @@ FitsFields (Far d w s) = (w < 2 ^ 29) × (s < 2 ^ 32)
 FitsFields (Cap i) = i < 2 ^ 32
 FitsFields (Reserved n) = (n < 2 ^ 64) × (n % 4 ≡ 3) × (0 < n / 4 % 2 ^ 30)
 
--- a pointer is what a word says: its fields fit, and the word is their sum
+-- a pointer is that of a word: its fields fit, and the word is their sum
 abbrev pub Fields : ℕ → Pointer → Type 0
 Fields w p = FitsFields p × (w ≡ word_of p)

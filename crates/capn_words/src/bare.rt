@@ -10,7 +10,7 @@ use std::error::Error;
 use std::fmt;
 use std::marker::Model;
 
-/// Why bytes are not one segment, in the order of the tests.
+/// The reason why bytes are not one segment, in the order of the tests.
 #[derive(Clone, Copy, Debug, PartialEq, Eq)]
 pub enum BareFault {
     /// The number of bytes, which is no multiple of 8.
@@ -35,7 +35,7 @@ impl fmt::Display for BareFault {
 
 impl Error for BareFault {}
 
-/// The word at byte 8 * `index`.
+/// Returns the word at byte `8 * index` of `bytes`.
 #[tactic(auto, unfolding(crate::specs::Message::word_number))]
 fn word_of(bytes: &[u8], index: usize) -> u64
     requires { 8 * index + 8 ≤ length bytes.now }
@@ -44,7 +44,7 @@ fn word_of(bytes: &[u8], index: usize) -> u64
     LittleEndian::read_u64(&bytes[8 * index..])
 }
 
-/// `len` bytes from byte `start` on.
+/// Returns the `len` bytes of `bytes` from byte `start` on.
 fn part(bytes: &[u8], start: usize, len: usize) -> &[u8]
     requires { start + len ≤ length bytes.now }
     ensures { result.now ≡ take len (drop start bytes.now) }
@@ -73,12 +73,12 @@ impl<'a> Model for Bare<'a> {
 }
 
 impl<'a> Bare<'a> {
-    /// The segment whose words have these bytes. It may be empty. Nothing is copied.
+    /// Reads `bytes` as the words of one segment, which may be empty. Nothing is copied.
     ///
-    /// `NotWhole` with the number of bytes where it is no multiple of 8; else `TooLong` with the number of
-    /// words where it is above 2^28 + 1. (Own: the limit.)
+    /// Refusals: `NotWhole` with the number of bytes, if it is no multiple of 8; else `TooLong` with the number of
+    /// words, if it is above 2^28 + 1. (Own: the limit.)
     pub fn new(bytes: &'a [u8]) -> Result<Bare<'a>, BareFault>
-        // What each answer means, and that the words of any bytes that have some are answered.
+        // The meaning of each answer; and the words of any bytes that have some are answered.
         ensures exact { ReadsBare bytes.now result }
         ensures only { (ws : List ℕ) → IsBare bytes.now ws → result ≡ Ok ws }
     {

@@ -2,7 +2,7 @@
 
 ghost use Rattle.capn_words.specs.Laws.{BareAreNotRefused, OneBareReading, OneBareRefusal};
 
-/// Bytes are those of one list of words at most; else they are refused for one reason, and never both.
+/// States: bytes are those of one list of words at most; else they are refused for one reason, and never both.
 pub fn one_segment()
     ensures one { OneBareReading }
     ensures refusal { OneBareRefusal }

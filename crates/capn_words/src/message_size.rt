@@ -5,7 +5,7 @@ ghost use Rattle.capn_words.specs.Message.{total};
 
 use crate::space::Space;
 
-/// How many words the segments of a message have in all. Takes no memory.
+/// Returns the number of words that all segments of `space` have together. Takes no memory.
 #[tactic(auto, using(std::proofs::lemmas::List::Sums::sum_by_more_le, std::proofs::lemmas::List::Sums::fold_more))]
 pub fn total_words<S: Space>(space: &S) -> u32
     ensures { result ≡ total (S.message space.now) }

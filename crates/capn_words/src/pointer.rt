@@ -5,7 +5,7 @@ ghost use Rattle.capn_words.specs.declared.pointer.Pointer.{Pointer};
 ghost use Rattle.capn_words.specs.Pointers.{Fields, FitsFields, FitsOffset, offset_field, width_code, word_of};
 ghost use Rattle.capn_words.specs.Pointers.{pointer_of};
 
-/// What the elements of a list are. (Page: lists.)
+/// The kind of a list's elements. (Page: lists.)
 #[derive(Clone, Copy, Debug, PartialEq, Eq)]
 pub enum Width {
     /// Voids, which have no bits.
@@ -26,17 +26,17 @@ pub enum Width {
     Rows,
 }
 
-/// What a pointer word says. (Page: structs, lists, inter-segment pointers, capabilities.)
+/// A pointer word, read. (Page: structs, lists, inter-segment pointers, capabilities.)
 ///
-/// Offsets are in words and counted from the end of the pointer word, so that the content of a pointer at
-/// word `w` begins at word `w + 1 + offset`.
+/// Offsets are in words and counted from the end of the pointer word, so that the content of a pointer at word `w`
+/// begins at word `w + 1 + offset`.
 #[derive(Clone, Copy, Debug, PartialEq, Eq)]
 pub enum Pointer {
     /// The null pointer: the word 0 alone.
     Nil,
     /// A struct.
     Node {
-        /// Where its data section begins, from -2^29 to 2^29 - 1.
+        /// The offset of its data section, from -2^29 to 2^29 - 1.
         offset: i32,
         /// The words of its data section.
         words: u16,
@@ -45,16 +45,16 @@ pub enum Pointer {
     },
     /// A list.
     Many {
-        /// Where its content begins, from -2^29 to 2^29 - 1.
+        /// The offset of its content, from -2^29 to 2^29 - 1.
         offset: i32,
-        /// What its elements are.
+        /// The kind of its elements.
         width: Width,
         /// The number of its elements, or at `Rows` of its words without the tag; below 2^29.
         count: u32,
     },
     /// A far pointer, to a landing pad in a segment.
     Far {
-        /// Whether the pad is two words rather than one.
+        /// `true` if the pad is two words, `false` if it is one.
         double: bool,
         /// The word of its segment at which the pad begins, below 2^29.
         word: u32,
@@ -67,7 +67,7 @@ pub enum Pointer {
     Reserved(u64),
 }
 
-/// The width whose code is in the three bits.
+/// Returns the width whose three bits are `code`.
 fn width_of(code: u64) -> Width
     requires { code < 8 }
     ensures { width_code result ≡ code }
@@ -84,7 +84,7 @@ fn width_of(code: u64) -> Width
     }
 }
 
-/// The three bits that stand for a width.
+/// Returns the three bits that stand for `width`.
 fn code_of(width: Width) -> u64
     ensures { result ≡ width_code width }
 {
@@ -100,7 +100,7 @@ fn code_of(width: Width) -> u64
     }
 }
 
-/// The offset in bits 2 to 31, whose highest is its sign.
+/// Returns the offset in bits 2 to 31 of `word`, of which the highest is its sign.
 fn offset_of(word: u64) -> i32
     ensures fits { FitsOffset result }
     ensures field { offset_field result ≡ word / 4 % 2 ^ 30 }
@@ -113,7 +113,7 @@ fn offset_of(word: u64) -> i32
     }
 }
 
-/// The 30 bits of an offset.
+/// Returns the 30 bits of `offset`.
 fn field_of(offset: i32) -> u64
     requires { FitsOffset offset }
     ensures { result ≡ offset_field offset }
@@ -125,7 +125,7 @@ fn field_of(offset: i32) -> u64
     }
 }
 
-/// What the word says, by its bits 0 to 1.
+/// Reads the fields of `word`, by its bits 0 to 1.
 fn fields_of(word: u64) -> Pointer
     ensures { Fields word result }
 {
@@ -156,10 +156,10 @@ fn fields_of(word: u64) -> Pointer
     }
 }
 
-/// What a pointer word says: the one pointer whose fields fit and add up to the word.
+/// Reads `word` as a pointer: the one pointer whose fields fit and add up to the word.
 ///
-/// Every word says something: `Nil` is the word 0 alone, and a word of no kind is `Reserved`. `join` gives
-/// the word back. (Page: structs, lists, inter-segment pointers, capabilities.)
+/// Every word is a pointer: `Nil` is the word 0 alone, and a word of no kind is `Reserved`. `join` gives the word back.
+/// (Page: structs, lists, inter-segment pointers, capabilities.)
 #[inline(always)]
 pub fn split(word: u64) -> Pointer
     // The pointer is exactly what the word's fields say, in their two forms: as a sum, and by division.
@@ -173,7 +173,7 @@ pub fn split(word: u64) -> Pointer
     fields_of(word)
 }
 
-/// The sum of the fields, each shifted to its bits.
+/// Adds up the fields of `pointer`, each shifted to its bits.
 fn sum_of(pointer: Pointer) -> u64
     requires { FitsFields pointer }
     ensures { result ≡ word_of pointer }
@@ -200,11 +200,10 @@ fn sum_of(pointer: Pointer) -> u64
     }
 }
 
-/// The word that says this pointer: the sum of its fields, each at its bits.
+/// Returns the word of `pointer`: the sum of its fields, each at its bits.
 ///
-/// The fields have to fit their bits, a struct pointer may not be all zeros (that word is null), and a
-/// reserved word has to be one. `split` gives the pointer back. (Page: structs, lists, inter-segment
-/// pointers, capabilities.)
+/// The fields have to fit their bits, a struct pointer may not be all zeros (that word is null), and a reserved word
+/// has to be one. `split` gives the pointer back. (Page: structs, lists, inter-segment pointers, capabilities.)
 pub fn join(pointer: Pointer) -> u64
     requires { FitsFields pointer }
     ensures word { result ≡ word_of pointer }

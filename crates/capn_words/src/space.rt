@@ -3,19 +3,19 @@
 ghost use Rattle.std.specs.Prelude.{◌≡◌, ℕ, ◌<◌, ◌≤◌, List, length};
 ghost use Rattle.capn_words.specs.Message.{IsMessage, IsPlace, IsRange, bytes_at, word_at, words_of};
 
-/// Where a word is in a message: a segment, and a word of it, both counted from 0.
+/// The position of a word in a message: its segment and its index there, both from 0.
 ///
-/// A place is in range of a message where the segment exists and the word is below its length.
+/// A place is in range of a message if the segment exists and the word is below its length.
 #[derive(Clone, Copy, Debug, PartialEq, Eq, PartialOrd, Ord, Hash)]
 pub struct Place {
-    /// The segment.
+    /// The number of the segment.
     pub segment: u32,
-    /// The word of the segment.
+    /// The index of the word in its segment.
     pub word: u32,
 }
 
 impl Place {
-    /// Where the pointer to the root is: the first word of the first segment. (Page: messages.)
+    /// The place of the root pointer: the first word of the first segment. (Page: messages.)
     pub const ROOT: Place = Place {
         segment: 0,
         word: 0,
@@ -30,21 +30,22 @@ pub trait Space {
     /// The segments, each the list of its words.
     ghost message: { Self → List (List ℕ) };
 
-    /// How many segments there are: 1 to 4,096, with at most 2^28 + 1 words in all.
+    /// Returns the number of segments: 1 to 4,096, with at most 2^28 + 1 words in all.
     fn segments(&self) -> u32
         ensures count { result ≡ length (message self.now) }
         ensures bounds { IsMessage (message self.now) };
 
-    /// How many words a segment has, or `None` exactly where there is no such segment.
+    /// Returns the number of words of `segment`, or `None` exactly if there is no such segment.
     fn words(&self, segment: u32) -> Option<u32>
         ensures { result ≡ words_of (message self.now) segment };
 
-    /// The word at a place, which has to be in range.
+    /// Returns the word at `at`, which has to be in range.
     fn word(&self, at: Place) -> u64
         requires { IsPlace (message self.now) at }
         ensures { result ≡ word_at (message self.now) at };
 
-    /// `len` bytes from the start of a word on: those of the segment's words, the least significant of each first.
+    /// Returns the `len` bytes from the start of the word at `at` on: those of the segment's words, the least
+    /// significant of each first.
     ///
     /// The segment has to exist, the word may be its end, and the bytes have to stay within it.
     fn bytes(&self, at: Place, len: usize) -> &[u8]

@@ -7,7 +7,7 @@ ghost use Rattle.capn_words.specs.Watched.{HasBegun, has_failed, inner_of, write
 
 use std::io::{ErrorKind, Read, Result, Write};
 
-/// A reader or a writer, and whether a call of it has failed. (Own.)
+/// A reader or a writer, with a flag that says if a call of it has failed. (Own.)
 ///
 /// It has failed from the first call on that answered an error, `Interrupted` too and that of a flush, or that wrote no
 /// byte of a piece that has some. Every call is passed on, after a failure too.
@@ -18,7 +18,7 @@ pub struct Watched<T> {
 }
 
 impl<T> Watched<T> {
-    /// One of which no call has failed.
+    /// Wraps `inner`, of which no call has failed.
     pub fn new(inner: T) -> Watched<T>
         ensures inner { inner_of result ≡ inner }
         ensures failed { has_failed result ≡ false }
@@ -29,14 +29,14 @@ impl<T> Watched<T> {
         }
     }
 
-    /// Whether a call has answered an error, or a write has taken no byte of a piece that has some.
+    /// Returns `true` if a call has answered an error, or a write has taken no byte of a piece that has some.
     pub fn failed(&self) -> bool
         ensures { result ≡ has_failed self.now }
     {
         self.failed
     }
 
-    /// The reader or writer itself.
+    /// Returns the reader or writer itself.
     pub fn into_inner(self) -> T
         ensures { result ≡ inner_of self }
     {
@@ -46,8 +46,8 @@ impl<T> Watched<T> {
 }
 
 impl<R: Read> Watched<R> {
-    /// Reads as the reader does, and answers what it answers: the number of bytes now at the front of `buf`.
-    /// An error makes it failed.
+    /// Reads into `buf` as the reader does, and returns its answer: the number of bytes now at the front of `buf`. An
+    /// error makes it failed.
     pub fn read(&mut self, buf: &mut [u8]) -> Result<usize>
         ensures bound { ReadsAtMost result buf.new }
         ensures bytes { ReadConsumes (R.remaining (inner_of self.old)) (R.remaining (inner_of self.new))
@@ -61,8 +61,8 @@ impl<R: Read> Watched<R> {
 }
 
 impl<W: Write> Watched<W> {
-    /// Writes as the writer does, and answers what it answers: the number of bytes of `buf` that it took.
-    /// An error makes it failed, and so does 0 for a `buf` that has bytes.
+    /// Writes `buf` as the writer does, and returns its answer: the number of bytes of `buf` that it took. An error
+    /// makes it failed, and so does 0 for a `buf` that has bytes.
     pub fn write(&mut self, buf: &[u8]) -> Result<usize>
         ensures bound { WritesAtMost result buf.now }
         ensures bytes { WriteAppends (W.contents (inner_of self.old)) (W.contents (inner_of self.new))
@@ -77,9 +77,9 @@ impl<W: Write> Watched<W> {
         answer
     }
 
-    /// Writes all of the text, by as many calls of `write` as that takes.
+    /// Writes all of `text`, by as many calls of `write` as that takes.
     ///
-    /// Fails at the first call that answers an error or takes no byte, and then a beginning of the text was written.
+    /// Fails at the first call that answers an error or takes no byte, and then a beginning of `text` was written.
     pub fn write_all(&mut self, text: &[u8]) -> Result<()>
         ensures ok { OnOk result (Appends (W.contents (inner_of self.old)) (W.contents (inner_of self.new)) text.now) }
         ensures begun { HasBegun (W.contents (inner_of self.old)) (W.contents (inner_of self.new)) text.now }
@@ -96,7 +96,7 @@ impl<W: Write> Watched<W> {
         Ok(())
     }
 
-    /// Flushes as the writer does, and answers what it answers. An error makes it failed.
+    /// Flushes as the writer does, and returns its answer. An error makes it failed.
     pub fn flush(&mut self) -> Result<()>
         ensures kept { Keeps (W.contents (inner_of self.old)) (W.contents (inner_of self.new)) }
         ensures failed { has_failed self.new ≡ (has_failed self.old || is_err result) }

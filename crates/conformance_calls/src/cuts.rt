@@ -21,7 +21,7 @@ fn start_of(bytes: &[u8], len: usize) -> &[u8] {
     }
 }
 
-/// What a tree answers by its layout, with what was paid for it.
+/// Returns the answer of `tree` by its layout, with the words that were `paid` for it.
 fn tree_text(alloc: Global, paid: u32, tree: &Tree) -> Result<String> {
     match layout(alloc, tree) {
         Ok(laid) => paid_text(alloc, paid, laid.as_slice()),
@@ -30,7 +30,7 @@ fn tree_text(alloc: Global, paid: u32, tree: &Tree) -> Result<String> {
     }
 }
 
-/// What a bare message answers by its length and the layout of its tree.
+/// Returns the answer of a bare message by its length and the layout of its tree.
 fn bare_text(alloc: Global, bytes: &[u8], limits: Limits) -> Result<String> {
     let length = bytes.len();
     let Ok(space) = Bare::new(bytes) else {
@@ -47,8 +47,8 @@ fn bare_text(alloc: Global, bytes: &[u8], limits: Limits) -> Result<String> {
     }
 }
 
-/// Where the group that starts at an offset ends, unless it is cut: one of zeros has two bytes, one of raw words ten
-/// and eight for each further word, and any other its tag and a byte for each bit of it.
+/// Returns the end of the group that starts at offset `at`, unless it is cut: one of zeros has two bytes, one of raw
+/// words ten and eight for each further word, and any other its tag and a byte for each bit of it.
 fn group_end(text: &[u8], at: usize) -> Option<usize> {
     let len = match *text.get(at)? {
         0 => 2,
@@ -59,7 +59,7 @@ fn group_end(text: &[u8], at: usize) -> Option<usize> {
     if end <= text.len() { Some(end) } else { None }
 }
 
-/// Where the group starts that a text is cut in, or the end of a text that is not cut.
+/// Returns the start of the group in which `text` is cut, or the end of a `text` that is not cut.
 fn last_group(text: &[u8]) -> usize {
     let mut at = 0usize;
     for _ in 0..text.len() {
@@ -71,8 +71,8 @@ fn last_group(text: &[u8]) -> usize {
     at
 }
 
-/// Whether the words of a text's whole groups are answered, and where it is cut if it is: by one call, and in one
-/// piece.
+/// Tests whether the words of the whole groups of `text` are answered, and the place at which it is cut if it is: by
+/// one call, and in one piece.
 fn is_unpacked(alloc: Global, text: &[u8]) -> bool {
     let at = last_group(text);
     let mut unpacker = Unpacker::new();
@@ -93,7 +93,7 @@ fn is_unpacked(alloc: Global, text: &[u8]) -> bool {
     is_whole && cut_of(ending) == cut && cut_of(unpack(alloc, text, MOST_MESSAGE_WORDS)) == cut
 }
 
-/// Where it was answered that a text is cut.
+/// Returns the offset at which an answer says that a text is cut.
 fn cut_of<T: Drop>(answer: Result<T, UnpackFault>) -> Option<u64> {
     match answer {
         Err(UnpackFault::Cut { at }) => Some(at),
@@ -101,7 +101,7 @@ fn cut_of<T: Drop>(answer: Result<T, UnpackFault>) -> Option<u64> {
     }
 }
 
-/// What a packed text answers by its groups: that it is cut, or what the stream answers that it packs.
+/// Returns the answer of a packed `text` by its groups: that it is cut, or the answer of the stream that it packs.
 fn packed_text(alloc: Global, text: &[u8], limits: Limits) -> Result<String> {
     if !is_unpacked(alloc, text) {
         bail!("the groups of a beginning are other ones");
@@ -134,7 +134,7 @@ fn sizes_of(bytes: &[u8], count: u64) -> Option<u64> {
     Some(sum)
 }
 
-/// What a frame is refused for.
+/// The fault for which a frame is refused.
 #[derive(Clone, Copy)]
 enum FrameRefusal {
     Empty,
@@ -143,7 +143,7 @@ enum FrameRefusal {
     TooManyWords(u64),
 }
 
-/// How the frame of a stream is refused, if it is.
+/// Returns the fault for which the frame of a stream is refused, if it is.
 fn frame_refusal(bytes: &[u8], limits: Limits) -> Option<FrameRefusal> {
     if bytes.is_empty() {
         return Some(FrameRefusal::Empty);
@@ -189,7 +189,7 @@ fn refusal_text(alloc: Global, refusal: FrameRefusal) -> Result<String> {
     }
 }
 
-/// What a beginning answers, where the definitions say it without its message; else what it does answer.
+/// Returns the answer of a beginning, if the definitions give it without its message; else the one that it does give.
 fn due_text(alloc: Global, form: Form, bytes: &[u8], limits: Limits) -> Result<String> {
     match form {
         Form::Bare => bare_text(alloc, bytes, limits),

@@ -36,7 +36,7 @@ pub(crate) fn segments_text<S: Space>(alloc: Global, space: &S) -> Result<String
     Ok(text)
 }
 
-/// What is printed of a message that takes `taken` bytes.
+/// Prints a message that takes `taken` bytes.
 fn taken_text<S: Space>(alloc: Global, message: &S, taken: usize) -> Result<String> {
     let segments = segments_text(alloc, message)?;
     Ok(format!(in alloc; "taken {taken}:{segments}")?)

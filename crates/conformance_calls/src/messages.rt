@@ -19,7 +19,7 @@ fn limits_at(words: &[&str], at: usize) -> Result<Option<Limits>> {
     Ok(Limits::new(message_words, budget, depth))
 }
 
-/// The same, where they have to be limits, with the prices of a tariff.
+/// Reads limits that have to be there, with the prices of `tariff`.
 pub(crate) fn true_limits_at(words: &[&str], at: usize, tariff: Tariff) -> Result<Limits> {
     match limits_at(words, at)? {
         Some(limits) => Ok(limits.with_tariff(tariff)),
@@ -36,7 +36,7 @@ pub(crate) fn limits_answer(alloc: Global, words: &[&str]) -> Result<String> {
     Ok(String::from_str(alloc, text)?)
 }
 
-/// Whether bytes are the layout of a tree; false if memory ran out.
+/// Tests whether `bytes` are the layout of `tree`; `false` if memory ran out.
 fn is_layout(heap: &Heap, tree: &Tree<&Heap>, bytes: &[u8]) -> Result<bool> {
     match layout(heap, tree) {
         Ok(laid) if laid.as_slice() == bytes => Ok(true),
@@ -46,7 +46,7 @@ fn is_layout(heap: &Heap, tree: &Tree<&Heap>, bytes: &[u8]) -> Result<bool> {
     }
 }
 
-/// Whether bytes are the layout of a tree that was to be made.
+/// Tests whether bytes are the layout of a tree that was to be made.
 fn is_layout_of_made(heap: &Heap, made: Result<Tree<&Heap>, Memory>, bytes: &[u8]) -> Result<bool> {
     match made {
         Ok(tree) => {
@@ -59,7 +59,7 @@ fn is_layout_of_made(heap: &Heap, made: Result<Tree<&Heap>, Memory>, bytes: &[u8
     }
 }
 
-/// Whether bytes are the layout of a tree, of its copy, and of its trimmed form.
+/// Tests whether bytes are the layout of a tree, of its copy, and of its trimmed form.
 fn is_layout_of_each(heap: &Heap, tree: &Tree<&Heap>, bytes: &[u8]) -> Result<bool> {
     Ok(
         is_layout(heap, tree, bytes)?
@@ -68,7 +68,7 @@ fn is_layout_of_each(heap: &Heap, tree: &Tree<&Heap>, bytes: &[u8]) -> Result<bo
     )
 }
 
-/// Whether bytes are the layout of the tree that a walk of the message makes.
+/// Tests whether bytes are the layout of the tree that a walk of the message makes.
 fn is_layout_of<S: Space>(heap: &Heap, space: &S, limits: Limits, bytes: &[u8]) -> Result<bool> {
     match walk(heap, space, limits) {
         Ok(walked) => {
@@ -81,7 +81,7 @@ fn is_layout_of<S: Space>(heap: &Heap, space: &S, limits: Limits, bytes: &[u8]) 
     }
 }
 
-/// Whether bytes are the layout of the tree of the first message.
+/// Tests whether bytes are the layout of the tree of the first message.
 fn is_layout_of_frame(heap: &Heap, stream: &[u8], limits: Limits, bytes: &[u8]) -> Result<bool> {
     match first(heap, stream, MOST_MESSAGE_WORDS) {
         Ok((space, _)) => is_layout_of(heap, &space, limits, bytes),
@@ -90,7 +90,7 @@ fn is_layout_of_frame(heap: &Heap, stream: &[u8], limits: Limits, bytes: &[u8]) 
     }
 }
 
-/// Whether bytes are the layout of the tree of the message that an input is in a form.
+/// Tests whether bytes are the layout of the tree of the message that an input is in a form.
 fn is_layout_in_form(
     heap: &Heap,
     form: Form,
@@ -118,7 +118,7 @@ pub(crate) fn paid_text(alloc: Global, paid: u32, bytes: &[u8]) -> Result<String
     Ok(format!(in alloc; "paid {paid}, {digits}")?)
 }
 
-/// What the canonical bytes of a message are, or why it has none.
+/// Prints the canonical bytes of a message, or the reason why it has none.
 pub(crate) fn canonical_text(
     alloc: Global,
     form: Form,
@@ -131,8 +131,8 @@ pub(crate) fn canonical_text(
     }
 }
 
-/// What is printed of canonical bytes, if they are the layout of the tree that a walk of the input makes, of its copy,
-/// and of its trimmed form.
+/// Prints canonical bytes, if they are the layout of the tree that a walk of the input makes, of its copy, and of its
+/// trimmed form.
 fn laid_text(
     alloc: Global,
     heap: &Heap,
@@ -165,7 +165,7 @@ pub(crate) fn canonicalise_answer(
     }
 }
 
-/// What is printed of canonical bytes, by whether they have themselves as canonical bytes.
+/// Prints canonical bytes by whether they have themselves as canonical bytes.
 fn again_text(heap: &Heap, once: &[u8], limits: Limits) -> &'static str {
     match canonicalise(heap, Form::Bare, once, limits) {
         Ok(again) if again.bytes.as_slice() == once => "again",
@@ -194,7 +194,7 @@ pub(crate) fn again_answer(
     Ok(String::from_str(alloc, text)?)
 }
 
-/// What is printed of canonical bytes, beside those of the first message.
+/// Prints canonical bytes, beside those of the first message.
 fn equal_text(first: &[u8], canonical: Result<Canonical<&Heap>, Refusal>) -> Result<&'static str> {
     match canonical {
         Ok(canonical) if canonical.bytes.as_slice() == first => Ok("equal"),
@@ -204,7 +204,7 @@ fn equal_text(first: &[u8], canonical: Result<Canonical<&Heap>, Refusal>) -> Res
     }
 }
 
-/// What is printed of the canonical bytes of the message at a place of the line, beside those of the first.
+/// Prints the canonical bytes of the message at word `at` of the line, beside those of the first.
 fn equal_at(
     alloc: Global,
     heap: &Heap,
@@ -218,7 +218,7 @@ fn equal_at(
     equal_text(first, canonical)
 }
 
-/// What is printed of the messages after the first: the first that isn't equal, if one isn't.
+/// Prints the messages after the first: the first that isn't equal, if one isn't.
 fn equal_each(alloc: Global, heap: &Heap, words: &[&str], first: &[u8]) -> Result<&'static str> {
     for pair in 1..words.len() / 2 {
         let text = equal_at(alloc, heap, words, 2 * pair + 1, first)?;

@@ -23,7 +23,7 @@ fn push_message(alloc: Global, message: &Stored<&Heap>, text: &mut String) -> Re
     push_told(text, told.as_str())
 }
 
-/// What is printed of the end of a stream.
+/// Prints the end of a stream.
 fn ending_text(alloc: Global, ending: Result<(), FrameFault>) -> Result<String> {
     match ending {
         Ok(()) => Ok(String::from_str(alloc, "Ok")?),
@@ -31,7 +31,7 @@ fn ending_text(alloc: Global, ending: Result<(), FrameFault>) -> Result<String> 
     }
 }
 
-/// What a framer that is fed a piece answers.
+/// Returns the answer of a framer that is fed `piece`.
 fn fed_text(framer: &mut Framer<&Heap>, alloc: Global, piece: &[u8]) -> Result<String> {
     match framer.feed(piece) {
         Ok(taken) => Ok(format!(in alloc; "{taken}")?),
@@ -47,7 +47,8 @@ fn taken_text(framer: &mut Framer<&Heap>, alloc: Global) -> Result<String> {
     }
 }
 
-/// What a framer is to do, by a word of the line, and what it answers; bytes are those of the next word.
+/// Does the step of a framer that word `at` of the line names, and returns its answer; bytes are those of the next
+/// word.
 fn framer_text(
     framer: &mut Framer<&Heap>,
     alloc: Global,
@@ -86,7 +87,7 @@ fn framer_step(
     Ok(told.as_str() == MEMORY)
 }
 
-/// What a framer answers to all steps, or to those up to the one at which memory ran out.
+/// Returns the answers of a framer to all steps, or to those up to the one at which memory ran out.
 fn framer_steps(framer: &mut Framer<&Heap>, alloc: Global, words: &[&str]) -> Result<String> {
     let mut text = String::new(alloc);
     let mut is_piece = false;
@@ -235,7 +236,7 @@ pub(crate) fn read_answer(alloc: Global, heap: &Heap, words: &[&str]) -> Result<
     Err(anyhow!("a reader without end"))
 }
 
-/// What is written of a message.
+/// Returns the bytes that are written of `message`.
 fn written_text(alloc: Global, message: &Stored<&Heap>) -> Result<String> {
     let mut writer = Watched::new(Vec::new(alloc));
     match write_message(&mut writer, message) {

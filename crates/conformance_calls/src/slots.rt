@@ -9,7 +9,7 @@ use capn_words::{Bare, MOST_MESSAGE_WORDS, Place, Space};
 use conformance_cases::{Heap, bytes_at, form_at, number_at};
 use std::alloc::Global;
 
-/// What a slot denotes, as a line.
+/// Returns the target of a slot, as a line.
 fn target_text(alloc: Global, target: Target) -> Result<String> {
     let Target::Content {
         segment,
@@ -32,7 +32,7 @@ fn target_text(alloc: Global, target: Target) -> Result<String> {
     }
 }
 
-/// What `resolve` answers at a place.
+/// Returns the answer of `resolve` at the place `at`.
 fn resolve_text<S: Space>(alloc: Global, space: &S, at: Place) -> Result<String> {
     let Some(length) = space.words(at.segment) else {
         return Err(anyhow!("no such segment"));
@@ -46,7 +46,7 @@ fn resolve_text<S: Space>(alloc: Global, space: &S, at: Place) -> Result<String>
     }
 }
 
-/// What `resolve` answers at a place of the first message.
+/// Returns the answer of `resolve` at the place `at` of the first message.
 fn resolve_in_frame(alloc: Global, heap: &Heap, stream: &[u8], at: Place) -> Result<String> {
     match first(heap, stream, MOST_MESSAGE_WORDS) {
         Ok((space, _)) => resolve_text(alloc, &space, at),
@@ -54,7 +54,7 @@ fn resolve_in_frame(alloc: Global, heap: &Heap, stream: &[u8], at: Place) -> Res
     }
 }
 
-/// What `resolve` answers at a place of a bare message.
+/// Returns the answer of `resolve` at the place `at` of a bare message.
 fn resolve_in_bare(alloc: Global, bytes: &[u8], at: Place) -> Result<String> {
     match Bare::new(bytes) {
         Ok(space) => resolve_text(alloc, &space, at),

@@ -15,7 +15,7 @@ fn unpacker_has_to_fail(unpacker: &mut Unpacker, alloc: Global) -> Result<()> {
     }
 }
 
-/// What an unpacker that is fed a piece answers.
+/// Returns the answer of an unpacker that is fed `piece`.
 fn fed_text(unpacker: &mut Unpacker, alloc: Global, heap: &Heap, piece: &[u8]) -> Result<String> {
     let mut unpacked = Vec::new(heap);
     match unpacker.feed(piece, &mut unpacked) {
@@ -25,7 +25,8 @@ fn fed_text(unpacker: &mut Unpacker, alloc: Global, heap: &Heap, piece: &[u8]) -
     }
 }
 
-/// What an unpacker is to do, by a word of the line, and what it answers; bytes are those of the next word.
+/// Does the step of an unpacker that word `at` of the line names, and returns its answer; bytes are those of the next
+/// word.
 fn unpacker_text(
     unpacker: &mut Unpacker,
     alloc: Global,

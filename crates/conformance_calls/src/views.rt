@@ -71,7 +71,7 @@ fn view_at<'v, 's, S: Space>(
     }
 }
 
-/// What is printed of a step to a view, and what was paid by then.
+/// Prints a step to a view, and the words that were paid by then.
 fn step_text<'s, S: Space>(
     alloc: Global,
     step: Result<View<'s, S>, Fault>,
@@ -91,7 +91,7 @@ fn step_text<'s, S: Space>(
     }
 }
 
-/// What a view is, by its kind and its sizes.
+/// Prints `view` by its kind and its sizes.
 fn shape_text<S: Space>(alloc: Global, view: &View<'_, S>) -> Result<String> {
     let len = view.len();
     let words = view.words();
@@ -145,7 +145,7 @@ fn step_answer<'s, S: Space>(
     }
 }
 
-/// How many words a step has.
+/// Returns the number of words of `step`.
 fn words_of_step(step: &str) -> usize {
     match step {
         "root" => 1,
@@ -154,7 +154,7 @@ fn words_of_step(step: &str) -> usize {
     }
 }
 
-/// What is printed of all steps, from the first, which is to the root, on.
+/// Prints all steps, from the first, which is to the root, on.
 fn steps_text<S: Space>(
     alloc: Global,
     space: &S,

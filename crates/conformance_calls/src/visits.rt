@@ -12,7 +12,7 @@ use capn_words::{Bare, MOST_MESSAGE_WORDS, Space};
 use conformance_cases::{Heap, bytes_at, form_at};
 use std::alloc::Global;
 
-/// What a walk answers.
+/// Returns the answer of a walk.
 fn walk_text<S: Space>(alloc: Global, heap: &Heap, space: &S, limits: Limits) -> Result<String> {
     match walk(heap, space, limits) {
         Ok(walked) => {
@@ -26,7 +26,7 @@ fn walk_text<S: Space>(alloc: Global, heap: &Heap, space: &S, limits: Limits) ->
     }
 }
 
-/// What a survey answers.
+/// Returns the answer of a survey.
 fn survey_text<S: Space>(alloc: Global, heap: &Heap, space: &S, limits: Limits) -> Result<String> {
     match survey(heap, space, limits) {
         Ok(surveyed) => {
@@ -43,14 +43,14 @@ fn survey_text<S: Space>(alloc: Global, heap: &Heap, space: &S, limits: Limits) 
     }
 }
 
-/// What is asked of a message.
+/// The question to a message.
 #[derive(Clone, Copy)]
 pub(crate) enum Asked {
     Walk,
     Survey,
 }
 
-/// What a message answers.
+/// Returns the answer of a message.
 fn visits_text<S: Space>(
     alloc: Global,
     heap: &Heap,
@@ -64,7 +64,7 @@ fn visits_text<S: Space>(
     }
 }
 
-/// What the first message answers.
+/// Returns the answer of the first message.
 fn visits_of_frame(
     alloc: Global,
     heap: &Heap,

@@ -4,7 +4,7 @@ use crate::words::word_at;
 use anyhow::{Result, bail};
 use capn_canon::Form;
 
-/// The form at a place of the line.
+/// Reads the form at word `at` of the line `words`.
 pub fn form_at(words: &[&str], at: usize) -> Result<Form> {
     match word_at(words, at)? {
         "stream" => Ok(Form::Stream),

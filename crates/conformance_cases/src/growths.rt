@@ -5,20 +5,20 @@ use anyhow::{Result, bail};
 use std::alloc::Global;
 use test_allocator::Refusing;
 
-/// Where the calls of a case take their memory. What a case itself takes, as for its text, is never refused.
+/// The allocator of the calls of a case. Memory for the case itself, as for its text, is never refused.
 pub type Heap = Refusing<Global>;
 
-/// How the answer of a case ends whose call answered that memory ran out. Before it comes what was printed or written
-/// by then.
+/// The end of the answer of a case whose call answered that memory ran out. Before it come the bytes that were printed
+/// or written by then.
 pub const MEMORY: &str = "Memory";
 
 /// Answers cases.
 pub trait Answers {
-    /// What the call of a case answers, as a line, where it takes its memory from a heap.
+    /// Returns the answer of the call of a case, given by `words`, as a line; the call takes its memory from `heap`.
     fn answer(&self, alloc: Global, heap: &Heap, words: &[&str]) -> Result<String>;
 }
 
-/// What was written before memory ran out, and that it did.
+/// Returns the bytes that were `written` before memory ran out, and that it did.
 pub fn cut_short(alloc: Global, written: &[u8]) -> Result<String> {
     let digits = hex::encode(alloc, written)?;
     Ok(format!(in alloc; "{digits}{MEMORY}")?)
@@ -32,7 +32,7 @@ fn behind_status(text: &str) -> &str {
     }
 }
 
-/// Whether a case with a refused growth gave a beginning of the answer, and then that memory ran out.
+/// Tests whether a case with a refused growth gave a beginning of the answer, and then that memory ran out.
 fn is_cut_short(told: &str, want: &str) -> bool {
     match told.strip_suffix(MEMORY) {
         Some(begun) => want.starts_with(begun) || behind_status(want).starts_with(begun),
@@ -61,7 +61,7 @@ fn refuse<C: Answers>(
     Ok(())
 }
 
-/// Which growths of a call are refused.
+/// Growths of a call that are refused.
 #[derive(Clone, Copy, PartialEq, Eq)]
 pub enum Growths {
     /// Each.
@@ -71,7 +71,7 @@ pub enum Growths {
     Few,
 }
 
-/// Which growths of the call of a case are refused, and the words of the call.
+/// Returns which growths of the call of a case are refused, and the words of the call.
 pub fn growths_and_call<'w, 'a>(words: &'w [&'a str]) -> (Growths, &'w [&'a str]) {
     match words {
         [first, call @ ..] if *first == "few" => (Growths::Few, call),
@@ -79,7 +79,8 @@ pub fn growths_and_call<'w, 'a>(words: &'w [&'a str]) -> (Growths, &'w [&'a str]
     }
 }
 
-/// What a call answers, as a line, once these of its growths were refused, and answered as they must be.
+/// Returns the answer of a call of `calls`, given by `words`, as a line, once these of its `growths` were refused, and
+/// answered as they must be.
 pub fn answer_each<C: Answers>(
     alloc: Global,
     calls: &C,

@@ -3,7 +3,7 @@
 use anyhow::{Result, anyhow};
 use std::alloc::Global;
 
-/// The word at a place of the line.
+/// Returns word `at` of the line `words`.
 pub fn word_at<'a>(words: &[&'a str], at: usize) -> Result<&'a str> {
     match words.get(at) {
         Some(word) => Ok(*word),
@@ -11,12 +11,12 @@ pub fn word_at<'a>(words: &[&'a str], at: usize) -> Result<&'a str> {
     }
 }
 
-/// The number at a place of the line.
+/// Reads the number at word `at` of the line `words`.
 pub fn number_at(words: &[&str], at: usize) -> Result<u32> {
     Ok(word_at(words, at)?.parse::<u32>()?)
 }
 
-/// The bytes at a place of the line.
+/// Reads the bytes at word `at` of the line `words`.
 pub fn bytes_at(alloc: Global, words: &[&str], at: usize) -> Result<Vec<u8>> {
     let digits = word_at(words, at)?;
     if digits == "-" {
@@ -25,7 +25,7 @@ pub fn bytes_at(alloc: Global, words: &[&str], at: usize) -> Result<Vec<u8>> {
     Ok(hex::decode(alloc, digits)?)
 }
 
-/// Bytes as they stand in a case.
+/// Writes `bytes` as they stand in a case.
 pub fn digits_of(alloc: Global, bytes: &[u8]) -> Result<String> {
     if bytes.is_empty() {
         return Ok(String::from_str(alloc, "-")?);
@@ -33,7 +33,7 @@ pub fn digits_of(alloc: Global, bytes: &[u8]) -> Result<String> {
     Ok(hex::encode(alloc, bytes)?)
 }
 
-/// Appends what is printed of one step of a case.
+/// Appends `told`, the text of one step of a case, to `text`.
 pub fn push_told(text: &mut String, told: &str) -> Result<()> {
     if !text.is_empty() {
         text.push_str(", ")?;

@@ -3,16 +3,14 @@
 use crate::runs::{command_line, tool_told};
 use anyhow::{Result, anyhow};
 use capn_archive::{run_archive, run_uniq};
+use capn_endings::end;
 use capn_flow::{FlowFault, pack_stream, unpack_stream};
 use capn_make::{MakeFault, make, make_texts};
 use capn_report::run_explain;
 use capn_serve::run_pick;
-use capn_tool::{
-    ArchiveFault, Flow, Order, RunFault, archive_text, order_of, pick_only, show_parts,
-    status_of_archive,
-};
+use capn_tool::{ArchiveFault, Flow, Order, RunFault, order_of, pick_only, show_parts};
 use capn_words::Watched;
-use conformance_cases::{Heap, bytes_at, cut_short, digits_of, form_at};
+use conformance_cases::{Heap, bytes_at, cut_short, digits_of, form_at, push_told};
 use std::alloc::Global;
 
 /// The fault of a run that picks or explains messages, as one of a run over an archive.
@@ -28,28 +26,25 @@ fn archive_fault_of(fault: RunFault) -> ArchiveFault {
 /// The status of a run over an archive, what is written, and the line or both lines on standard error.
 fn archive_told(
     alloc: Global,
-    heap: &Heap,
     outcome: Result<(), ArchiveFault>,
     written: &[u8],
 ) -> Result<String> {
-    let status = status_of_archive(&outcome);
+    let mut errors = Watched::new(Vec::new(alloc));
+    let status = end(&outcome, &mut errors);
     let digits = digits_of(alloc, written)?;
-    match outcome {
-        Ok(()) => Ok(format!(in alloc; "status {status}, {digits}")?),
-        Err(ArchiveFault::Memory) => cut_short(alloc, written),
-        Err(fault) => match archive_text(heap, &fault) {
-            Ok(text) => match text.as_str().split_once('\n') {
-                Some((line, last)) => {
-                    Ok(format!(in alloc; "status {status}, {digits}, capn: {line}, {last}")?)
-                }
-                None => Ok(format!(in alloc; "status {status}, {digits}, capn: {text}")?),
-            },
-            Err(_) => cut_short(alloc, written),
-        },
+    if let Err(ArchiveFault::Memory) = outcome {
+        return cut_short(alloc, written);
     }
+    let mut told = format!(in alloc; "status {status}, {digits}")?;
+    let errors = errors.into_inner();
+    for line in str::from_utf8(errors.as_slice())?.lines() {
+        push_told(&mut told, line)?;
+    }
+    Ok(told)
 }
 
-/// The same of a run that packs or unpacks.
+/// Returns the end of a run that packs or unpacks: the status, the bytes that are `written`, and the line on standard
+/// error.
 fn flow_told(alloc: Global, outcome: Result<(), FlowFault>, written: &[u8]) -> Result<String> {
     let digits = digits_of(alloc, written)?;
     match outcome {
@@ -82,29 +77,29 @@ pub(crate) fn archive_answer(alloc: Global, heap: &Heap, words: &[&str]) -> Resu
                 Ok(()) => Ok(()),
                 Err(fault) => Err(archive_fault_of(fault)),
             };
-            archive_told(alloc, heap, outcome, writer.into_inner().as_slice())
+            archive_told(alloc, outcome, writer.into_inner().as_slice())
         }
         Order::Archive(archive) => {
             let outcome = run_archive(heap, archive, &mut reader, &mut writer);
-            archive_told(alloc, heap, outcome, writer.into_inner().as_slice())
+            archive_told(alloc, outcome, writer.into_inner().as_slice())
         }
         Order::Uniq(uniq) => {
             let outcome = run_uniq(heap, uniq, &mut reader, &mut writer);
-            archive_told(alloc, heap, outcome, writer.into_inner().as_slice())
+            archive_told(alloc, outcome, writer.into_inner().as_slice())
         }
         Order::Pick(pick) => {
             let outcome = match run_pick(heap, pick, &mut reader, &mut writer) {
                 Ok(()) => Ok(()),
                 Err(fault) => Err(archive_fault_of(fault)),
             };
-            archive_told(alloc, heap, outcome, writer.into_inner().as_slice())
+            archive_told(alloc, outcome, writer.into_inner().as_slice())
         }
         Order::Only(only) => {
             let outcome = match pick_only(heap, &only, &mut reader, &mut writer) {
                 Ok(()) => Ok(()),
                 Err(fault) => Err(archive_fault_of(fault)),
             };
-            archive_told(alloc, heap, outcome, writer.into_inner().as_slice())
+            archive_told(alloc, outcome, writer.into_inner().as_slice())
         }
         Order::Flow(Flow::Pack) => {
             let outcome = pack_stream(heap, &mut reader, &mut writer);
@@ -148,7 +143,7 @@ pub(crate) fn make_answer(alloc: Global, heap: &Heap, words: &[&str]) -> Result<
     made_told(alloc, outcome, writer.into_inner().as_slice())
 }
 
-/// How a run over texts ended: the status, what is written, and the line on standard error.
+/// Returns the end of a run over texts: the status, the bytes that are `written`, and the line on standard error.
 fn made_told(alloc: Global, outcome: Result<(), MakeFault>, written: &[u8]) -> Result<String> {
     let digits = digits_of(alloc, written)?;
     match outcome {

@@ -30,7 +30,7 @@ impl Answers for RunAnswers {
     }
 }
 
-/// What a call answers, as a line.
+/// Returns the answer of a call, as a line.
 fn answer_line(alloc: Global, line: &str) -> Result<String> {
     let words: Vec<&str> = line.split(' ').collect(alloc)?;
     let (growths, call) = growths_and_call(words.as_slice());

@@ -30,7 +30,7 @@ pub(crate) fn run_answer(alloc: Global, heap: &Heap, words: &[&str]) -> Result<S
     tool_told(alloc, heap, outcome, writer.into_inner().as_slice())
 }
 
-/// The status of a run that ended so, what is written, and the line on standard error.
+/// Returns the end of a run: its status, the bytes that are `written`, and the line on standard error.
 pub(crate) fn tool_told(
     alloc: Global,
     heap: &Heap,

@@ -13,7 +13,7 @@ use capn_stream::read_message;
 use capn_words::Watched;
 use sha2::{Digest, Sha256};
 
-/// What a refusal means, for somebody who does not know the format.
+/// Says what `refusal` means, to somebody who does not know the format.
 fn in_words(refusal: &Refusal) -> &'static str {
     match refusal {
         Refusal::Bare(_) | Refusal::Packed(_) | Refusal::Frame(_) => "these bytes are no message",

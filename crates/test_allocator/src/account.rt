@@ -2,7 +2,7 @@
 
 ghost use Rattle.std.specs.Prelude.{◌≡◌, ◌⊎◌, ◌+◌, ◌-◌, ◌^◌, ◌<◌, ◌↔◌, true, max, min};
 
-/// Which growths are refused, and what was asked so far.
+/// The growths that are refused, and those that were asked for so far.
 #[derive(Clone, Copy)]
 pub(crate) struct Account {
     /// The number of the growth that is refused, counted from 1 for the next one; 0 where none is.
@@ -11,12 +11,12 @@ pub(crate) struct Account {
     pub most: usize,
     /// The most bytes that a growth asked for.
     pub greatest: usize,
-    /// How many growths came.
+    /// The number of growths that came.
     pub count: u64,
 }
 
 impl Account {
-    /// Refuses the growth of this number, counted from 1, and no other; none where it is 0.
+    /// Returns an account that refuses the growth of this `number`, counted from 1, and no other; none for 0.
     pub(crate) fn nth(number: u64) -> Account
         ensures left { result.left ≡ number }
         ensures most { result.most ≡ 2 ^ 64 - 1 }
@@ -31,14 +31,14 @@ impl Account {
         }
     }
 
-    /// Whether a growth of `size` bytes is refused.
+    /// Tests whether a growth of `size` bytes is refused.
     pub(crate) fn refuses(self, size: usize) -> bool
         ensures { (result ≡ true) ↔ ((self.left ≡ 1) ⊎ (self.most < size)) }
     {
         self.left == 1 || self.most < size
     }
 
-    /// The account once a growth of `size` bytes has come.
+    /// Returns the account once a growth of `size` bytes has come.
     pub(crate) fn counted(self, size: usize) -> Account
         ensures left { result.left ≡ self.left - 1 }
         ensures most { result.most ≡ self.most }

@@ -11,7 +11,8 @@ pub struct Refusing<B: Allocator> {
 }
 
 impl<B: Allocator> Refusing<B> {
-    /// Refuses the growth of this number, counted from 1, and no other; none where it is 0.
+    /// Returns an allocator over `inner` that refuses the growth of this `number`, counted from 1, and no other; none
+    /// for 0.
     pub fn nth(inner: B, number: u64) -> Refusing<B> {
         Refusing {
             inner,
@@ -19,7 +20,7 @@ impl<B: Allocator> Refusing<B> {
         }
     }
 
-    /// Refuses each growth of more bytes than these, from now on.
+    /// Refuses each growth of more than `most` bytes, from now on.
     pub fn refuse_above(&self, most: usize) {
         let account = self.account.get();
         self.account.set(Account { most, ..account });
@@ -30,17 +31,17 @@ impl<B: Allocator> Refusing<B> {
         self.refuse_above(0);
     }
 
-    /// Whether fewer growths came than the number, so that it was refused none.
+    /// Returns `true` if fewer growths came than the number, so that it was refused none.
     pub fn has_spared(&self) -> bool {
         self.account.get().left != 0
     }
 
-    /// The most bytes that a growth asked for, a refused one too.
+    /// Returns the most bytes that a growth asked for, a refused one too.
     pub fn greatest(&self) -> usize {
         self.account.get().greatest
     }
 
-    /// How many growths came, refused ones too.
+    /// Returns the number of growths that came, refused ones too.
     pub fn count(&self) -> u64 {
         self.account.get().count
     }

@@ -8,7 +8,7 @@ fn segment_bytes<S: Space>(space: &S, segment: u32) -> Option<&[u8]> {
     Some(space.bytes(Place { segment, word: 0 }, 8 * words as usize))
 }
 
-/// Whether a message's first segment begins with a zero word.
+/// Tests whether a message's first segment begins with a zero word.
 fn is_null<S: Space>(space: &S) -> bool {
     match space.words(0) {
         None => false,

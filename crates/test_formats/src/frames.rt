@@ -43,7 +43,7 @@ fn a_framer_holds_the_table_that_it_refuses(rt: HostRuntime) {
     assert_eq!(rt; framer.feed(&FRAMED), Err(FrameFault::Failed));
 }
 
-/// How many words and bytes the message of one segment takes with which some bytes begin.
+/// Returns the words and the bytes of the message of one segment with which `bytes` begin.
 fn bare_sizes(bytes: &[u8], max_words: u32) -> Option<(Option<u32>, usize)>
     requires { max_words ≤ most_message_words }
 {

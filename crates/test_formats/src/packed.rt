@@ -4,7 +4,7 @@ use capn_pack::{UnpackFault, Unpacker, pack, tag, unpack};
 use std::alloc::Global;
 use std::test::Fail;
 
-/// Whether the words pack to the text, and the text unpacks to the words.
+/// Tests whether the words pack to the text, and the text unpacks to the words.
 fn there_and_back(alloc: Global, words: &[u8], text: &[u8]) -> Result<bool, Fail> {
     let most = u32::try_from(words.len() / 8).unwrap_or(0);
     let packed = pack(alloc, words)?;

@@ -20,7 +20,7 @@ fn split_again(pointer: Pointer) -> Pointer
     split(join(pointer))
 }
 
-/// Whether a word says this, and is the word of it.
+/// Tests whether `word` is read as `pointer`, and is the word of it.
 fn is_word_of(word: u64, pointer: Pointer) -> bool {
     split(word) == pointer && joined_again(word) == word && join(pointer) == word
 }

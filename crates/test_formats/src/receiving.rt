@@ -98,7 +98,7 @@ const REFUSED: [(&[u8], FrameFault, usize); 8] = [
     ),
 ];
 
-/// Why the first message is refused, and how many bytes were read.
+/// Returns the reason why the first message is refused, and the number of bytes that were read.
 fn refused(alloc: Global, stream: &[u8]) -> Option<(FrameFault, usize)> {
     let mut reader = Watched::new(stream);
     match read_message(alloc, &mut reader, MOST_MESSAGE_WORDS) {

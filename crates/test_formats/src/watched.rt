@@ -15,7 +15,7 @@ const KINDS: [ErrorKind; 5] = [
     ErrorKind::Other,
 ];
 
-/// What a call is to answer.
+/// The answer that a call is to give.
 #[derive(Clone, Copy)]
 enum Answer {
     Bytes(usize),

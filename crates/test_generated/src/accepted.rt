@@ -8,13 +8,13 @@ use capn_walk::Limits;
 use std::alloc::Global;
 use std::test::Fail;
 
-// What all calls say of a seed's message in `segments` segments.
+// Returns the answer of all calls to a seed's message in `segments` segments.
 fn answer(alloc: Global, seed: u64, segments: u64) -> Result<Answer, Fail> {
     let stream = message(alloc, seed, segments)?;
     agreed(alloc, stream.as_slice(), Limits::usual()).map_err(Fail::new)
 }
 
-// Whether two messages have the same canonical bytes, or the same first capability.
+// Tests whether two messages have the same canonical bytes, or the same first capability.
 fn is_one_value(one: &Answer, other: &Answer) -> bool {
     match (one, other) {
         (Ok(one), Ok(other)) => one.bytes.as_slice() == other.bytes.as_slice(),

@@ -37,7 +37,7 @@ pub(crate) fn agreed(alloc: Global, stream: &[u8], limits: Limits) -> Result<Ans
     Ok(answer)
 }
 
-// Whether a survey reports what a walk paid, visited and met, or where and why it stopped.
+// Tests whether a survey reports what a walk paid, visited and met, or the place and the reason at which it stopped.
 fn is_surveyed(surveyed: &Result<Surveyed, Stopped>, walked: &Result<Walked, Stopped>) -> bool {
     match (surveyed, walked) {
         (Ok(told), Ok(walked)) => {
@@ -65,7 +65,7 @@ fn answer_of(alloc: Global, walked: Result<Walked, Stopped>) -> Answer {
     }
 }
 
-// Whether two answers are equal.
+// Tests whether two answers are equal.
 fn is_same(one: &Answer, other: &Answer) -> bool {
     match (one, other) {
         (Ok(one), Ok(other)) => {
@@ -76,7 +76,8 @@ fn is_same(one: &Answer, other: &Answer) -> bool {
     }
 }
 
-// Whether canonical bytes, read bare under the same limits, are canonical and have themselves as their canonical bytes.
+// Tests whether canonical bytes, read bare under the same limits, are canonical and have themselves as their canonical
+// bytes.
 fn is_own(alloc: Global, answer: &Answer, limits: Limits) -> bool {
     let Ok(canonical) = answer else {
         return true;
@@ -97,7 +98,7 @@ fn segment_of<S: Space>(space: &S) -> &[u8] {
     }
 }
 
-/// Whether `is_canonical` answers of bytes what comparing them with their canonical bytes does.
+/// Tests whether `is_canonical` answers of bytes what comparing them with their canonical bytes does.
 pub(crate) fn is_told(alloc: Global, bytes: &[u8], limits: Limits) -> bool {
     let told = is_canonical(alloc, bytes, limits);
     match canonicalise(alloc, Form::Bare, bytes, limits) {

@@ -7,7 +7,7 @@ use capn_walk::Limits;
 use std::alloc::Global;
 use std::test::Fail;
 
-// Whether a walk ends as a survey of the same stream, and why it stopped if it did.
+// Tests whether a walk ends as a survey of the same stream, and why it stopped if it did.
 fn is_walked(alloc: Global, stream: &[u8], limits: Limits) -> bool {
     match (
         survey_bytes(alloc, Form::Stream, stream, limits),
@@ -19,7 +19,7 @@ fn is_walked(alloc: Global, stream: &[u8], limits: Limits) -> bool {
     }
 }
 
-// Whether a departure comes with the survey of the same stream, and names its segments if it has more than one.
+// Tests whether a departure comes with the survey of the same stream, and names its segments if it has more than one.
 fn is_departed(alloc: Global, stream: &[u8], segments: u64, limits: Limits) -> bool {
     match (
         survey_bytes(alloc, Form::Stream, stream, limits),

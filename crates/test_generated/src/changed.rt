@@ -31,7 +31,7 @@ const CANONICAL: [&str; 22] = [
     "0100000051000000ff03000000000000",
 ];
 
-// Whether `is_canonical` answers what comparing does, whichever byte is changed to whichever other.
+// Tests whether `is_canonical` answers what comparing does, whichever byte is changed to whichever other.
 fn are_told(alloc: Global, bytes: &mut [u8], limits: Limits) -> bool {
     for at in 0..bytes.len() {
         for change in 0..=255u8 {

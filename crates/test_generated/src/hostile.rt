@@ -154,7 +154,7 @@ fn ending_of(answer: &Answer) -> u32 {
     }
 }
 
-// How a seed's message ends, by what all calls say of it.
+// Returns the end of a seed's message, by the answers of all calls.
 fn ending(rt: &impl Abort, alloc: Global, seed: u64) -> Result<u32, AllocError> {
     let mut random = Random::new(seed);
     let stream = message(alloc, &mut random)?;

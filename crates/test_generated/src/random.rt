@@ -2,7 +2,7 @@
 
 ghost use Rattle.std.specs.Prelude.{◌≡◌, ◌+◌, ◌*◌, ◌%◌, ◌^◌, ◌<◌, ◌≤◌};
 
-/// The same numbers for each seed.
+/// Random numbers, the same for each seed.
 #[derive(Drop)]
 pub(crate) struct Random {
     state: u64,

@@ -29,14 +29,14 @@ impl Segments {
         Ok(Segments { segments })
     }
 
-    /// How many there are.
+    /// Returns the number of segments.
     pub(crate) fn count(&self) -> u64
         ensures { result ≡ length self.now.segments.items }
     {
         self.segments.len() as u64
     }
 
-    /// How many words one has.
+    /// Returns the number of words of `segment`.
     pub(crate) fn len(&self, segment: u64) -> u64
         ensures { result ≡ length (slice_index_or (map (λ words. words.items) self.now.segments.items) segment []) }
     {

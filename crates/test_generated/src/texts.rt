@@ -21,8 +21,8 @@ pub(crate) fn value_of(alloc: Global, seed: u64) -> Result<Tree, Fail> {
     }
 }
 
-// Whether a tree that was read is this one, with this text. Values with trailing zeros are the same as others without,
-// but have another text.
+// Tests whether a tree that was read is this one, with this text. Values with trailing zeros are the same as others
+// without, but have another text.
 fn is_read(alloc: Global, tree: &Tree, read: Option<Tree>, text: &[u8]) -> bool {
     match read {
         Some(read) => {
@@ -36,7 +36,7 @@ fn is_read(alloc: Global, tree: &Tree, read: Option<Tree>, text: &[u8]) -> bool 
     }
 }
 
-// Whether the text of a tree is read back as this tree; the text joins a stream.
+// Tests whether the text of a tree is read back as this tree; the text joins a stream.
 fn joins(alloc: Global, tree: &Tree, stream: &mut Vec<u8>) -> Result<bool, AllocError> {
     let Ok(text) = show(alloc, tree) else {
         return Ok(false);
@@ -47,7 +47,7 @@ fn joins(alloc: Global, tree: &Tree, stream: &mut Vec<u8>) -> Result<bool, Alloc
     Ok(is_read(alloc, tree, alone, text.as_bytes()))
 }
 
-// Whether the next text of a stream is read as this tree.
+// Tests whether the next text of a stream is read as this tree.
 fn is_next(alloc: Global, tree: &Tree, texts: &mut Texts) -> bool {
     match (texts.read_next(alloc), show(alloc, tree)) {
         (Ok(next), Ok(text)) => is_read(alloc, tree, next, text.as_bytes()),

@@ -23,7 +23,7 @@ fn without_capability(tree: Tree) -> Option<Tree> {
     Some(tree)
 }
 
-// Whether a walk of canonical bytes finds the value again, and lays it as these bytes.
+// Tests whether a walk of canonical bytes finds the value again, and lays it as these bytes.
 fn is_walked(alloc: Global, tree: &Tree, bytes: &[u8]) -> bool {
     let Ok(space) = Bare::new(bytes) else {
         return false;
@@ -40,7 +40,7 @@ fn is_walked(alloc: Global, tree: &Tree, bytes: &[u8]) -> bool {
     }
 }
 
-// Whether bytes are their own canonical bytes, by both calls.
+// Tests whether bytes are their own canonical bytes, by both calls.
 fn is_own(alloc: Global, bytes: &[u8]) -> bool {
     let is_equal = match canonicalise(alloc, Form::Bare, bytes, Limits::usual()) {
         Ok(canonical) => canonical.bytes.as_slice() == bytes,
@@ -49,7 +49,7 @@ fn is_own(alloc: Global, bytes: &[u8]) -> bool {
     is_equal && is_canonical(alloc, bytes, Limits::usual()) == Ok(true)
 }
 
-// Whether the layout of a value, read bare, is that value to all calls.
+// Tests whether the layout of a value, read bare, is that value to all calls.
 fn is_read_back(alloc: Global, tree: &Tree) -> bool {
     match layout(alloc, tree) {
         Ok(bytes) => is_walked(alloc, tree, bytes.as_slice()) && is_own(alloc, bytes.as_slice()),

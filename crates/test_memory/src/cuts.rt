@@ -46,7 +46,7 @@ const STREAMS: [&str; 33] = [
     "0000000002000000000000000100000005000000000000000000000003000000000000000200000005000000000000000000000000000000",
 ];
 
-/// What is read of a stream: its messages, framed again, and how it ends.
+/// The messages that are read of a stream, framed again, and its end.
 #[derive(Drop)]
 struct Told {
     frames: Vec<u8>,
@@ -150,18 +150,18 @@ fn told_in_pieces(alloc: Global, bytes: &[u8], size: usize) -> Told {
     Told { frames, ending }
 }
 
-/// Whether a framer that is fed `size` bytes at a time reads some bytes as `first` does.
+/// Tests whether a framer that is fed `size` bytes at a time reads some bytes as `first` does.
 fn is_told(alloc: Global, bytes: &[u8], want: &Told, size: usize) -> bool {
     let told = told_in_pieces(alloc, bytes, size);
     told.ending == want.ending && told.frames.as_slice() == want.frames.as_slice()
 }
 
-/// Whether each beginning of a stream is read as `first` reads it, in pieces of each size.
+/// Tests whether each beginning of a stream is read as `first` reads it, in pieces of each size.
 fn are_told(alloc: Global, stream: &[u8]) -> bool {
     are_told_from(alloc, stream, 0)
 }
 
-/// Whether the beginnings of at least `least` bytes are read as `first` reads them.
+/// Tests whether the beginnings of at least `least` bytes are read as `first` reads them.
 fn are_told_from(alloc: Global, stream: &[u8], least: usize) -> bool {
     for len in least..=stream.len() {
         let bytes = start_of(stream, len);

@@ -51,7 +51,7 @@ enum Order {
     Canonical(Form),
 }
 
-/// How a command ends, which no growth is let through for that has more room.
+/// Returns the end of a command that is let no growth through for more room.
 fn outcome_of(alloc: Global, order: Order, first: &[u8], pieces: u64) -> Result<(), ToolFault> {
     let limits = Limits::new(WORDS, 1_000, 64).unwrap_or(Limits::usual());
     let command = match order {
@@ -82,7 +82,7 @@ fn an_input_without_end(rt: HostRuntime) {
     }
 }
 
-/// What a stream begins with, and why it is refused.
+/// The first bytes of a stream, and the reason why it is refused.
 const STREAMS: [([u8; 8], Refusal); 4] = [
     ([0; 8], Refusal::Trailing(8)),
     ([0, 0, 0, 0, 0xe8, 3, 0, 0], Refusal::Trailing(8_008)),

@@ -14,7 +14,7 @@ fn waiting<'a>(rt: &impl Abort, heap: &'a Refusing<Global>) -> Framer<&'a Refusi
     framer
 }
 
-/// `count` such framers.
+/// Returns `count` framers, to each of which such a message was announced.
 fn waiting_each<'a>(
     rt: &impl Abort,
     alloc: Global,
@@ -28,7 +28,7 @@ fn waiting_each<'a>(
     Ok(framers)
 }
 
-/// Whether each of some framers has no room for 256 bytes.
+/// Tests whether each of some framers has no room for 256 bytes.
 fn are_without_room(framers: &mut [Framer<&Refusing<Global>>]) -> bool {
     for framer in framers {
         if framer.feed(&[0; 256]) != Err(FrameFault::Memory) {

@@ -15,7 +15,7 @@ use std::alloc::{AllocError, Global};
 use std::test::Fail;
 use test_allocator::Refusing;
 
-/// Whether the first message is all of the stream, and has `segments` segments.
+/// Tests whether the first message is all of the stream, and has `segments` segments.
 fn is_whole(alloc: Global, stream: &[u8], segments: u32) -> bool {
     match first(alloc, stream, MOST) {
         Ok((message, taken)) => taken == stream.len() && message.segments() == segments,
@@ -53,7 +53,7 @@ fn many_segments(alloc: Global) -> Result<Vec<u8>, AllocError> {
     Ok(stream)
 }
 
-/// How many growths a message of a stream takes and the most bytes of one, and the same for its frame.
+/// Returns the number of growths that a message of a stream takes and the most bytes of one, and both for its frame.
 fn framed_growths(alloc: Global, stream: &[u8]) -> Option<((u64, usize), (u64, usize))> {
     let heap = Refusing::nth(alloc, 0);
     let (message, _) = first(&heap, stream, MOST).ok()?;
@@ -78,7 +78,7 @@ fn growths_of_many_segments(rt: HostRuntime) -> Result<(), Fail> {
     Ok(())
 }
 
-/// How many growths a framer takes that is fed a message byte by byte.
+/// Counts the growths of a framer that is fed a message byte by byte.
 fn growths_by_the_byte(alloc: Global, stream: &[u8]) -> Option<u64> {
     let heap = Refusing::nth(alloc, 0);
     let mut framer = Framer::new(&heap, MOST);
@@ -104,7 +104,7 @@ fn a_mebibyte_byte_by_byte(rt: HostRuntime) -> Result<(), Fail> {
     Ok(())
 }
 
-/// Whether bytes are their own canonical bytes, which ask for no growth of more than a kibibyte.
+/// Tests whether bytes are their own canonical bytes, which ask for no growth of more than a kibibyte.
 fn is_small(alloc: Global, bytes: &[u8]) -> bool {
     let heap = Refusing::nth(alloc, 0);
     let is_own = match canonicalise(&heap, Form::Bare, bytes, limits(64)) {
@@ -114,7 +114,7 @@ fn is_small(alloc: Global, bytes: &[u8]) -> bool {
     is_own && is_canonical(&heap, bytes, limits(64)) == Ok(true) && heap.greatest() <= 1_024
 }
 
-/// What was paid is not taken for what there is to write: eight million voids, which cost as many words.
+/// The words that were paid for are not taken for those to write: eight million voids cost as many words.
 #[test]
 fn voids_by_the_million(rt: HostRuntime) -> Result<(), Fail> {
     let voids = [0x1_0000_0000_0000, 8_000_000 << 35 | 1];
@@ -123,7 +123,8 @@ fn voids_by_the_million(rt: HostRuntime) -> Result<(), Fail> {
     Ok(())
 }
 
-/// How many growths the price of a packed input takes that begins with an empty message, and the most bytes of one.
+/// Returns the number of growths that the price of a packed input takes that begins with an empty message, and the most
+/// bytes of one.
 fn priced_growths(alloc: Global, packed: &[u8]) -> Option<(u64, usize)> {
     let heap = Refusing::nth(alloc, 0);
     let command = Command::Check(Form::Packed, limits(64));
@@ -151,7 +152,7 @@ fn packed_zeros_are_unpacked_bit_by_bit(rt: HostRuntime) -> Result<(), Fail> {
     Ok(())
 }
 
-/// How many growths the walk of a message takes.
+/// Counts the growths of the walk of a message.
 fn walked_growths(alloc: Global, bytes: &[u8]) -> Option<u64> {
     let heap = Refusing::nth(alloc, 0);
     let space = Bare::new(bytes).ok()?;
@@ -164,7 +165,7 @@ fn walked_growths(alloc: Global, bytes: &[u8]) -> Option<u64> {
     Some(count)
 }
 
-/// How many growths it takes to show a message.
+/// Counts the growths that it takes to show a message.
 fn shown_growths(alloc: Global, stream: &[u8]) -> Option<u64> {
     let heap = Refusing::nth(alloc, 0);
     let command = Command::Show(Form::Stream, limits(256));

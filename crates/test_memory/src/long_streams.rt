@@ -49,7 +49,7 @@ impl Write for Counted {
     }
 }
 
-/// Some bytes, so many times.
+/// Returns `count` copies of `bytes`, one after the other.
 fn times(alloc: Global, bytes: &[u8], count: u32) -> Result<Vec<u8>, AllocError> {
     let mut row = Vec::new(alloc);
     for _ in 0..count {
@@ -61,10 +61,10 @@ fn times(alloc: Global, bytes: &[u8], count: u32) -> Result<Vec<u8>, AllocError>
 /// The frame of a message of one segment with a null root.
 const EMPTY: [u8; 16] = [0, 0, 0, 0, 1, 0, 0, 0, 0, 0, 0, 0, 0, 0, 0, 0];
 
-/// How often it is in a row of 65,536 bytes.
+/// The times that it is in a row of 65,536 bytes.
 const IN_A_ROW: u32 = 4_096;
 
-/// How many rows have more than 200,000 of them: 200,704.
+/// The number of rows in which it is more than 200,000 times: 200,704.
 const ROWS: u64 = 49;
 
 /// A packed frame of 65,536 bytes: one segment of 8,191 words that are zero.
@@ -77,7 +77,8 @@ fn packed_zeros(alloc: Global) -> Result<Vec<u8>, AllocError> {
     Ok(packed)
 }
 
-/// How often it is in a row of no more than 65,536 bytes, and how many of these rows unpack to more than 1 GiB.
+/// The times that it is in a row of no more than 65,536 bytes, and the number of these rows that unpack to more than 1
+/// GiB.
 const PACKED_IN_A_ROW: u32 = 978;
 
 const PACKED_ROWS: u64 = 17;
@@ -95,7 +96,8 @@ enum Order {
     Unpack,
 }
 
-/// What a run asked of memory and wrote: how many growths, the most bytes of one, and how many bytes it wrote.
+/// The demand of a run for memory, and its output: the number of growths, the most bytes of one, and the number of
+/// bytes that it wrote.
 #[derive(Clone, Copy)]
 struct Demand {
     growths: u64,
@@ -103,7 +105,7 @@ struct Demand {
     written: u64,
 }
 
-/// What a run takes over these bytes, so many times; nothing where it is not done.
+/// Returns the demand of a run over `row`, `left` times; `None` if it is not done.
 fn taken(alloc: Global, order: Order, form: Form, row: &[u8], left: u64) -> Option<Demand> {
     let heap = Refusing::nth(alloc, 0);
     let limits = Limits::new(MOST, 8_388_608, 64)?;
@@ -174,7 +176,7 @@ fn two_hundred_thousand_messages(rt: HostRuntime) -> Result<(), Fail> {
     Ok(())
 }
 
-/// Whether a run that is done over 200,704 messages writes `written` bytes, and asks for no growth above 256 KiB.
+/// Tests whether a run that is done over 200,704 messages writes `written` bytes, and asks for no growth above 256 KiB.
 fn writes(alloc: Global, order: Order, written: u64) -> Result<bool, AllocError> {
     let row = times(alloc, &EMPTY, IN_A_ROW)?;
     match taken(alloc, order, Form::Stream, row.as_slice(), ROWS) {
@@ -208,7 +210,7 @@ fn the_count_of_two_hundred_thousand_that_are_one(rt: HostRuntime) -> Result<(),
     Ok(())
 }
 
-/// What a run takes over so many packed rows, if it asks for no growth of more than 1 MiB.
+/// Returns the demand of a run over so many packed `rows`, if it asks for no growth of more than 1 MiB.
 fn taken_of_packed(alloc: Global, order: Order, rows: u64) -> Result<Option<Demand>, AllocError> {
     let frame = packed_zeros(alloc)?;
     let row = times(alloc, frame.as_slice(), PACKED_IN_A_ROW)?;
@@ -234,7 +236,7 @@ fn packed_messages_are_picked(rt: HostRuntime) -> Result<(), Fail> {
     Ok(())
 }
 
-/// And so are their lines.
+/// The messages of a packed stream are listed one by one.
 #[test]
 fn packed_messages_are_listed(rt: HostRuntime) -> Result<(), Fail> {
     let took = taken_of_packed(rt.alloc(), Order::Archive(Task::List), 2)?;
@@ -242,7 +244,7 @@ fn packed_messages_are_listed(rt: HostRuntime) -> Result<(), Fail> {
     Ok(())
 }
 
-/// What is packed of a stream is written a piece at a time.
+/// The packed text of a stream is written a piece at a time.
 #[test]
 fn a_stream_is_packed_in_pieces(rt: HostRuntime) -> Result<(), Fail> {
     let row = times(rt.alloc(), &EMPTY, IN_A_ROW)?;

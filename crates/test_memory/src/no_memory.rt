@@ -9,13 +9,13 @@ use std::process::Abort;
 use std::test::Fail;
 use test_allocator::Refusing;
 
-/// Whether a chain of 63 structs is canonical, with its price and its visits.
+/// Tests whether a chain of 63 structs is canonical, with its price and its visits.
 fn is_told(heap: &Refusing<Global>, deep: &[u8]) -> bool {
     is_canonical(heap, deep, limits(64)) == Ok(true)
         && accounted(heap, Form::Bare, deep, limits(64)) == Ok((253, 127, None))
 }
 
-/// Whether a chain of 64 structs is refused as too deep at its last object, and as it is with ample memory.
+/// Tests whether a chain of 64 structs is refused as too deep at its last object, and as it is with ample memory.
 fn is_too_deep(heap: &Refusing<Global>, alloc: Global, deeper: &[u8]) -> bool {
     let is_stopped = match is_canonical(heap, deeper, limits(64)) {
         Err(Refusal::Walk(stopped)) => stopped.fault == Fault::TooDeep

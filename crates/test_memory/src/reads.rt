@@ -8,8 +8,8 @@ use std::alloc::Global;
 use std::test::Fail;
 use test_allocator::Refusing;
 
-/// Whether no growth for the next message had this number, and how many bytes the reader has left, if the message was
-/// read then and memory ran out otherwise.
+/// Tests whether no growth for the next message had this `number`, and returns the bytes that the reader has left, if
+/// the message was read then and memory ran out otherwise.
 fn left_by(alloc: Global, stream: &[u8], number: u64) -> (bool, Option<usize>) {
     let short = Refusing::nth(alloc, number);
     let mut reader = Watched::new(stream);

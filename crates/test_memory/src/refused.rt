@@ -133,7 +133,7 @@ fn command_of(order: Order) -> Command {
     }
 }
 
-/// What a call answers with an allocator.
+/// Returns the answer of a call with an allocator.
 pub(crate) fn answer(of: &Subject, short: &Refusing<Global>, call: Call) -> Answer {
     match call {
         Call::First => first_answer(of, short),
@@ -166,8 +166,8 @@ pub(crate) fn answer(of: &Subject, short: &Refusing<Global>, call: Call) -> Answ
     }
 }
 
-/// Whether no growth of a call had this number, what it answers with that refused, and what it answers then, unless no
-/// growth had it.
+/// Tests whether no growth of a call had this `number`, and returns its answers with that refused, and then, unless no
+/// growth had it, once more.
 fn answers(of: &Subject, call: Call, number: u64) -> (bool, Answer, Answer) {
     let short = Refusing::nth(of.alloc, number);
     let first = answer(of, &short, call);
@@ -176,7 +176,7 @@ fn answers(of: &Subject, call: Call, number: u64) -> (bool, Answer, Answer) {
     (is_spared, first, again)
 }
 
-/// Whether a call asks for memory: a survey takes none, whatever the depth, nor does what reads bare words.
+/// Tests whether a call asks for memory: a survey takes none, whatever the depth, nor does what reads bare words.
 fn takes_memory(call: Call) -> bool {
     !matches!(call, Call::Survey | Call::Check | Call::Account(Form::Bare))
 }
@@ -204,8 +204,8 @@ fn each_call(rt: HostRuntime) -> Result<(), Fail> {
     Ok(())
 }
 
-/// Whether no growth had this number, and what showing two messages, each with this text, answers with it refused: both
-/// texts, or that of the first, perhaps a beginning of the second's, and that memory ran out.
+/// Tests whether no growth had this `number`, and returns the answer of showing two messages, each with this `text`,
+/// with it refused: both texts, or that of the first, perhaps a beginning of the second's, and that memory ran out.
 fn shows_twice(alloc: Global, twice: &[u8], text: &[u8], number: u64) -> (bool, Answer) {
     let short = Refusing::nth(alloc, number);
     let (outcome, shown) = output(alloc, &short, command_of(Order::Show), twice);
@@ -221,7 +221,7 @@ fn shows_twice(alloc: Global, twice: &[u8], text: &[u8], number: u64) -> (bool, 
     )
 }
 
-/// Where a growth for the second of two messages is refused, the text of the first is written all the same.
+/// If a growth for the second of two messages is refused, the text of the first is written all the same.
 #[test]
 fn the_first_message_is_written(rt: HostRuntime) -> Result<(), Fail> {
     let once = bytes_of(rt.alloc(), &STREAM)?;
@@ -252,7 +252,7 @@ const TWO: [u64; 7] = [
     5,
 ];
 
-/// Whether no growth of a run had this number, and whether the run ended as done then, and else as Memory.
+/// Tests whether no growth of a run had this `number`, and whether the run ended as done then, and else as `Memory`.
 fn ends_by(alloc: Global, command: &Command, input: &[u8], number: u64) -> (bool, bool) {
     let short = Refusing::nth(alloc, number);
     let (outcome, _) = output(alloc, &short, *command, input);
@@ -265,7 +265,7 @@ fn ends_by(alloc: Global, command: &Command, input: &[u8], number: u64) -> (bool
     (is_spared, outcome == want)
 }
 
-/// How many growths a run has, each of which ends it as Memory where it is refused. None where one doesn't.
+/// Counts the growths of a run, each of which ends it as `Memory` if it is refused; `None` if one doesn't.
 fn growths_of(alloc: Global, command: &Command, input: &[u8]) -> Option<u64> {
     for number in 1..1_000u64 {
         match ends_by(alloc, command, input, number) {

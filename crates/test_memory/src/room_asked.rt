@@ -19,7 +19,7 @@ fn bare_of(alloc: Global, root: u64, len: usize) -> Result<Vec<u8>, AllocError> 
     Ok(bytes)
 }
 
-/// Whether a bare message is shown, and no growth asks for more than four pieces of an input and twice its bytes.
+/// Tests whether a bare message is shown, and no growth asks for more than four pieces of an input and twice its bytes.
 fn follows_its_input(alloc: Global, root: u64, len: usize) -> Result<bool, AllocError> {
     let input = bare_of(alloc, root, len)?;
     let most = len.saturating_mul(2).saturating_add(262_144);

@@ -21,7 +21,7 @@ pub(crate) fn canonicalise_answer(of: &Subject, short: &Refusing<Global>) -> Ans
     judged_canonical(of, canonicalise(short, Form::Packed, packed, limits(256)))
 }
 
-/// Right if and only if these are the canonical bytes of the value.
+/// Judges `canonical`: right if and only if it has the canonical bytes of the value.
 pub(crate) fn judged_canonical(
     of: &Subject,
     canonical: Result<Canonical<&Refusing<Global>>, Refusal>,
@@ -33,7 +33,8 @@ pub(crate) fn judged_canonical(
     }
 }
 
-/// That the chain isn't canonical with another offset in its last pointer: a survey follows the pass that finds that.
+/// Tests that the chain isn't canonical with another offset in its last pointer: a survey follows the pass that finds
+/// that.
 pub(crate) fn check_answer(of: &Subject, short: &Refusing<Global>) -> Answer {
     match is_canonical(short, of.respelt.as_slice(), limits(256)) {
         Ok(is_canonical) => judged(!is_canonical),
@@ -52,7 +53,7 @@ pub(crate) fn accounted<A: Allocator + Copy>(
     Ok((told.paid, told.visits, told.capability))
 }
 
-/// What a survey answers for the stream, for its packed text, and for the chain, which is read bare.
+/// Returns the answer of a survey for the stream, for its packed text, and for the chain, which is read bare.
 pub(crate) fn account_answer(of: &Subject, short: &Refusing<Global>, form: Form) -> Answer {
     let bytes = match form {
         Form::Stream => of.stream,
@@ -75,7 +76,7 @@ pub(crate) fn text_answer(short: &Refusing<Global>) -> Answer {
     }
 }
 
-/// What a command writes of some bytes, to memory that is never short.
+/// Returns the output of a command for some bytes, to memory that is never short.
 pub(crate) fn output<A: Allocator + Copy>(
     ample: Global,
     alloc: A,
@@ -88,7 +89,7 @@ pub(crate) fn output<A: Allocator + Copy>(
     (outcome, writer.into_inner())
 }
 
-/// What a command writes of an input.
+/// Returns the output of a command for an input.
 fn written<A: Allocator + Copy>(
     of: &Subject,
     alloc: A,

@@ -36,7 +36,7 @@ fn marked<A: Allocator + Copy>(of: &Subject, alloc: A) -> (Result<(), ShowFault>
     (outcome, text)
 }
 
-/// Whether it is memory that was refused.
+/// Tests whether it is memory that was refused.
 fn is_memory(fault: ShowFault) -> bool {
     match fault {
         ShowFault::Memory => true,
@@ -58,7 +58,7 @@ pub(crate) fn marked_answer(of: &Subject, short: &Refusing<Global>) -> Answer {
 /// Two texts, with a list of bytes between quotes in each.
 const TEXTS: &[u8] = b"struct 0 1\n  bytes 3 \"ab\\0\"\nend\nstruct 0 1\n  bytes \"c\"\nend\n";
 
-/// What is made of the texts, to memory that is never short.
+/// Makes messages of the texts, to memory that is never short.
 fn made<A: Allocator + Copy>(ample: Global, alloc: A) -> (Result<(), MakeFault>, Vec<u8>) {
     let mut reader = Watched::new(TEXTS);
     let mut writer = Watched::new(Vec::new(ample));

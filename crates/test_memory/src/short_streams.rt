@@ -38,7 +38,7 @@ fn fed_answer(of: &Subject, framer: &mut Framer<&Refusing<Global>>) -> Answer {
     }
 }
 
-/// What a new framer takes.
+/// Returns the answer of a new framer.
 pub(crate) fn feed_answer(of: &Subject, short: &Refusing<Global>) -> Answer {
     let mut framer = Framer::new(short, MOST);
     fed_answer(of, &mut framer)
@@ -85,7 +85,7 @@ fn unpacked_answer(of: &Subject, bytes: &mut Vec<u8, &Refusing<Global>>) -> Answ
     }
 }
 
-/// What an unpacker appends to nothing.
+/// Returns the answer of an unpacker that appends to nothing.
 pub(crate) fn feed_packed_answer(of: &Subject, short: &Refusing<Global>) -> Answer {
     let mut bytes = Vec::new(short);
     unpacked_answer(of, &mut bytes)

@@ -7,7 +7,7 @@ use capn_value::{Tree, same, show};
 use std::alloc::{AllocError, Global};
 use test_allocator::Refusing;
 
-/// Right if and only if this is the value of the message.
+/// Judges `read`: right if and only if it is the value of the message.
 fn judged_read(of: &Subject, read: Result<Tree<&Refusing<Global>>, TextFault>) -> Answer {
     match read {
         Ok(tree) => judged_tree(of, Ok(tree)),
@@ -33,7 +33,7 @@ fn ended_text(of: &Subject) -> Result<Vec<u8>, AllocError> {
     Ok(bytes)
 }
 
-/// Whether the next text is still that of the value.
+/// Tests whether the next text is still that of the value.
 fn is_next(of: &Subject, texts: &mut Texts) -> bool {
     match texts.read_next(of.alloc) {
         Ok(Some(tree)) => {
@@ -45,7 +45,7 @@ fn is_next(of: &Subject, texts: &mut Texts) -> bool {
     }
 }
 
-/// What the next text is read as. After a refusal the place is as it was.
+/// Returns the answer of the next text. After a refusal the place is as it was.
 fn next_answer(of: &Subject, short: &Refusing<Global>, texts: &mut Texts) -> Answer {
     match texts.read_next(short) {
         Ok(Some(tree)) => judged_tree(of, Ok(tree)),

@@ -21,7 +21,7 @@ pub(crate) fn walk_answer(of: &Subject, short: &Refusing<Global>) -> Answer {
     }
 }
 
-/// What a walk of the chain visits.
+/// Returns the answer of a survey of the chain.
 pub(crate) fn survey_answer(of: &Subject, short: &Refusing<Global>) -> Answer {
     let Ok(bare) = Bare::new(of.chain.as_slice()) else {
         return Answer::Wrong;
@@ -65,7 +65,7 @@ pub(crate) fn show_answer(of: &Subject, short: &Refusing<Global>) -> Answer {
     }
 }
 
-/// Right if and only if this is the value of the message.
+/// Judges `tree`: right if and only if it is the value of the message.
 pub(crate) fn judged_tree(of: &Subject, tree: Result<Tree<&Refusing<Global>>, Memory>) -> Answer {
     match tree {
         Ok(tree) => {
@@ -84,7 +84,7 @@ pub(crate) fn items(short: &Refusing<Global>) -> Result<Items<u16, &Refusing<Glo
     Ok(items)
 }
 
-/// How many growths four items take, room for which is asked for at once.
+/// Returns the number of growths that four items take, room for which is asked for at once.
 pub(crate) fn growths_of_four(alloc: Global) -> Result<u64, AllocError> {
     let heap = Refusing::nth(alloc, 0);
     let mut items = Items::with_capacity(&heap, 4)?;
@@ -94,7 +94,7 @@ pub(crate) fn growths_of_four(alloc: Global) -> Result<u64, AllocError> {
     Ok(heap.count())
 }
 
-/// Right if and only if these are the items.
+/// Judges the two items: right if and only if they are those that were put in.
 pub(crate) fn items_answer(short: &Refusing<Global>) -> Answer {
     match items(short) {
         Ok(items) => judged(items.as_slice() == [7, 8].as_slice()),
@@ -127,7 +127,7 @@ pub(crate) fn patched(short: &Refusing<Global>) -> Result<Vec<u8, &Refusing<Glob
     }
 }
 
-/// Right if and only if these are the words.
+/// Judges the words of the buffer: right if and only if they are those that were put in.
 pub(crate) fn patch_answer(short: &Refusing<Global>) -> Answer {
     match patched(short) {
         Ok(bytes) => judged(bytes.as_slice() == b"\x01\0\0\0\0\0\0\0\x02\0\0\0\0\0\0\0".as_slice()),

@@ -43,7 +43,7 @@ fn wide_struct(alloc: Global) -> Result<Vec<u8>, AllocError> {
     segment_of(alloc, 0xffff_0000_0000, 65_535)
 }
 
-/// What the call answers is right, and no growth of it asks for more bytes than these.
+/// Tests that the answer of the call is right, and that no growth of it asks for more bytes than `most`.
 fn within(rt: &impl Abort, of: &Subject, name: &str, call: Call, most: usize) {
     let heap = Refusing::nth(of.alloc, 0);
     heap.refuse_above(most);
@@ -114,7 +114,7 @@ fn exact_growths(rt: HostRuntime) -> Result<(), Fail> {
     Ok(())
 }
 
-/// Whether a walk stops so, and no growth of it or of canonical bytes asks for more than a kibibyte.
+/// Tests whether a walk stops so, and no growth of it or of canonical bytes asks for more than a kibibyte.
 fn stops_small(alloc: Global, words: &[u64], want: Fault) -> Result<bool, AllocError> {
     let bytes = bytes_of(alloc, words)?;
     let heap = Refusing::nth(alloc, 0);
@@ -146,14 +146,14 @@ fn no_memory_before_it_is_paid(rt: HostRuntime) -> Result<(), Fail> {
     Ok(())
 }
 
-/// Whether `first` answers that a stream is cut, without memory.
+/// Tests whether `first` answers that a stream is cut, without memory.
 fn is_cut(alloc: Global, stream: &[u8]) -> bool {
     let heap = Refusing::nth(alloc, 0);
     matches!(first(&heap, stream, 268_435_456), Err(FrameFault::Cut)) && heap.count() == 0
 }
 
-/// Whether `unpack` refuses a text like this, or takes it if that is None, with the greatest maximum and no growth of
-/// more than `most` bytes.
+/// Tests whether `unpack` refuses a text like this, or takes it if that is None, with the greatest maximum and no
+/// growth of more than `most` bytes.
 fn unpacks_small(alloc: Global, text: &[u8], want: Option<UnpackFault>, most: usize) -> bool {
     let heap = Refusing::nth(alloc, 0);
     let told = match unpack(&heap, text, u32::MAX) {
@@ -163,7 +163,7 @@ fn unpacks_small(alloc: Global, text: &[u8], want: Option<UnpackFault>, most: us
     told == want && heap.greatest() <= most
 }
 
-/// What a table or a group announces is not taken for what there is.
+/// The numbers that a table or a group announces are not taken for those that are there.
 #[test]
 fn no_memory_for_what_is_announced(rt: HostRuntime) {
     let alloc = rt.alloc();

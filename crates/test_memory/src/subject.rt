@@ -11,7 +11,7 @@ use std::test::Fail;
 /// The most words of a message.
 pub(crate) const MOST: u32 = 268_435_456;
 
-/// What a call answered.
+/// The answer of a call.
 #[derive(Clone, Copy)]
 pub(crate) enum Answer {
     Right,
@@ -19,8 +19,8 @@ pub(crate) enum Answer {
     Memory,
 }
 
-/// What the calls are tried on: a message, as a stream and packed, its walk, a chain of 70 structs, and the same with
-/// another offset in its last pointer, which only a survey finds to be accepted.
+/// The subject of the calls: a message, as a stream and packed, its walk, a chain of 70 structs, and that with another
+/// offset in its last pointer, which only a survey finds to be accepted.
 #[derive(Drop)]
 pub(crate) struct Subject<'a> {
     pub alloc: Global,
@@ -40,8 +40,8 @@ pub(crate) fn limits(depth: u32) -> Limits {
 /// The canonical pointer to an empty struct.
 const EMPTY: u64 = 0xffff_fffc;
 
-/// `levels` structs of two slots, each in the first slot of the one before, with empty structs in the slots that are
-/// left, the last of which has this pointer.
+/// Returns `levels` structs of two slots, each in the first slot of the one before, with empty structs in the slots
+/// that are left, of which the last has the pointer `last`.
 fn chain_to(alloc: Global, levels: u32, last: u64) -> Result<Vec<u8>, AllocError> {
     let mut words = Vec::new(alloc);
     words.push(0x2_0000_0000_0000)?;
@@ -81,7 +81,7 @@ fn walked_of<S: Space>(alloc: Global, message: &S) -> Result<Walked, Fail> {
     }
 }
 
-/// What the calls are tried on, of a stream.
+/// Returns the subject of the calls for `stream`.
 pub(crate) fn subject_of(alloc: Global, stream: &[u8]) -> Result<Subject<'_>, Fail> {
     let chain = chain(alloc, 70)?;
     let respelt = chain_to(alloc, 70, 0xffff_fff8)?;
@@ -99,7 +99,7 @@ pub(crate) fn subject_of(alloc: Global, stream: &[u8]) -> Result<Subject<'_>, Fa
     })
 }
 
-/// Right if and only if this holds.
+/// Returns `Right` if and only if `is_right`.
 pub(crate) fn judged(is_right: bool) -> Answer {
     if is_right {
         Answer::Right
@@ -108,7 +108,7 @@ pub(crate) fn judged(is_right: bool) -> Answer {
     }
 }
 
-/// Memory ran out, if and only if this holds.
+/// Returns `Memory`, an answer that memory ran out, if and only if `is_right`.
 pub(crate) fn wanting(is_right: bool) -> Answer {
     if is_right {
         Answer::Memory
@@ -117,7 +117,7 @@ pub(crate) fn wanting(is_right: bool) -> Answer {
     }
 }
 
-/// Right if and only if this is the message of the stream.
+/// Judges `message`: right if and only if it is the message of the stream.
 pub(crate) fn judged_message<S: Space>(of: &Subject, message: &S) -> Answer {
     match frame(of.alloc, message) {
         Ok(text) => judged(text.as_slice() == of.stream),

@@ -7,7 +7,7 @@ use capn_tool::{
 use std::alloc::Global;
 use std::process::Abort;
 
-/// Whether the words order this run over an archive.
+/// Tests whether the words order this run over an archive.
 fn is_archive(alloc: Global, words: &[&str], want: ArchiveOrder) -> bool {
     let told = order_of(alloc, words);
     match &told {
@@ -16,7 +16,7 @@ fn is_archive(alloc: Global, words: &[&str], want: ArchiveOrder) -> bool {
     }
 }
 
-/// Whether the words order this run without duplicates.
+/// Tests whether the words order this run without duplicates.
 fn is_uniq(alloc: Global, words: &[&str], want: UniqOrder) -> bool {
     let told = order_of(alloc, words);
     match &told {
@@ -25,7 +25,7 @@ fn is_uniq(alloc: Global, words: &[&str], want: UniqOrder) -> bool {
     }
 }
 
-/// Whether the words pick these messages.
+/// Tests whether the words pick these messages.
 fn is_pick(alloc: Global, words: &[&str], want: Pick) -> bool {
     let told = order_of(alloc, words);
     match &told {
@@ -34,7 +34,7 @@ fn is_pick(alloc: Global, words: &[&str], want: Pick) -> bool {
     }
 }
 
-/// Whether the words pick the messages of this list.
+/// Tests whether the words pick the messages of this list.
 fn is_only(alloc: Global, words: &[&str], want: &Only) -> bool {
     let told = order_of(alloc, words);
     match &told {

@@ -29,7 +29,7 @@ impl Read for Pieces<'_> {
 /// A writer that takes a number of bytes, and then fails.
 #[derive(Drop)]
 pub(crate) struct Short {
-    /// What it took.
+    /// The bytes that it took.
     pub(crate) bytes: Vec<u8>,
     /// The bytes that it still takes.
     pub(crate) room: usize,
@@ -51,21 +51,21 @@ impl Write for Short {
     }
 }
 
-/// What a run reads, and what becomes of that and of what it writes.
+/// The input of a run, and the fate of its reader and of its writer.
 #[derive(Clone, Copy)]
 pub(crate) struct Input<'a> {
     /// The bytes that come.
     pub(crate) bytes: &'a [u8],
     /// The most bytes of a piece.
     pub(crate) most: usize,
-    /// Whether the reader fails behind them.
+    /// `true` if the reader fails behind them.
     pub(crate) fails: bool,
     /// The most bytes that the writer takes.
     pub(crate) room: usize,
 }
 
 impl<'a> Input<'a> {
-    /// These bytes, in pieces of at most so many, and then the end.
+    /// Returns an input of `bytes`, in pieces of at most `most`, and then the end.
     pub(crate) fn whole(bytes: &'a [u8], most: usize) -> Input<'a> {
         Input {
             bytes,
@@ -76,7 +76,7 @@ impl<'a> Input<'a> {
     }
 }
 
-/// What a run wrote, the line that it ended with, its status, and whether its reader has told it that it failed.
+/// The output of a run, the line that it ended with, its status, and whether its reader has reported that it failed.
 #[derive(Drop)]
 pub(crate) struct Ending {
     pub(crate) text: Vec<u8>,
@@ -86,12 +86,12 @@ pub(crate) struct Ending {
 }
 
 impl Ending {
-    /// Whether it says that the input or the output failed.
+    /// Returns `true` if it says that the input or the output failed.
     pub(crate) fn is_broken(&self) -> bool {
         self.status == 3 && self.line.as_slice() == b"capn: input or output failed\n".as_slice()
     }
 
-    /// Whether it is the same as another, but for what became of the reader.
+    /// Returns `true` if it is the same as `other`, but for the fate of the reader.
     pub(crate) fn is_as(&self, other: &Ending) -> bool {
         self.text.as_slice() == other.text.as_slice()
             && self.line.as_slice() == other.line.as_slice()
@@ -99,7 +99,7 @@ impl Ending {
     }
 }
 
-/// How the program ends that is started with these words.
+/// Returns the end of the program that is started with these `words`.
 pub(crate) fn ended(alloc: Global, words: &[&str], input: Input<'_>) -> Ending {
     let mut reader = Watched::new(Pieces {
         bytes: input.bytes,

@@ -48,10 +48,10 @@ const AT_THE_END: [&[&str]; 2] = [
     &["capn", "uniq", "--count", "--keep-going"],
 ];
 
-/// How the program packs, before more comes.
+/// The order to pack, before more comes.
 const PACK: [&str; 3] = ["capn", "pack", "--streaming"];
 
-/// How a run ends whose reader fails behind these bytes, which come in pieces of at most so many.
+/// Returns the end of a run whose reader fails behind these `bytes`, which come in pieces of at most `most`.
 fn unread(alloc: Global, words: &[&str], bytes: &[u8], most: usize) -> Ending {
     let input = Input {
         bytes,
@@ -62,7 +62,7 @@ fn unread(alloc: Global, words: &[&str], bytes: &[u8], most: usize) -> Ending {
     ended(alloc, words, input)
 }
 
-/// How a run ends whose writer takes `room` bytes.
+/// Returns the end of a run whose writer takes `room` bytes.
 fn unwritten(alloc: Global, words: &[&str], bytes: &[u8], room: usize) -> Ending {
     let input = Input {
         bytes,
@@ -78,8 +78,8 @@ fn piece_of(count: usize) -> usize {
     if count % 2 == 0 { 1 } else { usize::MAX }
 }
 
-/// How a run whose reader fails has to end: if it was told so, it says that its input failed; else it has ended before,
-/// as the run does whose input ends there.
+/// Tests the end of a run whose reader fails: if the run was told so, it says that its input failed; else it has ended
+/// before, as the run does whose input ends there.
 fn ends_by_its_reader(cut: &Ending, whole: &Ending) -> bool {
     if cut.read_failed {
         cut.is_broken()
@@ -138,7 +138,7 @@ fn the_reader_of_a_packed_stream_fails_after_each_byte(rt: HostRuntime) {
     }
 }
 
-/// What is written at the end is not, where the reader fails before it.
+/// The closing output is not written if the reader fails first.
 #[test]
 fn a_reader_fails_before_the_end(rt: HostRuntime) {
     for words in AT_THE_END {
@@ -169,7 +169,7 @@ fn may_go_on(bytes: &[u8]) -> bool {
     zeros < 2 || zeros == 8
 }
 
-/// What is packed of the bytes that came was written; but not the last group, if it may go on.
+/// The packed text of the bytes that came was written; but not the last group, if it may go on.
 #[test]
 fn the_reader_of_words_fails_after_each_byte(rt: HostRuntime) {
     for count in 0..=ARCHIVE.len() {

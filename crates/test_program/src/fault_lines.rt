@@ -1,14 +1,12 @@
 //! The lines written at the end of runs.
 
 use crate::broken::Short;
-use capn_endings::Line;
+use capn_endings::{Line, end};
 use capn_tool::{
     ArchiveFault, FlowFault, MakeFault, Position, Refusal, RunFault, Skipped, Watched,
-    archive_text, end_archive, end_flow, end_make, end_pick,
 };
 use std::io::{self, Write};
 use std::process::Abort;
-use test_allocator::Refusing;
 
 /// The last message that a run can have.
 const LAST: Position = Position {
@@ -72,10 +70,7 @@ fn a_run_over_texts_ends_with_its_line(rt: HostRuntime) {
         ),
     ] {
         let mut errors = Watched::new(Vec::new(rt.alloc()));
-        assert!(rt;
-            end_make(rt.alloc(), &outcome, &mut errors) == status,
-            "{line}"
-        );
+        assert!(rt; end(&outcome, &mut errors) == status, "{line}");
         assert!(rt; errors.into_inner().as_slice() == line.as_bytes(), "{line}");
     }
 }
@@ -97,10 +92,7 @@ fn a_run_over_bytes_ends_with_its_line(rt: HostRuntime) {
         ),
     ] {
         let mut errors = Watched::new(Vec::new(rt.alloc()));
-        assert!(rt;
-            end_flow(rt.alloc(), &outcome, &mut errors) == status,
-            "{line}"
-        );
+        assert!(rt; end(&outcome, &mut errors) == status, "{line}");
         assert!(rt; errors.into_inner().as_slice() == line.as_bytes(), "{line}");
     }
 }
@@ -113,10 +105,7 @@ fn a_run_over_an_archive_ends_with_its_line(rt: HostRuntime) {
         (Err(REFUSED_AFTER), 1, TWO_LINES),
     ] {
         let mut errors = Watched::new(Vec::new(rt.alloc()));
-        assert!(rt;
-            end_archive(rt.alloc(), &outcome, &mut errors) == status,
-            "{line}"
-        );
+        assert!(rt; end(&outcome, &mut errors) == status, "{line}");
         assert!(rt; errors.into_inner().as_slice() == line.as_bytes(), "{line}");
     }
 }
@@ -132,10 +121,7 @@ fn a_run_that_picks_ends_with_its_line(rt: HostRuntime) {
         ),
     ] {
         let mut errors = Watched::new(Vec::new(rt.alloc()));
-        assert!(rt;
-            end_pick(rt.alloc(), &outcome, &mut errors) == status,
-            "{line}"
-        );
+        assert!(rt; end(&outcome, &mut errors) == status, "{line}");
         assert!(rt; errors.into_inner().as_slice() == line.as_bytes(), "{line}");
     }
 }
@@ -152,50 +138,48 @@ fn lines_of_faults(rt: HostRuntime) {
         first,
     };
     for (fault, want) in [
-        (ArchiveFault::Memory, "out of memory"),
-        (ArchiveFault::Io, "input or output failed"),
-        (ArchiveFault::InputTooLong, "input too long"),
+        (ArchiveFault::Memory, "capn: out of memory\n"),
+        (ArchiveFault::Io, "capn: input or output failed\n"),
+        (ArchiveFault::InputTooLong, "capn: input too long\n"),
         (
             ArchiveFault::Refused(first, Refusal::Capability(2)),
-            "message 3 at 40: capability 2",
+            "capn: message 3 at 40: capability 2\n",
         ),
         (
             ArchiveFault::Skipped(skipped),
-            "3 of 12 messages refused, the first is 3 at 40",
+            "capn: 3 of 12 messages refused, the first is 3 at 40\n",
         ),
         (
             ArchiveFault::RefusedAfterSkipped(skipped, LAST, Refusal::Trailing(6)),
-            "3 of 12 messages refused, the first is 3 at 40\n\
-            capn: message 18446744073709551616 at 18446744073709551615: trailing bytes at 6",
+            "capn: 3 of 12 messages refused, the first is 3 at 40\n\
+            capn: message 18446744073709551616 at 18446744073709551615: trailing bytes at 6\n",
         ),
     ] {
-        let text = archive_text(rt.alloc(), &fault).expect(&rt, "memory");
-        assert!(rt; text.as_str() == want, "{want}");
+        let mut errors = Watched::new(Vec::new(rt.alloc()));
+        end(&Err(fault), &mut errors);
+        assert!(rt; errors.into_inner().as_slice() == want.as_bytes(), "{want}");
     }
 }
 
 #[test]
-fn a_line_asks_for_no_memory(rt: HostRuntime) {
-    let short = Refusing::nth(rt.alloc(), 0);
-    short.refuse_each();
+fn the_longest_lines_are_whole(rt: HostRuntime) {
     let mut errors = Watched::new(Vec::new(rt.alloc()));
-    assert!(rt; end_archive(&short, &Err(ArchiveFault::Skipped(SKIPPED)), &mut errors) == 1);
+    assert!(rt; end(&Err(ArchiveFault::Skipped(SKIPPED)), &mut errors) == 1);
     assert!(rt; errors.into_inner().as_slice() == SKIPPED_LINE.as_bytes());
     let mut errors = Watched::new(Vec::new(rt.alloc()));
     let fault = RunFault::Refused(LAST, Refusal::Capability(u32::MAX));
     let line =
         b"capn: message 18446744073709551616 at 18446744073709551615: capability 4294967295\n";
-    assert!(rt; end_pick(&short, &Err(fault), &mut errors) == 1);
+    assert!(rt; end(&Err(fault), &mut errors) == 1);
     assert!(rt; errors.into_inner().as_slice() == line.as_slice());
     let mut errors = Watched::new(Vec::new(rt.alloc()));
     let line = b"capn: packed: Cut at 18446744073709551615\n";
-    assert!(rt; end_flow(&short, &Err(FlowFault::Cut(u64::MAX)), &mut errors) == 1);
+    assert!(rt; end(&Err(FlowFault::Cut(u64::MAX)), &mut errors) == 1);
     assert!(rt; errors.into_inner().as_slice() == line.as_slice());
     let mut errors = Watched::new(Vec::new(rt.alloc()));
     let line = b"capn: line 18446744073709551615: another text\n";
-    assert!(rt; end_make(&short, &Err(MakeFault::Another(u64::MAX)), &mut errors) == 1);
+    assert!(rt; end(&Err(MakeFault::Another(u64::MAX)), &mut errors) == 1);
     assert!(rt; errors.into_inner().as_slice() == line.as_slice());
-    assert!(rt; short.count() == 0);
 }
 
 #[test]
@@ -210,7 +194,7 @@ fn a_beginning_of_the_lines_stays_where_the_errors_fail(rt: HostRuntime) {
                 bytes: Vec::new(rt.alloc()),
                 room,
             });
-            let status = end_archive(rt.alloc(), &Err(fault), &mut errors);
+            let status = end(&Err(fault), &mut errors);
             assert!(rt; status == 1 && errors.failed(), "{room}");
             assert!(rt;
                 errors.into_inner().bytes.as_slice() == &lines[..room],
@@ -230,7 +214,7 @@ fn the_lines_are_one_write(rt: HostRuntime) {
             bytes: Vec::new(rt.alloc()),
             calls: 0,
         });
-        let status = end_archive(rt.alloc(), &Err(fault), &mut errors);
+        let status = end(&Err(fault), &mut errors);
         let counted = errors.into_inner();
         assert!(rt; status == 1 && counted.calls == 1);
         assert!(rt; counted.bytes.as_slice() == lines.as_bytes());

@@ -3,7 +3,7 @@
 use crate::broken::{Input, ended};
 use std::process::Abort;
 
-/// How many structs hold one another: as many as the usual depth allows.
+/// The number of structs that hold one another: as many as the usual depth allows.
 const STRUCTS: usize = 64;
 
 #[test]

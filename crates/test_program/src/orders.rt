@@ -4,7 +4,7 @@ use capn_tool::{Command, Explain, Flow, Form, Limits, Make, Order, Style, Tariff
 use std::alloc::Global;
 use std::process::Abort;
 
-/// Whether the words order this command over messages.
+/// Tests whether the words order this command over messages.
 fn is_command(alloc: Global, words: &[&str], want: Command) -> bool {
     let told = order_of(alloc, words);
     match &told {
@@ -13,7 +13,7 @@ fn is_command(alloc: Global, words: &[&str], want: Command) -> bool {
     }
 }
 
-/// Whether the words order to show, in a style, what is at a way from the roots of a packed stream, or all of it.
+/// Tests whether the words order to show, in a style, what is at a way from the roots of a packed stream, or all of it.
 fn is_shown(alloc: Global, words: &[&str], style: Style, way: Option<&str>) -> bool {
     let told = order_of(alloc, words);
     match &told {
@@ -27,7 +27,7 @@ fn is_shown(alloc: Global, words: &[&str], style: Style, way: Option<&str>) -> b
     }
 }
 
-/// Whether the words order to show, in a style and with these marks, all of each message of a packed stream.
+/// Tests whether the words order to show, in a style and with these marks, all of each message of a packed stream.
 fn is_marked(alloc: Global, words: &[&str], style: Style, offsets: bool, ways: bool) -> bool {
     let told = order_of(alloc, words);
     match &told {
@@ -41,7 +41,7 @@ fn is_marked(alloc: Global, words: &[&str], style: Style, offsets: bool, ways: b
     }
 }
 
-/// Whether the words explain this message.
+/// Tests whether the words explain this message.
 fn is_explained(alloc: Global, words: &[&str], want: Explain) -> bool {
     let told = order_of(alloc, words);
     match &told {
@@ -50,7 +50,7 @@ fn is_explained(alloc: Global, words: &[&str], want: Explain) -> bool {
     }
 }
 
-/// Whether the words have bytes flow this way.
+/// Tests whether the words have bytes flow this way.
 fn is_flow(alloc: Global, words: &[&str], want: Flow) -> bool {
     let told = order_of(alloc, words);
     match &told {
@@ -59,7 +59,7 @@ fn is_flow(alloc: Global, words: &[&str], want: Flow) -> bool {
     }
 }
 
-/// Whether the words have messages made in this form, of texts between quotes or not.
+/// Tests whether the words have messages made in this form, of texts between quotes or not.
 fn is_made(alloc: Global, words: &[&str], form: Form, quoted: bool) -> bool {
     let told = order_of(alloc, words);
     match &told {
@@ -68,7 +68,7 @@ fn is_made(alloc: Global, words: &[&str], form: Form, quoted: bool) -> bool {
     }
 }
 
-/// The words order nothing, and the exit status is this.
+/// Expects that the `words` order nothing, and that the exit status is `status`.
 pub(crate) fn expect_usage(rt: &impl Abort, alloc: Global, words: &[&str], status: u8) {
     match order_of(alloc, words) {
         Ok(_) => assert!(rt; false, "{words:?}"),

@@ -29,7 +29,7 @@ impl Read for Once<'_> {
     }
 }
 
-/// What a run wrote, and how it ended.
+/// The output of a run, and its end.
 #[derive(Drop)]
 struct Outcome {
     text: Vec<u8>,
@@ -136,7 +136,7 @@ fn explains_the_message_of_a_number(rt: HostRuntime) -> Result<(), Fail> {
     Ok(())
 }
 
-/// Where no message is refused, the only one is explained, or they are counted.
+/// If no message is refused, the only one is explained, or they are counted.
 #[test]
 fn explains_the_only_message(rt: HostRuntime) -> Result<(), Fail> {
     let one = explained(rt.alloc(), Form::Stream, None, &FRAMES[..16]);
@@ -248,7 +248,7 @@ announced: 8388609, at most 8388608
     Ok(())
 }
 
-/// Where the reader fails, nothing is written of what is kept.
+/// If the reader fails, nothing is written of what is kept.
 #[test]
 fn writes_nothing_where_the_reader_fails(rt: HostRuntime) -> Result<(), Fail> {
     let input = Once {
@@ -307,8 +307,8 @@ canonical: no: capability 5 at 0
     ),
 ];
 
-/// Where a message of one segment departs from its canonical bytes, by a pointer, a tag, the padding of a last word, a
-/// word after its value, or a capability, is told, with a number and without one.
+/// A run explains by which word a message of one segment departs from its canonical bytes, a pointer, a tag, the
+/// padding of a last word, a word after its value, or by which capability, with a number and without one.
 #[test]
 fn explains_why_a_message_is_not_canonical(rt: HostRuntime) -> Result<(), Fail> {
     for (bytes, told) in DEPARTING {
@@ -342,7 +342,7 @@ fn explained_under(alloc: Global, refused: u64, bytes: &[u8]) -> (Outcome, bool)
     (outcome, heap.has_spared())
 }
 
-/// Where any growth is refused for the only message, the run ends so, and nothing is written.
+/// If any growth is refused for the only message, the run ends so, and nothing is written.
 #[test]
 fn tells_that_memory_ran_out_for_the_only_message(rt: HostRuntime) -> Result<(), Fail> {
     let bytes = &DEPARTING[0].0;
@@ -361,7 +361,7 @@ fn tells_that_memory_ran_out_for_the_only_message(rt: HostRuntime) -> Result<(),
     Ok(())
 }
 
-/// That memory ran out for the first message is not told if another one comes.
+/// Memory that ran out for the first message is not reported if another one comes.
 #[test]
 fn forgets_that_memory_ran_out_where_another_message_comes(rt: HostRuntime) -> Result<(), Fail> {
     let mut frames = Vec::from_slice(rt.alloc(), &DEPARTING[0].0)?;

@@ -29,7 +29,7 @@ impl Read for Once<'_> {
     }
 }
 
-/// What a run wrote, and how it ended.
+/// The output of a run, and its end.
 #[derive(Drop)]
 struct Outcome {
     text: Vec<u8>,
@@ -106,7 +106,7 @@ fn ends_at_a_refused_frame(rt: HostRuntime) -> Result<(), Fail> {
     Ok(())
 }
 
-/// Where the last number is less than the first, nothing is read.
+/// If the last number is less than the first, nothing is read.
 #[test]
 fn reads_nothing_of_no_messages(rt: HostRuntime) -> Result<(), Fail> {
     let pick = Pick {

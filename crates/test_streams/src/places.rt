@@ -71,7 +71,7 @@ impl<'a> Read for Single<'a> {
     }
 }
 
-/// How a run over a packed input ends, and what it writes.
+/// Returns the end of a run over a packed input, and its output.
 fn packed<R: Read + Drop>(alloc: Global, input: R, limit: u64) -> (Result<(), RunFault>, Vec<u8>) {
     let mut run = Run::new(Places);
     let mut reader = Watched::new(input);
@@ -92,7 +92,7 @@ fn packed<R: Read + Drop>(alloc: Global, input: R, limit: u64) -> (Result<(), Ru
 /// The packed text of a frame of 16 bytes, of another, and of one of 8 bytes, which shares a group with the second.
 const THREE: [u8; 8] = [0x10, 1, 0, 0, 0x10, 1, 0, 1];
 
-/// What is written of them.
+/// The output for them.
 const PLACES: [u8; 9] = [0, 0, 16, 1, 16, 16, 2, 32, 8];
 
 /// Offsets are those of what is unpacked, also where each byte comes by itself.
@@ -115,7 +115,8 @@ fn more_than_the_limit(rt: HostRuntime) -> Result<(), Fail> {
     Ok(())
 }
 
-/// How a run over an input in a form stops, and what came of the message and of the group at which it did.
+/// Returns the stop of a run over an input in a form, and the parts that came of the message and of the group at which
+/// it did.
 fn stopped(alloc: Global, form: Form, input: &[u8]) -> (Result<(), RunFault>, Begun<Global>) {
     let mut run = Run::new(Places);
     let mut begun = Begun::new(alloc);
@@ -148,7 +149,7 @@ const LONG: [u8; 24] = [
     0, 0, 0, 0, 1, 0, 0, 0, 0, 0, 0, 0, 0, 0, 0, 0, 0, 0, 0, 0, 255, 255, 255, 255,
 ];
 
-/// What came of a frame that is cut, or has too many words, is left.
+/// The part that came of a frame that is cut, or has too many words, is left.
 #[test]
 fn what_came_of_a_frame(rt: HostRuntime) -> Result<(), Fail> {
     let (ending, begun) = stopped(rt.alloc(), Form::Stream, &LONG[..22]);
@@ -162,7 +163,7 @@ fn what_came_of_a_frame(rt: HostRuntime) -> Result<(), Fail> {
     Ok(())
 }
 
-/// What came of a packed frame that is cut is left as it is unpacked, and of a group that is cut as it came.
+/// The part that came of a packed frame that is cut is left as it is unpacked, and of a group that is cut as it came.
 #[test]
 fn what_came_of_a_group(rt: HostRuntime) -> Result<(), Fail> {
     let (ending, begun) = stopped(rt.alloc(), Form::Packed, &THREE[..6]);

@@ -31,7 +31,7 @@ impl Read for Endless<'_> {
     }
 }
 
-/// How a run ends over a text and then another one again and again, and how many bytes it took.
+/// Returns the end of a run over a text and then another one again and again, and the number of bytes that it took.
 fn run(
     alloc: Global,
     form: Form,

@@ -7,7 +7,7 @@ use capn_words::Bare;
 use std::alloc::Global;
 use std::test::Fail;
 
-/// How a run over an input ends, and what it wrote.
+/// Returns the end of a run over an input, and its output.
 pub(crate) fn run(alloc: Global, form: Form, input: &[u8]) -> (Result<(), MakeFault>, Vec<u8>) {
     let mut reader = Watched::new(input);
     let mut writer = Watched::new(Vec::new(alloc));
@@ -16,13 +16,13 @@ pub(crate) fn run(alloc: Global, form: Form, input: &[u8]) -> (Result<(), MakeFa
     (outcome, writer.into_inner())
 }
 
-/// Whether a run over an input ends with this fault and has written this.
+/// Tests whether a run over an input ends with this fault and has written this.
 fn refuses(alloc: Global, form: Form, input: &[u8], fault: MakeFault, text: &[u8]) -> bool {
     let (outcome, written) = run(alloc, form, input);
     outcome == Err(fault) && written.as_slice() == text
 }
 
-/// Whether a run over an input is done and has written this.
+/// Tests whether a run over an input is done and has written this.
 fn makes(alloc: Global, form: Form, input: &[u8], text: &[u8]) -> bool {
     let (outcome, written) = run(alloc, form, input);
     outcome == Ok(()) && written.as_slice() == text
@@ -171,7 +171,7 @@ fn one_text(rt: HostRuntime) {
     }
 }
 
-/// Whether the bytes that are made of a text denote a value of the same text.
+/// Tests whether the bytes that are made of a text denote a value of the same text.
 fn is_shown_again(alloc: Global, text: &[u8]) -> bool {
     let (_, bytes) = run(alloc, Form::Bare, text);
     let Ok(space) = Bare::new(bytes.as_slice()) else {

@@ -22,7 +22,7 @@ impl Read for Pieces<'_> {
     }
 }
 
-/// How a run over an input ends that comes in pieces, and what it wrote.
+/// Returns the end of a run over an input that comes in pieces, and its output.
 fn run_in_pieces(
     alloc: Global,
     form: Form,

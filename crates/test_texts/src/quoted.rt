@@ -5,7 +5,7 @@ use crate::pieces::Pieces;
 use capn_make::{Form, MakeFault, Misfit, Watched, make_texts};
 use std::alloc::Global;
 
-/// How a run over an input with quotes ends that comes in pieces, and what it wrote.
+/// Returns the end of a run over an input with quotes that comes in pieces, and its output.
 fn run_texts(
     alloc: Global,
     form: Form,
@@ -19,7 +19,7 @@ fn run_texts(
     (outcome, writer.into_inner())
 }
 
-/// Whether a run over an input with quotes writes what one over another without them does, and ends so.
+/// Tests whether a run over an input with quotes writes what one over another without them does, and ends so.
 fn is_same(
     alloc: Global,
     form: Form,
@@ -157,7 +157,7 @@ fn own_lines_after_many_texts(rt: HostRuntime) -> Result<(), std::test::Fail> {
     Ok(())
 }
 
-/// How many bytes of an input without a line end were not read when it was refused at its first line.
+/// Returns the number of bytes of an input without a line end that were not read when it was refused at its first line.
 fn left_of(alloc: Global, front: &[u8], filler: u8) -> Result<usize, std::test::Fail> {
     let mut input = Vec::new(alloc);
     input.extend_from_slice(front)?;

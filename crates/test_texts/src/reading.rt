@@ -198,7 +198,7 @@ fn lines_of_a_stream(rt: HostRuntime) {
     }
 }
 
-/// The text of `levels` structs, each in the one before, and these lines in the last of them.
+/// Returns the text of `levels` structs, each in the one before, and the lines `last` in the last of them.
 fn nested(alloc: Global, levels: u32, last: &[u8]) -> Result<Vec<u8>, Fail> {
     let mut text = Vec::new(alloc);
     for level in 0..levels {
@@ -214,13 +214,13 @@ fn nested(alloc: Global, levels: u32, last: &[u8]) -> Result<Vec<u8>, Fail> {
     Ok(text)
 }
 
-/// The fault of the text that has these lines at level 256.
+/// Returns the fault of the text that has the lines `last` at level 256.
 fn deep_fault(alloc: Global, last: &[u8]) -> Result<Option<TextFault>, Fail> {
     let text = nested(alloc, 256, last)?;
     Ok(fault_of(alloc, text.as_slice()))
 }
 
-/// What a text is refused for that goes deeper than 256 levels. What follows the line that does isn't looked at.
+/// The refusal of a text that goes deeper than 256 levels. Nothing after the line that does is looked at.
 const TALL: TextFault = TextFault::Misfit(Misfit::Tall);
 
 /// Lines at level 256 that are refused, and why.

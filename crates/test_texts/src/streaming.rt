@@ -54,7 +54,7 @@ impl Write for Breaking {
     }
 }
 
-/// How a run over such a reader ends, and what it wrote.
+/// Returns the end of a run over such a reader, and its output.
 fn run_parted(
     alloc: Global,
     form: Form,
@@ -84,7 +84,7 @@ const FRAMES: &[u8] = b"\0\0\0\0\x02\0\0\0\0\0\0\0\x01\0\0\0\x05\0\0\0\0\0\0\0\
 
 const FIRST_FRAME: usize = 24;
 
-/// The same in form packed.
+/// The messages of the texts in form packed.
 const PACKED: &[u8] = b"\x10\x02\x10\x01\x01\x05\x10\x01\0\0";
 
 const FIRST_PACKED: usize = 6;
@@ -106,7 +106,7 @@ fn parted_at_each_byte(rt: HostRuntime) {
     }
 }
 
-/// What is written of the first bytes of the texts.
+/// Returns the output for the first bytes of the texts.
 fn heard(messages: &'static [u8], first: usize, bytes: usize) -> &'static [u8] {
     if bytes < WHOLE[0] {
         b""
@@ -207,7 +207,7 @@ impl Write for Counting {
     }
 }
 
-/// How many bytes a run writes that ends well and asks for no growth of more bytes than these.
+/// Returns the number of bytes that a run writes that ends well and asks for no growth of more than `most` bytes.
 fn written_within(alloc: Global, repeating: Repeating, most: usize) -> Option<u64> {
     let heap = Refusing::nth(alloc, 0);
     heap.refuse_above(most);

@@ -63,8 +63,8 @@ fn hash() -> Run<'static> {
     }
 }
 
-/// How much of the text has to be there before a call of the reader, for the messages that were whole by then. Of each
-/// message `whole` has the byte at which it ends and the length of the text with it.
+/// Returns the part of the text that has to be there before a call of the reader, for the messages that were whole by
+/// then. Of each message `whole` has the byte at which it ends and the length of the text with it.
 fn due(whole: &[(u64, usize)], call: u64) -> usize {
     let mut due = 0;
     for (bytes, text) in whole {
@@ -75,8 +75,8 @@ fn due(whole: &[(u64, usize)], call: u64) -> usize {
     due
 }
 
-/// How often the reader was called when a byte of the text is written: as often as the message has bytes that it
-/// belongs to, or to the end of the input.
+/// Returns the number of calls of the reader when a byte of the text is written: as many as the message has bytes that
+/// it belongs to, or all to the end of the input.
 fn reads_before(whole: &[(u64, usize)], byte: usize, all: u64) -> u64 {
     for (bytes, text) in whole {
         if byte <= *text {
@@ -86,12 +86,12 @@ fn reads_before(whole: &[(u64, usize)], byte: usize, all: u64) -> u64 {
     all
 }
 
-/// Whether a run ended so, and wrote this.
+/// Tests whether a run ended so, and wrote this.
 fn is_ended(end: &Ending, outcome: Result<(), ToolFault>, text: Option<&[u8]>) -> bool {
     end.outcome == outcome && Some(end.written.as_slice()) == text
 }
 
-/// Whether a run whose reader fails at a call ends so and writes this, and asked for pieces of 64 KiB.
+/// Tests whether a run whose reader fails at a call ends so and writes this, and asked for pieces of 64 KiB.
 fn reads_so(
     alloc: Global,
     run_of: &Run,
@@ -117,7 +117,8 @@ fn fail_each_read(rt: &impl Abort, alloc: Global, run_of: &Run, whole: &[(u64, u
     }
 }
 
-/// Whether a run whose writer fails at a call ended so and wrote this; how often it had called its reader.
+/// Tests whether a run whose writer fails at a call ended so and wrote this; returns the number of calls of its reader
+/// until then.
 fn writes_so(
     alloc: Global,
     run_of: &Run,
@@ -190,7 +191,7 @@ fn check_packed<'a>(input: &'a [u8], text: &'a [u8]) -> Run<'a> {
 /// The packed text of a struct of one word, framed.
 const PACKED: [u8; 6] = [0x10, 2, 0x10, 1, 1, 5];
 
-/// The same twice, and where each ends with its line.
+/// That message twice, and the bytes at which each ends with its line.
 const PACKED_TWICE: [u8; 12] = [0x10, 2, 0x10, 1, 1, 5, 0x10, 2, 0x10, 1, 1, 5];
 
 const PACKED_WHOLE: [(u64, usize); 2] = [(6, 19), (12, 38)];
@@ -215,7 +216,7 @@ const CUT: [u8; 9] = [0x10, 2, 0x10, 1, 1, 5, 0x10, 2, 0x10];
 
 const UNFRAMED: [u8; 8] = [0x10, 2, 0x10, 1, 1, 5, 0x10, 2];
 
-/// Whether `check` of packed bytes writes this and ends so.
+/// Tests whether `check` of packed bytes writes this and ends so.
 fn ends_so(alloc: Global, input: &[u8], text: &[u8], outcome: Result<(), ToolFault>) -> bool {
     let end = ended(alloc, &check_packed(input, text), 0, 0, false);
     is_ended(&end, outcome, Some(text))

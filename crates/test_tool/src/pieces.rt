@@ -9,7 +9,7 @@ use std::alloc::{AllocError, Global};
 use std::cell::Cell;
 use std::io::{self, Read, Write};
 
-/// How often the reader and the writer of a run were called, and the reader before the writer was first.
+/// The numbers of calls of the reader and of the writer of a run, and of the reader before the writer was first called.
 #[derive(Drop)]
 struct Calls {
     reads: Cell<u64>,
@@ -71,7 +71,7 @@ impl Write for Sink<'_> {
     }
 }
 
-/// What a run over pieces of `piece` bytes ended with, and what it wrote.
+/// Returns the end of a run over pieces of `piece` bytes, and its output.
 fn ended(
     alloc: Global,
     command: Command,
@@ -114,7 +114,7 @@ fn check_stream() -> Command {
     Command::Check(Form::Stream, Limits::usual())
 }
 
-/// Whether `check` of `count` messages, in pieces of `piece` bytes, writes their lines.
+/// Tests whether `check` of `count` messages, in pieces of `piece` bytes, writes their lines.
 fn is_checked(alloc: Global, count: u32, piece: usize, calls: &Calls) -> bool {
     let Some(lines) = repeated(alloc, LINE, count) else {
         return false;
@@ -152,7 +152,7 @@ ok paid 100 visits 1\n\
 ok paid 9 visits 9\n\
 ok paid 10 visits 10\n";
 
-/// Appends the frame of a struct of this many words and null slots.
+/// Appends the frame of a struct of so many `words` and null `slots` to `stream`.
 fn add_struct(stream: &mut Vec<u8>, words: u8, slots: u8) -> Result<(), AllocError> {
     let content = u16::from(words) + u16::from(slots);
     let [low, high] = (content + 1).to_le_bytes();
@@ -164,7 +164,7 @@ fn add_struct(stream: &mut Vec<u8>, words: u8, slots: u8) -> Result<(), AllocErr
     Ok(())
 }
 
-/// The stream of these structs.
+/// Returns the stream of structs of these `sizes`.
 fn structs(alloc: Global, sizes: &[(u8, u8)]) -> Result<Vec<u8>, AllocError> {
     let mut stream = Vec::new(alloc);
     for &(words, slots) in sizes {

@@ -43,7 +43,8 @@ fn blank(alloc: Global, takes: bool, flushes: bool) -> Page {
     }
 }
 
-/// What the program ends with, and the output and the errors then, for these words and this input, over such an output.
+/// Returns the end of the program, and its output and errors, for these `words` and this `input`, over such an
+/// `output`.
 fn ended(alloc: Global, words: &[&str], input: &[u8], output: Page) -> (u8, Page, Page) {
     let mut reader = Watched::new(input);
     let mut writer = Watched::new(output);
@@ -63,8 +64,8 @@ const PRICE: &[u8] = b"ok paid 2 visits 1\n";
 /// The line of an output that failed.
 const FAILED: &[u8] = b"capn: input or output failed\n";
 
-/// Whether the program ends with this status, writes this to its output and this to its errors, and flushes its output
-/// once.
+/// Tests whether the program ends with this status, writes this to its output and this to its errors, and flushes its
+/// output once.
 fn is_ended(
     alloc: Global,
     words: &[&str],
@@ -104,7 +105,7 @@ fn each_status_of_a_run(rt: HostRuntime) {
     }
 }
 
-/// Whether the words are a mistake: nothing is written to the output, and the errors begin like this.
+/// Tests whether the words are a mistake: nothing is written to the output, and the errors begin like this.
 fn is_mistake(alloc: Global, words: &[&str], line: &[u8]) -> bool {
     let (code, written, told) = ended(alloc, words, &STREAM, blank(alloc, true, true));
     code == 2 && written.bytes.is_empty() && told.bytes.as_slice().starts_with(line)
@@ -120,7 +121,7 @@ fn mistakes_are_told_as_errors(rt: HostRuntime) {
     assert!(rt; is_mistake(rt.alloc(), &words, line));
 }
 
-/// Whether help over such an output ends with this status, is written or not, and leaves this on the errors.
+/// Tests whether help over such an output ends with this status, is written or not, and leaves this on the errors.
 fn is_helped(alloc: Global, output: Page, code: u8, is_written: bool, line: &[u8]) -> bool {
     let words = ["capn", "pack", "--help"];
     let (status, written, told) = ended(alloc, &words, &STREAM, output);

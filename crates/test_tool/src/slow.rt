@@ -73,7 +73,8 @@ pub(crate) struct Run<'a> {
     pub(crate) text: &'a [u8],
 }
 
-/// How a run ended: its outcome, what it wrote, how often it called its reader, and the most that it asked it for.
+/// The end of a run: its outcome, its output, the number of calls of its reader, and the most bytes that it asked it
+/// for.
 #[derive(Drop)]
 pub(crate) struct Ending {
     pub(crate) outcome: Result<(), ToolFault>,
@@ -82,7 +83,7 @@ pub(crate) struct Ending {
     pub(crate) asked: usize,
 }
 
-/// How a run ended whose reader fails at one call and its writer at another (at 0: never).
+/// Returns the end of a run whose reader fails at one call and its writer at another (at 0: never).
 pub(crate) fn ended(
     alloc: Global,
     run_of: &Run,

@@ -28,7 +28,7 @@ fn expect_text(rt: &impl Abort, alloc: Global, fault: ToolFault, text: &str, cod
     }
 }
 
-/// Expects that an error shows this name, and only that.
+/// Expects that `error` shows `name`, and only that.
 fn expect_name<E: Error>(rt: &impl Abort, alloc: Global, error: &E, name: &str) {
     match format!(in alloc; "{error}") {
         Ok(shown) => assert!(rt; shown.as_bytes() == name.as_bytes()),

@@ -1,4 +1,4 @@
-//! How often a message is asked by the calls that take a `Space`, and not a counter.
+//! Counts of the questions to a message by the calls that take a `Space`, and not a counter.
 
 ghost use Rattle.std.specs.Prelude.{◌≡◌};
 
@@ -19,12 +19,12 @@ struct Asked<'s, S: Space> {
 }
 
 impl<'s, S: Space> Asked<'s, S> {
-    /// Asked so many times more.
+    /// Counts `times` questions more.
     fn add(&self, times: u64) {
         self.times.set(self.times.get().wrapping_add(times));
     }
 
-    /// How often it was asked since this was called.
+    /// Returns the number of questions since this was called.
     fn taken(&self) -> u64 {
         let times = self.times.get();
         self.times.set(0);
@@ -78,8 +78,8 @@ fn doubling(alloc: Global, levels: u8) -> Result<Vec<u8>, Fail> {
     Ok(bytes_of(alloc, words.as_slice())?)
 }
 
-/// How often the five calls ask a frame within limits: `survey`, `index_into`, `canonical_length`, `canonical_into` and
-/// `canonical_of`.
+/// Counts the questions of the five calls to a frame within limits: `survey`, `index_into`, `canonical_length`,
+/// `canonical_into` and `canonical_of`.
 fn times_asked(alloc: Global, bytes: &[u8], limits: Limits) -> Result<[u64; 5], Fail> {
     let Ok((message, _taken)) = first(alloc, bytes, 8_388_608) else {
         return Err(Fail::new("no frame"));
@@ -120,7 +120,7 @@ fn no_call_asks_more_than_its_counted_one(rt: HostRuntime) -> Result<(), Fail> {
     Ok(())
 }
 
-/// The same of a message that is accepted, by what it pays.
+/// These bounds hold of a message that is accepted, too, by the words that it pays.
 #[test]
 fn nor_where_it_answers(rt: HostRuntime) -> Result<(), Fail> {
     let bytes = doubling(rt.alloc(), 2)?;

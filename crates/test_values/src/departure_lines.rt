@@ -2,22 +2,25 @@
 
 use crate::words::bytes_of;
 use capn_canon::{MeasuredBare, SurveyedBare, measure};
-use capn_departure::{lines_of_accepted, lines_of_measured, measure_surveyed};
-use capn_walk::{Limits, survey, survey_depth};
+use capn_departure::{lines_of_measured, measure_surveyed};
+use capn_walk::{Limits, survey_depth};
 use capn_words::Bare;
 use std::alloc::Global;
 use std::test::Fail;
 
-/// Whether the lines of a message that is read bare are these, where a table of `table` words stands before its words.
+/// Tests whether the lines of a message that is read bare are these, where a table of `table` words stands before its
+/// words.
 fn reads(alloc: Global, words: &[u64], table: u32, lines: &str) -> Result<bool, Fail> {
     let bytes = bytes_of(alloc, words)?;
     let Ok(bare) = Bare::new(bytes.as_slice()) else {
         return Err(Fail::new("no words"));
     };
-    let Ok(_) = survey(alloc, &bare, Limits::usual()) else {
+    let usual = Limits::usual();
+    let Ok(surveyed) = survey_depth(alloc, &bare, usual) else {
         return Err(Fail::new("refused"));
     };
-    let Ok(found) = lines_of_accepted(alloc, &bare, Limits::usual(), 16, table) else {
+    let measured = measure_surveyed(&bare, usual, surveyed);
+    let Ok(found) = lines_of_measured(alloc, &bare, usual, measured, 16, table) else {
         return Err(Fail::new("out of memory"));
     };
     let text = format!(in alloc; "{found}")?;
@@ -51,7 +54,8 @@ fn lines_of_each_kind(rt: HostRuntime) -> Result<(), Fail> {
     Ok(())
 }
 
-/// Whether the lines of a bare message that is measured are these, where a table of `table` words stands before it.
+/// Tests whether the lines of a bare message that is measured are these, where a table of `table` words stands before
+/// it.
 fn measured_reads(alloc: Global, words: &[u64], table: u32, lines: &str) -> Result<bool, Fail> {
     let bytes = bytes_of(alloc, words)?;
     let Ok(bare) = Bare::new(bytes.as_slice()) else {
@@ -77,8 +81,8 @@ fn lines_of_a_measured_message(rt: HostRuntime) -> Result<(), Fail> {
     Ok(())
 }
 
-/// Whether this is the measure of a bare message that is surveyed: its price, its visits, the first capability of its
-/// value, whether it is canonical, and its depth.
+/// Tests whether this is the measure of a bare message that is surveyed: its price, its visits, the first capability of
+/// its value, whether it is canonical, and its depth.
 fn is_measured(
     alloc: Global,
     words: &[u64],

@@ -1,4 +1,4 @@
-//! Where messages leave their canonical bytes.
+//! The departures of messages from their canonical bytes.
 
 use crate::words::bytes_of;
 use capn_canon::Refusal;
@@ -20,7 +20,7 @@ enum Owner {
     LastWord,
 }
 
-/// Where the only segment of these words leaves its canonical bytes within the usual limits.
+/// Returns the departure of the only segment of these words from its canonical bytes within the usual limits.
 fn told(alloc: Global, words: &[u64]) -> Result<Departure, Fail> {
     let bytes = bytes_of(alloc, words)?;
     let Ok(bare) = Bare::new(bytes.as_slice()) else {
@@ -32,7 +32,7 @@ fn told(alloc: Global, words: &[u64]) -> Result<Departure, Fail> {
     }
 }
 
-/// Whether a message leaves its canonical bytes at this word, with this one and that one, which is this owner's.
+/// Tests whether a message leaves its canonical bytes at this word, with this one and that one, which is this owner's.
 fn leaves(
     alloc: Global,
     words: &[u64],

@@ -7,15 +7,16 @@ use capn_words::{Bare, Place, Space};
 use std::alloc::Global;
 use std::test::Fail;
 
-/// What a survey answers of a message within the usual limits with another depth; none if that is out of its range.
+/// Returns the answer of a survey of a message within the usual limits with another depth; `None` if that is out of its
+/// range.
 fn surveyed_at(alloc: Global, space: &Bare<'_>, depth: u32) -> Option<Result<Surveyed, Stopped>> {
     let usual = Limits::usual();
     let limits = Limits::new(usual.message_words(), usual.budget(), depth)?;
     Some(survey(alloc, space, limits))
 }
 
-/// Whether one survey says that a message is of this depth, another accepts it under this depth, and one more finds it
-/// too deep under the depth below, if there is one.
+/// Tests whether one survey finds a message to be of this `depth`, another accepts it under this depth, and one more
+/// finds it too deep under the depth below, if there is one.
 fn is_deep(alloc: Global, words: &[u64], depth: u32) -> Result<bool, Fail> {
     let bytes = bytes_of(alloc, words)?;
     let Ok(bare) = Bare::new(bytes.as_slice()) else {
@@ -79,7 +80,7 @@ fn a_struct_in_its_own_slot(rt: HostRuntime) -> Result<(), Fail> {
     Ok(())
 }
 
-/// What one pass measures of a message that is read bare, within the usual limits with another depth.
+/// Returns the measure by one pass of a message that is read bare, within the usual limits with another depth.
 fn measured_at(alloc: Global, words: &[u64], depth: u32) -> Option<MeasuredBare> {
     let bytes = bytes_of(alloc, words).ok()?;
     let bare = Bare::new(bytes.as_slice()).ok()?;
@@ -102,7 +103,7 @@ fn one_pass_learns_the_depth(rt: HostRuntime) {
         7,
         9,
     ];
-    // The same below two rows of one slot each.
+    // That depth below two rows of one slot each.
     let rows = [
         0x17_0000_0001,
         0x1_0000_0000_0008,

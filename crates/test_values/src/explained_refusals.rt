@@ -1,7 +1,7 @@
 //! The whole texts of messages that walks refuse.
 
 use crate::words::bytes_of;
-use capn_explain::{explain_refusal, explain_stop};
+use capn_explain::explain_stop;
 use capn_stream::first;
 use capn_walk::{Limits, survey};
 use capn_words::{Bare, MOST_MESSAGE_WORDS};
@@ -20,7 +20,7 @@ const ROWS: [u64; 8] = [
     0x1_0000_0014,
 ];
 
-/// What explains it, as the fifth of a stream.
+/// The lines that explain it, as the fifth of a stream.
 const ROWS_TOLD: &str = "message: 5 at 1000\n\
 segments: 1 of 8 words\n\
 refused: Range at 0:7, paid 9, visits 5\n\
@@ -42,7 +42,7 @@ const MANY: [u64; 9] = [
     3,
 ];
 
-/// What explains it, as the second of a stream.
+/// The lines that explain it, as the second of a stream.
 const MANY_TOLD: &str = "message: 2 at 16\n\
 segments: 1 of 9 words\n\
 refused: TagOverrun at 0:4, paid 6, visits 4\n\
@@ -152,7 +152,7 @@ const SHARED: [u64; 5] = [
     9,
 ];
 
-/// What explains it where ten words may be paid.
+/// The lines that explain it if ten words may be paid.
 const SHARED_TOLD: &str = "message: 1 at 0\n\
 segments: 1 of 5 words\n\
 refused: OverBudget at 0:3, paid 9, visits 5\n\
@@ -164,7 +164,7 @@ limit: asks for 2 of 1 left, --budget 10\n";
 /// A struct whose only slot leads back to it.
 const CIRCLE: [u64; 1] = [0x1_0000_ffff_fffc];
 
-/// What explains it where two objects may be one below another.
+/// The lines that explain it if two objects may be one below another.
 const CIRCLE_TOLD: &str = "message: 1 at 0\n\
 segments: 1 of 1 words\n\
 refused: TooDeep at 0:0, paid 4, visits 3\n\
@@ -185,7 +185,7 @@ const FAR: [u64; 7] = [
     0xa2_0000_0001,
 ];
 
-/// What explains its message.
+/// The lines that explain its message.
 const FAR_TOLD: &str = "message: 1 at 0\n\
 segments: 2 of 5 words: 2, 3\n\
 refused: Range at 0:1, paid 2, visits 2\n\
@@ -196,7 +196,8 @@ pad: byte 40, segment 1 word 1: 1200000001000000: far to segment 1 word 2\n\
 pad: byte 48, segment 1 word 2: 01000000a2000000: list of 20 bytes, offset 0\n\
 content: words 2 to 5 of segment 1, which has 3\n";
 
-/// Whether a segment that `index` messages and `offset` bytes are before, with `table` words, is explained in this way.
+/// Tests whether a segment that `index` messages and `offset` bytes are before, with `table` words, is explained in
+/// this way.
 fn is_told(
     alloc: Global,
     words: &[u64],
@@ -208,10 +209,13 @@ fn is_told(
     let Ok(bare) = Bare::new(bytes.as_slice()) else {
         return Ok(false);
     };
+    let Err(stopped) = survey(alloc, &bare, limits) else {
+        return Ok(false);
+    };
     let (index, offset, table) = before;
-    match explain_refusal(alloc, &bare, index, offset, table, limits) {
-        Ok(Some(told)) => Ok(told.text.as_slice() == want.as_bytes()),
-        _ => Ok(false),
+    match explain_stop(alloc, &bare, index, offset, table, limits, stopped) {
+        Ok(told) => Ok(told.stopped == stopped && told.text.as_slice() == want.as_bytes()),
+        Err(_) => Ok(false),
     }
 }
 
@@ -223,33 +227,15 @@ fn bare_segments(rt: HostRuntime) -> Result<(), Fail> {
     Ok(())
 }
 
-/// Whether a stop of a walk is explained so, where the message is the fifth of a stream, behind a table of one word.
-fn is_stop_told(alloc: Global, words: &[u64], want: &str) -> Result<bool, Fail> {
-    let bytes = bytes_of(alloc, words)?;
-    let Ok(bare) = Bare::new(bytes.as_slice()) else {
-        return Ok(false);
-    };
-    let usual = Limits::usual();
-    let Err(stopped) = survey(alloc, &bare, usual) else {
-        return Ok(false);
-    };
-    match explain_stop(alloc, &bare, 4, 1_000, 1, usual, stopped) {
-        Ok(told) => Ok(told.stopped == stopped && told.text.as_slice() == want.as_bytes()),
-        Err(_) => Ok(false),
-    }
-}
-
 #[test]
 fn a_stop_of_a_stream(rt: HostRuntime) -> Result<(), Fail> {
-    assert!(rt; is_stop_told(rt.alloc(), &ROWS, ROWS_TOLD)?);
+    assert!(rt; is_told(rt.alloc(), &ROWS, (4, 1_000, 1), Limits::usual(), ROWS_TOLD)?);
     Ok(())
 }
 
 #[test]
 fn rows_of_a_stream(rt: HostRuntime) -> Result<(), Fail> {
-    let usual = Limits::usual();
-    assert!(rt; is_told(rt.alloc(), &ROWS, (4, 1_000, 1), usual, ROWS_TOLD)?);
-    assert!(rt; is_told(rt.alloc(), &MANY, (1, 16, 1), usual, MANY_TOLD)?);
+    assert!(rt; is_told(rt.alloc(), &MANY, (1, 16, 1), Limits::usual(), MANY_TOLD)?);
     Ok(())
 }
 
@@ -269,21 +255,24 @@ fn two_segments(rt: HostRuntime) -> Result<(), Fail> {
     let Ok((message, _)) = first(rt.alloc(), bytes.as_slice(), MOST_MESSAGE_WORDS) else {
         return Err(Fail::new("no message"));
     };
-    let told = explain_refusal(rt.alloc(), &message, 0, 0, 2, Limits::usual());
-    let Ok(Some(told)) = told else {
+    let usual = Limits::usual();
+    let Err(stopped) = survey(rt.alloc(), &message, usual) else {
         return Err(Fail::new("not refused"));
+    };
+    let Ok(told) = explain_stop(rt.alloc(), &message, 0, 0, 2, usual, stopped) else {
+        return Err(Fail::new("out of memory"));
     };
     assert!(rt; told.text.as_slice() == FAR_TOLD.as_bytes());
     Ok(())
 }
 
+/// An accepted message has no stop to explain.
 #[test]
 fn no_explanation(rt: HostRuntime) -> Result<(), Fail> {
     let bytes = bytes_of(rt.alloc(), &SHARED)?;
     let Ok(bare) = Bare::new(bytes.as_slice()) else {
         return Err(Fail::new("no words"));
     };
-    let told = explain_refusal(rt.alloc(), &bare, 0, 0, 0, Limits::usual());
-    assert!(rt; matches!(told, Ok(None)));
+    assert!(rt; survey(rt.alloc(), &bare, Limits::usual()).is_ok());
     Ok(())
 }

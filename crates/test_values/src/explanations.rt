@@ -7,13 +7,13 @@ use std::alloc::Global;
 use std::fmt;
 use std::test::Fail;
 
-/// Whether this is what a value is displayed as.
+/// Tests whether this is what a value is displayed as.
 fn is_text<T: fmt::Display>(alloc: Global, value: &T, want: &str) -> Result<bool, Fail> {
     let text = format!(in alloc; "{value}")?;
     Ok(text.as_str() == want)
 }
 
-/// Whether this is what a word says as a pointer.
+/// Tests whether this is what a word says as a pointer.
 fn says(alloc: Global, word: u64, want: &str) -> Result<bool, Fail> {
     is_text(alloc, &PointerText::of(word), want)
 }

@@ -19,7 +19,7 @@ const NULL: Entry = Entry {
     kind: Kind::Nil,
 };
 
-/// What is in a room before a call.
+/// The content of a room before a call.
 const BLANK: Entry = Entry {
     start: 99,
     segment: 98,
@@ -121,13 +121,14 @@ const SHARED_INDEX: [Entry; 3] = [
 /// A room of which nothing is filled.
 const ROOM: [Entry; 6] = [BLANK; 6];
 
-/// What an index of a message answers that is put into a room.
+/// Returns the answer of an index of a message that is put into `room`.
 fn put(bytes: &[u8], limits: Limits, room: &mut [Entry]) -> Option<Result<Indexed, Stopped>> {
     let bare = Bare::new(bytes).ok()?;
     Some(index_into(&bare, limits, room))
 }
 
-/// Whether the entries are put into a room of `most` entries, as far as it goes, and nothing after them is touched.
+/// Tests whether the entries are put into a room of `most` entries, as far as it goes, and nothing after them is
+/// touched.
 fn is_put(bytes: &[u8], want: &[Entry], told: Indexed, most: usize) -> bool {
     let mut room = ROOM;
     let most = most.min(6);
@@ -136,7 +137,7 @@ fn is_put(bytes: &[u8], want: &[Entry], told: Indexed, most: usize) -> bool {
     is_told && room[..filled] == want[..filled] && room[filled..] == ROOM[filled..]
 }
 
-/// Whether the index of a message has these entries, by both calls, and in each room that is too short for it.
+/// Tests whether the index of a message has these entries, by both calls, and in each room that is too short for it.
 fn is_indexed(alloc: Global, words: &[u64], want: &[Entry], paid: u32) -> Result<bool, Fail> {
     let bytes = bytes_of(alloc, words)?;
     let told = Indexed {
@@ -206,7 +207,7 @@ fn an_index_in_another_form(rt: HostRuntime) -> Result<(), Fail> {
     Ok(())
 }
 
-/// How the index of the rows stops that may pay six words: at the struct in the last slot.
+/// The stop of the index of the rows if it may pay six words: at the struct in the last slot.
 const STOPPED: Stopped = Stopped {
     fault: Fault::OverBudget,
     place: Place {

@@ -19,7 +19,7 @@ fn laid(alloc: Global, made: Made) -> Option<Result<Vec<u8>, LayoutFault>> {
     }
 }
 
-/// Whether the layout of a value has these words.
+/// Tests whether the layout of a value has these words.
 fn is_laid(alloc: Global, made: Made, want: &[u64]) -> bool {
     match (laid(alloc, made), bytes_of(alloc, want)) {
         (Some(Ok(bytes)), Ok(want)) => bytes.as_slice() == want.as_slice(),
@@ -27,7 +27,7 @@ fn is_laid(alloc: Global, made: Made, want: &[u64]) -> bool {
     }
 }
 
-/// Whether a value has no layout, since this is its first capability.
+/// Tests whether a value has no layout, since `index` is that of its first capability.
 fn is_refused(alloc: Global, made: Made, index: u32) -> bool {
     matches!(laid(alloc, made), Some(Err(LayoutFault::Capability(first))) if first == index)
 }

@@ -7,7 +7,7 @@ use std::alloc::{AllocError, Global};
 /// A value, unless memory ran out.
 pub(crate) type Made = Result<Value, AllocError>;
 
-/// A body of these data words and slots.
+/// Returns a body of the data `words` and the `slots`.
 pub(crate) fn body(alloc: Global, words: &[u64], slots: Vec<Value>) -> Result<Body, AllocError> {
     Ok(Body {
         words: Items::from_slice(alloc, words)?,
@@ -64,7 +64,7 @@ fn row(
     Ok(rows)
 }
 
-/// Two rows with these data words and no slots.
+/// Returns two rows with the data words `first` and `second`, and no slots.
 pub(crate) fn two_rows(alloc: Global, first: &[u64], second: &[u64]) -> Made {
     let first = body(alloc, first, Vec::new(alloc));
     let second = body(alloc, second, Vec::new(alloc));
@@ -122,7 +122,7 @@ fn plain_slots(alloc: Global) -> Result<Vec<Value>, AllocError> {
     )
 }
 
-/// A struct with a slot of each kind, of which the list of pointers has this element and null.
+/// Returns a struct with a slot of each kind, of which the list of pointers has `element` and null.
 pub(crate) fn one_of_each(alloc: Global, element: Value) -> Made {
     let slots = plain_slots(alloc);
     let slots = with(slots, links(alloc, Ok(element), Ok(Value::Nil)));

@@ -38,7 +38,7 @@ const ROW: &str = "56\tstruct 1 1
 64\t  null
 ";
 
-/// Whether this is the text of what is at a way.
+/// Tests whether this is the text of what is at a way.
 fn is_shown(alloc: Global, marks: Marks, numbers: &[u64], want: &str) -> Result<bool, Fail> {
     let bytes = bytes_of(alloc, &STRUCT)?;
     let Ok(space) = Bare::new(&bytes) else {

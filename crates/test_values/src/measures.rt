@@ -7,8 +7,8 @@ use capn_walk::{Fault, Limits, Stopped};
 use std::alloc::Global;
 use std::test::Fail;
 
-/// What is measured of the frame of these words within the usual limits; and where its own bytes are canonical, and all
-/// that is behind the table, what they pay.
+/// Returns the measure of the frame of these `words` within the usual limits; and if its own bytes are canonical, and
+/// all that is behind the table, the words that they pay.
 fn told(
     alloc: Global,
     words: &[u64],
@@ -31,7 +31,7 @@ fn told(
     Ok((measure(alloc, &message, limits), own))
 }
 
-/// What is measured, by its numbers.
+/// Returns a measure of these numbers.
 fn measured(
     paid: u32,
     visits: u32,

@@ -15,7 +15,7 @@ const SHARED: [u64; 4] = [0x2_0000_0000_0000, 0x1_0000_0004, 0x1_0000_0000, 9];
 /// A stream whose root has a slot, which is in segment 1.
 const FAR: [u64; 5] = [0x1_0000_0001, 0x2, 0x1_0000_0002, 0x1_0000_0000_0000, 0];
 
-/// What a meter has left after the root and after its slot at an index, and where that is.
+/// Returns the words that a meter has left after the root and after its slot at `index`, and the place of that.
 fn stepped<S: Space>(space: &S, meter: &mut Meter, index: u32) -> Option<(u32, u32, Place)> {
     let root = View::root(space, meter, 64).ok()?;
     let left = meter.left();
@@ -26,7 +26,7 @@ fn stepped<S: Space>(space: &S, meter: &mut Meter, index: u32) -> Option<(u32, u
     Some((left, meter.left(), root.slot_place(index)))
 }
 
-/// What a meter has left after the root and after its second slot.
+/// Returns the words that a meter has left after the root and after its second slot.
 fn left_of_shared(alloc: Global, mut meter: Meter) -> Option<(u32, u32, Place)> {
     let bytes = bytes_of(alloc, &SHARED).ok()?;
     let bare = Bare::new(bytes.as_slice()).ok()?;
@@ -69,7 +69,7 @@ const CAPABILITY: [u64; 2] = [0x1_0000_0000_0000, 0x2_0000_0003];
 
 const RESERVED: [u64; 2] = [0x1_0000_0000_0000, 7];
 
-/// What a survey and a check report of a message that is read bare.
+/// Returns the answers of a survey and of a check of a message that is read bare.
 fn told(
     alloc: Global,
     words: &[u64],
@@ -80,8 +80,8 @@ fn told(
     Some((surveyed, survey_bare(alloc, &bare, Limits::usual())))
 }
 
-/// Whether both report this price, this number of visits and this first capability, and the check whether the bytes are
-/// canonical.
+/// Tests whether both report this price, this number of visits and this first capability, and the check whether the
+/// bytes are canonical.
 fn are_told(
     alloc: Global,
     words: &[u64],
@@ -107,7 +107,7 @@ fn what_a_message_holds(rt: HostRuntime) {
     assert!(rt; are_told(rt.alloc(), &CAPABILITY, (2, 2, Some(2)), false));
 }
 
-/// What one pass reports of a message that is read bare.
+/// Returns the report of one pass over a message that is read bare.
 fn passed(alloc: Global, words: &[u64]) -> Option<SurveyedBare> {
     let bytes = bytes_of(alloc, words).ok()?;
     let bare = Bare::new(bytes.as_slice()).ok()?;

@@ -2,22 +2,30 @@
 
 use crate::words::bytes_of;
 use capn_target::{
-    Fault, Shape, Target, content_words, many_at, near, node_at, place, pointer_at, resolve,
-    segment_length, size_of, start_of,
+    Fault, Shape, Target, content_words, place, pointer_at, resolve, segment_length, start_of,
 };
-use capn_words::{Bare, Width};
+use capn_words::{Bare, Pointer, Width};
 use std::alloc::Global;
 
 /// A pointer to a struct of one word after it, and that word.
 const STRUCT: [u64; 2] = [0x1_0000_0000, 9];
 
-/// The same by a landing pad of one word.
+/// That struct by a landing pad of one word.
 const BY_PAD: [u64; 3] = [0xa, 0x1_0000_0000, 9];
+
+/// A landing pad that is a far pointer.
+const BY_TWO_PADS: [u64; 2] = [0xa, 0x1a];
 
 /// A pointer to a struct of two words, of which there is one.
 const TOO_SHORT: [u64; 2] = [0x2_0000_0000, 9];
 
-/// What the first word of a segment names.
+/// A pointer to eight bytes after it, and these.
+const BYTES: [u64; 2] = [0x42_0000_0001, 9];
+
+/// A pointer to nine bytes, of which there are eight.
+const TOO_MANY: [u64; 2] = [0x4a_0000_0001, 9];
+
+/// Returns the target of the first word of a segment.
 fn root_of(alloc: Global, words: &[u64]) -> Option<Result<Target, Fault>> {
     let bytes = bytes_of(alloc, words).ok()?;
     let bare = Bare::new(bytes.as_slice()).ok()?;
@@ -27,35 +35,21 @@ fn root_of(alloc: Global, words: &[u64]) -> Option<Result<Target, Fault>> {
     Some(resolve(&bare, place(0, 0)))
 }
 
-/// The same, if it leads to content in this segment.
-fn near_root_of(alloc: Global, words: &[u64]) -> Option<Result<Target, Fault>> {
+/// The pointer that the first word of a segment is.
+fn first_pointer_of(alloc: Global, words: &[u64]) -> Option<Pointer> {
     let bytes = bytes_of(alloc, words).ok()?;
     let bare = Bare::new(bytes.as_slice()).ok()?;
-    let size = segment_length(&bare, 0);
-    if size == 0 {
+    if segment_length(&bare, 0) == 0 {
         return None;
     }
-    let pointer = pointer_at(&bare, 0, 0);
-    Some(near(&bare, 0, size, 0, 0, pointer))
-}
-
-/// A struct of `words` words from word 1 of a segment on, and a list of eight bytes there.
-fn content_of(alloc: Global, bytes: &[u64], words: u16) -> Option<[Result<Target, Fault>; 2]> {
-    let bytes = bytes_of(alloc, bytes).ok()?;
-    let bare = Bare::new(bytes.as_slice()).ok()?;
-    let size = segment_length(&bare, 0);
-    Some([
-        node_at(&bare, 0, size, 1, 0, words, 0),
-        many_at(&bare, 0, size, 1, 0, Width::W8, 8),
-    ])
+    Some(pointer_at(&bare, 0, 0))
 }
 
 /// The words of segment 0, and of segment 1, which isn't there.
 fn sizes_of(alloc: Global, words: &[u64]) -> Option<[u32; 2]> {
     let bytes = bytes_of(alloc, words).ok()?;
     let bare = Bare::new(bytes.as_slice()).ok()?;
-    let size = segment_length(&bare, 0);
-    Some([size_of(&bare, 0, 0, size), size_of(&bare, 1, 0, size)])
+    Some([segment_length(&bare, 0), segment_length(&bare, 1)])
 }
 
 /// Content of a shape from a word on, with a landing pad of some words.
@@ -74,8 +68,7 @@ fn what_a_pointer_names(rt: HostRuntime) {
     assert!(rt; root_of(rt.alloc(), &STRUCT) == Some(content(1, shape, 0)));
     assert!(rt; root_of(rt.alloc(), &BY_PAD) == Some(content(2, shape, 1)));
     assert!(rt; root_of(rt.alloc(), &TOO_SHORT) == Some(Err(Fault::Range)));
-    assert!(rt; near_root_of(rt.alloc(), &STRUCT) == Some(content(1, shape, 0)));
-    assert!(rt; near_root_of(rt.alloc(), &BY_PAD) == Some(Err(Fault::BadPad)));
+    assert!(rt; root_of(rt.alloc(), &BY_TWO_PADS) == Some(Err(Fault::BadPad)));
 }
 
 #[test]
@@ -85,10 +78,10 @@ fn content_from_a_word_on(rt: HostRuntime) {
         width: Width::W8,
         count: 8,
     };
-    let found = [content(1, shape, 0), content(1, list, 0)];
-    assert!(rt; content_of(rt.alloc(), &STRUCT, 1) == Some(found));
-    let refused = [Err(Fault::Range), content(1, list, 0)];
-    assert!(rt; content_of(rt.alloc(), &STRUCT, 2) == Some(refused));
+    assert!(rt; root_of(rt.alloc(), &STRUCT) == Some(content(1, shape, 0)));
+    assert!(rt; root_of(rt.alloc(), &BYTES) == Some(content(1, list, 0)));
+    assert!(rt; root_of(rt.alloc(), &TOO_SHORT) == Some(Err(Fault::Range)));
+    assert!(rt; root_of(rt.alloc(), &TOO_MANY) == Some(Err(Fault::Range)));
 }
 
 #[test]
@@ -97,4 +90,10 @@ fn steps_to_content(rt: HostRuntime) {
     assert!(rt; start_of(3, -5) == Err(Fault::Range));
     assert!(rt; content_words(Width::W1, 65) == 2 && content_words(Width::Rows, 3) == 4);
     assert!(rt; sizes_of(rt.alloc(), &STRUCT) == Some([2, 0]));
+    let far = Pointer::Far {
+        double: false,
+        word: 1,
+        segment: 0,
+    };
+    assert!(rt; first_pointer_of(rt.alloc(), &BY_PAD) == Some(far));
 }

@@ -5,7 +5,7 @@ use capn_value::{Memory, Tariff, Tree, Value, copy, cost, same, show, trim};
 use std::alloc::Global;
 use std::process::Abort;
 
-/// Whether a tree has this cost and text.
+/// Tests whether a tree has this cost and text.
 fn has_text(alloc: Global, tree: &Tree, words: u32, want: &str) -> bool {
     match show(alloc, tree) {
         Ok(text) => cost(tree, Tariff::Strict) == words && text.as_bytes() == want.as_bytes(),
@@ -13,7 +13,7 @@ fn has_text(alloc: Global, tree: &Tree, words: u32, want: &str) -> bool {
     }
 }
 
-/// Whether what was made of a tree is the same value, with this cost and text.
+/// Tests whether the value that was `made` of a tree is the same value, with this cost and text.
 fn is_made(alloc: Global, tree: &Tree, made: Result<Tree, Memory>, words: u32, want: &str) -> bool {
     match made {
         Ok(made) => {
@@ -25,7 +25,7 @@ fn is_made(alloc: Global, tree: &Tree, made: Result<Tree, Memory>, words: u32, w
     }
 }
 
-/// The value, its trimmed form and its copy have this cost and these texts, and are the same.
+/// Expects that the value, its trimmed form and its copy have this cost and these texts, and are the same.
 fn expect_texts(rt: &impl Abort, alloc: Global, made: Made, words: u32, want: &str, cut: &str) {
     match tree(made) {
         Ok(tree) => {

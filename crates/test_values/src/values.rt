@@ -8,7 +8,7 @@ use capn_value::{
 use std::alloc::{AllocError, Global};
 use std::process::Abort;
 
-/// The value fits, or is this misfit.
+/// Expects that the value fits, or is the misfit `want`.
 fn expect(rt: &impl Abort, made: Made, want: Option<Misfit>) {
     match tree(made) {
         Ok(tree) => {
@@ -20,7 +20,7 @@ fn expect(rt: &impl Abort, made: Made, want: Option<Misfit>) {
     }
 }
 
-/// The value fits, and has this height and cost.
+/// Expects that the value fits, and has a height of `levels` and a cost of `words`.
 fn expect_sizes(rt: &impl Abort, made: Made, levels: u32, words: u32) {
     match tree(made) {
         Ok(tree) => {
@@ -32,7 +32,7 @@ fn expect_sizes(rt: &impl Abort, made: Made, levels: u32, words: u32) {
     }
 }
 
-/// Whether two values are the same, asked both ways.
+/// Tests whether two values are the same, asked both ways.
 fn expect_same(rt: &impl Abort, one: Made, other: Made, want: bool) {
     match (one, other) {
         (Ok(one), Ok(other)) => {
@@ -101,7 +101,7 @@ fn wide_and_ragged(rt: HostRuntime) {
     );
 }
 
-/// The value fits, and costs so much by the plain tariff.
+/// Expects that the value fits, and costs `words` by the plain tariff.
 fn expect_plain(rt: &impl Abort, made: Made, words: u32) {
     match tree(made) {
         Ok(tree) => {
@@ -173,7 +173,7 @@ fn sameness(rt: HostRuntime) {
     expect_same(&rt, Ok(Value::Voids(0)), text(alloc, &[]), false);
 }
 
-/// The first capability of a value is this one.
+/// Expects that the first capability of the value is `want`.
 fn expect_capability(rt: &impl Abort, made: Made, want: Option<u32>) {
     match made {
         Ok(value) => {
@@ -203,7 +203,7 @@ fn kept_rows(alloc: Global) -> Result<Items<Body>, AllocError> {
     two_bodies(alloc, first, body(alloc, &[1], slots))
 }
 
-/// Whether these rows keep two words and two slots each.
+/// Tests whether these rows keep two words and two slots each.
 fn are_kept(rows: &[Body]) -> bool {
     match rows {
         [_, last] => kept_slots(last.slots.as_slice()) == 2

@@ -37,12 +37,12 @@ const SHARED: [u64; 5] = [
 /// A capability.
 const CAPABILITY: [u64; 1] = [0x7_0000_0003];
 
-/// Where a word of the first segment is.
+/// Returns the place of `word` of the first segment.
 fn at(word: u32) -> Place {
     Place { segment: 0, word }
 }
 
-/// Whether the walk of a message stops with this fault, at this word, as this visit, and this is the way there.
+/// Tests whether the walk of a message stops with this fault, at this word, as this visit, and this is the way there.
 fn is_refused(
     alloc: Global,
     words: &[u64],
@@ -90,7 +90,7 @@ fn no_refusal(rt: HostRuntime) -> Result<(), Fail> {
     Ok(())
 }
 
-/// Whether this is the way to the slot at which the walk of a message stops.
+/// Tests whether this is the way to the slot at which the walk of a message stops.
 fn leads_to_stop(alloc: Global, words: &[u64], way: &[u32]) -> Result<bool, Fail> {
     let bytes = bytes_of(alloc, words)?;
     let Ok(bare) = Bare::new(bytes.as_slice()) else {
@@ -114,7 +114,8 @@ fn the_way_to_a_stop(rt: HostRuntime) -> Result<(), Fail> {
     Ok(())
 }
 
-/// Whether the walk of a message makes a visit after `number` others, of the slot at this word, to which the way leads.
+/// Tests whether the walk of a message makes a visit after `number` others, of the slot at this word, to which the way
+/// leads.
 fn is_visited(
     alloc: Global,
     words: &[u64],

@@ -1,5 +1,4 @@
-//! A message in the making.
-//! Its words are appended, and a pointer is written once its object has a place.
+//! A message in the making: words are appended, and a pointer is written once its object has a place.
 
 ghost use Rattle.std.specs.Prelude.{◌<◌};
 
@@ -10,7 +9,7 @@ use std::alloc::{AllocError, Global};
 /// The pointer to a struct without words and slots, which is not null.
 const EMPTY: u64 = 0xffff_fffc;
 
-/// How a pointer leads to its object.
+/// The route from a pointer to its object.
 enum Route {
     /// By an offset.
     Near,
@@ -36,7 +35,7 @@ fn narrow(number: usize) -> u32 {
 }
 
 impl Draft {
-    /// With the pointer to the root alone, in one segment, or in segments of about `most` words.
+    /// Returns a draft with the pointer to the root alone, in one segment, or in segments of about `most` words.
     pub(crate) fn new(alloc: Global, most: Option<usize>) -> Result<Draft, AllocError> {
         let mut words = Vec::new(alloc);
         words.push(0)?;
@@ -49,7 +48,7 @@ impl Draft {
         })
     }
 
-    /// A number below another.
+    /// Returns a random number below `bound`.
     pub(crate) fn below(&mut self, bound: u32) -> u32
         requires { 0 < bound }
         ensures { result < bound }
@@ -57,7 +56,7 @@ impl Draft {
         self.random.below(bound)
     }
 
-    /// The word that is next.
+    /// Returns the slot of the word that is next.
     fn here(&self) -> Slot {
         Slot {
             segment: self.sizes.len(),
@@ -65,7 +64,7 @@ impl Draft {
         }
     }
 
-    /// The words of the last segment.
+    /// Returns the number of words of the last segment.
     fn len(&self) -> usize {
         self.words.len().saturating_sub(self.start)
     }
@@ -78,19 +77,19 @@ impl Draft {
         Ok(())
     }
 
-    /// Writes a pointer.
+    /// Writes `pointer` to `slot`.
     fn point(&mut self, slot: Slot, pointer: u64) {
         if let Some(word) = self.words.get_mut(slot.at) {
             *word = pointer;
         }
     }
 
-    /// The far pointer to the word that is next.
+    /// Returns the far pointer to the word that is next.
     fn far(&self) -> u64 {
         2 | (self.len() as u64) << 3 | (self.sizes.len() as u64) << 32
     }
 
-    /// How the pointer of a slot leads to the object that is next.
+    /// Chooses the route from the pointer of `slot` to the object that is next.
     fn route(&mut self, slot: Slot) -> Result<Route, AllocError> {
         let Some(most) = self.most else {
             return Ok(Route::Near);
@@ -107,7 +106,7 @@ impl Draft {
         Ok(Route::Near)
     }
 
-    /// Whether seven eighths of the words that the last segment may have are there.
+    /// Tests whether seven eighths of the words that the last segment may have are there.
     fn is_nearly_full(&self) -> bool {
         match self.most {
             Some(most) => self.len() >= most - most / 8,
@@ -115,7 +114,7 @@ impl Draft {
         }
     }
 
-    /// Writes the pointer to the object that is next after a pad of two words, which ends a nearly full segment.
+    /// Writes `pointer` to the object that is next after a pad of two words, which ends a nearly full segment.
     fn place_double_far(&mut self, slot: Slot, pointer: u64) -> Result<(), AllocError> {
         let far = self.far();
         self.point(slot, far | 4);
@@ -130,7 +129,7 @@ impl Draft {
         Ok(())
     }
 
-    /// Writes the pointer of these fields, all but the offset, to the object that is next.
+    /// Writes `pointer`, all but its offset, as the pointer of `slot` to the object that is next.
     fn place(&mut self, slot: Slot, pointer: u64) -> Result<(), AllocError> {
         match self.route(slot)? {
             Route::Near => {
@@ -152,7 +151,7 @@ impl Draft {
         Ok(())
     }
 
-    /// `count` words.
+    /// Appends so many `words` of `content`.
     pub(crate) fn fill(&mut self, content: Content, words: u32) -> Result<(), AllocError> {
         for _ in 0..words {
             let word = self.random.word(content);
@@ -161,7 +160,7 @@ impl Draft {
         Ok(())
     }
 
-    /// A struct, whose slots are null so far. Answers the first slot.
+    /// Appends a struct, whose slots are null so far; returns the first slot.
     pub(crate) fn node(
         &mut self,
         slot: Slot,
@@ -176,7 +175,7 @@ impl Draft {
         Ok(first)
     }
 
-    /// A list of bytes.
+    /// Appends a list of `count` bytes.
     pub(crate) fn bytes(
         &mut self,
         slot: Slot,
@@ -193,7 +192,7 @@ impl Draft {
         Ok(())
     }
 
-    /// A list of 32-bit numbers, `pairs` pairs of them.
+    /// Appends a list of 32-bit numbers, `pairs` pairs of them.
     pub(crate) fn pairs(
         &mut self,
         slot: Slot,
@@ -204,7 +203,7 @@ impl Draft {
         self.fill(content, pairs)
     }
 
-    /// A list of 64-bit numbers.
+    /// Appends a list of `count` 64-bit numbers.
     pub(crate) fn numbers(
         &mut self,
         slot: Slot,
@@ -215,7 +214,7 @@ impl Draft {
         self.fill(content, count)
     }
 
-    /// A list of pointers, which are null so far. Answers the first.
+    /// Appends a list of `count` pointers, which are null so far; returns the first.
     pub(crate) fn pointers(&mut self, slot: Slot, count: u32) -> Result<Slot, AllocError> {
         self.place(slot, 1 | 6 << 32 | u64::from(count) << 35)?;
         let first = self.here();
@@ -223,7 +222,7 @@ impl Draft {
         Ok(first)
     }
 
-    /// A list of structs, whose slots are null so far. Answers the first word of the first.
+    /// Appends a list of `count` structs, whose slots are null so far; returns the first word of the first.
     pub(crate) fn rows(
         &mut self,
         slot: Slot,
@@ -245,8 +244,8 @@ impl Draft {
         Ok(first)
     }
 
-    /// A root with a list of pointers, as many as `bytes` bytes have groups of `words` words. Answers the first pointer
-    /// and their number.
+    /// Appends a root with a list of pointers, as many as `bytes` bytes have groups of `words` words; returns the first
+    /// pointer and their number.
     pub(crate) fn groups(&mut self, bytes: u32, words: u32) -> Result<(Slot, u32), AllocError>
         requires { 0 < words }
     {
@@ -274,7 +273,7 @@ impl Draft {
         Ok(bytes)
     }
 
-    /// The framed message.
+    /// Returns the framed message.
     pub(crate) fn into_frame(mut self, alloc: Global) -> Result<Vec<u8>, AllocError> {
         let framed = self.framed(alloc);
         // One call is cheaper to check than fields that are dropped one by one.

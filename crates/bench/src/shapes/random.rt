@@ -2,7 +2,7 @@
 
 ghost use Rattle.std.specs.Prelude.{◌<◌};
 
-/// What words hold that are no pointers.
+/// The content of words that are no pointers.
 #[derive(Clone, Copy)]
 pub(crate) enum Content {
     /// Zero words.
@@ -26,14 +26,14 @@ pub(crate) struct Random {
 }
 
 impl Random {
-    /// At the beginning.
+    /// Returns the numbers from the beginning.
     pub(crate) fn new() -> Random {
         Random {
             state: 88_172_645_463_325_252,
         }
     }
 
-    /// A random word.
+    /// Returns a random word.
     fn next(&mut self) -> u64 {
         self.state ^= self.state << 13;
         self.state ^= self.state >> 7;
@@ -41,7 +41,7 @@ impl Random {
         self.state
     }
 
-    /// A number below another.
+    /// Returns a random number below `bound`.
     pub(crate) fn below(&mut self, bound: u32) -> u32
         requires { 0 < bound }
         ensures { result < bound }
@@ -49,7 +49,7 @@ impl Random {
         (self.next() >> 32) as u32 % bound
     }
 
-    /// A number of one to eight bytes that is not zero.
+    /// Returns a random number of one to eight bytes that is not zero.
     fn number(&mut self) -> u64 {
         let bytes = match self.below(6) {
             0 => 8,
@@ -61,7 +61,7 @@ impl Random {
         self.next() >> (64 - 8 * bytes) | 1
     }
 
-    /// A word of some content.
+    /// Returns a word of this `content`.
     pub(crate) fn word(&mut self, content: Content) -> u64 {
         match content {
             Content::Zeros => 0,

@@ -10,10 +10,10 @@ pub(crate) struct Slot {
 }
 
 impl Slot {
-    /// Where the pointer to the root is.
+    /// The place of the root pointer.
     pub(crate) const ROOT: Slot = Slot { segment: 0, at: 0 };
 
-    /// The word `words` words after it.
+    /// Returns the slot that is `words` words after it.
     pub(crate) fn after(self, words: u32) -> Slot {
         Slot {
             segment: self.segment,

@@ -1,4 +1,4 @@
--- What was not read is refused as that, not accepted, and not paid for.
+-- Bytes that can't be read are refused as that, not accepted, and not paid for. (For `of_frame` and capn_c.)
 use Rattle.std.proofs.Common.{◌≡◌, ◌∙◌, ℕ, List, refl, sym, subst, Result, Err}
 use Rattle.capn_walk.specs.Limits.{Bounds}
 use Rattle.capn_canon.specs.Answered.{IsRefusedReading}

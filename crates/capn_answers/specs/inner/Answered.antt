@@ -1,7 +1,7 @@
--- What private calls answer of a message.
-use Rattle.std.specs.Prelude.{◌≡◌, ℕ, List, Option, Result, IfOk, IfErr, IfSome, IfNone}
+-- The answers of private calls for a message.
+use Rattle.std.specs.Prelude.{◌≡◌, ℕ, List, Result, IfOk, IfErr}
 use Rattle.std.specs.Prelude.{IsErrOf, MatchResult}
-use Rattle.capn_walk.specs.Accepted.{IsAccepted, IsBounded, IsWalkRefused}
+use Rattle.capn_walk.specs.Accepted.{IsBounded, IsWalkRefused}
 use Rattle.capn_walk.specs.Limits.{Bounds}
 use Rattle.capn_walk.specs.Surveyed.{IsSurvey}
 use Rattle.capn_walk.specs.declared.walk_answer.Stopped.{Stopped}
@@ -11,32 +11,17 @@ use Rattle.capn_canon.specs.Refusal.{IsPaidWithin, IsUnaccepted}
 use Rattle.capn_canon.specs.declared.refusal.Refusal.{Refusal}
 use Rattle.capn_canon.specs.declared.refusal.Refusal.TheVariants as refusals
 use Rattle.capn_departure.specs.Departures.{Departs, IsDeparture}
-use Rattle.capn_departure.specs.declared.answer.Departure.{Departure}
 use Rattle.capn_answers.specs.Walked.{IsWalkedWithin}
 use Rattle.capn_answers.specs.declared.departure_input.SurveyedDeparture.{SurveyedDeparture}
 use Rattle.capn_answers.specs.declared.walked.Walked.{Walked}
 use Rattle.capn_answers.specs.declared.walked.Walked.TheVariants as walks
-
--- the walk of a message stops there and the way leads to that slot, or the message is accepted, or memory ran out
-pub record IsWayTold {A : Type 0} (message : List (List ℕ)) (limits : Bounds)
-    (r : Result (Option (Refused A)) Refusal) : Type 0 where
-  pub found : IfOk r (λ o. IfSome o (λ f. IsRefusedAt message limits f.stopped f.way.items))
-  pub accepted : IfOk r (λ o. IfNone o (IsAccepted message limits))
-  pub memory : IfErr r (λ e. e ≡ refusals.Memory)
-
--- what is answered of where a message leaves its canonical bytes, or why it isn't accepted
-pub record IsDepartureTold {A : Type 0} (message : List (List ℕ)) (limits : Bounds)
-    (r : Result (Departure A) Refusal) : Type 0 where
-  pub found : IfOk r (λ d. IsDeparture message limits d)
-  pub refused : IfErr r (λ e. IsUnaccepted message limits e)
-  pub memory : IsErrOf r refusals.Memory → Departs message limits
 
 -- the message is accepted, of which the survey is; or its walk stops there, and the way leads to that slot
 abbrev pub IsWalked : {A : Type 0} → List (List ℕ) → Bounds → Walked A → Type 0
 IsWalked message limits (walks.Accepted s) = IsSurvey message limits s
 IsWalked message limits (walks.Refused f) = IsRefusedAt message limits f.stopped f.way.items
 
--- what is answered of the walk of a message; memory ran out only for the way of one that is refused
+-- an answer for the walk of a message; memory ran out only for the way of one that is refused
 pub record IsWalkTold {A : Type 0} (message : List (List ℕ)) (limits : Bounds) (r : Result (Walked A) Refusal)
     : Type 0 where
   pub found : IfOk r (λ w. IsWalked message limits w)
@@ -44,7 +29,8 @@ pub record IsWalkTold {A : Type 0} (message : List (List ℕ)) (limits : Bounds)
   pub memory : IfErr r (λ e. (e ≡ refusals.Memory)
       × ((s : Stopped) × IsWalkRefused message limits s.fault s.place s.paid s.visits))
 
--- what is answered of where a message leaves its canonical bytes, and of its survey, or why it isn't accepted
+-- an answer for the departure of a message from its canonical bytes, and for its survey, or the reason why it isn't
+-- accepted
 pub record IsDepartureSurveyed {A : Type 0} (message : List (List ℕ)) (limits : Bounds)
     (r : Result (SurveyedDeparture A) Refusal) : Type 0 where
   pub found : IfOk r (λ d. IsDeparture message limits d.departure)

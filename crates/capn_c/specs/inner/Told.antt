@@ -1,4 +1,4 @@
--- What private calls answer of a message.
+-- The answers of private calls for a message.
 use Rattle.std.specs.Prelude.{◌≡◌, ◌≤◌, ℕ, List, Result, IfOk, IfErr, IsErrOf, MatchResult}
 use Rattle.sha2.specs.Sha256.{sha256}
 use Rattle.capn_value.specs.Tree.{Tree}
@@ -26,8 +26,8 @@ pub record IsTextTold (message : List (List ℕ)) (limits : Bounds) (style : Sty
   pub bounded : MatchResult r (λ x. IsBounded limits.budget x.survey.paid x.survey.visits)
       (λ e. IsPaidWithin limits.budget e)
 
--- the digest of a message's canonical bytes, and what its walk pays, or why it has none; memory ran out only for those
--- of a message that isn't canonical
+-- the digest of a message's canonical bytes, and the words that its walk pays, or the reason why it has none; memory
+-- ran out only for those of a message that isn't canonical
 pub record IsDigestTold (message : List (List ℕ)) (limits : Bounds) (r : Result Digested Refusal) : Type 0 where
   pub found : IfOk r (λ d. (text : List ℕ) × AnswersMessage message limits text d.paid × (d.digest ≡ sha256 text))
   pub refused : IfErr r (λ e. IsRefusedMessage message limits e)

@@ -1,4 +1,5 @@
--- What a survey of a message reports is so of the bytes that are read as it, and of any value that they denote.
+-- The report of a survey on a message is true of the bytes that are read as it, and of any value that they denote. (For
+-- `survey_bytes`.)
 use Rattle.std.proofs.Common.{◌≡◌, ◌≢◌, ℕ, ◌+◌, ◌*◌, ◌^◌, ◌≤◌, List, length, refl, ap, subst, arith, ◌∙◌, Result, Ok}
 use Rattle.std.proofs.Common.{Err, IfOk, IfErr, MatchResult}
 use Rattle.std.proofs.lemmas.Result.{IfOk-weaker, IfErr-weaker}

@@ -1,4 +1,4 @@
--- What an answer of canonical bytes and a price says.
+-- An answer of canonical bytes and a price, taken apart. (For `are_canonical`.)
 use Rattle.std.proofs.Common.{◌≡◌, ℕ, ◌*◌, ◌+◌, ◌^◌, ◌≤◌, List, length, ap, subst, ◌∙◌, arith}
 use Rattle.capn_words.specs.Message.{IsMessage}
 use Rattle.capn_value.specs.Tree.{Tree}

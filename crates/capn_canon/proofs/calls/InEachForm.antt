@@ -1,4 +1,5 @@
--- What is answered or refused for a message is so for bytes that are read as it.
+-- An answer or a refusal for a message is one for bytes that are read as it. (For `canonicalise`, `of_bare` and
+-- `of_frame`.)
 use Rattle.std.proofs.Common.{◌≡◌, ℕ, ◌+◌, ◌*◌, ◌^◌, ◌≤◌, List, [], ◌∷◌, length, take, ap, subst, ◌∙◌, arith, Result}
 use Rattle.std.proofs.Common.{Ok, Err, MatchResult, IfOk, IfErr, IsErrOf, None}
 use Rattle.std.proofs.Math.Seq.{take-length}

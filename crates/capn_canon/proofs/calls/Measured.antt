@@ -1,4 +1,4 @@
--- What is found of a message, of one segment or of more.
+-- The measure of a message, of one segment or of more. (For `measure`, `measure_bare` and `measure_other`.)
 use Rattle.std.proofs.Common.{◌≡◌, ◌∙◌, ℕ, List, [], ◌∷◌, length, true, false, Option, None, is_some, refl, ap, sym}
 use Rattle.capn_words.specs.Message.{bytes}
 use Rattle.capn_value.specs.Tree.{Tree}

@@ -1,4 +1,5 @@
--- Results of calls that answer canonical bytes of a message: the rest follows from what is answered.
+-- Results of calls that answer canonical bytes of a message: the rest follows from what is answered. (For
+-- `canonical.rt` and `written_bytes.rt`.)
 use Rattle.std.proofs.Common.{◌≡◌, ℕ, ◌+◌, ◌*◌, ◌^◌, ◌≤◌, List, length, Result, Ok, Err, IfOk, IsErrAnd}
 use Rattle.std.proofs.Common.{sym, subst, ◌∙◌}
 use Rattle.std.proofs.lemmas.Result.{IfOk-weaker}

@@ -1,4 +1,5 @@
--- A message of one segment is what its bytes are read as, and may be its own canonical bytes.
+-- A message of one segment is what its bytes are read as, and may be its own canonical bytes. (For `only_bytes`,
+-- `own_canonical` and `own_words`.)
 use Rattle.std.proofs.Common.{◌≡◌, ℕ, ◌*◌, ◌^◌, ◌<◌, List, [], ◌∷◌, length, true, refl, ap, sym, ◌∙◌, subst, arith}
 use Rattle.std.proofs.Common.{Result, Ok}
 use Rattle.std.proofs.lemmas.List.{take_all}

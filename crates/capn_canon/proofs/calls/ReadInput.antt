@@ -1,4 +1,5 @@
--- What is reported of a message is so of bytes that are read as it, and what is not read is refused.
+-- A report on a message is true of bytes that are read as it, and bytes that can't be read are refused. (For
+-- `canonical_input.rt`, `input.rt` and `survey_input.rt`.)
 use Rattle.std.proofs.Common.{◌≡◌, ℕ, ◌+◌, ◌≤◌, inl, inr, List, refl, sym, subst, Result, Ok, Err, IfOk, IfErr}
 use Rattle.std.proofs.Common.{IsErrAnd, IsErrOf, MatchResult}
 use Rattle.capn_words.specs.Message.{ReadsBare}
@@ -27,7 +28,7 @@ use Rattle.capn_canon.specs.Answered.{IsAnswered, IsRefusedReading}
 use Rattle.capn_canon.specs.inner.Outcomes.{AreCanonicalised, AreSurveyed, IsCanonicalised, IsSurveyed}
 use Rattle.capn_canon.proofs.calls.Accounted.{surveyed_as}
 use Rattle.capn_canon.proofs.calls.InEachForm.{canonicalised_as}
-use Rattle.capn_canon.proofs.calls.MemoryNeeds.{bytes_wanted, packed_wanted}
+use Rattle.capn_canon.proofs.shared.MemoryNeeds.{bytes_wanted, packed_wanted}
 
 -- ---- bytes that are not read
 

@@ -1,5 +1,5 @@
--- Words whose root is in place are accepted; if they end with what is below it, they are canonical, and as deep as the
--- pass came.
+-- Words whose root is in place are accepted; if they end with all below it, they are canonical, and as deep as the pass
+-- came. (For `measure_root`.)
 use Rattle.std.proofs.Common.{◌≡◌, ℕ, ◌+◌, ◌-◌, ◌^◌, ◌<◌, ◌≤◌, Bool, true, List, [], ◌∷◌, ◌++◌, length, Option, Some}
 use Rattle.std.proofs.Common.{None, IsTrue, refl, ap, sym, subst, ◌∙◌, arith}
 use Rattle.std.specs.Option.{option_or}

@@ -1,4 +1,4 @@
--- The least depth under which canonical words are accepted is the height of their value.
+-- The least depth under which canonical words are accepted is the height of their value. (For `CanonicalSurvey`.)
 use Rattle.std.proofs.Common.{◌≡◌, ℕ, ◌≤◌, ◌^◌, List, [], ◌∷◌, ap, sym, subst, ◌∙◌, arith}
 use Rattle.capn_words.specs.Message.{IsMessage}
 use Rattle.capn_words.proofs.shared.OneSegment.{bare_only}
@@ -10,7 +10,7 @@ use Rattle.capn_walk.specs.Accepted.{IsAccepted, IsValueOf}
 use Rattle.capn_walk.specs.Depth.{IsDepth, at_depth}
 use Rattle.capn_walk.specs.Limits.{Bounds}
 use Rattle.capn_layout.specs.Layout.{words, canon}
-use Rattle.capn_canon.proofs.theorem.BareCanon.{words_in_canon}
+use Rattle.capn_canon.proofs.shared.BareCanon.{words_in_canon}
 use Rattle.capn_canon.proofs.theorem.Headline.{denoted_fits, denoted_in_range, denoted_cost}
 use Rattle.capn_canon.proofs.reading.ReadBare.{read_bare}
 

@@ -1,5 +1,5 @@
--- What is expected at a slot whose word is the pointer to a list of structs: its tag and rows are at the next free
--- word, there is room for them, they can be paid, and what is below them is expected.
+-- The expectation at a slot whose word is the pointer to a list of structs: its tag and rows are at the next free word,
+-- there is room for them, they can be paid, and all below them is expected. (For `open_composite`.)
 use Rattle.std.proofs.Common.{◌≡◌, ℕ, ◌+◌, ◌-◌, ◌*◌, ◌^◌, ◌<◌, ◌≤◌, List, [], ◌∷◌, length, slice_index, Ok}
 use Rattle.std.proofs.Common.{pos, refl, ap, sym, subst, ◌∙◌, arith}
 use Rattle.capn_words.specs.Message.{segment_at}

@@ -1,5 +1,5 @@
--- What is expected at a slot whose word is the pointer to a list: the list is at the next free word, there is room
--- for it, it can be paid, and what is below it is expected.
+-- The expectation at a slot whose word is the pointer to a list: the list is at the next free word, there is room for
+-- it, it can be paid, and all below it is expected. (For `check_numbers` and `open_pointers`.)
 use Rattle.std.proofs.Common.{◌≡◌, ℕ, ◌+◌, ◌-◌, ◌*◌, ◌^◌, ◌<◌, ◌≤◌, List, [], ◌∷◌, length, drop, slice_index}
 use Rattle.std.proofs.Common.{ap, sym, subst, ◌∙◌, arith}
 use Rattle.capn_words.specs.Message.{IsMessage, segment_at}

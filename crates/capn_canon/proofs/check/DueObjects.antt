@@ -1,5 +1,5 @@
--- What is expected at a slot whose word says what object it points to: the object is at the next free word, there
--- is room for it, it can be paid, and what is below it is expected.
+-- The expectation at a slot whose word points to an object: the object is at the next free word, there is room for it,
+-- it can be paid, and all below it is expected. (For the cycle `pass` and `open_struct`.)
 use Rattle.std.proofs.Common.{◌≡◌, ◌≢◌, inl, inr, ℕ, ◌+◌, ◌-◌, ◌*◌, ◌%◌, ◌^◌, ◌<◌, ◌≤◌, List, []}
 use Rattle.std.proofs.Common.{◌∷◌, length, take, drop, slice_index, Ok, refl, ap, sym, subst, ◌∙◌, arith}
 use Rattle.capn_words.specs.Message.{segment_at}

@@ -1,4 +1,5 @@
--- Where words are accepted and canonical, the pass has to find the value at their root, and nothing comes after it.
+-- If words are accepted and canonical, the pass has to find the value at their root, and nothing comes after it. (For
+-- `measure_root`.)
 use Rattle.std.proofs.Common.{◌≡◌, ℕ, ◌+◌, ◌^◌, ◌<◌, ◌≤◌, Bool, List, [], ◌∷◌, length, Option, None}
 use Rattle.std.proofs.Common.{refl, ap, sym, subst, arith}
 use Rattle.std.specs.Option.{option_or}

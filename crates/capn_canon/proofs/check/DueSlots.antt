@@ -1,4 +1,5 @@
--- What is expected at slots is expected at the first of them, and, once that is found, at those after it.
+-- The expectation at slots is one at the first of them, and, once that is found, at those after it. (For the cycle
+-- `pass`, `open_composite`, `open_pointers` and `open_struct`.)
 use Rattle.std.proofs.Common.{◌≡◌, ℕ, suc, ◌+◌, ◌-◌, ◌<◌, Bool, List, [], ◌∷◌, ◌++◌, length, Option}
 use Rattle.std.proofs.Common.{Some, None, refl, ap, sym, subst, ◌∙◌, arith}
 use Rattle.std.specs.Option.{option_or}

@@ -1,4 +1,5 @@
--- Which value a word of a layout points to, by its lowest bits, and what its fields are.
+-- The value to which a word of a layout points, by its lowest bits, and its fields. (For `DueComposite`, `DueLists` and
+-- `DueObjects`.)
 use Rattle.std.proofs.Common.{◌≡◌, ◌≢◌, ◌⊎◌, inl, inr, ℕ, zero, suc, ◌+◌, ◌-◌, ◌*◌, ◌%◌, ◌^◌, ◌<◌, ◌≤◌, ◌==◌, ◌&&◌}
 use Rattle.std.proofs.Common.{Bool, true, false, if◌then◌else◌, List, length, None, Ok, pos, negsuc, refl, ap, sym}
 use Rattle.std.proofs.Common.{◌∙◌, arith}

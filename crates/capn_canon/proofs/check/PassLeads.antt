@@ -1,4 +1,5 @@
--- What a pass finds at the slots in hand, from what it finds at the first of them, below it and after it.
+-- The finding of a pass at the slots in hand, from those at the first of them, below it and after it. (For `objects.rt`
+-- and `one_pass.rt`.)
 use Rattle.std.proofs.Common.{◌≡◌, ℕ, zero, suc, ◌+◌, ◌-◌, ◌*◌, ◌^◌, ◌<◌, ◌≤◌, ◌==◌, List, [], ◌∷◌, length, take, drop}
 use Rattle.std.proofs.Common.{Option, Some, None, IfSome, slice_index, refl, sym, subst, ◌∙◌, arith, pos, negsuc}
 use Rattle.std.proofs.Common.{if◌then◌else◌, Bool}

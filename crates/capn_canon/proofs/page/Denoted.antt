@@ -1,4 +1,4 @@
--- Words that follow the rules of the page denote a value, which has no capability.
+-- Words that follow the rules of the page denote a value, which has no capability. (For `page`.)
 use Rattle.std.proofs.Common.{◌≡◌, ℕ, zero, suc, ◌+◌, ◌*◌, ◌≤◌, List, [], ◌∷◌, ◌++◌, length, take, drop, Option, None}
 use Rattle.std.proofs.Common.{Option, None, refl, ap, subst, ◌∙◌, sym, arith, length-drop}
 use Rattle.std.specs.Option.{option_or}

@@ -1,4 +1,5 @@
--- What is kept whole ends in a word that isn't zero, and what has no bits past its end is its first bits.
+-- Words that are kept whole end in one that isn't zero, and words without bits past their end are their first bits.
+-- (For `LaidFollows` and `Stands`.)
 use Rattle.std.proofs.Common.{◌≡◌, ◌≢◌, ◌⊎◌, inl, inr, ℕ, zero, suc, ◌+◌, ◌-◌, ◌*◌, ◌/◌, ◌%◌, ◌^◌, ◌<◌, ◌≤◌, List, []}
 use Rattle.std.proofs.Common.{◌∷◌, length, take, drop, slice_index, ap, sym, subst, ◌∙◌, arith}
 use Rattle.std.proofs.Common.{length-drop}

@@ -1,4 +1,4 @@
--- Where values are where their layout has them, their pointers follow the rules of the page.
+-- If values are at the places of their layout, their pointers follow the rules of the page. (For `ThePage`.)
 use Rattle.std.proofs.Common.{◌≡◌, ◌⊎◌, inl, inr, ℕ, zero, suc, ◌+◌, ◌*◌, ◌^◌, ◌<◌, ◌≤◌, List, [], ◌∷◌, ◌++◌}
 use Rattle.std.proofs.Common.{length, take, drop, slice_index, Option, Some, None, Ok, refl, ap, ap₂, sym, subst, ◌∙◌}
 use Rattle.std.proofs.Common.{arith, append_assoc}

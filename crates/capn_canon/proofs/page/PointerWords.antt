@@ -1,4 +1,4 @@
--- The word of a pointer to content of the one segment, from what it names.
+-- The word of a pointer to content of the one segment, from what it names. (For `Stands`.)
 use Rattle.std.proofs.Common.{◌≡◌, ◌⊎◌, inl, inr, ℕ, zero, suc, ◌+◌, ◌-◌, ◌%◌, ◌^◌, ◌<◌, ◌==◌, ◌&&◌}
 use Rattle.std.proofs.Common.{List, [], ◌∷◌, slice_index, Ok, nat_lt, Bool, true, false, ℤ, pos, negsuc}
 use Rattle.std.proofs.Common.{if◌then◌else◌, refl, ap, sym, subst, ◌∙◌, arith}

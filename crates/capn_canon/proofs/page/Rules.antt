@@ -1,4 +1,5 @@
--- The rules of the page, taken together at each pointer that is met.
+-- The rules of the page, taken together at each pointer that is met. (For `LaidFollows`, `Stands`, `ThePage` and
+-- `WorkedPage`.)
 use Rattle.std.proofs.Common.{◌≡◌, ℕ, ◌+◌, List, [], ◌∷◌, ◌++◌, length, Ok}
 use Rattle.std.specs.List.{AllByRecursion}
 use Rattle.capn_words.specs.declared.space.Place.{Place}

@@ -1,4 +1,5 @@
--- Where the pointers follow the rules of the page, values are where their layout has them.
+-- If the pointers follow the rules of the page, values are at the places of their layout. (For `LaidFollows` and
+-- `ThePage`.)
 use Rattle.std.proofs.Common.{◌≡◌, ◌⊎◌, inl, inr, ℕ, zero, suc, ◌+◌, ◌*◌, ◌/◌, ◌^◌, ◌<◌, ◌≤◌, List, [], ◌∷◌, ◌++◌}
 use Rattle.std.proofs.Common.{length, take, drop, slice_index, Option, None, Ok, refl, ap, sym, subst, ◌∙◌, arith}
 use Rattle.std.proofs.Common.{append_assoc}

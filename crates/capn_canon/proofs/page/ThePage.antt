@@ -1,4 +1,4 @@
--- The rules of the page leave each value one form, its canonical bytes.
+-- The rules of the page leave each value one form, its canonical bytes. (For `page`.)
 use Rattle.std.proofs.Common.{◌≡◌, ◌↔◌, ℕ, ◌+◌, ◌≤◌, Bool, IsTrue, List, [], ◌∷◌, length, None, refl, ap}
 use Rattle.std.proofs.Common.{sym, subst, ◌∙◌, arith}
 use Rattle.capn_words.specs.Message.{IsBare, IsMessage, bytes}
@@ -25,7 +25,7 @@ use Rattle.capn_canon.specs.declared.surveyed_bare.SurveyedBare.{SurveyedBare}
 use Rattle.capn_canon.specs.Laws.{IsPageFormOf}
 use Rattle.capn_canon.specs.PageForm.{Met, null, object, WithoutGaps, IsPageForm}
 use Rattle.capn_canon.proofs.places.CanonicalWords.{words-stand, stand-words, bytes-words}
-use Rattle.capn_canon.proofs.theorem.BareCanon.{canon_is_bare}
+use Rattle.capn_canon.proofs.shared.BareCanon.{canon_is_bare}
 use Rattle.capn_canon.proofs.theorem.Headline.{denoted_fits, denoted_has_form}
 use Rattle.capn_canon.proofs.theorem.EqualExactlySame.{canon-trimmed, equal_exactly_same, trimmed_is_same}
 use Rattle.capn_canon.proofs.theorem.CapOfTrimmed.{cap-trimmed}

@@ -1,4 +1,5 @@
--- Words are canonical if and only if the value at their root is where its layout has it, and no word is left.
+-- Words are canonical if and only if the value at their root is where its layout has it, and no word is left. (For
+-- `CanonicalSurvey`, `DueRoot` and `ThePage`.)
 use Rattle.std.proofs.Common.{◌≡◌, ◌↔◌, ℕ, ◌+◌, ◌<◌, ◌≤◌, List, ◌∷◌, length}
 use Rattle.std.proofs.Common.{ap, sym, subst, ◌∙◌, arith}
 use Rattle.std.proofs.Math.Seq.{take-length}
@@ -11,7 +12,7 @@ use Rattle.capn_value.specs.InRange.{InRange}
 use Rattle.capn_layout.specs.Layout.{size, point, lay, words, canon}
 use Rattle.capn_layout.specs.Sound.{Sound}
 use Rattle.capn_layout.proofs.shared.Room.{length_words}
-use Rattle.capn_canon.proofs.theorem.BareCanon.{words_are_words}
+use Rattle.capn_canon.proofs.shared.BareCanon.{words_are_words}
 use Rattle.capn_canon.specs.inner.WordsOfLayout.{Stand, IsLaidAt}
 use Rattle.capn_canon.proofs.places.Standing.{stand-cons, stand-head, stand-tail}
 

@@ -1,5 +1,5 @@
 -- An object's own words are those of its layout if and only if the pointer is the one to the next free word, and so on
--- below it.
+-- below it. (For `check_numbers`, `open_composite`, `open_struct` and `survey_bare_counted`.)
 use Rattle.std.proofs.Common.{◌≡◌, ◌⊎◌, inl, inr, ℕ, zero, suc, ◌+◌, ◌^◌, ◌<◌, ◌≤◌, List, [], ◌∷◌, ◌++◌}
 use Rattle.std.proofs.Common.{length, take, slice_index, Ok, refl, ap, ap₂, sym, subst, ◌∙◌, arith}
 use Rattle.std.proofs.Common.{false}

@@ -1,4 +1,5 @@
--- Objects that are where their layout has them, put together from their parts, with what their visits pay.
+-- Objects that are where their layout has them, put together from their parts, with what their visits pay. (For
+-- `NumbersInPlace` and `PassLeads`.)
 use Rattle.std.proofs.Common.{◌≡◌, inl, inr, ℕ, suc, ◌+◌, ◌-◌, ◌*◌, ◌^◌, ◌<◌, ◌≤◌, ◌==◌, List, [], ◌∷◌, ◌++◌}
 use Rattle.std.proofs.Common.{length, take, drop, slice_index, Option, None, Ok, refl, ap, ap₂, sym, subst, ◌∙◌}
 use Rattle.std.proofs.Common.{arith, length-append, length-drop, pos, negsuc, if◌then◌else◌}

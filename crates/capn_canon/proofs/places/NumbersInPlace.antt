@@ -1,4 +1,4 @@
--- A list of numbers that is where its layout has it.
+-- A list of numbers that is where its layout has it. (For `check_numbers`.)
 use Rattle.std.proofs.Common.{◌≡◌, ℕ, zero, suc, ◌+◌, ◌*◌, ◌^◌, ◌<◌, ◌≤◌, List, [], ◌∷◌, length, take}
 use Rattle.std.proofs.Common.{drop, slice_index, None, Ok, refl, ap, sym, arith, length-drop}
 use Rattle.std.proofs.lemmas.List.{length-take-le}

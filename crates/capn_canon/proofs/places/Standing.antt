@@ -1,4 +1,4 @@
--- Words that are in others, cut and joined.
+-- Words that are in others, cut and joined. (For `CanonicalWords`, `Compared`, `ComparedRows` and others.)
 use Rattle.std.proofs.Common.{◌≡◌, ℕ, zero, suc, ◌+◌, ◌<◌, ◌≤◌, List, [], ◌∷◌, ◌++◌, length}
 use Rattle.std.proofs.Common.{take, drop, slice_index, refl, ap, ap₂, sym, ◌∙◌, arith, length-append}
 use Rattle.std.proofs.Common.{length-drop}

@@ -1,4 +1,5 @@
--- What the pointers of a layout name, in words that have its content at the places that they point to.
+-- The targets of the pointers of a layout, in words that have its content at the places to which they point. (For
+-- `Compared`, `ComparedList`, `ComparedRows` and others.)
 use Rattle.std.proofs.Common.{◌≡◌, ◌⊎◌, inl, inr, ℕ, zero, suc, ◌+◌, ◌-◌, ◌*◌, ◌/◌, ◌^◌, ◌<◌, ◌≤◌, ◌==◌, ◌&&◌, List, []}
 use Rattle.std.proofs.Common.{◌∷◌, length, slice_index, Ok, pos, refl, ap, ap₂, sym, subst, ◌∙◌, arith}
 use Rattle.std.proofs.lemmas.Bool.Decides.{nat_tests}

@@ -1,4 +1,4 @@
--- What pointers of a message of one segment name.
+-- The targets of pointers of a message of one segment. (For the cycle `pass`.)
 use Rattle.std.proofs.Common.{◌≡◌, ℕ, ◌+◌, ◌-◌, ◌*◌, ◌^◌, ◌<◌, ◌≤◌, ◌==◌, nat_lt, List, [], ◌∷◌, length, slice_index}
 use Rattle.std.proofs.Common.{Ok, Result, pos, negsuc, refl, ap, ◌∙◌, arith}
 use Rattle.capn_words.specs.Pointers.{word_of, field, pointer_of}

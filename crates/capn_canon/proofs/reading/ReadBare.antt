@@ -1,4 +1,5 @@
--- Canonical bytes, read bare, denote the trimmed value, and are paid exactly its cost.
+-- Canonical bytes, read bare, denote the trimmed value, and are paid exactly its cost. (For `CanonicalSurvey`,
+-- `DepthOfCanonical`, `DueRoot` and `Headline`.)
 use Rattle.std.proofs.Common.{◌≡◌, ℕ, ◌^◌, ◌≤◌, List, [], ◌∷◌, length, true, refl, ap, sym, ◌∙◌, arith}
 use Rattle.capn_words.proofs.shared.OneSegment.{bare_only}
 use Rattle.capn_value.specs.Tree.{Tree, nil, node, voids, numbers, links, rows, cap}
@@ -21,7 +22,7 @@ use Rattle.capn_layout.proofs.shared.Sound.{sound}
 use Rattle.capn_layout.proofs.shared.Room.{room}
 use Rattle.capn_canon.proofs.reading.Tight.{Pays}
 use Rattle.capn_canon.proofs.reading.ReadBack.{read_back, pays_cost}
-use Rattle.capn_canon.proofs.theorem.BareCanon.{canon_is_bare, words_in_canon}
+use Rattle.capn_canon.proofs.shared.BareCanon.{canon_is_bare, words_in_canon}
 
 -- the root's visits are those of its slot, where a value that may be a root is there
 pub root-alone : (m : List (List ℕ)) (base depth : ℕ) (v : Tree) → is_root v ≡ true → IsAt m root v

@@ -1,4 +1,4 @@
--- Words that are inside a longer list of words.
+-- Words that are inside a longer list of words. (For `LaidPointers` and `ReadBack`.)
 use Rattle.std.proofs.Common.{◌≡◌, ℕ, ◌+◌, ◌≤◌, List, ◌∷◌, ◌++◌, length, take, drop, slice_index, ap, sym, ◌∙◌, arith}
 use Rattle.std.proofs.Common.{length-append, append_assoc}
 use Rattle.std.proofs.lemmas.List.{drop_at, get_or-drop}

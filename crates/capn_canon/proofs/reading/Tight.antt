@@ -1,4 +1,5 @@
--- Values without landing pads and without slack, and what their visits pay.
+-- Values without landing pads and without slack, and what their visits pay. (For `LaidPointers`, `ReadBack` and
+-- `ReadBare`.)
 use Rattle.std.proofs.Common.{◌≡◌, ◌≢◌, ℕ, zero, suc, ◌+◌, ◌-◌, ◌*◌, ◌<◌, ◌≤◌, ◌==◌, List, [], ◌∷◌, ◌++◌, length}
 use Rattle.std.proofs.Common.{Ok, refl, ap, sym, subst, ◌∙◌, arith, cond, if◌then◌else◌}
 use Rattle.std.specs.Bool.{⊤}

@@ -1,4 +1,5 @@
--- Bytes that denote a value without capabilities are refused only if memory runs out.
+-- Bytes that denote a value without capabilities are refused only if memory runs out. (For `denotation`, capn_answers,
+-- capn_archive and other crates.)
 use Rattle.std.proofs.Common.{◌≡◌, inl, inr, ℕ, ◌+◌, List, length, Some, None, refl, ap, sym, subst, ◌∙◌, arith}
 use Rattle.capn_words.proofs.shared.OneSegment.{bare_not_refused}
 use Rattle.capn_pack.proofs.shared.GroupLaws.{refused_only, one_reading}

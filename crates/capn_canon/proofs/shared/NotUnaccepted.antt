@@ -1,4 +1,4 @@
--- Bytes that denote a value are read and accepted, unless memory runs out.
+-- Bytes that denote a value are read and accepted, unless memory runs out. (For `Accounted`, capn_answers and capn_c.)
 use Rattle.std.proofs.Common.{◌≡◌, ℕ, List, refl, subst}
 use Rattle.capn_value.specs.Tree.{Tree}
 use Rattle.capn_walk.specs.Accepted.{IsAccepted}

@@ -1,4 +1,5 @@
--- Bytes in a form are read as one message at most, and it is a message.
+-- Bytes in a form are read as one message at most, and it is a message. (For `denotation`, capn_answers, capn_c and
+-- capn_commands.)
 use Rattle.std.proofs.Common.{◌≡◌, ℕ, ◌≤◌, List, [], ◌∷◌, length, ap, sym, subst, ◌∙◌, arith}
 use Rattle.capn_words.specs.Message.{most_message_words, IsMessage}
 use Rattle.capn_words.proofs.shared.OneSegment.{bare_only, bare_message}

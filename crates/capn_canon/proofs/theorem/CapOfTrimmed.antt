@@ -1,4 +1,4 @@
--- Trimming leaves the first capability as it is: only null slots are cut.
+-- Trimming leaves the first capability as it is: only null slots are cut. (For `ThePage` and `TheTheorem`.)
 use Rattle.std.proofs.Common.{◌≡◌, ℕ, zero, suc, ◌≤◌, None, refl, ap, ap₂, sym, ◌∙◌, arith}
 use Rattle.std.specs.Option.{option_or}
 use Rattle.capn_value.specs.Tree.{Tree, nil, node, voids, numbers, links, rows, cap, Trees}

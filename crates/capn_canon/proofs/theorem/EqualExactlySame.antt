@@ -1,4 +1,4 @@
--- Canonical bytes of two values are equal if and only if the values are the same.
+-- Canonical bytes of two values are equal if and only if the values are the same. (For `canonicity`.)
 use Rattle.std.proofs.Common.{◌≡◌, ◌↔◌, ℕ, ◌/◌, ◌^◌, ◌≤◌, List, [], ◌∷◌, length, ap, sym, subst, ◌∙◌, arith}
 use Rattle.capn_words.specs.Message.{bytes, words_in}
 use Rattle.capn_value.specs.Tree.{Tree}
@@ -18,7 +18,7 @@ use Rattle.capn_layout.specs.Sound.{Sound}
 use Rattle.capn_layout.proofs.shared.Sound.{sound}
 use Rattle.capn_layout.proofs.shared.Room.{room}
 use Rattle.capn_canon.proofs.reading.ReadBack.{read_back}
-use Rattle.capn_canon.proofs.theorem.BareCanon.{words_in_canon}
+use Rattle.capn_canon.proofs.shared.BareCanon.{words_in_canon}
 use Rattle.capn_canon.proofs.theorem.CanonOfTrimmed.{words-trimmed}
 
 -- canonical words are equal if and only if the trimmed values are: each is what is read at the root of the words

@@ -1,4 +1,5 @@
--- The canonical bytes of a value are its canonical form, and so those of a value that bytes denote within limits.
+-- The canonical bytes of a value are its canonical form, and so those of a value that bytes denote within limits. (For
+-- `canonical.rt`, `laws.rt`, `length.rt` and `written_bytes.rt`.)
 use Rattle.std.proofs.Common.{◌≡◌, ℕ, ◌*◌, ◌+◌, ◌^◌, ◌≤◌, List, length, sym, subst, arith}
 use Rattle.capn_words.specs.Message.{IsMessage}
 use Rattle.capn_value.specs.Tree.{Tree}
@@ -16,7 +17,7 @@ use Rattle.capn_canon.specs.Denotes.{Denotes}
 use Rattle.capn_canon.specs.Laws.{HasCanonicalForm}
 use Rattle.capn_canon.proofs.shared.OneReading.{is_message}
 use Rattle.capn_walk.proofs.shared.InRangeAt.{in_range-at}
-use Rattle.capn_canon.proofs.theorem.BareCanon.{canon_length}
+use Rattle.capn_canon.proofs.shared.BareCanon.{canon_length}
 use Rattle.capn_canon.proofs.theorem.EqualExactlySame.{canon-trimmed, equal_exactly_same, trimmed_is_same}
 use Rattle.capn_canon.proofs.reading.ReadBare.{pays_its_cost, read_bare}
 

@@ -1,4 +1,4 @@
--- The clauses of a call that writes into a buffer leave one result, and one buffer after it.
+-- The clauses of a call that writes into a buffer leave one result, and one buffer after it. (For `decision`.)
 use Rattle.std.proofs.Common.{◌≡◌, ℕ, List, ◌++◌, length, drop, Some, None, Result, Ok, Err, refl, ap, sym, ◌∙◌, arith}
 use Rattle.capn_value.specs.Tree.{Tree}
 use Rattle.capn_value.specs.FirstCap.{first_cap}

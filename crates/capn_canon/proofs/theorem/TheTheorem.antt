@@ -1,4 +1,4 @@
--- The theorem follows from what a call finds and refuses.
+-- The theorem follows from what a call finds and refuses. (For `canonicalise`, `readers` and `theorem`.)
 use Rattle.std.proofs.Common.{◌≡◌, ℕ, ◌^◌, ◌≤◌, List, None, Result, Ok, Err, IfOk, IfErr, MatchResult}
 use Rattle.std.proofs.Common.{refl, ap, sym, subst, ◌∙◌, arith, inl, inr}
 use Rattle.capn_value.specs.Tree.{Tree}

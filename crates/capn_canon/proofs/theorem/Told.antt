@@ -1,4 +1,5 @@
--- Canonical bytes are equal exactly where the getters tell the same, and tell what the message tells.
+-- Canonical bytes are equal if and only if the getters give the same answers, which are those of the message. (For
+-- `readers`.)
 use Rattle.std.proofs.Common.{◌≡◌, ◌↔◌, ℕ, List, [], ◌∷◌, ap, sym, ◌∙◌}
 use Rattle.capn_words.specs.Message.{IsBare}
 use Rattle.capn_words.proofs.shared.OneSegment.{bare_message}

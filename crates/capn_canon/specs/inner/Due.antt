@@ -1,5 +1,5 @@
--- What is at slots as a canonical layout has it, within the depth and the words that are left: what one pass over
--- words has to find.
+-- Slots as a canonical layout has them, within the depth and the words that are left: one pass over words has to find
+-- them so.
 use Rattle.std.specs.Prelude.{◌≡◌, ℕ, ◌+◌, ◌-◌, ◌≤◌, List, [], ◌∷◌, length, Option, Some, None}
 use Rattle.capn_value.specs.Tree.{Tree, Trees, Bodies, count, count_rows}
 use Rattle.capn_value.specs.FirstCap.{first_cap, first_in, first_in_rows}

@@ -1,5 +1,5 @@
--- What one pass over words finds whose objects are where their layout has them: which values these are, what their
--- walk pays, and how high they are.
+-- The finding of one pass over words whose objects are at the places of their layout: their values, the words that
+-- their walk pays, and their height.
 use Rattle.std.specs.Prelude.{◌≡◌, ℕ, suc, ◌+◌, ◌-◌, ◌*◌, ◌^◌, ◌<◌, ◌≤◌, min, Bool, IsTrue, List, [], ◌∷◌, length}
 use Rattle.std.specs.Prelude.{slice_index, None}
 use Rattle.capn_words.specs.declared.pointer.Width.{Width}
@@ -16,7 +16,7 @@ use Rattle.capn_layout.specs.Layout.{size, sizes, sizes_in_rows, list_to}
 use Rattle.capn_layout.specs.Sound.{Sound, Sounds, SoundRows}
 use Rattle.capn_canon.specs.inner.WordsOfLayout.{IsLaidAt, AreLaidAt, RowsLaidAt}
 
--- visits without a fault: what they pay, and how many they are (Own.)
+-- visits without a fault: the words that they pay, and their number (Own.)
 pub record Pays (vs : List Visit) (price number : ℕ) : Type 0 where
   pub all : AllPay vs
   pub sum : paid_of vs ≡ price
@@ -52,7 +52,7 @@ module _ (all : List ℕ) (base : ℕ) where
         (count_rows bs * b + below)
     pub few : below ≤ price
 
-  -- a pass has come this many words further, and has paid and counted what it met there (Own.)
+  -- a pass has come this many words further, and has paid and counted the objects that it met there (Own.)
   pub record Comes (next left visits size price below : ℕ) (q : Progress) : Type 0 where
     pub next_is : q.next ≡ next + size
     pub left_is : q.left + price ≡ left
@@ -60,7 +60,7 @@ module _ (all : List ℕ) (base : ℕ) where
     pub fits : q.next ≤ length all
     pub few : q.visits ≤ q.next
 
--- where a pass learns how deep it comes, objects so high lower the least depth that was left (Own.)
+-- if a pass learns how deep it comes, objects of this height lower the least depth that was left (Own.)
 abbrev pub IsLowered : Bool → ℕ → ℕ → ℕ → ℕ → Type 0
 IsLowered deep depth height least low = IsTrue deep → least ≤ depth → low ≡ min least (depth - height)
 
@@ -107,7 +107,7 @@ module _ (all : List ℕ) (base : ℕ) (deep : Bool) where
   FindsInRows r least = FindsRows r.tag.words r.tag.slots r.pass.from r.tag.count r.pass.next r.pass.depth r.pass.left
       r.pass.visits least
 
-  -- what is found at the slots of a later pass is found at those of this one (Own.)
+  -- a finding at the slots of a later pass is one at those of this pass (Own.)
   abbrev pub Leads : Pass → ℕ → Pass → ℕ → Type 0
   Leads p least r later = (q : Progress) (low : ℕ) → Finds r later q low → Finds p least q low
 
@@ -121,12 +121,12 @@ module _ (all : List ℕ) (base : ℕ) where
   FindsPlain p q = (deep : Bool) (least low : ℕ) → IsLeast deep (p.depth - 1) least low
       → FindsFirst all base deep p least q low
 
-  -- what is found at the slots of an object lets it be found at the first slot in hand, which points to it (Own.)
+  -- a finding at the slots of an object is one at the first slot in hand, which points to it (Own.)
   abbrev pub Opens : Pass → Pass → Type 0
   Opens p r = (deep : Bool) (least here : ℕ) (q : Progress) (low : ℕ) → IsLeast deep r.depth least here
       → Finds all base deep r here q low → FindsFirst all base deep p least q low
 
-  -- so does what is found at the slots of its rows (Own.)
+  -- a finding at the slots of the rows of a list is one at the first slot in hand, which points to it (Own.)
   abbrev pub OpensRows : Pass → RowPass → Type 0
   OpensRows p r = (deep : Bool) (least here : ℕ) (q : Progress) (low : ℕ) → IsLeast deep r.pass.depth least here
       → FindsInRows all base deep r here q low → FindsFirst all base deep p least q low

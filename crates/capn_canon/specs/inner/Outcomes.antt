@@ -1,4 +1,4 @@
--- What private calls answer and refuse, of a message and of bytes in a form.
+-- The outcomes of private calls, of a message and of bytes in a form.
 use Rattle.std.specs.Prelude.{◌≡◌, ◌≢◌, ℕ, ◌<◌, ◌≤◌, List, length, Option, Some, None, Result, IfOk, IfErr}
 use Rattle.std.specs.Prelude.{OnErr, IsErrOf, MatchResult}
 use Rattle.capn_value.specs.Tree.{Tree}
@@ -22,8 +22,8 @@ use Rattle.capn_canon.specs.MessageRefusal.{HasNoBytes, IsMessagePaidWithin, IsI
 use Rattle.capn_canon.specs.Theorem.{WrittenInto, RefusedInto}
 use Rattle.capn_canon.specs.MemoryNeed.{MayNeedMemory, MayNeedBytes, MayNeedBytesIn}
 
--- what a call reports of a message is its answer or why it has none, memory is needed only where it may be, and no walk
--- pays beyond its budget
+-- a call reports the answer for a message, or the reason why it has none; memory is refused only if it may be needed,
+-- and no walk pays beyond its budget
 pub record IsCanonicalised {T : Type 0} (message : List (List ℕ)) (limits : Bounds) (r : Result T Refusal)
     (bytes : T → List ℕ) (price : T → ℕ) : Type 0 where
   pub found : IfOk r (λ c. AnswersMessage message limits (bytes c) (price c))
@@ -33,8 +33,8 @@ pub record IsCanonicalised {T : Type 0} (message : List (List ℕ)) (limits : Bo
   pub wanted : IsErrOf r refusals.Memory → MayNeedBytes message limits
   pub bounded : MatchResult r (λ c. price c ≤ limits.budget) (λ e. IsPaidWithin limits.budget e)
 
--- what a call reports of bytes in a form is their answer or why they have none, memory is needed only where it may be,
--- and no walk pays beyond its budget
+-- a call reports the answer for bytes in a form, or the reason why they have none; memory is refused only if it may be
+-- needed, and no walk pays beyond its budget
 pub record AreCanonicalised {T : Type 0} (form : Form) (bs : List ℕ) (limits : Bounds) (r : Result T Refusal)
     (bytes : T → List ℕ) (price : T → ℕ) : Type 0 where
   pub found : IfOk r (λ c. Answers form bs limits (bytes c) (price c))
@@ -42,15 +42,15 @@ pub record AreCanonicalised {T : Type 0} (form : Form) (bs : List ℕ) (limits :
   pub wanted : IsErrOf r refusals.Memory → MayNeedBytesIn form bs limits
   pub bounded : MatchResult r (λ c. price c ≤ limits.budget) (λ e. IsPaidWithin limits.budget e)
 
--- what is answered is a survey of the bytes, a refusal means what it says, memory is needed only where it may be, and
--- no walk pays beyond its budget
+-- an answer is a survey of the bytes, a refusal is true of them, memory is refused only if it may be needed, and no
+-- walk pays beyond its budget
 pub record AreSurveyed (form : Form) (bs : List ℕ) (limits : Bounds) (r : Result Surveyed Refusal) : Type 0 where
   pub found : IfOk r (λ s. Surveys form bs limits s)
   pub refused : IfErr r (λ e. IsUnacceptedIn form bs limits e)
   pub wanted : IsErrOf r refusals.Memory → MayNeedMemory form bs limits
   pub bounded : MatchResult r (λ s. IsBounded limits.budget s.paid s.visits) (λ e. IsPaidWithin limits.budget e)
 
--- what a call reports of a message is a survey of it or why it isn't accepted, memory is not needed, and no walk pays
+-- a call reports a survey of a message, or the reason why it isn't accepted; memory is not needed, and no walk pays
 -- beyond its budget
 pub record IsSurveyed (message : List (List ℕ)) (limits : Bounds) (r : Result Surveyed Refusal) : Type 0 where
   pub found : IfOk r (λ s. IsSurvey message limits s)
@@ -63,16 +63,16 @@ abbrev pub IsBeyond : ℕ → ℕ → Option ℕ → Type 0
 IsBeyond n room (Some k) = (k ≡ n) × (room < n)
 IsBeyond n room None = n ≤ room
 
--- what a call reports of a message is the length of its canonical bytes or why it has none, and no walk pays beyond its
--- budget
+-- a call reports the length of the canonical bytes of a message, or the reason why it has none, and no walk pays beyond
+-- its budget
 pub record IsLengthTold (message : List (List ℕ)) (limits : Bounds) (r : Result CanonicalLength MessageRefusal)
     : Type 0 where
   pub found : IfOk r (λ c. (v : Tree) × IsCanonicalLength message limits v c)
   pub refused : IfErr r (λ e. HasNoBytes message limits e)
   pub bounded : MatchResult r (λ c. IsBounded limits.budget c.paid c.visits) (λ e. IsMessagePaidWithin limits.budget e)
 
--- what a call leaves in a buffer is the canonical bytes of a message, or as it was and it reports why, and no walk pays
--- beyond its budget
+-- a call leaves the canonical bytes of a message in a buffer, or leaves that as it was and reports the reason, and no
+-- walk pays beyond its budget
 pub record IsInto (message : List (List ℕ)) (limits : Bounds) (old new : List ℕ)
     (r : Result CanonicalLength IntoRefusal) : Type 0 where
   pub written : IfOk r (λ c. WrittenInto message limits old new c)

@@ -1,4 +1,4 @@
--- How much a pass may still read.
+-- The number of reads that a pass may still make.
 use Rattle.std.specs.Prelude.{ℕ, ◌+◌, ◌-◌, ◌*◌}
 use Rattle.capn_canon.specs.declared.progress.Pass.{Pass}
 

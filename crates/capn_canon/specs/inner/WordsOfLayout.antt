@@ -1,4 +1,4 @@
--- Words that are the layout of what they are read as.
+-- Words that are the layout of the value as which they are read.
 use Rattle.std.specs.Prelude.{◌≡◌, ℕ, List, length, take, drop, slice_index}
 use Rattle.capn_value.specs.Tree.{Tree, Trees, Bodies}
 use Rattle.capn_layout.specs.Layout.{point, points, lay, lays, row_contents, lays_in_rows}

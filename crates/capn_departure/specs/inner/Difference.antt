@@ -1,10 +1,10 @@
--- What a comparison of two lists of words answers.
+-- The answer of a comparison of two lists of words.
 use Rattle.std.specs.Prelude.{◌≡◌, ℕ, List}
 use Rattle.capn_departure.specs.declared.difference.Difference.{Difference}
 use Rattle.capn_departure.specs.declared.difference.Difference.TheVariants as differences
 use Rattle.capn_departure.specs.Difference.{Differ, GoesOn}
 
--- where two lists of words go apart
+-- the first difference of two lists of words
 abbrev pub IsDifference : List ℕ → List ℕ → Difference → Type 0
 IsDifference xs ys differences.None = xs ≡ ys
 IsDifference xs ys (differences.Word k x y) = Differ xs ys k x y

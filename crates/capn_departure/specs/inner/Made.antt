@@ -1,4 +1,4 @@
--- How many canonical bytes a message has.
+-- The number of canonical bytes of a message.
 use Rattle.std.specs.Prelude.{◌≡◌, ℕ, List, length}
 use Rattle.capn_value.specs.Tree.{Tree}
 use Rattle.capn_walk.specs.Limits.{Bounds}

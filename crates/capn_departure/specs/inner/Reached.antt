@@ -25,7 +25,7 @@ rows_of start (shapes.Rows n a b span) = record {
   slots = b;
 }
 
--- where a slot of a row is
+-- the place of a slot of a row
 abbrev pub place_in : SlotRows → ℕ → ℕ → Place
 place_in rows row slot = record {
   segment = rows.at.segment;
@@ -43,7 +43,7 @@ numbers (shapes.Rows n a b span) row slot = row ∷ slot ∷ []
 numbers shape row slot = slot ∷ []
 
 module _ (m : List (List ℕ)) (base : ℕ) (word : Place) where
-  -- a slot that is reached by some numbers, with which the way goes on from the old one, and what the word is there
+  -- a slot that is reached by some numbers, with which the way goes on from the old one, and the kind of the word there
   pub record ReachesIn (Onward : List ℕ → Place → ℕ → Type 0) (old new : List ℕ) (x : Found) : Type 0 where
     pub rest : List ℕ
     pub is : new ≡ old ++ rest

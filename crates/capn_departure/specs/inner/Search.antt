@@ -33,7 +33,7 @@ is_small width = false
 abbrev pub ends_at : ℕ → ℕ → ℕ → Place → Bool
 ends_at s start n place = (s == place.segment) && (nat_lt 0 n && (start + n == place.word + 1))
 
--- what a word is of what a slot names: its tag, or its last word
+-- the kind of a word in the target of a slot: its tag, or its last word
 abbrev pub found_in : Place → Target → Option Found
 found_in word (targets.Content s start (shapes.Rows n a b span) pads) =
     if is_at s start word then Some found.Tag else None
@@ -41,7 +41,7 @@ found_in word (targets.Content s start (shapes.Many width n) pads) =
     if is_small width && ends_at s start (content_words width n) word then Some found.LastWord else None
 found_in word named = None
 
--- the same, where a slot may name nothing
+-- that kind, if a slot has a target
 abbrev pub found_there : Place → Result Target Fault → Option Found
 found_there word (Ok named) = found_in word named
 found_there word (Err e) = None
@@ -51,18 +51,18 @@ abbrev pub capability_in : Target → Option Found
 capability_in (targets.Cap index) = Some (found.Capability index)
 capability_in named = None
 
--- the same, where a slot may name nothing
+-- the capability of a slot, if it has a target
 abbrev pub capability_there : Result Target Fault → Option Found
 capability_there (Ok named) = capability_in named
 capability_there (Err e) = None
 
--- what is found at a slot that names this
+-- the find at a slot with this target
 abbrev pub finds : Sought → Place → Result Target Fault → Option Found
 finds sought.Capability at named = capability_there named
 finds (sought.Word word) at named = if is_at at.segment at.word word then Some found.Pointer else found_there word named
 
 module _ (m : List (List ℕ)) (what : Sought) where
-  -- what is found at the slot of a visit
+  -- the find at the slot of a visit
   abbrev pub found_at : Place → Option Found
   found_at at = finds what at (target m at)
 

@@ -1,4 +1,4 @@
--- What a search among visits comes to: what is found first, and the way to its slot.
+-- The outcome of a search among visits: the first find, and the way to its slot.
 use Rattle.std.specs.Prelude.{◌≡◌, ℕ, ◌+◌, ◌*◌, ◌<◌, List, [], ◌∷◌, ◌++◌, length, Option, Some, None}
 use Rattle.capn_words.specs.declared.space.Place.{Place}
 use Rattle.capn_target.specs.declared.target.Shape.{Shape}
@@ -14,7 +14,7 @@ use Rattle.capn_departure.specs.inner.Search.{found_at, first_found}
 abbrev pub AreNumbers : ℕ → List ℕ → Type 0
 AreNumbers k numbers = numbers ≡ k ∷ []
 
--- the same of the slots of rows, of b slots each: the number of the row, and that of the slot in it
+-- the numbers of a slot of rows, of b slots each: the number of the row, and that of the slot in it
 pub record AreRowNumbers (b k : ℕ) (numbers : List ℕ) : Type 0 where
   pub row : ℕ
   pub slot : ℕ
@@ -22,7 +22,7 @@ pub record AreRowNumbers (b k : ℕ) (numbers : List ℕ) : Type 0 where
   pub small : slot < b
   pub count : k ≡ row * b + slot
 
--- the same of an object's slots
+-- the numbers of a slot of an object
 abbrev pub AreNumbersIn : Shape → ℕ → List ℕ → Type 0
 AreNumbersIn (shapes.Node a b) = AreNumbers
 AreNumbersIn (shapes.Many width n) = AreNumbers
@@ -44,7 +44,7 @@ module _ (m : List (List ℕ)) (base : ℕ) (what : Sought) where
     pub finds : found_at m what to ≡ Some x
     pub leads : Onward rest to (length before)
 
-  -- what a search among visits comes to: what is found first, or nothing, and the way as it was
+  -- the outcome of a search among visits: the first find, or none, and the way as it was
   abbrev pub SeeksIn : List Visit → (List ℕ → Place → ℕ → Type 0) → List ℕ → List ℕ → Option Found → Type 0
   SeeksIn vs leads old new (Some x) = Meets vs leads old new x
   SeeksIn vs leads old new None = (new ≡ old) × (first_found m what vs ≡ None)

@@ -1,4 +1,5 @@
--- Parts that are said one after another.
+-- Parts that are said one after another. (For `put`, `put_between`, `put_named`, `tell`, capn_archive, capn_make and
+-- capn_serve.)
 use Rattle.std.proofs.Common.{List, ℕ, ◌++◌, subst, append_assoc}
 use Rattle.capn_endings.specs.Line.{IsOnItsWay, Says, Way}
 

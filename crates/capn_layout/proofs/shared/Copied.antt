@@ -1,4 +1,5 @@
--- Bytes of a message that are copied as words.
+-- Bytes of a message that are copied as words. (For `message_slots.rt`, `number_list_words.rt`, `struct_list_words.rt`
+-- and capn_canon.)
 use Rattle.capn_walk.proofs.shared.Elements.{length-bytes_at}
 use Rattle.std.proofs.Common.{◌≡◌, ℕ, zero, suc, ◌+◌, ◌*◌, ◌/◌, ◌%◌, ◌^◌, ◌<◌, ◌≤◌, List, [], ◌∷◌, ◌++◌, length, take}
 use Rattle.std.proofs.Common.{drop, slice_index, ap, ap₂, subst, ◌∙◌, arith, ◌-◌, length-append, length-drop}

@@ -1,4 +1,5 @@
--- What a layout reads of a message is bounded by the cost of its value, under either tariff.
+-- The reads of a message by a layout are bounded by the cost of its value, under either tariff. (For `kept.rt`,
+-- `message_layout.rt`, `message_slots.rt` and others.)
 use Rattle.std.proofs.Common.{◌≡◌, ℕ, zero, suc, ◌+◌, ◌-◌, ◌*◌, ◌<◌, ◌≤◌, ◌==◌, List, length, max, cond, ap, arith}
 use Rattle.std.proofs.lemmas.Bool.Decides.{nat_tests}
 use Rattle.capn_words.specs.Message.{IsMessage, segment_at}

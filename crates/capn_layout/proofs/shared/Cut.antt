@@ -1,4 +1,5 @@
--- The length up to the last number that is not zero.
+-- The length up to the last number that is not zero. (For `kept_above`, `kept_below`, `kept_each_counted` and
+-- capn_canon.)
 use Rattle.std.proofs.Common.{◌≡◌, ◌≢◌, ◌⊎◌, inl, inr, ℕ, zero, suc, ◌+◌, ◌-◌, ◌<◌, ◌≤◌, ◌==◌, max, Bool, List, [], ◌∷◌}
 use Rattle.std.proofs.Common.{length, take, drop, slice_index, refl, ap, sym, ◌∙◌, arith}
 use Rattle.std.proofs.lemmas.Bool.Decides.{nat_tests}

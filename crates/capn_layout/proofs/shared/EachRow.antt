@@ -1,4 +1,4 @@
--- Rows of equal sizes, one after the other.
+-- Rows of equal sizes, one after the other. (For `kept.rt`, `message_slots.rt`, `struct_list_words.rt` and capn_canon.)
 use Rattle.std.proofs.Common.{◌≡◌, ℕ, zero, suc, ◌+◌, ◌-◌, ◌*◌, ◌<◌, ◌≤◌, max, List, ◌++◌, length, take, refl}
 use Rattle.std.proofs.Common.{ap, ap₂, sym, subst, ◌∙◌, arith, append_assoc, append-nil, length-drop}
 use Rattle.capn_words.specs.Message.{segment_at}

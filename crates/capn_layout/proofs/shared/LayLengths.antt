@@ -1,4 +1,5 @@
--- How many words a layout has.
+-- The number of words of a layout. (For the cycle `objects`, the cycle `sizes`, `append_numbers`, `count_words`,
+-- capn_canon and capn_departure.)
 use Rattle.std.proofs.Common.{◌≡◌, ℕ, zero, suc, ◌+◌, ◌*◌, ◌≤◌, List, ◌++◌, length, take, drop, refl, ap, ◌∙◌}
 use Rattle.std.proofs.Common.{arith, length-append}
 use Rattle.std.proofs.lemmas.List.{length-take-le}

@@ -1,4 +1,4 @@
--- A slot is null exactly where its word is zero.
+-- A slot is null exactly where its word is zero. (For `EachRow` and capn_canon.)
 use Rattle.std.proofs.Common.{◌≡◌, ◌≢◌, ◌⊎◌, inl, inr, ℕ, suc, ◌+◌, ◌%◌, ◌≤◌, ◌==◌, true, false}
 use Rattle.std.proofs.Common.{List, length, take, Ok, refl, ap, ap₂, sym, subst}
 use Rattle.std.proofs.Common.{◌∙◌, arith}

@@ -1,4 +1,4 @@
--- Elements that were packed into words, read again.
+-- Elements that were packed into words, read again. (For capn_canon.)
 use Rattle.std.proofs.Common.{◌≡◌, ℕ, zero, suc, ◌+◌, ◌*◌, ◌/◌, ◌%◌, ◌^◌, ◌<◌, List, [], ◌∷◌, ◌++◌, length, take, drop}
 use Rattle.std.proofs.Common.{slice_index, ap, sym, subst, ◌∙◌, arith}
 use Rattle.std.proofs.Math.Nat.{div-div-eq-div-mul, pow-succ', pow-zero, zero-div, zero-mod, div-add-mod, mod-lt}

@@ -1,4 +1,4 @@
--- A buffer of words and holes, as the list that its bytes and marks stand for.
+-- A buffer of words and holes, as the list that its bytes and marks stand for. (For `Patched`.)
 use Rattle.std.proofs.Common.{◌≡◌, ℕ, zero, suc, ◌+◌, ◌*◌, ◌^◌, ◌<◌, ◌≤◌, List, [], ◌∷◌, ◌++◌, length, take, drop, set}
 use Rattle.std.proofs.Common.{refl, ap, sym, ◌∙◌, arith, append_assoc, append-nil, length-append, length-drop, Bool}
 use Rattle.std.proofs.Common.{true, false, Option, Some, None}

@@ -1,4 +1,5 @@
--- The words that bytes begin with, as bytes are written over them.
+-- The words that bytes begin with, as bytes are written over them. (For `bits.rt`, `draft.rt`, `number_list_words.rt`
+-- and others.)
 use Rattle.std.proofs.Common.{◌≡◌, ℕ, zero, suc, ◌+◌, ◌-◌, ◌*◌, ◌^◌, ◌<◌, ◌≤◌, List, [], ◌∷◌, ◌++◌, length, take}
 use Rattle.std.proofs.Common.{drop, set, replicate}
 use Rattle.std.proofs.Common.{refl, ap, ap₂, sym, subst, ◌∙◌, arith, append_assoc, append-nil, length-append}

@@ -1,4 +1,4 @@
--- What a near pointer names that is known to name something.
+-- The target of a near pointer that is known to have one. (For `target_at`.)
 use Rattle.std.proofs.Common.{◌≡◌, ℕ, ◌+◌, ◌≤◌, nat_lt, ℤ, Bool, true, false, List, length, Result, Ok, Err}
 use Rattle.std.proofs.Common.{refl, ap, sym, ◌∙◌, arith, if◌then◌else◌}
 use Rattle.std.specs.Bool.{⊤}

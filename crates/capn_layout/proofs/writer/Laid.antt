@@ -1,4 +1,5 @@
--- How a buffer of words grows to a layout, slot by slot and row by row.
+-- The growth of a buffer of words to a layout, slot by slot and row by row. (For `Blocks`, `Sized`, `Stepwise` and
+-- `Weighed`.)
 use Rattle.std.proofs.Common.{◌≡◌, ℕ, zero, suc, ◌+◌, ◌*◌, ◌<◌, ◌≤◌, List, [], ◌∷◌, ◌++◌, length, take, set, refl, ap}
 use Rattle.std.proofs.Common.{Bool, true, false, sym, ◌∙◌, arith, append_assoc, append-nil, length-append}
 use Rattle.std.proofs.lemmas.List.{length-take-le, length-set}

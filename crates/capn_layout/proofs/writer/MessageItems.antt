@@ -1,4 +1,4 @@
--- What is inside content of a message, as what is laid out.
+-- The values inside content of a message, as items of a layout. (For `item_at` and `slots`.)
 use Rattle.std.proofs.Common.{◌≡◌, ℕ, zero, suc, ◌+◌, ◌*◌, ◌^◌, ◌<◌, ◌≤◌, List, [], take, refl, ap, sym, subst}
 use Rattle.std.proofs.Common.{◌∙◌, arith, length-drop}
 use Rattle.capn_words.specs.Message.{IsMessage, segment_at}

@@ -1,4 +1,4 @@
--- The own words of an object are appended.
+-- The own words of an object are appended. (For the cycle `sizes`, `open_links`, `open_rows` and `open_struct`.)
 use Rattle.std.proofs.Common.{◌≡◌, ℕ, ◌+◌, ◌*◌, ◌^◌, ◌<◌, ◌≤◌, List, [], ◌∷◌, ◌++◌, length, set, ap, ap₂, sym}
 use Rattle.std.proofs.Common.{subst, ◌∙◌, arith, append-nil, length-append}
 use Rattle.std.specs.Prelude.{pos}

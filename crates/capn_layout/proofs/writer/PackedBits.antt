@@ -1,4 +1,4 @@
--- Packed lists of bits.
+-- Packed lists of bits. (For `extend_bits` and `word_of_bits`.)
 use Rattle.std.proofs.Common.{◌≡◌, ℕ, suc, ◌+◌, ◌-◌, ◌*◌, ◌^◌, ◌<◌, ◌≤◌, min, List, ◌∷◌, length, take, drop}
 use Rattle.std.proofs.Common.{map, get_or, ap, sym, ◌∙◌, arith, length-drop, Bool, true, false}
 use Rattle.std.proofs.Math.Nat.{pow-succ', pow-le-pow_right}

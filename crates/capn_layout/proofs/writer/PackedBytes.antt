@@ -1,4 +1,4 @@
--- Packed lists by their bytes.
+-- Packed lists by their bytes. (For `append_bytes`, `extend_octs`, `extend_pairs` and `extend_quads`.)
 use Rattle.std.proofs.Common.{◌≡◌, ℕ, zero, suc, ◌+◌, ◌-◌, ◌*◌, ◌^◌, ◌<◌, List, [], ◌∷◌, ◌++◌, length, take, drop}
 use Rattle.std.proofs.Common.{replicate, slice_index, refl, ap, ap₂, sym, ◌∙◌, arith, append-nil, length-append, false}
 use Rattle.std.proofs.Common.{Option, Some}

@@ -1,4 +1,4 @@
--- What a buffer's marks and bytes stand for, as they change.
+-- The words and holes for which a buffer's marks and bytes stand, as they change. (For `patch.rt`.)
 use Rattle.std.proofs.Common.{◌≡◌, ◌≢◌, ℕ, zero, suc, ◌+◌, ◌*◌, ◌/◌, ◌^◌, ◌<◌, ◌≤◌, List, [], ◌∷◌, ◌++◌, length, take}
 use Rattle.std.proofs.Common.{drop, set, replicate, refl, ap, ap₂, sym, subst, ◌∙◌, ◌-◌, arith, append_assoc}
 use Rattle.std.proofs.Common.{length-append, Bool, true, false, Option, Some, None}

@@ -1,4 +1,4 @@
--- How many words are below slots and rows.
+-- The number of words below slots and rows. (For the cycle `sizes`.)
 use Rattle.std.proofs.Common.{◌≡◌, ℕ, zero, suc, ◌+◌, ◌-◌, ◌*◌, ◌^◌, ◌<◌, ◌≤◌, List, length, refl, ap, ◌∙◌, arith}
 use Rattle.capn_value.specs.Tree.{Tree, Trees, no_trees, tree, tree_at, count, Bodies, no_bodies, body, count_rows}
 use Rattle.capn_value.specs.Tree.{is_null}

@@ -1,4 +1,4 @@
--- One slot after the other is laid out, and one row after the other.
+-- One slot after the other is laid out, and one row after the other. (For the cycle `objects` and `lay_root`.)
 use Rattle.std.proofs.Common.{◌≡◌, ℕ, zero, suc, ◌+◌, ◌-◌, ◌*◌, ◌<◌, ◌≤◌, List, [], ◌∷◌, ◌++◌, length, set, refl}
 use Rattle.std.proofs.Common.{ap, sym, subst, ◌∙◌, arith, append-nil}
 use Rattle.std.proofs.lemmas.List.{length-set}

@@ -1,4 +1,4 @@
--- What a value is, as what is laid out.
+-- Values as items of a layout. (For `tree_layout.rt` and `tree_slots.rt`.)
 use Rattle.std.proofs.Common.{◌≡◌, ℕ, zero, suc, ◌+◌, ◌*◌, ◌<◌, ◌≤◌, drop, append_assoc, List, [], ◌∷◌, ◌++◌, length}
 use Rattle.std.proofs.Common.{take, map}
 use Rattle.std.proofs.Common.{replicate, refl, ap, sym, subst, ◌∙◌, arith, append-nil, get_or, Bool}

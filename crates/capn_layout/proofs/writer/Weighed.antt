@@ -1,4 +1,4 @@
--- How often slots and rows are read.
+-- The number of reads of slots and rows. (For the cycle `objects` and the cycle `sizes`.)
 use Rattle.std.proofs.Common.{◌≡◌, ℕ, suc, ◌+◌, ◌*◌, ◌<◌, ◌≤◌, ap, arith}
 use Rattle.capn_value.specs.Tree.{Tree, Trees, tree_at, count, Bodies, no_bodies, body, count_rows, row_words}
 use Rattle.capn_layout.specs.LayoutSteps.{past, rows_past, slots_at}

@@ -6,7 +6,7 @@ use Rattle.capn_words.specs.Message.{words_in}
 abbrev pub Writes : ℕ → List ℕ → List ℕ → List ℕ → Type 0
 Writes at xs p q = q ≡ take at p ++ (xs ++ drop (at + length xs) p)
 
--- what comes after the first n words is as it was (Own.)
+-- the words after the first n are as they were (Own.)
 pub record IsKept (n : ℕ) (p q : List ℕ) : Type 0 where
   pub same : length q ≡ length p
   pub rest : drop (8 * n) q ≡ drop (8 * n) p

@@ -1,7 +1,7 @@
 -- Bytes, filled up with zeros to whole words.
 use Rattle.std.specs.Prelude.{ℕ, ◌-◌, ◌%◌, List, ◌++◌, length, replicate}
 
--- how many bytes are missing to a whole word (Own.)
+-- the number of bytes that are missing to a whole word (Own.)
 abbrev pub pad : ℕ → ℕ
 pad n = (8 - n % 8) % 8
 

@@ -1,4 +1,4 @@
--- What a source of values says of what it holds.
+-- The values that a source holds.
 use Rattle.std.specs.Prelude.{◌≡◌, ℕ, ◌^◌, ◌<◌, List, [], ◌++◌}
 use Rattle.capn_words.specs.declared.pointer.Width.{Width}
 use Rattle.capn_value.specs.Tree.{Tree, nil, node, links, rows, cap, Trees, count, Bodies, no_bodies, body, count_rows}
@@ -26,7 +26,7 @@ abbrev pub AreStructs : ℕ → Tree → Bodies → Type 0
 AreStructs n v bs = (v ≡ rows bs) × (count_rows bs ≡ n)
 
 module _ {N R : Type 0} (packs : N → List ℕ → Type 0) (are : R → Bodies → Type 0) where
-  -- what a slot holds is a value (Own.)
+  -- the content of a slot is a value (Own.)
   abbrev pub IsItem : Item N R → Tree → Type 0
   IsItem items.Nil v = v ≡ nil
   IsItem (items.Cap k) v = v ≡ cap k

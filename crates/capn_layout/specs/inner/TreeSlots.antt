@@ -1,4 +1,4 @@
--- What slots, numbers and rows of values hold.
+-- The values of slots, numbers and rows of values.
 use Rattle.std.specs.Prelude.{◌≡◌, ℕ, ◌*◌, ◌^◌, ◌<◌, List, [], ◌∷◌, length, map}
 use Rattle.std.specs.Int.{from_bool}
 use Rattle.capn_value.specs.Tree.{Tree, tree_at, Bodies, no_bodies, body}
@@ -42,7 +42,7 @@ module _ {B : Type 0} where
   bodies_of (kinds.Body row) = body row.now.words (trees_of row.now.slots) no_bodies
   bodies_of (kinds.Slots slots) = body [] (trees_of slots.now) no_bodies
 
-  -- rows are these, and what is kept of them is short (Own.)
+  -- rows are these, and their kept parts are short (Own.)
   pub record AreBodies (rows : TreeRows B) (bs : Bodies) : Type 0 where
     pub are : bs ≡ bodies_of rows
     pub sound : SoundRows bs

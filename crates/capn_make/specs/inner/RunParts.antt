@@ -1,4 +1,4 @@
--- What the parts of a run do.
+-- The parts of a run.
 use Rattle.std.specs.Prelude.{◌≡◌, ◌≢◌, ◌⊎◌, ◌≤◌, ◌<◌, ⊤, ℕ, ◌+◌, ◌^◌, ◌==◌, List, [], ◌∷◌, ◌++◌, length, take}
 use Rattle.std.specs.Prelude.{Bool, true, false, not, cond}
 use Rattle.std.specs.Prelude.{Option, Some, None, Result, Ok, Err, Vec}
@@ -74,24 +74,24 @@ abbrev pub IsOpenAt : Form → Place → Type 0
 IsOpenAt form place = ((form ≡ forms.Bare → place.line ≡ 1) × MayGoOn place.rest)
     ⊎ ((form ≡ forms.Bare) × (place.line ≡ 1 → ⊥) × (length place.rest ≤ few))
 
--- whether a wrong line at a place may become another by what follows: then no text stands there with its end
+-- `cut` says if a wrong line at a place may become another by what follows: then no text stands there with its end
 abbrev pub TellsCut : Form → Place → Bool → MakeFault → Type 0
 TellsCut form place cut fault = (n : ℕ) → fault ≡ faults.NotText n
     → (cut ≡ true → IsOpenAt form place × IsUnended place.rest) × (cut ≡ false → IsLostAt form place n)
 
--- whether one of the next text may
+-- `cut` says if a wrong line of the next text may
 abbrev pub TellsNext : Place → Bool → MakeFault → Type 0
 TellsNext place cut fault = (n : ℕ) → fault ≡ faults.NotText n
     → (cut ≡ true → MayGoOn place.rest × IsUnended place.rest)
     × (cut ≡ false → (more : List ℕ) → IsWrong place.line (place.rest ++ more) n)
 
--- what follows the one text may
+-- `cut` says if a wrong line after the one text may
 abbrev pub TellsEnd : Place → Bool → MakeFault → Type 0
 TellsEnd place cut fault = (n : ℕ) → fault ≡ faults.NotText n
     → (cut ≡ true → (length place.rest ≤ few) × IsUnended place.rest)
     × (cut ≡ false → (more : List ℕ) → Follows place.line (place.rest ++ more) (faults.NotText n))
 
--- what a fault is about is complete in what is left, from a line on
+-- the subject of a fault is complete in the rest, from a line on
 abbrev pub IsWholeFrom : ℕ → List ℕ → MakeFault → Type 0
 IsWholeFrom line rest faults.Memory = ⊤
 IsWholeFrom line rest faults.Io = ⊤
@@ -102,7 +102,7 @@ IsWholeFrom line rest (faults.Capability n index) = ⊤
 IsWholeFrom line rest (faults.Another n) = ⊤
 IsWholeFrom line rest faults.NoText = ⊥
 
--- whether a fault is that of a wrong line that isn't cut
+-- true if a fault is that of a wrong line that isn't cut
 abbrev pub is_lost : MakeFault → Bool → Bool
 is_lost faults.Memory cut = false
 is_lost faults.Io cut = false
@@ -137,13 +137,13 @@ pub record HasTested (form : Form) (tested : ℕ) (input rest : List ℕ) : Type
 abbrev pub HoldsNoEnd : List ℕ → Type 0
 HoldsNoEnd bytes = (front : List ℕ) (rest : List ℕ) → bytes ≢ front ++ (end_line ++ rest)
 
--- whether bytes begin with others
+-- true if bytes begin with others
 abbrev pub begins_with : List ℕ → List ℕ → Bool
 begins_with [] bytes = true
 begins_with (c ∷ cs) [] = false
 begins_with (c ∷ cs) (d ∷ ds) = cond (c == d) (begins_with cs ds) false
 
--- whether a line that ends a text stands in these bytes
+-- true if a line that ends a text stands in these bytes
 abbrev pub holds_end : List ℕ → Bool
 holds_end [] = false
 holds_end (c ∷ cs) = cond (begins_with end_line (c ∷ cs)) true (holds_end cs)
@@ -158,7 +158,7 @@ IsKept forms.Stream written made = made ≡ []
 IsKept forms.Packed written made = made ≡ []
 IsKept forms.Bare written made = written ≡ []
 
--- what was made is written, and in form bare it is kept; or the writer fails at it
+-- the messages that were made are written, and in form bare they are kept; or the writer fails at them
 abbrev pub WritesMade : Form → Option (List ℕ) → Option (List ℕ) → Bool → List ℕ → List ℕ
     → Result (Unit {0}) MakeFault → Type 0
 WritesMade form c d failed old new (Ok u) = (failed ≡ false)
@@ -166,7 +166,7 @@ WritesMade form c d failed old new (Ok u) = (failed ≡ false)
 WritesMade form c d failed old new (Err fault) = (failed ≡ true) × (fault ≡ faults.Io) × (form ≡ forms.Bare → ⊥)
     × HasBegun c d old
 
--- What a run has read, in time, and written. All but the last piece of it was served before that was read.
+-- A run has read these bytes, in time, and written. All but the last piece of them was served before that was read.
 pub record IsRun (form : Form) (a b c d : Option (List ℕ)) (bytes : List ℕ) : Type 0 where
   pub read : Consumes a b bytes
   pub time : AreInTime form bytes
@@ -189,21 +189,21 @@ HasStopped form c d read wrote bytes fault =
     ⊎ (((fault ≡ faults.Memory) × (read ≡ false) × (wrote ≡ false) × (bytes ≢ []))
     ⊎ ((fault ≡ faults.InputTooLong) × (read ≡ false) × (wrote ≡ false) × (2 ^ 64 ≤ length bytes))))
 
--- whether the fault of a text is that of an unfinished one
+-- true if the fault of a text is that of an unfinished one
 abbrev pub is_cut : TextFault → Bool
 is_cut texts.Memory = false
 is_cut (texts.Line n) = false
 is_cut (texts.Cut n) = true
 is_cut (texts.Misfit m) = false
 
--- why the next text, from a line on, is not read
+-- the reason why the next text, from a line on, is not read
 abbrev pub unread : ℕ → TextFault → MakeFault
 unread line texts.Memory = faults.Memory
 unread line (texts.Line n) = faults.NotText n
 unread line (texts.Cut n) = faults.NotText n
 unread line (texts.Misfit m) = faults.Misfit line m
 
--- what is written of a value whose text begins at a line, or why there is nothing
+-- the bytes that are written of a value whose text begins at a line, or the reason why there are none
 abbrev pub MakesValue : {A : Type 0} → Form → ℕ → Tree → Result (Vec ℕ A) MakeFault → Type 0
 MakesValue form line v (Ok piece) = IsWrittenValue form v piece.items × (first_cap v ≡ None)
 MakesValue form line v (Err fault) = (fault ≡ faults.Memory)

@@ -1,4 +1,4 @@
--- What the parts of a run over texts with quotes do.
+-- The parts of a run over texts with quotes.
 use Rattle.std.specs.Prelude.{◌≡◌, ◌≢◌, ◌⊎◌, ◌≤◌, ◌+◌, ◌^◌, ℕ, List, [], ◌++◌, length, Bool, true, false}
 use Rattle.std.specs.Prelude.{Option, Result, Ok, Err}
 use Rattle.std.specs.Io.KnownBytes.{Appends, Consumes, IsAtEnd}
@@ -29,7 +29,7 @@ abbrev pub ReadsTexts : Option (List ℕ) → Option (List ℕ) → Bool → Unq
 ReadsTexts a b failed u v old new r = (bytes : List ℕ) × Consumes a b bytes × (length bytes ≤ 65536)
     × GivesLines b failed u v old new bytes r
 
--- What a run has read, in time, and written. All but the last piece of it was served before that was read.
+-- A run has read these bytes, in time, and written. All but the last piece of them was served before that was read.
 pub record IsTextsRun (form : Form) (a b c d : Option (List ℕ)) (bytes : List ℕ) : Type 0 where
   pub read : Consumes a b bytes
   pub time : IsInTime form bytes

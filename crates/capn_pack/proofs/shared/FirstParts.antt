@@ -1,4 +1,4 @@
--- The first parts of texts.
+-- The first parts of texts. (For `ChosenLaws`, `GroupLaws`, capn_commands and capn_serve.)
 use Rattle.std.proofs.Common.{◌≡◌, ℕ, List, [], ◌∷◌, ◌++◌, length, refl, arith}
 
 -- two equal texts with first parts of one length have equal parts

@@ -1,4 +1,5 @@
--- What is at the front of some bytes decides the group, where there is one.
+-- The front of some bytes decides the group, if there is one. (For `reading`, `unpack`, capn_canon, capn_commands and
+-- other crates.)
 use Rattle.std.proofs.Common.{◌≡◌, ℕ, zero, suc, ◌*◌, ◌/◌, ◌^◌, ◌<◌, ◌≤◌, inl, inr, false, eqb, List, [], ◌∷◌, ◌++◌}
 use Rattle.std.proofs.Common.{length, refl, sym, ap, ◌∙◌, subst, arith, append_assoc, length-append, pow-suc}
 use Rattle.std.proofs.lemmas.Bool.{ne_eqb}

@@ -1,4 +1,4 @@
--- A group at the front of some bytes.
+-- A group at the front of some bytes. (For `unpack_block.rt`, `unpack_group.rt`, capn_c, capn_canon and other crates.)
 use Rattle.std.proofs.Common.{◌≡◌, ℕ, suc, ◌+◌, ◌-◌, ◌*◌, ◌<◌, ◌≤◌, List, [], ◌∷◌, ◌++◌, length, take, drop, get_or}
 use Rattle.std.proofs.Common.{slice_range, refl, sym, ap, ◌∙◌, arith, take-add, length-take, length-drop, drop-drop}
 use Rattle.std.proofs.Common.{drop-cons, take_all, replicate, length-append, get_or-drop, ◌^◌}

@@ -1,4 +1,4 @@
--- A packed text is refused for one reason.
+-- A packed text is refused for one reason. (For `reading`, capn_canon and capn_commands.)
 use Rattle.std.proofs.Common.{◌≡◌, ℕ, ◌+◌, ◌≤◌, List, [], ◌∷◌, ◌++◌, length, refl, ap, sym, subst, ◌∙◌}
 use Rattle.std.proofs.Common.{append_assoc, arith}
 use Rattle.std.specs.List.{AllByRecursion}

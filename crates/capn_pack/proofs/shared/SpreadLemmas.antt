@@ -1,4 +1,4 @@
--- The word of a tag and the bytes that it names, byte by byte.
+-- The word of a tag and the bytes that it names, byte by byte. (For `GroupLaws`, `LaneLemmas`, `RunLemmas` and others.)
 use Rattle.std.proofs.Common.{◌≡◌, ℕ, zero, suc, ◌+◌, ◌*◌, ◌/◌, ◌%◌, ◌^◌, ◌<◌, ◌⊎◌, inl, inr, List, ◌∷◌, refl, sym, ap}
 use Rattle.std.proofs.Common.{◌∙◌, arith}
 use Rattle.std.proofs.lemmas.Bool.Decides.{nat_tests}

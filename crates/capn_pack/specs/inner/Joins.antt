@@ -1,4 +1,4 @@
--- An unfinished group and the piece that came, and what is held then.
+-- An unfinished group and the piece that came, and the bytes that are held then.
 use Rattle.std.specs.Prelude.{ℕ, ◌≡◌, ◌<◌, ◌≤◌, ◌++◌, List, length, take, Result, Ok, Err}
 use Rattle.capn_pack.specs.Packed.{Group, IsGroup, text, content}
 use Rattle.capn_pack.specs.PackedPieces.{Begins, NoGroupFirst, Splits}
@@ -14,8 +14,8 @@ Joins rest piece held old new (Open len) = (len < GROUP) × (take len held ≡ r
 Joins rest piece held old new (Whole at) = (at ≤ length piece) × (group : Group) × IsGroup group
     × (rest ++ take at piece ≡ text group) × (new ≡ old ++ content group)
 
--- What a feed answers, of the bytes that were held and the piece: they split, and their rest is held; or a whole group
--- comes first, memory was refused, and a beginning of their words was appended.
+-- The answer of a feed, for the bytes that were held and the piece: they split, and their rest is held; or a whole
+-- group comes first, memory was refused, and a beginning of their words was appended.
 abbrev pub FeedGives : {E : Type 0} → List ℕ → List ℕ → Result Fed E → List ℕ → List ℕ → Type 0
 FeedGives stream old (Ok fed) held new = (fed.len < GROUP) × Splits stream (take fed.len held) old new fed.taken
 FeedGives stream old (Err e) held new = Begins stream old new × (NoGroupFirst stream → ⊥)

@@ -1,7 +1,7 @@
--- The rules of the shuffle tables: where each lane of a vector comes from, 128 where it is zero.
+-- The rules of the shuffle tables: the lane from which each lane of a vector comes, 128 if it is zero.
 use Rattle.std.specs.Prelude.{ℕ, ◌+◌, ◌/◌, ◌%◌, ◌==◌, if◌then◌else◌, List, [], ◌∷◌, ◌++◌, replicate, suc, zero}
 
--- Of n bytes of a word: the next byte where the tag names it.
+-- Of n bytes of a word: the next byte if the tag names it.
 abbrev pub spread_places : ℕ → ℕ → ℕ → List ℕ
 spread_places zero tag next = []
 spread_places (suc n) tag next =

@@ -1,4 +1,4 @@
--- What one step of the code does.
+-- Single steps of the code.
 use Rattle.std.specs.Prelude.{ℕ, ◌≡◌, ◌+◌, ◌*◌, ◌<◌, ◌≤◌, ◌++◌, List, length, take, drop, Result, Ok, Err}
 use Rattle.std.specs.List.{AllByRecursion}
 use Rattle.capn_pack.specs.Packed.{Group, IsGroup, text, content, words, texts, contents, word_count}
@@ -19,8 +19,8 @@ pub record Takes (rest : List ℕ) (room taken count : ℕ) (old new : List ℕ)
   pub fits : count ≤ room
   pub content : new ≡ old ++ content group
 
--- What reading the next group answers: what it takes; or nothing was appended, and memory was refused for a whole group
--- within the room, or the group is cut and shorter than the longest, or it has more words than there is room for.
+-- The answer of reading the next group: what it takes; or nothing was appended, and memory was refused for a whole
+-- group within the room, or the group is cut and shorter than the longest, or it has more words than there is room for.
 abbrev pub TakeGives : List ℕ → ℕ → List ℕ → Result Taken Stop → List ℕ → Type 0
 TakeGives rest room old (Ok taken) new = Takes rest room taken.bytes taken.words old new
 TakeGives rest room old (Err Memory) new = StartsWithin rest room × (new ≡ old)

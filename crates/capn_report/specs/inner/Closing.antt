@@ -1,4 +1,4 @@
--- What is written after the loop over the messages.
+-- The text after the loop over the messages.
 use Rattle.std.specs.Prelude.{◌≡◌, ◌≢◌, ◌⊎◌, ℕ, List, [], Bool, true, false, Option, Some, None}
 use Rattle.std.specs.Prelude.{Result, Ok, Err, ⊤, String, string_bytes}
 use Rattle.std.specs.Io.KnownBytes.{Appends}
@@ -8,7 +8,7 @@ use Rattle.capn_serve.specs.declared.fault.RunFault.{RunFault}
 use Rattle.capn_serve.specs.declared.fault.RunFault.TheVariants as faults
 use Rattle.capn_serve.specs.declared.position.Position.{Position}
 
--- a writer has not failed, where a fault is told
+-- a writer has not failed, if a fault is reported
 abbrev pub IsFineIfTold : RunFault → Bool → Type 0
 IsFineIfTold (faults.Refused at r) failed = failed ≡ false
 IsFineIfTold _ failed = ⊤

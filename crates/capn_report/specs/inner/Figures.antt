@@ -1,4 +1,4 @@
--- What a survey finds of an accepted message.
+-- The finding of a survey of an accepted message.
 use Rattle.std.specs.Prelude.{ℕ, List}
 use Rattle.capn_walk.specs.Limits.{Bounds}
 use Rattle.capn_walk.specs.Depth.{IsDepth}

@@ -1,4 +1,4 @@
--- How a text that breaks off is answered.
+-- The answer for a text that breaks off. (For `show_message`, `show_part` and capn_marks.)
 use Rattle.std.proofs.Common.{◌≡◌, ℕ, List, subst, sym}
 use Rattle.capn_value.specs.Tree.{Tree}
 use Rattle.capn_walk.specs.Limits.{Bounds}

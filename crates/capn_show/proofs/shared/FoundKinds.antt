@@ -1,4 +1,5 @@
--- What is shown by a pointer that names a thing of a kind.
+-- The value of a pointer to a thing of a kind. (For `FoundTexts`, `JsonValues`, `ListTexts`, `PartSteps` and
+-- capn_marks.)
 use Rattle.std.proofs.Common.{◌≡◌, ℕ, suc, ◌+◌, ◌<◌, ◌^◌, List, [], ◌∷◌, Bool, length, map, refl, sym, ap, ◌∙◌}
 use Rattle.std.proofs.Common.{Some, None, Option, subst, slice_index, arith}
 use Rattle.std.proofs.lemmas.List.{length-map}

@@ -1,4 +1,5 @@
--- The text of what a pointer names, and what is known of what is below it.
+-- The text of what a pointer names, and what is known of what is below it. (For the cycle `json`, the cycle `slots` and
+-- capn_marks.)
 use Rattle.std.proofs.Common.{◌≡◌, ℕ, ◌+◌, ◌-◌, ◌≤◌, List, ◌++◌, codes, refl, subst, sym, ap, ap₂, ◌∙◌, arith}
 use Rattle.capn_words.specs.declared.pointer.Width.{Width}
 use Rattle.capn_words.specs.declared.pointer.Width.TheVariants.{W0, W1, W8, W16, W32, W64, Link, Rows}

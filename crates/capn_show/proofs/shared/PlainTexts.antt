@@ -1,4 +1,4 @@
--- The text of a tree whose lists of bytes are all in digits.
+-- The text of a tree whose lists of bytes are all in digits. (For `show_message`, `show_there` and capn_marks.)
 use Rattle.std.proofs.Common.{◌≡◌, ℕ, ◌+◌, List, ◌++◌, length, codes, refl, ap, ap₂}
 use Rattle.capn_value.specs.NumberWidth.{byte}
 use Rattle.capn_value.specs.Tree.{Tree, nil, node, voids, numbers, links, rows, cap, Trees}

@@ -1,4 +1,4 @@
--- An element of a list is in one of its content words.
+-- An element of a list is in one of its content words. (For `json_numbers`, `show_numbers` and capn_marks.)
 use Rattle.std.proofs.Common.{ℕ, ◌+◌, ◌*◌, ◌/◌, ◌<◌, ◌≤◌, arith}
 use Rattle.capn_words.specs.declared.pointer.Width.{Width}
 use Rattle.capn_words.specs.declared.pointer.Width.TheVariants.{W0, W1, W8, W16, W32, W64, Link, Rows}

@@ -1,4 +1,4 @@
--- How a text grows by the JSON of what is at places of a message.
+-- The growth of a text by the JSON of the values at places of a message.
 use Rattle.std.specs.Prelude.{◌≡◌, ℕ, zero, suc, List, [], ◌∷◌, ◌++◌, codes, length, map, Bool, true}
 use Rattle.std.specs.Prelude.{false}
 use Rattle.std.specs.Fmt.{decimal}
@@ -13,12 +13,12 @@ use Rattle.capn_show.specs.Json.{with_commas, word_text, number_text, digits_jso
 use Rattle.capn_show.specs.JsonTexts.{text_or_digits}
 use Rattle.capn_show.specs.ReadyPlaces.{struct_at, AreDataWords, AreSlots, AreRowsAt}
 
--- what comes before an item
+-- the comma before an item, if it has one
 abbrev pub comma : ℕ → List ℕ
 comma zero = []
 comma (suc i) = 44 ∷ []
 
--- whether the numbers of a list are written between quotes
+-- true if the numbers of a list are written between quotes
 abbrev pub is_quoted : Width → Bool
 is_quoted W64 = true
 is_quoted _ = false
@@ -28,11 +28,11 @@ abbrev pub number_item : Bool → ℕ → List ℕ
 number_item true = number_text
 number_item false = decimal
 
--- an array and the end of its object, by what comes before its first item
+-- an array and the end of its object, by the text before its first item
 abbrev pub items_text : List ℕ → List (List ℕ) → List ℕ
 items_text head xs = head ++ (with_commas xs ++ codes "]}")
 
--- that of numbers
+-- the array of numbers
 abbrev pub values_text : List ℕ → Width → List ℕ → List ℕ
 values_text head width xs = items_text head (map (number_item (is_quoted width)) xs)
 
@@ -40,13 +40,13 @@ values_text head width xs = items_text head (map (number_item (is_quoted width))
 abbrev pub words_front : List ℕ → List ℕ
 words_front ws = codes "{\"words\":[" ++ with_commas (map word_text ws)
 
--- how a list of bytes is written, by whether a text is put between quotes
+-- the JSON of a list of bytes, by whether a text is put between quotes
 abbrev pub bytes_json_of : Bool → List ℕ → List ℕ
 bytes_json_of false = digits_json
 bytes_json_of true = text_or_digits
 
 module _ (m : List (List ℕ)) where
-  -- what is said of the JSON of the value at a place, by how lists of bytes are written
+  -- a statement on the JSON of the value at a place, by the writing of lists of bytes
   abbrev pub IsInJson : (List ℕ → List ℕ) → Place → (List ℕ → Type 0) → Type 0
   IsInJson by at Says = (v : Tree) → IsAt m at v → Says (json_by by v)
 

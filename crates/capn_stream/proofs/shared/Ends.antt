@@ -1,4 +1,4 @@
--- Where segments of given sizes end.
+-- The ends of segments of given sizes. (For `ends_of` and capn_few.)
 use Rattle.std.proofs.Common.{◌≡◌, ℕ, ◌+◌, ◌-◌, ◌≤◌, List, [], ◌∷◌, ◌++◌, length, take, drop, sum, map, refl, ap, sym}
 use Rattle.std.proofs.Common.{◌∙◌, arith, append_assoc, length-append, length-drop, length-take}
 use Rattle.std.specs.List.{flat_map}

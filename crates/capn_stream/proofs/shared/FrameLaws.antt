@@ -1,4 +1,5 @@
--- What frames have to do with what their tables announce.
+-- Frames and the numbers that their tables announce. (For `first`, `first_bare`, `framing`, capn_c, capn_canon and
+-- other crates.)
 use Rattle.std.proofs.Common.{◌≡◌, ℕ, zero, suc, ◌+◌, ◌-◌, ◌*◌, ◌^◌, ◌<◌, ◌≤◌, List, [], ◌∷◌, ◌++◌, length, take, drop}
 use Rattle.std.proofs.Common.{sum, map, replicate, slice_index, refl, ap, sym, subst, ◌∙◌, arith, append_assoc}
 use Rattle.std.proofs.Common.{length-append}

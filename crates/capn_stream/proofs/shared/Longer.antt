@@ -1,4 +1,5 @@
--- What bytes announce stays as more of them come.
+-- The numbers that bytes announce stay as more of them come. (For `Filling`, `ReadFirst`, `Wanting`, capn_c,
+-- capn_commands and capn_serve.)
 use Rattle.std.proofs.Common.{◌≡◌, ℕ, zero, suc, ◌+◌, ◌*◌, ◌≤◌, List, ◌++◌, length}
 use Rattle.std.proofs.Common.{take, drop, sum, refl, ap, sym, subst, ◌∙◌, arith}
 use Rattle.std.proofs.Common.{length-append, length-drop}

@@ -1,4 +1,4 @@
--- How many bytes a frame still needs.
+-- The number of bytes that a frame still needs. (For `end_of`, `wanted`, capn_c and capn_serve.)
 use Rattle.std.proofs.Common.{◌≡◌, inl, inr, ℕ, ◌-◌, ◌≤◌, List, ◌++◌, length}
 use Rattle.std.proofs.Common.{take, ap, sym, subst}
 use Rattle.std.proofs.Common.{◌∙◌, arith, length-append, length-take}

@@ -1,4 +1,4 @@
--- How far the frame that comes in pieces is known.
+-- The known part of a frame that comes in pieces.
 use Rattle.std.specs.Prelude.{◌≡◌, ◌⊎◌, ℕ, ◌<◌, ◌≤◌, List, ◌++◌, length, take, drop, ⊤}
 use Rattle.capn_words.specs.Message.{most_segments, AreBytes}
 use Rattle.capn_stream.specs.Cuts.{ends_from}
@@ -11,13 +11,13 @@ use Rattle.capn_stream.specs.declared.fault.FrameFault.TheVariants.{Failed}
 use Rattle.capn_stream.specs.declared.stage.Stage.{Stage}
 use Rattle.capn_stream.specs.declared.stage.Stage.TheVariants as stages
 
--- how many bytes of the frame are there once the part is whole that is waited for
+-- the number of bytes of the frame that are there once the part that is waited for is whole
 abbrev pub need : Stage → ℕ
 need stages.Count = 4
 need (stages.Table segments) = head_length segments
 need (stages.Contents start end) = end
 
--- where the segments but the last end that are announced
+-- the ends of the segments but the last that are announced
 abbrev pub announced_ends : List ℕ → List ℕ
 announced_ends bs = ends_from 0 (entries (entry_number bs) (drop 4 bs))
 
@@ -51,7 +51,7 @@ IsDone (stages.Contents start end) bs = length bs ≡ end
 abbrev pub Rests : Stage → List ℕ → Type 0
 Rests stage bs = (length bs < need stage) ⊎ IsDone stage bs
 
--- bytes of a piece were added, no more than are needed, and fewer only where the piece ends
+-- bytes of a piece were added, no more than are needed, and fewer only if the piece ends
 pub record Extends (old piece : List ℕ) (end n : ℕ) (new : List ℕ) : Type 0 where
   pub inside : n ≤ length piece
   pub text : new ≡ old ++ take n piece
@@ -59,7 +59,7 @@ pub record Extends (old piece : List ℕ) (end n : ℕ) (new : List ℕ) : Type 
   pub below : AreBytes new
   pub stops : length new < end → n ≡ length piece
 
--- why a frame is refused before its contents are waited for
+-- a frame is refused before its contents are waited for, for this fault
 abbrev pub IsHeadRefused : List ℕ → ℕ → FrameFault → Type 0
 IsHeadRefused bs most Memory = ⊤
 IsHeadRefused bs most Empty = ⊥

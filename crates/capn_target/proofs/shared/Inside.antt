@@ -1,4 +1,5 @@
--- Content that a pointer names lies inside its segment, which exists.
+-- Content that a pointer names lies inside its segment, which exists. (For `resolve`, capn_canon, capn_explain and
+-- other crates.)
 use Rattle.std.proofs.Common.{◌≡◌, ℕ, ◌+◌, ◌<◌, ◌≤◌, List, length, Result, Ok, Err, IfOk}
 use Rattle.capn_words.specs.Message.{segment_at}
 use Rattle.capn_words.specs.declared.space.Place.{Place}

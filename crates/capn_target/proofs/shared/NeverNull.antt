@@ -1,4 +1,4 @@
--- A pointer that isn't null names no null.
+-- A pointer that isn't null names no null. (For capn_layout and capn_walk.)
 use Rattle.std.proofs.Common.{◌≡◌, ℕ, ◌+◌, ◌*◌, ◌==◌, nat_lt, true, false, List, length, slice_index, Result, Ok}
 use Rattle.std.proofs.Common.{Err, refl, ap, sym, subst, ◌∙◌}
 use Rattle.std.specs.Bool.{⊤}

@@ -1,4 +1,4 @@
--- Content that a pointer names is in a segment that exists.
+-- Content that a pointer names is in a segment that exists. (For `Inside`, capn_layout and capn_walk.)
 use Rattle.std.proofs.Common.{◌≡◌, inl, inr, ℕ, ◌<◌, ◌≤◌, nat_lt, Bool, true, false, List, [], length, Ok, refl, ap}
 use Rattle.std.proofs.Common.{arith}
 use Rattle.std.proofs.lemmas.Bool.Decides.{nat_tests}

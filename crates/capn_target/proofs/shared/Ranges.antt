@@ -1,4 +1,4 @@
--- Sizes, counts and indices that pointers name are in the ranges of their fields.
+-- Sizes, counts and indices that pointers name are in the ranges of their fields. (For capn_layout and capn_walk.)
 use Rattle.std.proofs.Common.{◌≡◌, ℕ, ◌%◌, ◌^◌, ◌<◌, ◌==◌, List, slice_index, Ok, arith}
 use Rattle.std.specs.Bool.{⊤}
 use Rattle.capn_words.specs.Message.{segment_at}

@@ -1,4 +1,4 @@
--- The lengths of segments.
+-- The lengths of segments. (For `segment_length`, capn_c, capn_canon and other crates.)
 use Rattle.std.proofs.Common.{◌≡◌, ℕ, ◌<◌, ◌≤◌, List, [], length, ap, arith, Option, Some, None, nat_lt}
 use Rattle.std.proofs.lemmas.Bool.Decides.{nat_tests}
 use Rattle.std.proofs.Math.ListN.{get_or-eq_default}

@@ -1,5 +1,5 @@
 -- Content that a pointer names is named by one of three ways, and a capability by the pointer itself. No pointer is
--- refused because memory runs out.
+-- refused because memory runs out. (For `Inside`, `Present`, `Ranges`, capn_canon and capn_walk.)
 use Rattle.std.proofs.Common.{◌≡◌, ◌≢◌, inl, inr, ℕ, ◌+◌, ◌*◌, ◌<◌, ◌==◌, nat_lt, ℤ, pos, negsuc, true, false, List}
 use Rattle.std.proofs.Common.{length, slice_index, Result, Ok, Err, refl, arith}
 use Rattle.std.specs.Bool.{⊤}

@@ -8,12 +8,12 @@ use Rattle.capn_text.specs.inner.Tokens.{◌>>=◌, strip, decimal_at}
 abbrev pub preceded : ℕ → Option (List ℕ) → Option (List ℕ)
 preceded b read = read >>= λ bs. Some (b ∷ bs)
 
--- no byte, where nothing is left
+-- no byte, if nothing is left
 abbrev pub closed : List ℕ → Option (List ℕ)
 closed [] = Some []
 closed (c ∷ cs) = None
 
--- a last zero, where the second quote is left
+-- a last zero, if the second quote is left
 abbrev pub last_zero : List ℕ → Option (List ℕ)
 last_zero [] = None
 last_zero (c ∷ cs) = cond (c == 34) (preceded 0 (closed cs)) None
@@ -25,7 +25,7 @@ abbrev mutual
   unquoted (c ∷ cs) = cond (c == 34) (closed cs) (cond (c == 92) (unescaped cs)
       (cond (is_printable c) (preceded c (unquoted cs)) None))
 
-  -- the same after a backslash
+  -- the bytes up to the second quote, after a backslash
   pub unescaped : List ℕ → Option (List ℕ)
   unescaped [] = None
   unescaped (c ∷ cs) = cond (c == 48) (last_zero cs) (cond (c == 34 || c == 92) (preceded c (unquoted cs)) None)
@@ -39,7 +39,7 @@ some_of (b ∷ bs) = Some (b ∷ bs)
 abbrev pub text_in : List ℕ → Option (List ℕ)
 text_in text = unquoted text >>= some_of
 
--- the same with their count before that quote
+-- the bytes between quotes, with their count before the first quote
 abbrev pub counted_text : List ℕ → Option (List ℕ)
 counted_text text =
     decimal_at text >>= λ n. strip (codes " \"") n.1 >>= λ rest. text_in rest
@@ -50,7 +50,7 @@ abbrev pub counted_or : Option (List ℕ) → List ℕ → Option (List ℕ)
 counted_or (Some rest) text = text_in rest
 counted_or None text = counted_text text
 
--- the levels of a line, by its spaces, and what comes after these
+-- the levels of a line, by its spaces, and the bytes after these
 abbrev pub levels_at : List ℕ → ℕ × List ℕ
 levels_at [] = (0, [])
 levels_at (c ∷ []) = (0, c ∷ [])

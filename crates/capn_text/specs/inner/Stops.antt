@@ -1,11 +1,11 @@
--- Where reading stops: after whole lines that go on, on a line that doesn't. (Own.)
+-- The places at which reading stops: after whole lines that go on, on a line that doesn't. (Own.)
 use Rattle.std.specs.Prelude.{ℕ, suc, ◌≡◌, ◌≤◌, ◌+◌, List, [], ◌++◌, length, Option, Some, None, Result, Ok, Err}
 use Rattle.std.specs.Prelude.{⊤, nat_lt, cond}
 use Rattle.capn_text.specs.Streams.{first_lines, ended_lines, few}
 use Rattle.capn_text.specs.declared.fault.Stop.{Stop}
 use Rattle.capn_text.specs.declared.fault.Stop.TheVariants as stops
 
--- whole lines, none or more: what is added after them doesn't change them
+-- whole lines, none or more: bytes after them don't change them
 abbrev pub AreLines : List ℕ → Type 0
 AreLines x = (n : ℕ) (y : List ℕ) → first_lines (ended_lines x + n) (x ++ y) ≡ x ++ first_lines n y
 
@@ -36,14 +36,14 @@ module _ {X : Type 0} (read : ℕ → List ℕ → Option (X × List ℕ)) (room
   IsOpen text = (front : List ℕ) × (last : List ℕ) × (text ≡ front ++ last) × (length last ≤ few)
       × (y : List ℕ) × (x : X) × ((r : ℕ) → room ≤ r → read r (front ++ y) ≡ Some (x, []))
 
-  -- why nothing is read from a text
+  -- nothing is read from a text, for this reason
   abbrev pub FailsAt : Stop → List ℕ → Type 0
   FailsAt stops.Memory text = ⊤
   FailsAt (stops.Left n) text = Stops text n × IsLost text
   FailsAt (stops.Cut n) text = Stops text n × IsOpen text
   FailsAt stops.Deep text = Deepens text
 
--- what a function returned, seen by `view`, is what is read, or it says where reading stops
+-- a function returned, seen by `view`, what is read, or the stop at which reading ends
 abbrev pub GivesAt : {X Y : Type 0} → (X → Y × List ℕ) → Result X Stop → (ℕ → List ℕ → Option (Y × List ℕ)) → ℕ → List ℕ
     → Type 0
 GivesAt view (Ok x) read room text = read room text ≡ Some (view x)
@@ -58,19 +58,19 @@ abbrev pub IsLineOpen : {X : Type 0} → (List ℕ → Option (X × List ℕ)) �
 IsLineOpen {X} read text = (front : List ℕ) × (last : List ℕ) × (text ≡ front ++ last) × (length last ≤ few)
     × (y : List ℕ) × (x : X) × (read (front ++ y) ≡ Some (x, []))
 
--- why nothing is read from the line at the front
+-- nothing is read from the line at the front, for this reason
 abbrev pub LineFails : {X : Type 0} → Stop → (List ℕ → Option (X × List ℕ)) → List ℕ → Type 0
 LineFails stops.Memory read text = ⊤
 LineFails (stops.Left n) read text = (read text ≡ None) × (n ≡ length text) × IsLineLost read text
 LineFails (stops.Cut n) read text = (read text ≡ None) × (n ≡ length text) × IsLineOpen read text
 LineFails stops.Deep read text = ⊥
 
--- what a function returned, seen by `view`, is what is read from the line at the front
+-- a function returned, seen by `view`, what is read from the line at the front
 abbrev pub GivesLine : {X Y : Type 0} → (X → Y × List ℕ) → Result X Stop → (List ℕ → Option (Y × List ℕ)) → List ℕ
     → Type 0
 GivesLine view (Ok x) read text = read text ≡ Some (view x)
 GivesLine view (Err e) read text = LineFails e read text
 
--- where a line stops that is shorter than any that is long, or isn't
+-- the stop on a line: `Cut` if the text is shorter than any long line, else `Left`
 abbrev pub stop_in : List ℕ → Stop
 stop_in text = cond (nat_lt (length text) few) (stops.Cut (length text)) (stops.Left (length text))

@@ -1,4 +1,4 @@
--- Reading what is within a line, from left to right: what was read, and the bytes after it. (Own.)
+-- Reading the tokens of a line, from left to right: each is given with the bytes after it. (Own.)
 use Rattle.std.specs.Prelude.{◌≡◌, ℕ, zero, suc, ◌+◌, ◌-◌, ◌*◌, ◌^◌, List, [], ◌∷◌, Option, Some, None, Result, Ok}
 use Rattle.std.specs.Prelude.{Err, Bool}
 use Rattle.std.specs.Prelude.{nat_lt, nat_le, ◌==◌, ◌&&◌, ◌||◌, cond, codes, ⊤}
@@ -12,7 +12,7 @@ abbrev pub ◌>>=◌ : {A B : Type 0} → Option A → (A → Option B) → Opti
 (Some x) >>= f = f x
 None >>= f = None
 
--- what a function returned, seen by `view`, is what reading gives, unless memory ran out
+-- a function returned, seen by `view`, what reading gives, unless memory ran out
 abbrev pub Fails : {Y : Type 0} → Stop → Option Y → Type 0
 Fails stops.Memory read = ⊤
 Fails (stops.Left n) read = read ≡ None
@@ -23,7 +23,7 @@ abbrev pub Gives : {X Y : Type 0} → (X → Y) → Result X Stop → Option Y �
 Gives view (Ok x) read = read ≡ Some (view x)
 Gives view (Err e) read = Fails e read
 
--- what a function that takes no memory returned is what reading gives
+-- a function that takes no memory returned what reading gives
 abbrev pub FailsIdly : {Y : Type 0} → Stop → Option Y → Type 0
 FailsIdly stops.Memory read = ⊥
 FailsIdly (stops.Left n) read = read ≡ None
@@ -45,7 +45,7 @@ abbrev pub indent_at : ℕ → List ℕ → Option (List ℕ)
 indent_at zero text = Some text
 indent_at (suc level) text = strip (codes "  ") text >>= indent_at level
 
--- whether it is a decimal digit
+-- true if it is a decimal digit
 abbrev pub is_digit : ℕ → Bool
 is_digit c = nat_le 48 c && nat_le c 57
 
@@ -99,12 +99,12 @@ number_line_at greatest level text =
     indent_at level text >>= λ line. decimal_at line >>= λ n. strip (10 ∷ []) n.1
     >>= λ rest. cond (nat_le n.0 greatest) (Some (n.0, rest)) None
 
--- whether all of these bytes are such digits
+-- true if all of these bytes are such digits
 abbrev pub are_all : (ℕ → Bool) → List ℕ → Bool
 are_all is [] = Bool.true
 are_all is (c ∷ cs) = is c && are_all is cs
 
--- whether a byte is a hexadecimal digit in lower case, or a bit's
+-- true if a byte is a hexadecimal digit in lower case, or a bit's
 abbrev pub is_hex : ℕ → Bool
 is_hex c = (nat_le 48 c && nat_le c 57) || (nat_le 97 c && nat_le c 102)
 

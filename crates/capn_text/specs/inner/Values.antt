@@ -1,4 +1,4 @@
--- Reading a tree from its text: what the first line says, then what it holds. (Own.)
+-- Reading a tree from its text: its first line, then the values that it holds. (Own.)
 use Rattle.std.specs.Prelude.{ℕ, zero, suc, ◌+◌, List, [], ◌∷◌, Option, Some, None, nat_le, cond, codes, length, map}
 use Rattle.std.specs.Prelude.{◌==◌, ◌≤◌, ◌<◌, ◌^◌, ⊤}
 use Rattle.std.specs.Int.{from_bool}
@@ -77,7 +77,7 @@ null_or None line = struct_or (strip (codes "struct ") line) line
 unfoldable pub head_at : ℕ → List ℕ → Option (Head × List ℕ)
 head_at level text = indent_at level text >>= λ line. null_or (strip (codes "null\n") line) line
 
--- what holds no other value, by its kind and number; its first line was at this level
+-- a value that holds no other, by its kind and number; its first line was at this level
 unfoldable pub leaf_at : ℕ → Leaf → ℕ → List ℕ → Option (Tree × List ℕ)
 leaf_at level leaves.Voids n text = Some (voids n, text)
 leaf_at level leaves.Bits n text =
@@ -89,7 +89,7 @@ leaf_at level leaves.Quads n text =
 leaf_at level leaves.Octs n text =
     many (number_line_at 18446744073709551615 (level + 1)) n text >>= λ x. Some (numbers oct x.0, x.1)
 
--- what holds others, where `below` reads one of these at a level
+-- values that hold others; `below` reads one of these at a level
 module _ (below : ℕ → List ℕ → Option (Tree × List ℕ)) where
   -- the words and slots of a struct
   unfoldable pub body_at : ℕ → ℕ → ℕ → List ℕ → Option ((List ℕ × Trees) × List ℕ)

@@ -1,4 +1,4 @@
--- Bits as numbers, and back.
+-- Bits as numbers, and back. (For the cycle `cost`, the cycle `show`, `is_long`, capn_marks, capn_show and capn_text.)
 use Rattle.std.proofs.Common.{◌≡◌, ℕ, zero, suc, ◌+◌, ◌^◌, List, [], ◌∷◌, ◌++◌, Bool, true, false, map, length, refl}
 use Rattle.std.proofs.Common.{sym, ap, ap₂, ◌∙◌, arith}
 use Rattle.std.specs.Int.{from_bool}

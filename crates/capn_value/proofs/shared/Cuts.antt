@@ -1,4 +1,4 @@
--- Cutting what is not kept changes no word and no slot.
+-- Cutting what is not kept changes no word and no slot. (For `OnceTrimmed`, `SameTrimmed` and capn_canon.)
 use Rattle.std.proofs.Common.{◌≡◌, ℕ, zero, suc, ◌≤◌, List, [], ◌∷◌, take, Bool, true, false, refl, sym, ap, arith}
 use Rattle.std.specs.Prelude.{◌==◌, slice_index}
 use Rattle.std.proofs.lemmas.Bool.{eqb-true}

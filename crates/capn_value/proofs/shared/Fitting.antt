@@ -1,4 +1,5 @@
--- A value fits if and only if it has the six facts of one that fits.
+-- A value fits if and only if it has the six facts of one that fits. (For `height`, `show`, `trim`, `trimming`,
+-- capn_canon, capn_layout and other crates.)
 use Rattle.std.proofs.Common.{◌≡◌, Bool, true, false, cond, nat_lt, refl, Option, Some, None}
 use Rattle.std.proofs.lemmas.Bool.{ltb-false, le-ltb}
 use Rattle.capn_value.specs.Tree.{Tree}

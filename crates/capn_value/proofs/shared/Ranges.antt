@@ -1,4 +1,5 @@
--- Numbers that are in range, and stay so once a value is trimmed.
+-- Numbers that are in range, and stay so once a value is trimmed. (For `cost_and_height.rt`, `tree.rt`, capn_canon and
+-- capn_walk.)
 use Rattle.std.proofs.Common.{ℕ, zero, suc, ◌<◌, ◌^◌, List, [], ◌∷◌, take}
 use Rattle.std.specs.Prelude.{slice_index}
 use Rattle.capn_value.specs.Tree.{Tree, nil, node, voids, numbers, links, rows, cap, Trees}

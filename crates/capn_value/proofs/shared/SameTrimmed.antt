@@ -1,4 +1,4 @@
--- Two values that fit are the same if and only if they are equal once trimmed.
+-- Two values that fit are the same if and only if they are equal once trimmed. (For `trim`, `trimming` and capn_canon.)
 use Rattle.std.proofs.Common.{◌≡◌, ℕ, zero, suc, ◌≤◌, max, List, [], ◌∷◌, take, length, Bool, true, false, ◌&&◌, refl}
 use Rattle.std.proofs.Common.{sym, ap, ap₂, ◌∙◌, arith, subst, ◌↔◌}
 use Rattle.std.specs.Prelude.{◌==◌, slice_index}

@@ -1,4 +1,4 @@
--- A trimmed value fits where the value does.
+-- A trimmed value fits where the value does. (For `trim`, `trimming` and capn_canon.)
 use Rattle.std.proofs.Common.{◌≡◌, ℕ, zero, suc, ◌≤◌, min, List, take, length, Bool, true, false, ◌||◌, ◌&&◌, nat_lt}
 use Rattle.std.proofs.Common.{refl, ap, ◌∙◌, arith, length-take}
 use Rattle.std.specs.Prelude.{◌==◌}

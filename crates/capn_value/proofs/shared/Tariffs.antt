@@ -1,4 +1,4 @@
--- What a value costs by one tariff and by the other.
+-- The cost of a value by one tariff and by the other. (For `cost` and capn_walk.)
 use Rattle.std.proofs.Common.{◌≡◌, ℕ, ◌+◌, ◌*◌, ◌≤◌, length, arith}
 use Rattle.std.specs.Int.{div_ceil}
 use Rattle.capn_value.specs.NumberWidth.{per_word}

@@ -1,4 +1,5 @@
--- Values are the same if and only if the getters tell the same of them along every path.
+-- Values are the same if and only if the getters tell the same of them along every path. (For `reading` and
+-- capn_canon.)
 use Rattle.std.proofs.Common.{◌≡◌, ◌↔◌, ℕ, zero, suc, List, [], ◌∷◌, length, get_or, refl, sym, ap, ap₂, subst}
 use Rattle.capn_value.specs.Tree.{Tree, nil, node, voids, numbers, links, rows, cap, Trees}
 use Rattle.capn_value.specs.Tree.{no_trees, tree, Bodies, no_bodies, body, tree_at, count, count_rows}

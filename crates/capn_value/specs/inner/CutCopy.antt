@@ -9,22 +9,22 @@ abbrev pub anew : Bool → Tree → Tree
 anew true t = trimmed t
 anew false t = t
 
--- the same for each of several
+-- each of several values, anew
 abbrev pub each_anew : Bool → Trees → Trees
 each_anew true ts = trimmed_each ts
 each_anew false ts = ts
 
--- how many words and slots a body keeps, if it is cut
+-- the numbers of words and slots that a body keeps, if it is cut
 abbrev pub kept_of_body : Bool → List ℕ → Trees → Option (ℕ × ℕ)
 kept_of_body true ws ss = Some (kept_words ws, kept_slots ss)
 kept_of_body false ws ss = None
 
--- the same for each row of a list
+-- the numbers of words and slots that each row of a list keeps, if they are cut
 abbrev pub kept_of_rows : Bool → Bodies → Option (ℕ × ℕ)
 kept_of_rows true bs = Some (kept_words_of_rows bs, kept_slots_of_rows bs)
 kept_of_rows false bs = None
 
--- the words of a body that is cut to what is kept, or whole
+-- the words of a body that is cut to those that are kept, or whole
 abbrev pub words_anew : Option (ℕ × ℕ) → List ℕ → List ℕ
 words_anew (Some kept) ws = take kept.0 ws
 words_anew None ws = ws

@@ -1,4 +1,5 @@
--- What a walk pays is at least the cost of the value that it finds, and its depth at least the height.
+-- A walk pays at least the cost of the value that it finds, and its depth is at least the height. (For `CapsMet`,
+-- `Depths`, `Exists`, capn_canon and capn_departure.)
 use Rattle.std.proofs.Common.{◌≡◌, ◌≢◌, ℕ, zero, suc, ◌+◌, ◌-◌, ◌*◌, ◌<◌, ◌≤◌, ◌==◌, List, [], ◌∷◌, ◌++◌, length}
 use Rattle.std.proofs.Common.{refl, ap, ◌∙◌, arith, cond, if◌then◌else◌}
 use Rattle.std.specs.List.{flat_map}

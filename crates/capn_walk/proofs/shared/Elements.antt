@@ -1,4 +1,4 @@
--- Elements of a list, read from the bytes of its words.
+-- Elements of a list, read from the bytes of its words. (For `lists.rt`, `view.rt`, capn_layout and capn_show.)
 use Rattle.std.proofs.Common.{◌≡◌, ℕ, zero, suc, ◌+◌, ◌*◌, ◌/◌, ◌%◌, ◌^◌, ◌<◌, ◌≤◌, Bool, List, [], ◌∷◌, ◌++◌, length}
 use Rattle.std.proofs.Common.{take, drop, slice_index, map, refl, ap, sym, subst, ◌∙◌, arith, length-drop}
 use Rattle.std.proofs.Math.Nat.{div-div-eq-div-mul}

@@ -1,4 +1,4 @@
--- Verdicts of lists of visits.
+-- Verdicts of lists of visits. (For `FilledRoom`, `RootSurveys`, `RowWalks` and others.)
 use Rattle.std.proofs.Common.{◌≡◌, ℕ, ◌+◌, ◌-◌, ◌<◌, ◌≤◌, nat_lt, List, [], ◌∷◌, ◌++◌, refl, ap, sym, ◌∙◌, arith}
 use Rattle.std.proofs.lemmas.Bool.Decides.{nat_tests}
 use Rattle.capn_words.specs.declared.space.Place.{Place}

@@ -1,4 +1,4 @@
--- A list of what each index has.
+-- A list of what each index has. (For `Exists` and capn_canon.)
 use Rattle.std.proofs.Common.{◌≡◌, ℕ, zero, suc, ◌<◌, List, [], ◌∷◌, length, slice_index, refl, ap, arith}
 use Rattle.capn_walk.specs.ValueAt.{AreElements, element}
 

@@ -1,4 +1,5 @@
--- Lists of numbers, by the width that their pointers say.
+-- Lists of numbers, by the width that their pointers say. (For `CapsMet`, `Costs`, `Heights`, `Unique`, capn_canon and
+-- capn_layout.)
 use Rattle.std.proofs.Common.{◌≡◌, ℕ, ◌+◌, ◌≤◌, [], Some, None, Option, refl, sym, ap, subst, ◌∙◌, arith}
 use Rattle.std.proofs.Math.Nat.{le_refl}
 use Rattle.std.specs.Int.{div_ceil}

@@ -1,4 +1,4 @@
--- No walk stops because memory runs out.
+-- No walk stops because memory runs out. (For `verdicts` and capn_c.)
 use Rattle.std.proofs.Common.{◌≡◌, ◌≢◌, inl, inr, refl, ℕ, zero, suc, List, [], ◌∷◌, ◌++◌, Result, Ok, Err, sym, subst}
 use Rattle.std.proofs.Common.{◌∙◌}
 use Rattle.std.specs.Bool.{⊤}

@@ -1,4 +1,4 @@
--- What is paid for an object pays for its slots.
+-- The price of an object pays for its slots. (For the cycle `walk`.)
 use Rattle.std.proofs.Common.{ℕ, ◌+◌, ◌*◌, ◌≡◌, ◌≤◌, ◌==◌, arith}
 use Rattle.capn_words.specs.declared.pointer.Width.TheVariants.{W0, W1, W8, W16, W32, W64, Link, Rows}
 use Rattle.capn_words.proofs.shared.Choices.{pick}

@@ -1,4 +1,4 @@
--- At most one value is at a place.
+-- At most one value is at a place. (For `values`, capn_archive, capn_c and other crates.)
 use Rattle.std.proofs.Common.{◌≡◌, ℕ, suc, ◌+◌, List, [], ◌∷◌, length, take, Ok, refl, ap, ap₂}
 use Rattle.std.proofs.Common.{sym, subst, ◌∙◌, arith}
 use Rattle.std.proofs.lemmas.Grind.{same_number_lists}

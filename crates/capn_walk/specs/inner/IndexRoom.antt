@@ -1,4 +1,4 @@
--- What the inner functions of an index answer.
+-- The answers of the inner functions of an index.
 use Rattle.std.specs.Prelude.{◌≡◌, ◌≢◌, ℕ, suc, List, [], ◌∷◌, length, set, Result, Ok, Err}
 use Rattle.capn_walk.specs.declared.entry.Entry.{Entry}
 use Rattle.capn_walk.specs.declared.entry.Indexed.{Indexed}

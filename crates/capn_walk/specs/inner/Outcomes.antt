@@ -1,5 +1,5 @@
--- What the inner functions of surveys and walks answer, by cases: what they found, with what it pays and its visits, or
--- a refusal.
+-- The answers of the inner functions of surveys and walks, by cases: their finding, with the words that it pays and its
+-- visits, or a refusal.
 use Rattle.std.specs.Prelude.{◌≡◌, ◌≢◌, ℕ, ◌-◌, ◌*◌, ◌<◌, ◌≤◌, List, ◌∷◌, Result, Ok, Err}
 use Rattle.capn_words.specs.declared.space.Place.{Place}
 use Rattle.capn_value.specs.Tree.{count, count_rows}
@@ -45,7 +45,7 @@ module _ (message : List (List ℕ)) (base depth left : ℕ) where
   Visits at (Ok v) = IsVisit at v
   Visits at (Err e) = IsRefusal at e
 
--- the visits of n slots, with all below them: what they pay, how many they are, and the first capability
+-- the visits of n slots, with all below them: the words that they pay, their number, and the first capability
 abbrev pub SurveysAs : List (List ℕ) → ℕ → ℕ → List Visit → Result Measured Stopped → Type 0
 SurveysAs message left n vs (Ok m) =
     Gives left vs n m.survey.paid m.survey.visits × (first_cap_of message vs ≡ m.survey.capability)

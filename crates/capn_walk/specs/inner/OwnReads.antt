@@ -1,4 +1,4 @@
--- What a walk reads of an object's own words.
+-- The reads of a walk of an object's own words.
 use Rattle.std.specs.Prelude.{ℕ, ◌+◌, ◌*◌}
 use Rattle.capn_words.specs.declared.pointer.Width.TheVariants.{Link}
 use Rattle.capn_target.specs.declared.target.Shape.{Shape}

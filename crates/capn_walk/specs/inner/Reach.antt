@@ -1,4 +1,4 @@
--- How many objects are one below another, from a place on.
+-- The number of objects one below another, from a place on.
 use Rattle.std.specs.Prelude.{ℕ, zero, suc, ◌+◌, ◌-◌, max, List, [], ◌∷◌, Result, Ok, Err, Option, Some, None}
 use Rattle.capn_words.specs.declared.space.Place.{Place}
 use Rattle.capn_target.specs.declared.target.Target.{Target}
@@ -7,17 +7,17 @@ use Rattle.capn_target.specs.declared.target.Fault.{Fault}
 use Rattle.capn_target.specs.Target.{target}
 use Rattle.capn_walk.specs.View.{slots_below}
 
--- the slots below what a pointer names
+-- the slots below the target of a pointer
 abbrev pub below_of : Result Target Fault → List Place
 below_of (Ok t) = slots_below t
 below_of (Err e) = []
 
--- what a target adds: 1 for content, else nothing
+-- the depth that a target adds: 1 for content, else nothing
 abbrev pub level : Target → ℕ
 level (targets.Content s start shape pads) = 1
 level _ = 0
 
--- the greatest of what is said of places
+-- the greatest of the numbers of places
 abbrev pub greatest_of : (Place → ℕ) → List Place → ℕ
 greatest_of f [] = 0
 greatest_of f (p ∷ ps) = max (f p) (greatest_of f ps)
@@ -38,8 +38,8 @@ module _ (message : List (List ℕ)) where
   abbrev pub reach_of : ℕ → List Place → ℕ
   reach_of d ps = greatest_of (reach d) ps
 
--- how many objects are one below another down to that of a visit, where this many may and the depth left is known:
--- none where it is a visit of a capability
+-- the number of objects one below another down to that of a visit, if this many may be and the depth left is known:
+-- none, if it is a visit of a capability
 abbrev pub levels_at : ℕ → ℕ → Option ℕ → ℕ
 levels_at limit depth None = limit + 1 - depth
 levels_at limit depth (Some k) = 0

@@ -10,7 +10,7 @@ use Rattle.capn_walk.specs.Visits.{Visit, places, row_places, visits_of}
 abbrev pub places_of : SlotsLeft → List Place
 places_of f = places f.segment f.next f.left ++ row_places f.segment (f.next + f.left) f.words f.slots f.rows
 
--- how many they are
+-- their number
 abbrev pub owed : SlotsLeft → ℕ
 owed f = f.left + f.rows * f.slots
 
@@ -29,7 +29,7 @@ pub record Lies (message : List (List ℕ)) (f : SlotsLeft) : Type 0 where
 
 -- ---- a stack of objects that wait, the first one lowest
 
--- how many slots are left of all
+-- the number of slots that are left of all
 abbrev pub owed_by : List Waiting → ℕ
 owed_by [] = 0
 owed_by (w ∷ ws) = owed w.frame + owed_by ws

@@ -1,4 +1,4 @@
--- What a list of visits comes to, computed: the same as `IsWithin` and `IsStop`, for the walk's inner functions.
+-- The verdict on a list of visits, computed: the same as `IsWithin` and `IsStop`, for the walk's inner functions.
 use Rattle.std.specs.Prelude.{◌≡◌, ◌⊎◌, ℕ, ◌+◌, ◌-◌, ◌≤◌, ◌==◌, nat_lt, List, [], ◌∷◌, length, if◌then◌else◌}
 use Rattle.capn_words.specs.Message.{segment_at}
 use Rattle.capn_words.specs.declared.space.Place.{Place}
@@ -8,13 +8,13 @@ use Rattle.capn_walk.specs.declared.walk_answer.Stopped.{Stopped}
 use Rattle.capn_walk.specs.Visits.{Visit, pays, fails}
 use Rattle.capn_walk.specs.Accepted.{root, root_visits}
 
--- accepted: what was paid, and the number of visits; refused: the fault, the place, what was paid before, and the
+-- accepted: the words paid, and the number of visits; refused: the fault, the place, the words paid before, and the
 -- number of the visit
 pub data Verdict : Type 0 where
   accepted : ℕ → ℕ → Verdict
   refused : Fault → Place → ℕ → ℕ → Verdict
 
--- the same verdict after k visits that paid p
+-- this verdict after k visits that paid p
 abbrev pub after : ℕ → ℕ → Verdict → Verdict
 after p k (accepted q j) = accepted (p + q) (k + j)
 after p k (refused e at q j) = refused e at (p + q) (k + j)
@@ -33,7 +33,7 @@ verdict message base budget depth =
     then refused faults.NoRoot root 0 0
     else judge budget (root_visits message base depth)
 
--- The visits of n slots, with all below them, are accepted, with what they pay and their number.
+-- The visits of n slots, with all below them, are accepted, with the words that they pay and their number.
 pub record Gives (left : ℕ) (vs : List Visit) (n paid visits : ℕ) : Type 0 where
   pub is : judge left vs ≡ accepted paid visits
   pub within : paid ≤ left

@@ -1,4 +1,4 @@
--- A way that is followed, step by step: the slot that it leads to, and what holds that.
+-- A way that is followed, step by step: the slot to which it leads, and its holder.
 use Rattle.std.specs.Prelude.{ℕ, zero, suc, ◌+◌, nat_lt, List, [], ◌∷◌, Result, Ok, Option, Some, None}
 use Rattle.std.specs.Prelude.{if◌then◌else◌}
 use Rattle.capn_words.specs.declared.space.Place.{Place}
@@ -34,7 +34,7 @@ step_in s start (shapes.Rows n a b span) (row ∷ way) =
     then step_among (Row row n (place s (row_start start a b row))) (place s (row_start start a b row + a)) b way
     else None
 
--- the same of what a pointer names
+-- the step from a target
 abbrev pub step_by : Result Target Fault → List ℕ → Option (Spot × List ℕ)
 step_by (Ok (targets.Content s start shape pads)) way = step_in s start shape way
 step_by found way = None
@@ -55,7 +55,7 @@ module _ (message : List (List ℕ)) where
 abbrev pub start : Spot
 start = record { holder = None; place = root }
 
--- what holds the slot to which a way was followed
+-- the holder of the slot to which a way was followed
 abbrev pub holder_at : Option Spot → Option Holder
 holder_at (Some x) = x.holder
 holder_at None = None

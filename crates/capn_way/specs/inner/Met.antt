@@ -43,12 +43,12 @@ met_by below here (Ok (targets.Content s start shape pads)) =
 met_by below here found = here ∷ []
 
 module _ (message : List (List ℕ)) where
-  -- the visits of a slot, and of what is below it, at most d objects deep
+  -- the visits of a slot, and of the slots below it, at most d objects deep
   unfoldable pub met : ℕ → Met → List Met
   met zero here = here ∷ []
   met (suc d) here = met_by (met d) here (target message here.place)
 
-  -- those of several slots, one after the other
+  -- the visits of several slots, one after the other
   abbrev pub met_of : ℕ → List Met → List Met
   met_of d ms = flat_map (met d) ms
 
@@ -59,7 +59,7 @@ pub record IsMet (ms : List Met) (number : ℕ) (way : List ℕ) (place : Place)
   pub is : ms ≡ before ++ (record { way = way; place = place }) ∷ behind
   pub count : length before ≡ number
 
--- what a search for a number among these comes to: the way to it, or all passed and the way as it was
+-- the outcome of a search for a number among these: the way to it, or all passed and the way as it was
 abbrev pub Seeks : List Met → ℕ → List ℕ → List ℕ → Sought → Type 0
 Seeks ms number old new (Found place) = IsMet ms number new place
 Seeks ms number old new (Passed left) = (length ms + left ≡ number) × (new ≡ old)

@@ -1,4 +1,4 @@
--- The fields of a pointer word are within their bits, and are found again there.
+-- The fields of a pointer word are within their bits, and are found again there. (For `Pointers`.)
 use Rattle.std.proofs.Common.{◌≡◌, ℕ, suc, ◌-◌, ◌^◌, ◌<◌, ◌≤◌, ◌==◌, nat_lt, Bool, true, false, ℤ, pos}
 use Rattle.std.proofs.Common.{negsuc, refl, ap, ◌∙◌, arith}
 use Rattle.std.specs.Int.{from_bool}

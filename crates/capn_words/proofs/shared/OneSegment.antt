@@ -1,4 +1,5 @@
--- A message of one segment, read from its bytes in one way, or refused for one reason.
+-- A message of one segment, read from its bytes in one way, or refused for one reason. (For `bare.rt`, `laws.rt`,
+-- capn_canon, capn_commands and other crates.)
 use Rattle.std.proofs.Common.{◌≡◌, ℕ, zero, suc, ◌*◌, ◌/◌, ◌%◌, ◌^◌, ◌<◌, ◌≤◌, List, [], ◌∷◌, length, drop, slice_index}
 use Rattle.std.proofs.Common.{Err, refl, ap, sym, subst, ◌∙◌, arith}
 use Rattle.capn_words.specs.Message.{most_words, word_number, words_in, bytes, AreBytes, AreWords, IsBare, ReadsBare}

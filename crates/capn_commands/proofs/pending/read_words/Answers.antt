@@ -6,8 +6,8 @@ use Rattle.std.proofs.KnownBytes.{Consumes-kept}
 use Rattle.capn_commands.specs.inner.Pending.{Holds, IsPending}
 use Rattle.capn_commands.specs.WholeInput.{Gives}
 use Rattle.capn_commands.specs.declared.plan.Whole.TheVariants as wholes
-use Rattle.capn_commands.proofs.Given.{given_all, given_broken, given_long, given_memory, given_more, given_none}
-use Rattle.capn_commands.proofs.Given.{takes_so}
+use Rattle.capn_serve.proofs.shared.Given.{given_all, given_more, given_none}
+use Rattle.capn_commands.proofs.Given.{given_broken, given_long, given_memory, takes_so}
 use Rattle.capn_commands.proofs.ReadMore.{has_broken, still_fine}
 use Rattle.capn_commands.proofs.Unpending.{begins_pending}
 use Rattle.capn_commands.proofs.pending.read_words.Goals as goal

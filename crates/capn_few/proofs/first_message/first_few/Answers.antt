@@ -15,8 +15,8 @@ returns-else-head-clause-only c message taken h few =
 pub returns-in-Err-clause-only : goal.returns-in-Err-clause-only
 returns-in-Err-clause-only c message taken h few =
     let whole = whole_of c.args.bytes.now c.args.max_words message taken h in
-    absurd (c.in-Err.ensures.no_memory
-    (refused_whole c.args.bytes.now c.args.max_words c.in-Err.fault whole c.in-Err.ensures.refused))
+    let same = refused_whole c.args.bytes.now c.args.max_words c.in-Err.fault whole c.in-Err.ensures.refused in
+    absurd (c.in-Err.ensures.no_memory cc)
 
 pub returns-else-head-clause-few : goal.returns-else-head-clause-few
 returns-else-head-clause-few c =

@@ -1,5 +1,5 @@
 use Rattle.std.proofs.Common.{◌-◌, take, arith}
-use Rattle.capn_few.proofs.WholeFrames.{read_ends, read_stands, sum-sizes_read}
+use Rattle.capn_stream.proofs.shared.WholeFrames.{read_ends, read_stands, sum-sizes_read}
 use Rattle.capn_few.proofs.first_message.message_of.Goals as goal
 
 pub ends_of-ends-requires-clause-room : goal.ends_of-ends-requires-clause-room

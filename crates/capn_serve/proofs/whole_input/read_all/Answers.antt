@@ -2,8 +2,8 @@ use Rattle.std.proofs.Common.{◌≡◌, ◌++◌, [], length, take, drop, lengt
 use Rattle.std.specs.Prelude.{min}
 use Rattle.std.proofs.Common.{◌-◌, arith, inl, refl, ap, sym, ◌∙◌, take_all}
 use Rattle.std.proofs.KnownBytes.{Consumes-kept}
-use Rattle.capn_serve.proofs.WholeRead.{first_more, given_all, given_broken, given_long, given_memory, given_more}
-use Rattle.capn_serve.proofs.WholeRead.{given_none, size_kept}
+use Rattle.capn_serve.proofs.shared.Given.{given_all, given_more, given_none, size_kept}
+use Rattle.capn_serve.proofs.WholeRead.{first_more, given_broken, given_long, given_memory}
 use Rattle.capn_serve.proofs.InputRead.{has_broken, still_fine}
 use Rattle.capn_serve.proofs.whole_input.read_all.Goals as goal
 

@@ -1,7 +1,7 @@
 use Rattle.std.proofs.Common.{◌∙◌, arith}
 use Rattle.std.proofs.lemmas.Result.{err_from_is_err_and}
 use Rattle.capn_stream.proofs.shared.FrameLaws.{one_frame, refused_whole, whole_of}
-use Rattle.capn_stream.proofs.WholeFrames.{read_ends, read_stands, sum-sizes_read}
+use Rattle.capn_stream.proofs.shared.WholeFrames.{read_ends, read_stands, sum-sizes_read}
 use Rattle.capn_stream.proofs.first_message.first.Goals as goal
 
 pub returns-in_err-head-clause-only : goal.returns-in_err-head-clause-only

@@ -1,7 +1,7 @@
 use Rattle.std.proofs.Common.{◌*◌, ◌∙◌, arith}
 use Rattle.std.proofs.lemmas.List.{take_all}
 use Rattle.capn_words.specs.Message.{bytes, segment_at}
-use Rattle.capn_stream.proofs.Cutting.{words_of_is}
+use Rattle.capn_stream.proofs.shared.Cutting.{words_of_is}
 use Rattle.capn_words.proofs.shared.Words.{length-bytes}
 use Rattle.capn_stream.proofs.frame_bytes.bytes_of.Goals as goal
 

@@ -4,7 +4,7 @@ use Rattle.std.specs.List.{flat_map}
 use Rattle.std.proofs.Common.{take}
 use Rattle.capn_words.specs.Message.{segment_at}
 use Rattle.capn_stream.specs.Frames.{entry}
-use Rattle.capn_stream.proofs.Cutting.{words_of-some}
+use Rattle.capn_stream.proofs.shared.Cutting.{words_of-some}
 use Rattle.capn_stream.proofs.Sent.{sizes_more}
 use Rattle.capn_stream.proofs.frame_output.put_head.Goals as goal
 

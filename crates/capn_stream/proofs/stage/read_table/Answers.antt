@@ -2,7 +2,7 @@ use Rattle.std.proofs.Common.{◌≡◌, ◌-◌, ℕ, List, ap, sum, ◌∙◌,
 use Rattle.std.proofs.lemmas.List.{take_rest}
 use Rattle.capn_stream.specs.Cuts.{ends_from}
 use Rattle.capn_stream.specs.FrameRefusal.{announced_words, announced_segments, entries, head_length}
-use Rattle.capn_stream.proofs.WholeFrames.{sizes_read, sum-sizes_read}
+use Rattle.capn_stream.proofs.shared.WholeFrames.{sizes_read, sum-sizes_read}
 use Rattle.capn_stream.proofs.stage.read_table.Goals as goal
 
 -- the sum of all sizes that were read

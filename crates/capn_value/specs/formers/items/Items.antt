@@ -1,4 +1,4 @@
--- How `Items` stores its elements, so that `Value` may hold `Items` of `Value`: as the `Vec` inside it does, seen as
+-- The storage of elements in `Items`, so that `Value` may hold `Items` of `Value`: as the `Vec` inside it does, seen as
 -- the list of its elements.
 use mathlib.Core.Path.{◌≡◌, refl, sym}
 use mathlib.Core.List.{List, []}

@@ -1,6 +1,6 @@
 use Rattle.std.proofs.Common.{ℕ, ◌+◌, ◌*◌, take, drop, ap, ◌∙◌, arith}
 use Rattle.capn_words.specs.Message.{bytes}
-use Rattle.capn_few.proofs.Cutting.{seen_bytes, seen_count, seen_inside}
+use Rattle.capn_stream.proofs.shared.Cutting.{seen_bytes, seen_count, seen_inside}
 use Rattle.capn_few.proofs.few_segments.FewSegmentsSpace.bytes.Goals as goal
 
 pub start_of-start-requires : goal.start_of-start-requires

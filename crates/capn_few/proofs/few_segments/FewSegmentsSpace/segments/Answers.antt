@@ -1,5 +1,5 @@
 use Rattle.std.proofs.Common.{take, arith}
-use Rattle.capn_few.proofs.Cutting.{seen_count, seen_message}
+use Rattle.capn_stream.proofs.shared.Cutting.{seen_count, seen_message}
 use Rattle.capn_few.proofs.Kept.{ends_kept}
 use Rattle.capn_few.proofs.few_segments.FewSegmentsSpace.segments.Goals as goal
 

@@ -1,5 +1,5 @@
 use Rattle.std.proofs.Common.{ℕ, ◌+◌, slice_index, take, ap, ◌∙◌, arith}
-use Rattle.capn_few.proofs.Cutting.{place_segment, seen_count, seen_inside, seen_word}
+use Rattle.capn_stream.proofs.shared.Cutting.{place_segment, seen_count, seen_inside, seen_word}
 use Rattle.capn_few.proofs.few_segments.FewSegmentsSpace.word.Goals as goal
 
 pub start_of-start-requires : goal.start_of-start-requires

@@ -1,5 +1,5 @@
 use Rattle.std.proofs.Common.{◌≡◌, ◌<◌, Some, length, take, ap, sym, ◌∙◌, arith}
-use Rattle.capn_few.proofs.Cutting.{seen_count, seen_order, seen_size, words_of-none, words_of-some}
+use Rattle.capn_stream.proofs.shared.Cutting.{seen_count, seen_order, seen_size, words_of-none, words_of-some}
 use Rattle.capn_few.proofs.Kept.{ends_kept}
 use Rattle.capn_few.proofs.few_segments.FewSegmentsSpace.words.Goals as goal
 

@@ -1,5 +1,5 @@
 use Rattle.std.proofs.Common.{arith}
-use Rattle.capn_stream.proofs.Cutting.{seen_count, seen_message}
+use Rattle.capn_stream.proofs.shared.Cutting.{seen_count, seen_message}
 use Rattle.capn_stream.proofs.stored.StoredSpace.segments.Goals as goal
 
 pub returns-clause-count : goal.returns-clause-count

@@ -1,5 +1,5 @@
 use Rattle.std.proofs.Common.{◌<◌, Some, length, ap, sym, ◌∙◌, arith}
-use Rattle.capn_stream.proofs.Cutting.{seen_count, seen_order, seen_size, words_of-none, words_of-some}
+use Rattle.capn_stream.proofs.shared.Cutting.{seen_count, seen_order, seen_size, words_of-none, words_of-some}
 use Rattle.capn_stream.proofs.stored.StoredSpace.words.Goals as goal
 
 pub returns-then-segment-len : goal.returns-then-segment-len

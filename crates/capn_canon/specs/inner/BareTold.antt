@@ -1,0 +1,22 @@
+-- The report of the survey of a message of one segment, whether it counts or not.
+use Rattle.std.specs.Prelude.{◌≡◌, ◌≢◌, ◌≤◌, ◌⊎◌, ℕ, List, Result, IfOk, IfErr, MatchResult}
+use Rattle.capn_words.specs.Message.{segment_at}
+use Rattle.capn_value.specs.Tree.{Tree}
+use Rattle.capn_value.specs.FirstCap.{first_cap}
+use Rattle.capn_target.specs.declared.target.Fault.TheVariants.{Memory}
+use Rattle.capn_walk.specs.declared.walk_answer.Stopped.{Stopped}
+use Rattle.capn_walk.specs.Accepted.{IsValueOf, IsWalkRefused, IsBounded}
+use Rattle.capn_walk.specs.Limits.{Bounds}
+use Rattle.capn_canon.specs.declared.surveyed_bare.SurveyedBare.{SurveyedBare}
+use Rattle.capn_canon.specs.BareVerdict.{IsBareSurvey}
+
+-- the report has the words that the walk of an accepted message pays, and whether its words are canonical; or it is the
+-- first stop, and never for memory
+pub record IsBareTold (message : List (List ℕ)) (limits : Bounds) (r : Result SurveyedBare Stopped) : Type 0 where
+  pub found : IfOk r (λ c. IsBareSurvey (segment_at message 0) limits c)
+  pub only : (v : Tree) → IsValueOf message limits v
+      → MatchResult r (λ c. c.capability ≡ first_cap v) (λ s. s.fault ≡ Memory)
+  pub refused : IfErr r (λ s. (s.fault ≡ Memory) ⊎ IsWalkRefused message limits s.fault s.place s.paid s.visits)
+  pub no_memory : IfErr r (λ s. s.fault ≢ Memory)
+  pub bounded : MatchResult r (λ c. IsBounded limits.budget c.paid c.visits)
+      (λ s. IsBounded limits.budget s.paid s.visits)

@@ -1,4 +1,0 @@
-use Rattle.capn_layout.proofs.message_layout.surveyed_layout_into.Given as goal
-
-abbrev pub ghosts-layout_into_with_ledger : goal.ghosts-layout_into_with_ledger
-ghosts-layout_into_with_ledger g a = record { name = a.blank.name; parts = a.blank.parts }

@@ -1,0 +1,14 @@
+-- The table of a message in an input. (Own.)
+use Rattle.std.specs.Prelude.{◌≡◌, ℕ, ◌+◌, ◌/◌, List, [], ◌∷◌, length, refl}
+use Rattle.capn_canon.specs.declared.form.Form.{Form}
+use Rattle.capn_canon.specs.declared.form.Form.TheVariants as forms
+
+-- the words of a message's table: none of a bare segment; else 4 bytes for their number, 4 for each segment, and 4 more
+-- where that is no whole word
+abbrev pub table_words : Form → List (List ℕ) → ℕ
+table_words forms.Bare message = 0
+table_words forms.Stream message = length message / 2 + 1
+table_words forms.Packed message = length message / 2 + 1
+
+two_segments : table_words forms.Stream (([]) ∷ [] ∷ []) ≡ 2
+two_segments = refl
