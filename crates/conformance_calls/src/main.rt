@@ -64,8 +64,8 @@ impl Answers for Calls {
     }
 }
 
-/// Returns the answer of a call, as a line. Growths of it are refused, one each time, and if its message is cut it answers
-/// what it must.
+/// Returns the answer of a call, as a line. Growths of it are refused, one each time, and if its message is cut it
+/// answers what it must.
 fn answer_line(alloc: Global, line: &str) -> Result<String> {
     let words: Vec<&str> = line.split(' ').collect(alloc)?;
     let (growths, call) = growths_and_call(words.as_slice());
