@@ -1,4 +1,5 @@
 //! Lists of bits as words.
+//! A change of what this writes changes canonical bytes: it is a new version of the form.
 
 ghost use Rattle.std.specs.Prelude.{◌≡◌, ◌+◌, ◌*◌, ◌≤◌, length, map};
 ghost use Rattle.std.specs.Int.{from_bool};

@@ -1,4 +1,5 @@
 //! Bytes, appended in one growth as zero-padded words.
+//! A change of what this writes changes canonical bytes: it is a new version of the form.
 
 ghost use Rattle.std.specs.Prelude.{◌≡◌, ◌+◌, ◌*◌, ◌^◌, ◌<◌, ◌++◌, length, replicate, IfOk, OnOk, OnErr};
 ghost use Rattle.capn_layout.specs.inner.PaddedBytes.{pad, padded};

@@ -1,4 +1,5 @@
 //! Kept lengths, found in the message itself.
+//! A change of what this writes changes canonical bytes: it is a new version of the form.
 
 ghost use Rattle.std.specs.Prelude.{◌≡◌, ◌+◌, ◌*◌, ◌<◌, ◌≤◌, max, take};
 ghost use Rattle.capn_layout.specs.RowWords.{kept_each};

@@ -1,4 +1,5 @@
 //! The canonical layout of a message's value, read in place.
+//! A change of what this writes changes canonical bytes: it is a new version of the form.
 
 ghost use Rattle.std.specs.Prelude.{◌≡◌, ℕ, ◌+◌, ◌*◌, ◌<◌, ◌≤◌, ◌++◌, length, drop, IfOk};
 ghost use Rattle.capn_value.specs.Tree.{Tree as Value};

@@ -1,4 +1,5 @@
 //! The content of values, object by object, in preorder.
+//! A change of what this writes changes canonical bytes: it is a new version of the form.
 
 ghost use Rattle.std.specs.Prelude.{◌≡◌, ℕ, ◌+◌, ◌*◌, ◌/◌, ◌^◌, ◌<◌, ◌≤◌, ◌++◌, List, length, drop, IfOk};
 ghost use Rattle.capn_words.specs.Message.{words_in};

@@ -1,4 +1,5 @@
 //! Sizes of values' contents, with all below them.
+//! A change of these sizes changes canonical bytes: it is a new version of the form.
 
 ghost use Rattle.std.specs.Prelude.{◌≡◌, ℕ, ◌+◌, ◌*◌, ◌^◌, ◌<◌, ◌≤◌};
 ghost use Rattle.capn_value.specs.Tree.{Tree, Trees, Bodies, tree_at, count as count_of, count_rows, row_words};

@@ -1,4 +1,5 @@
 //! An object's own words, ahead of its slots.
+//! A change of what this writes changes canonical bytes: it is a new version of the form.
 
 ghost use Rattle.std.specs.Prelude.{◌^◌, ◌+◌, ◌*◌, ◌<◌, ◌≤◌, length};
 ghost use Rattle.capn_value.specs.Tree.{Tree, Bodies, count_rows, row_words};

@@ -1,4 +1,5 @@
 //! The pointer words of a layout.
+//! A change of what this writes changes canonical bytes: it is a new version of the form.
 
 ghost use Rattle.std.specs.Prelude.{◌≡◌, ◌^◌, ◌<◌, ◌≤◌, pos};
 ghost use Rattle.capn_words.specs.Pointers.{word_of};

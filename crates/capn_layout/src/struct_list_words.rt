@@ -1,4 +1,5 @@
 //! The kept parts of rows, copied from the message.
+//! A change of what this writes changes canonical bytes: it is a new version of the form.
 
 ghost use Rattle.std.specs.Prelude.{◌≡◌, ◌+◌, ◌*◌, ◌^◌, ◌<◌, ◌≤◌, ◌++◌, take, length};
 ghost use Rattle.capn_words.specs.Message.{IsMessage};

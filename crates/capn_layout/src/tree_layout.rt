@@ -1,4 +1,5 @@
 //! The canonical layout of a tree.
+//! A change of what this writes changes canonical bytes: it is a new version of the form.
 
 ghost use Rattle.std.specs.Prelude.{◌≡◌, ℕ, Some, None, IfOk, IfErr, OnOk};
 ghost use Rattle.capn_value.specs.FirstCap as caps;
