@@ -7,6 +7,8 @@ import (
 	"encoding/pem"
 	"fmt"
 	"os"
+
+	"capn"
 )
 
 func orFail[T any](value T, err error) T {
@@ -15,6 +17,21 @@ func orFail[T any](value T, err error) T {
 		os.Exit(0)
 	}
 	return value
+}
+
+func showInvoice(message []byte) error {
+	index, err := capn.NewIndex(message, capn.Stream, &limits)
+	if err != nil {
+		return err
+	}
+	invoice := index.Root()
+	customer, _ := invoice.Slot(0).Text()
+	fmt.Println(invoice.Uint64(0, 0), customer)
+	for _, line := range invoice.Slot(1).Rows() {
+		text, _ := line.Slot(0).Text()
+		fmt.Println(text, line.Int64(0, 0))
+	}
+	return nil
 }
 
 func main() {

@@ -3,6 +3,14 @@ import sys
 
 from cryptography.hazmat.primitives.serialization import load_pem_private_key, load_pem_public_key
 
+
+def show_invoice(message: bytes) -> None:
+    invoice = capn.read(message, limits=LIMITS).root
+    print(invoice.uint(64, 0), invoice.text(0))
+    for line in invoice.slots[1]:
+        print(line.text(0), line.int(64, 0))
+
+
 call, *names = sys.argv[1:]
 contents = []
 for name in names[:2] if call == "sign" else names:
