@@ -39,12 +39,14 @@ func blocks(t *testing.T, page, language string) []string {
 	return found
 }
 
-// What the page's functions are called by.
+// What the pages' functions are called by.
 const callers = `package main
 
 import (
+	"bufio"
 	"crypto/ed25519"
 	"encoding/hex"
+	"errors"
 	"fmt"
 	"io"
 	"os"
@@ -56,8 +58,12 @@ type marshaled []byte
 
 func (m marshaled) Marshal() ([]byte, error) { return m, nil }
 
-func init() {
+func main() {
 	if len(os.Args) < 2 {
+		if err := showAll(bufio.NewReader(os.Stdin)); err != nil {
+			fmt.Fprintln(os.Stderr, err)
+			os.Exit(1)
+		}
 		return
 	}
 	message, _ := io.ReadAll(os.Stdin)
@@ -71,21 +77,27 @@ func init() {
 	case "signed":
 		signature, _ := hex.DecodeString(os.Args[2])
 		signer := ed25519.NewKeyFromSeed(make([]byte, 32)).Public().(ed25519.PublicKey)
-		fmt.Println(isSigned(message, signature, signer))
+		is, _ := isSigned(message, signature, signer)
+		fmt.Println(is)
 	case "explain":
 		fmt.Println(explain(message))
 	}
-	os.Exit(0)
 }
 
 `
 
-// The program of docs/GO.md and its functions, in a module of its own that is made as the page says, with what the page
-// says to install, do as the page says.
+// The functions of docs/GO.md, and those that sign and verify of docs/BESIDE-CAPNP.md, in a module of its own that is
+// made as the page says, with what the page says to install, do as the pages say.
 func TestPage(t *testing.T) {
 	shells, parts := blocks(t, "../docs/GO.md", "sh"), blocks(t, "../docs/GO.md", "go")
-	if len(shells) != 2 || len(parts) != 4 {
-		t.Fatalf("%d and %d blocks", len(shells), len(parts))
+	signing := blocks(t, "../docs/BESIDE-CAPNP.md", "go")
+	if len(shells) != 1 || len(parts) != 2 || len(signing) != 1 {
+		t.Fatalf("%d, %d and %d blocks", len(shells), len(parts), len(signing))
+	}
+	// Both pages have the limits, which are the same.
+	limits, signs, is := strings.Cut(signing[0], "\n\n")
+	if !is || !strings.HasPrefix(parts[0], limits+" //") {
+		t.Fatalf("other limits: %s", limits)
 	}
 	folder := t.TempDir()
 	run := func(input []byte, words ...string) (string, string, int) {
@@ -120,14 +132,11 @@ func TestPage(t *testing.T) {
 		mkdir capn-0/go && cp "$1"/*.go "$1"/go.mod capn-0/go && rm capn-0/go/*_test.go
 		sed -i "s,^prefix=.*,prefix=$PWD/capn-0," capn-0/lib/pkgconfig/capn.pc
 		tar czf capn-0.tar.gz capn-0 && rm -r capn-0`, library, here)
-	rest := strings.Join([]string{parts[0], parts[1], parts[3]}, "\n")
-	files := map[string]string{"main.go": parts[2], "parts.go": callers + rest}
-	for name, text := range files {
-		if err := os.WriteFile(filepath.Join(folder, "program", name), []byte(text), 0o666); err != nil {
-			t.Fatal(err)
-		}
+	program := callers + strings.Join([]string{parts[0], signs, parts[1]}, "\n")
+	if err := os.WriteFile(filepath.Join(folder, "program", "main.go"), []byte(program), 0o666); err != nil {
+		t.Fatal(err)
 	}
-	must("sh", "-ec", shells[0]+"cd ../program\ngo mod init example.org/reader\n"+shells[1]+
+	must("sh", "-ec", "(cd program; go mod init example.org/reader)\n"+shells[0]+
 		"unformatted=$(gofmt -l .)\n[ -z \"$unformatted\" ]\ngo vet .\nCGO_CFLAGS= go build -o ../reader .")
 	t.Setenv("LD_LIBRARY_PATH", filepath.Join(folder, "capn-0/lib"))
 
