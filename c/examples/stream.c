@@ -1,8 +1,10 @@
 /* stream: writes the digest of each message of a stream of any length that comes on the standard input, in hexadecimal.
  * It reads what the message at hand needs, and never more: `capn_first` says how much that is. */
 #include "capn.h"
+#include <errno.h>
 #include <stdio.h>
 #include <stdlib.h>
+#include <unistd.h>
 
 int main(void) {
     const capn_limits limits = CAPN_USUAL_LIMITS;
@@ -23,10 +25,13 @@ int main(void) {
                 }
                 bytes = more;
             }
-            size_t came = fread(bytes + have, 1, need - have, stdin);
-            if (came == 0) break;
-            have += came;
-            continue;
+            ssize_t came = read(STDIN_FILENO, bytes + have, need - have);
+            if (came == 0) break; /* the end, between two messages if nothing is held */
+            if (came > 0) have += (size_t)came;
+            if (came > 0 || errno == EINTR) continue;
+            perror("stream"); /* reading failed: what came so far is no whole stream */
+            free(bytes);
+            return 2;
         }
         if (status == CAPN_OK) status = capn_hash(CAPN_STREAM, bytes, have, &limits, digest, &report);
         if (status != CAPN_OK) break;
@@ -35,7 +40,7 @@ int main(void) {
     }
     free(bytes);
     /* A stream ends between two messages, or it is cut. */
-    if (status == CAPN_FRAME_EMPTY && !ferror(stdin)) return 0;
+    if (status == CAPN_FRAME_EMPTY) return 0;
     fprintf(stderr, "stream: %s\n", capn_status_text(status));
     return 1;
 }
