@@ -157,7 +157,8 @@ class Body:
     __slots__ = ()
     kind: Literal["struct"] = "struct"
     words: memoryview
-    """Its data words, each a number below 2^64; `words.cast("B")` are their bytes."""
+    """Its data words, each a number below 2^64; `words.cast("B")` are their bytes. It has those that are stored, and no
+    more: past its end an index is an `IndexError`, and `word` answers 0."""
     slots: Slots
     """The objects of its pointers."""
 

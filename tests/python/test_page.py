@@ -17,14 +17,19 @@ TEXT = bytes.fromhex("0000000004000000" "0000000001000100" "0500000000000000" "0
 
 
 def programs():
-    """The programs of the page, each after what it goes on from: the first one, and the limits."""
-    first, verify, *others = re.findall(r"^```python\n(.*?)^```$", PAGE.read_text(), re.M | re.S)
-    return [first, *(f"{first}\n\n{verify}\n\n{block}" for block in ["", *others])]
+    """The programs of the page: the first one, and each other one after it."""
+    first, *others = re.findall(r"^```python\n(.*?)^```$", PAGE.read_text(), re.M | re.S)
+    return [first, *(f"{first}\n\n{block}" for block in others)]
+
+
+def framed(words):
+    """A message of so many words, of which the first one is a pointer to a struct of the second."""
+    return bytes(4) + words.to_bytes(4, "little") + (1 << 32).to_bytes(8, "little") + bytes(8 * words - 8)
 
 
 class Page(unittest.TestCase):
     def setUp(self):
-        self.digest, self.verify, self.check, self.read, self.told, self.stream = programs()
+        self.first, self.read, self.stream = programs()
 
     def run_on(self, message, program, more=""):
         with tempfile.TemporaryDirectory() as folder:
@@ -35,30 +40,38 @@ class Page(unittest.TestCase):
         return ran.returncode, ran.stdout + ran.stderr
 
     def test_digest(self):
-        self.assertEqual(self.run_on(MESSAGE, self.digest), (0, f"{capn.digest(MESSAGE).hex()}\n"))
-        self.assertEqual(self.run_on(MESSAGE[:-8], self.digest), (1, "refused: frame: Cut\n"))
-        self.assertEqual(self.run_on(MESSAGE * 2, self.digest), (1, "refused: trailing bytes at 32\n"))
-        self.assertEqual(self.run_on(b"", self.digest), (1, "refused: frame: Empty\n"))
-        self.assertEqual(self.run_on(bytes((1 << 20) + 1), self.digest), (1, "too long\n"))
-
-    def after_digest(self, message, program):
-        """What a program says after the digest of its message."""
-        status, wrote = self.run_on(message, program)
-        digest, _, rest = wrote.partition("\n")
-        self.assertEqual(digest, capn.digest(message).hex())
-        return status, rest
-
-    def test_check(self):
-        self.assertEqual(self.after_digest(MESSAGE, self.check), (0, "reading it costs 3 words\n"))
+        told = f"{capn.digest(MESSAGE).hex()}\nreading it costs 3 words\n"
+        self.assertEqual(self.run_on(MESSAGE, self.first), (0, told))
+        self.assertEqual(self.run_on(MESSAGE[:-8], self.first), (1, "refused: frame: Cut\n"))
+        self.assertEqual(self.run_on(MESSAGE * 2, self.first), (1, "refused: trailing bytes at 32\n"))
+        self.assertEqual(self.run_on(b"", self.first), (1, "refused: frame: Empty\n"))
+        # With its table 1 MiB, and what is longer is refused.
+        most = framed((1 << 17) - 1)
+        told = f"{capn.digest(most).hex()}\nreading it costs 2 words\n"
+        self.assertEqual(self.run_on(most, self.first), (0, told))
+        for longer, why in (
+            (most + b"x", "trailing bytes at 1048576"),
+            (framed(1 << 17), "frame: Cut"),
+            (bytes((1 << 20) + 1), "trailing bytes at 8"),
+        ):
+            self.assertEqual(self.run_on(longer, self.first), (1, f"refused: {why}\n"))
         # Structs in each other, 40 deep: within the usual limits, and not within those of the page.
         deep = (41 << 32).to_bytes(8, "little") + (1 << 48).to_bytes(8, "little") * 40 + bytes(8)
-        self.assertEqual(self.after_digest(deep, self.check), (1, "refused: TooDeep at 0:32, paid 64, visits 33\n"))
+        self.assertEqual(self.run_on(deep, self.first), (1, "refused: TooDeep at 0:32, paid 64, visits 33\n"))
+
+    def after_digest(self, message, program):
+        """What a program says after the digest of its message, and what reading it costs."""
+        status, wrote = self.run_on(message, program)
+        digest, cost, rest = wrote.split("\n", 2)
+        self.assertEqual(digest, capn.digest(message).hex())
+        self.assertEqual(cost, f"reading it costs {capn.check(message).paid} words")
+        return status, rest
 
     def test_verify(self):
         digest = capn.digest(MESSAGE)
         for message, expected in (MESSAGE, True), (MESSAGE[:-8], False), (MESSAGE * 2, False), (b"", False):
             asked = f"print(has_digest({message!r}, {digest!r}), has_digest({message!r}, bytes(32)))"
-            status, wrote = self.run_on(MESSAGE, self.verify, asked)
+            status, wrote = self.run_on(MESSAGE, self.first, asked)
             self.assertEqual((status, wrote.splitlines()[-1]), (0, f"{expected} False"))
 
     def test_read(self):
@@ -86,13 +99,13 @@ class Page(unittest.TestCase):
             (TEXT.replace(b"\x22", b"\x52"), "refused at byte 24, way (0,): Range at 0:2, paid 3, visits 2"),
             (TEXT[:-1], "refused at byte None, way None: frame: Cut"),
         ):
-            status, wrote = self.run_on(TEXT, self.told, f"print(told({message!r}))")
+            status, wrote = self.run_on(TEXT, self.first, f"print(told({message!r}))")
             self.assertEqual((status, wrote.splitlines()[-1]), (0, expected))
 
     def test_stream(self):
         figures = capn.Surveyed(words=3, segments=1, paid=3, visits=1, depth=1, capability=None, canonical=False)
         status, wrote = self.run_on(MESSAGE, self.stream)
-        self.assertEqual((status, wrote.splitlines()[1:]), (0, [str(figures)] * 2))
+        self.assertEqual((status, wrote.splitlines()[2:]), (0, [str(figures)] * 2))
 
 
 if __name__ == "__main__":

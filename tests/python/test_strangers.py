@@ -52,7 +52,10 @@ class Schemas(unittest.TestCase):
         self.assertEqual((root.word(0), root.word(1), root.slot(0).text()), (5, 0, "abc"))
         self.assertEqual((root.slot(1).kind, root.slot(1).struct().text(0, "none"), [*root.slot(1).list()]),
                          ("null", "none", []))
-        for wrong in lambda: root.slots[1], lambda: root.slot(0)[4], lambda: root.slot(0).view[4]:
+        # The words are those that are stored, as a memoryview has them: what pads is `word`.
+        self.assertIsInstance(root.words, memoryview)
+        for wrong in (lambda: root.words[1], lambda: root.slots[1], lambda: root.slot(0)[4],
+                      lambda: root.slot(0).view[4]):
             self.assertRaises(IndexError, wrong)
         for wrong in lambda: root.slots[1], lambda: root.slot(0)[4], lambda: root.slots[-2]:
             self.assertRaises(ValueError, wrong)
