@@ -7,7 +7,7 @@ use Rattle.capn_canon.proofs.calls.Answered.{denoted_here}
 use Rattle.capn_canon.proofs.bare_verdict.are_canonical.Goals as goal
 
 pub returns-in-None-clause-found : goal.returns-in-None-clause-found
-returns-in-None-clause-found g c =
+returns-in-None-clause-found c =
     let f = c.in_ok-checked.ensures.found in
     let b = c.in_ok-space.ensures.exact in
     let free = sym f.capability ∙ c.in-None.is in
@@ -19,7 +19,7 @@ returns-in-None-clause-found g c =
     }
 
 pub returns-in-None-clause-only : goal.returns-in-None-clause-only
-returns-in-None-clause-only g c v h n =
+returns-in-None-clause-only c v h n =
     let m = c.in_ok-space.space ∷ [] in
     let f = c.in_ok-checked.ensures.found in
     let b = c.in_ok-space.ensures.exact in
