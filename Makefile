@@ -119,10 +119,10 @@ library:
 	@.ci/prove capn_c
 	@$(MAKE) --no-print-directory linked
 
-# The program and the library, proved in one run. By kit 13f it took 41 minutes by the clock from nothing, on a machine
-# with four cores that did nothing else, and 82 of processors, when each crate was proved by `rt check`; by `rt ci`, as
-# now, it was not timed yet. The longest chain is capn_words, value, target, walk, layout, canon, serve, archive,
-# orders, tool and capn, each after the other.
+# The program and the library, proved in one run. All of `make test`, which is this and more, took 28 minutes by the
+# clock from nothing, on a machine with four cores that did nothing else (bench/gate.md); others take up to twice that.
+# The longest chain is capn_words, value, target, walk, layout, canon, serve, archive, orders, tool and capn, each after
+# the other.
 beside:
 	@.ci/prove capn capn_c
 	@$(MAKE) --no-print-directory linked
