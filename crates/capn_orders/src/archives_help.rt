@@ -5,6 +5,9 @@ use crate::help::Page;
 
 /// `list`.
 pub const LIST: Page = Page {
+    first: "To see what an archive has in it, and what of it is refused:
+  capn list < messages
+  capn list --keep-going --digest < messages",
     usage: "capn list [OPTIONS] < INPUT",
     about: "Writes a line for each message: its place, size, price and form",
     more: "The line is `N at A bytes B segments S words W paid P visits V depth D
@@ -29,14 +32,13 @@ Exit status:
   3  Reading or writing failed, the input is longer than 2^64 - 1 bytes, or
      memory ran out
 With 1 and 3 one line on standard error says why, or with `--keep-going` two;
-the manual page explains them under DIAGNOSTICS.
-
-Example:
-  capn list < messages",
+the manual page explains them under DIAGNOSTICS.",
 };
 
 /// `limits`.
 pub const LIMITS: Page = Page {
+    first: "To learn with which limits your own messages are to be read:
+  capn limits --message-words 268435456 --budget 268435456 --depth 256 < A",
     usage: "capn limits [OPTIONS] < INPUT",
     about: "Writes which limits the messages need, and some to read them with",
     more: "At the end come five lines. `messages N` tells how many messages there are;
@@ -58,14 +60,14 @@ Exit status:
   3  Reading or writing failed, the input is longer than 2^64 - 1 bytes, or
      memory ran out
 With 1 and 3 one line on standard error says why, or with `--keep-going` two;
-the manual page explains them under DIAGNOSTICS.
-
-Example:
-  capn limits --message-words 268435456 --budget 268435456 --depth 256 < A",
+the manual page explains them under DIAGNOSTICS.",
 };
 
 /// `canonical`.
 pub const CANONICAL: Page = Page {
+    first: "To get the same bytes for the same value, whoever wrote the message:
+  capn canonical < message > message.canonical
+  capn canonical --framed < messages > messages.canonical",
     usage: "capn canonical [OPTIONS] < INPUT",
     about: "Writes the canonical bytes of one message, or `--framed` of each",
     more: "They are the words of one segment, without a segment table and not packed. Those
@@ -84,15 +86,14 @@ Exit status:
   3  Reading or writing failed, the input is longer than 2^32 bytes, or with
      `--framed` than 2^64 - 1, or memory ran out
 With 1 and 3 one line on standard error says why, or with `--keep-going` two;
-the manual page explains them under DIAGNOSTICS.
-
-Examples:
-  capn canonical < message > message.canonical
-  capn canonical --framed < messages > messages.canonical",
+the manual page explains them under DIAGNOSTICS.",
 };
 
 /// `uniq`.
 pub const UNIQ: Page = Page {
+    first: "To keep one message of each value, or to count the values:
+  capn uniq < messages > distinct
+  capn uniq --count < messages",
     usage: "capn uniq [OPTIONS] < INPUT",
     about: "Writes each message whose value no message before it had",
     more: "Values are compared by the SHA-256 of their canonical bytes, as `hash` writes
@@ -112,15 +113,14 @@ Exit status:
   3  Reading or writing failed, the input is longer than 2^64 - 1 bytes, or
      memory ran out
 With 1 and 3 one line on standard error says why, or with `--keep-going` two;
-the manual page explains them under DIAGNOSTICS.
-
-Examples:
-  capn uniq < messages > distinct
-  capn uniq --count < messages",
+the manual page explains them under DIAGNOSTICS.",
 };
 
 /// `pick`.
 pub const PICK: Page = Page {
+    first: "To take messages out of an archive by their numbers:
+  capn pick --from 3 --to 3 < messages > message
+  capn pick --only 3,7,9-12 < messages > some",
     usage: "capn pick [OPTIONS] < INPUT",
     about: "Writes some of the messages of a stream as they stand",
     more: "Messages are numbered from 1, as `list` numbers them. Those from `--from` to
@@ -138,9 +138,5 @@ Exit status:
   3  Reading or writing failed, the input is longer than 2^64 - 1 bytes, or
      memory ran out
 With 1 and 3 one line on standard error says why; the manual page explains it
-under DIAGNOSTICS.
-
-Examples:
-  capn pick --from 3 --to 3 < messages > message
-  capn pick --only 3,7,9-12 < messages > some",
+under DIAGNOSTICS.",
 };

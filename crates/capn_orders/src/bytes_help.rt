@@ -5,6 +5,8 @@ use crate::help::Page;
 
 /// `pack`.
 pub const PACK: Page = Page {
+    first: "To make a message smaller, as Cap'n Proto packs it:
+  capn pack < message > message.packed",
     usage: "capn pack [OPTIONS] < INPUT",
     about: "Packs the input, whose bytes are whole words",
     more: "Exit status:
@@ -15,14 +17,13 @@ pub const PACK: Page = Page {
   3  Reading or writing failed, the input is longer than 2^32 bytes, or with
      `--streaming` than 2^64 - 1, or memory ran out
 With 1 and 3 one line on standard error says why; the manual page explains it
-under DIAGNOSTICS.
-
-Example:
-  capn pack < message > message.packed",
+under DIAGNOSTICS.",
 };
 
 /// `unpack`.
 pub const UNPACK: Page = Page {
+    first: "To get back what was packed:
+  capn unpack < message.packed > message",
     usage: "capn unpack [OPTIONS] < INPUT",
     about: "Unpacks the input, which is packed",
     more: "Exit status:
@@ -33,14 +34,13 @@ pub const UNPACK: Page = Page {
   3  Reading or writing failed, the input is longer than 2^32 bytes, or with
      `--streaming` than 2^64 - 1, or memory ran out
 With 1 and 3 one line on standard error says why; the manual page explains it
-under DIAGNOSTICS.
-
-Example:
-  capn unpack < message.packed > message",
+under DIAGNOSTICS.",
 };
 
 /// `make`.
 pub const MAKE: Page = Page {
+    first: "To write a message by hand, or to change one that `show` wrote:
+  printf 'struct 1 0\\n  word 0000000000000005\\nend\\n' | capn make > message",
     usage: "capn make [OPTIONS] < TEXTS",
     about: "Makes messages from texts: the inverse of `show`",
     more: "Each text is the value of one message, in the very form in which `show` writes
@@ -60,8 +60,5 @@ Exit status:
   3  Reading or writing failed, the input is longer than 2^64 - 1 bytes, or
      memory ran out
 With 1 and 3 one line on standard error says why; the manual page explains it
-under DIAGNOSTICS.
-
-Example:
-  printf 'struct 1 0\\n  word 0000000000000005\\nend\\n' | capn make > message",
+under DIAGNOSTICS.",
 };

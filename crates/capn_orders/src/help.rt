@@ -3,11 +3,13 @@
 /// What help says of the program, or of one command.
 #[derive(Clone, Copy)]
 pub struct Page {
+    /// What one would do with it, and examples.
+    pub first: &'static str,
     /// The command line that it takes.
     pub usage: &'static str,
     /// What it does, in one line for a command.
     pub about: &'static str,
-    /// What it takes, its exit statuses and an example.
+    /// What it takes and writes, and its exit statuses.
     pub more: &'static str,
 }
 
@@ -23,13 +25,16 @@ pub const TITLE: &str =
 
 /// The program.
 pub const PROGRAM: Page = Page {
+    first: "To see what a message holds, and to refuse one before a reader gets it:
+  capn show < message
+  capn check --budget 100000 --depth 20 < message",
     usage: "capn <COMMAND> [OPTIONS] < INPUT",
     about: "Shows, checks, lists, canonicalises, hashes, packs and unpacks messages, tells
 which limits they need, and explains why one is refused. No message can make it
 read forever: following a pointer costs words of a budget, and the depth of
 objects has a limit.",
     more: "Input is standard input, and output is standard output.
-`capn <COMMAND> --help` says what a command takes and writes, with an example.
+`capn <COMMAND> --help` says what it is for, what it takes and what it writes.
 
 Exit status:
   0  Done
@@ -38,8 +43,5 @@ Exit status:
   3  Reading or writing failed, the input is longer than the command takes, or
      memory ran out
 With 1 and 3 one line on standard error says why; the manual page explains it
-under DIAGNOSTICS.
-
-Example:
-  capn show < message",
+under DIAGNOSTICS.",
 };

@@ -5,6 +5,12 @@ use crate::help::Page;
 
 /// `show`.
 pub const SHOW: Page = Page {
+    first: "To see what a message holds, or what stands at one place in it:
+  capn show < message
+  capn show --at 0.3.1 < message
+To go on with other tools, or to see where each part lies and how it is reached:
+  capn show --json < messages
+  capn show --offsets --ways < message",
     usage: "capn show [OPTIONS] < INPUT",
     about: "Writes the value of each message as text, and then the line `end`",
     more: "Each message is answered as soon as it is complete.
@@ -33,17 +39,13 @@ Exit status:
   3  Reading or writing failed, the input is longer than 2^32 bytes, or with
      `--at`, `--text`, `--json` or marks than 2^64 - 1, or memory ran out
 With 1 and 3 one line on standard error says why; the manual page explains it
-under DIAGNOSTICS.
-
-Examples:
-  capn show < message
-  capn show --at 0.3.1 < message
-  capn show --json < messages
-  capn show --offsets --ways < message",
+under DIAGNOSTICS.",
 };
 
 /// `check`.
 pub const CHECK: Page = Page {
+    first: "To refuse what is invalid or too costly before a reader gets it:
+  capn check --budget 100000 --depth 20 < message",
     usage: "capn check [OPTIONS] < INPUT",
     about: "Writes `ok paid P visits V` for each message: what reading it costs",
     more: "P is the price in words, which `--budget` bounds. V is the number of slots that
@@ -59,14 +61,14 @@ Exit status:
   3  Reading or writing failed, the input is longer than 2^32 bytes, or memory
      ran out
 With 1 and 3 one line on standard error says why; the manual page explains it
-under DIAGNOSTICS.
-
-Example:
-  capn check --budget 100000 --depth 20 < message",
+under DIAGNOSTICS.",
 };
 
 /// `explain`.
 pub const EXPLAIN: Page = Page {
+    first: "To learn why a message is refused, or why it isn't canonical:
+  capn explain < messages
+  capn explain --number 3 < messages",
     usage: "capn explain [OPTIONS] < INPUT",
     about: "Explains the first message that is refused, down to the byte",
     more: "The lines `KEY: TEXT` say which message it is, where it begins and why it is
@@ -93,15 +95,13 @@ Exit status:
   3  Reading or writing failed, the input is longer than 2^64 - 1 bytes, or
      memory ran out
 With 1 and 3 one line on standard error says why; the manual page explains it
-under DIAGNOSTICS.
-
-Examples:
-  capn explain < messages
-  capn explain --number 3 < messages",
+under DIAGNOSTICS.",
 };
 
 /// `hash`.
 pub const HASH: Page = Page {
+    first: "To sign messages, or to compare and find them by their values:
+  capn hash < message",
     usage: "capn hash [OPTIONS] < INPUT",
     about: "Writes the SHA-256 of each message's canonical bytes, one to a line",
     more: "A line has 64 lower-case hexadecimal digits. A message with a capability has no
@@ -115,8 +115,5 @@ Exit status:
   3  Reading or writing failed, the input is longer than 2^32 bytes, or memory
      ran out
 With 1 and 3 one line on standard error says why; the manual page explains it
-under DIAGNOSTICS.
-
-Example:
-  capn hash < message",
+under DIAGNOSTICS.",
 };

@@ -20,6 +20,7 @@ fn plain_command<'a>(alloc: Global, name: &'a str, page: Page) -> Command<'a>
     ensures local { (out-Command result).has_globals ≡ false }
 {
     Command::new(alloc, name)
+        .before_help(page.first)
         .about(page.about)
         .after_help(page.more)
         .override_usage(page.usage)
