@@ -1,10 +1,15 @@
 -- What holds of the definitions alone. (Own.)
-use Rattle.std.specs.Prelude.{◌≡◌, ℕ, List, Result}
+use Rattle.std.specs.Prelude.{◌≡◌, ◌≢◌, ℕ, List, false, Result, Ok}
+use Rattle.capn_walk.specs.Limits.{Bounds}
+use Rattle.capn_canon.specs.declared.form.Form.TheVariants as forms
 use Rattle.capn_archive.specs.ArchiveRun as archives
 use Rattle.capn_archive.specs.UniqRun as uniqs
+use Rattle.capn_archive.specs.FilterRun as filters
 use Rattle.capn_archive.specs.Finish.{IsWholeText}
 use Rattle.capn_archive.specs.declared.fault.ArchiveFault.{ArchiveFault}
+use Rattle.capn_archive.specs.declared.filter_order.FilterOrder.{FilterOrder}
 use Rattle.capn_archive.specs.declared.task.ArchiveOrder.{ArchiveOrder}
+use Rattle.capn_archive.specs.declared.task.Task.TheVariants as tasks
 use Rattle.capn_archive.specs.declared.uniq_order.UniqOrder.{UniqOrder}
 
 -- a run over an archive writes one text of an input, and ends in one way
@@ -21,3 +26,23 @@ OneUniq = (order : UniqOrder) (input t u : List ℕ) (r s : Result (Unit {0}) Ar
     → IsWholeText (uniqs.uniq_fold order) (uniqs.first_run order) uniqs.uniq_finish order.form input t r
     → IsWholeText (uniqs.uniq_fold order) (uniqs.first_run order) uniqs.uniq_finish order.form input u s
     → (t ≡ u) × (r ≡ s)
+
+-- and so does one that lets accepted messages through
+abbrev pub OneFilter : Type 0
+OneFilter = (order : FilterOrder) (input t u : List ℕ) (r s : Result (Unit {0}) ArchiveFault)
+    → IsWholeText (filters.filter_fold order) (filters.first_run order) filters.filter_finish order.form input t r
+    → IsWholeText (filters.filter_fold order) (filters.first_run order) filters.filter_finish order.form input u s
+    → (t ≡ u) × (r ≡ s)
+
+-- `list` over a stream, with these limits
+abbrev pub listing : Bounds → ArchiveOrder
+listing limits = record { task = tasks.List; form = forms.Stream; limits = limits; keep_going = false }
+
+-- what a filter lets through of a stream, which may be packed, is a stream that `list` with the same limits serves to
+-- its end: it ends as done, whatever the input was and however the filter ended
+abbrev pub FilteredIsListed : Type 0
+FilteredIsListed = (order : FilterOrder) (input text lines : List ℕ) (r s : Result (Unit {0}) ArchiveFault)
+    → order.form ≢ forms.Bare
+    → IsWholeText (filters.filter_fold order) (filters.first_run order) filters.filter_finish order.form input text r
+    → IsWholeText (archives.archive_fold (listing order.limits)) (archives.first_run (listing order.limits))
+    (archives.archive_finish (listing order.limits)) forms.Stream text lines s → s ≡ Ok tt

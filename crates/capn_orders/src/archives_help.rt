@@ -119,6 +119,37 @@ Examples:
   capn uniq --count < messages",
 };
 
+/// `filter`.
+pub const FILTER: Page = Page {
+    usage: "capn filter [OPTIONS] < INPUT",
+    about: "Writes each message that is accepted, and holds back the others",
+    more: "A guard before a reader that sets itself no limits. A message is written as it
+stands, with its segment table, byte for byte; of a packed input it is written
+unpacked, and a bare input is written as it is. A message whose walk is refused,
+as `list` refuses it with the same limits, ends the run: nothing after it is
+written. With `--keep-going` it is left out. A capability is no reason to hold a
+message back.
+With `--canonical` a message that is not canonical is held back too, and so is
+one with a capability. The line on standard error names it `not canonical`, and
+`capn explain --number N` says why it isn't.
+Each message is answered as soon as it is complete, and the input may have any
+length.
+
+Exit status:
+  0  Done
+  1  A message was held back; those before it have been written, and with
+     `--keep-going` all others
+  2  The command line is wrong
+  3  Reading or writing failed, the input is longer than 2^64 - 1 bytes, or
+     memory ran out
+With 1 and 3 one line on standard error says why, or with `--keep-going` two;
+the manual page explains them under DIAGNOSTICS.
+
+Examples:
+  capn filter --keep-going < messages | reader
+  capn filter --canonical < messages > canonical-ones",
+};
+
 /// `pick`.
 pub const PICK: Page = Page {
     usage: "capn pick [OPTIONS] < INPUT",

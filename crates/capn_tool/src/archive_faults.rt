@@ -59,6 +59,7 @@ impl fmt::Display for Text {
             ArchiveFault::Io => write!(f, "input or output failed"),
             ArchiveFault::InputTooLong => write!(f, "input too long"),
             ArchiveFault::Refused(at, refusal) => write!(f, "message {}: {refusal}", Place(*at)),
+            ArchiveFault::NotCanonical(at) => write!(f, "message {}: not canonical", Place(*at)),
             ArchiveFault::Skipped(skipped) => write!(f, "{}", Passed(*skipped)),
             ArchiveFault::RefusedAfterSkipped(skipped, at, refusal) => write!(
                 f,

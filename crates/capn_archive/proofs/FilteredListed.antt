@@ -1,0 +1,289 @@
+-- What a filter lets through is accepted.
+use Rattle.std.proofs.Common.{◌≡◌, ◌≢◌, ◌⊎◌, inl, inr, ℕ, ◌+◌, ◌≤◌, List, [], ◌∷◌, ◌++◌, length, take, Bool, true, false}
+use Rattle.std.proofs.Common.{Option, Some, None, Result, Ok, Err, ⊤, refl, ap, sym, subst, ◌∙◌, append_assoc, arith}
+use Rattle.std.proofs.Common.{append-nil, length-append}
+use Rattle.std.proofs.Math.Seq.{take-length, take-append-le}
+use Rattle.std.proofs.lemmas.Bool.{le-ltb}
+use Rattle.std.proofs.lemmas.List.{length-take, take_all}
+use Rattle.capn_words.specs.Message.{total}
+use Rattle.capn_walk.specs.Limits.{Bounds}
+use Rattle.capn_walk.specs.Accepted.{IsAccepted}
+use Rattle.capn_stream.specs.Frames.{Frames, StandsFirst}
+use Rattle.capn_stream.specs.declared.fault.FrameFault.{FrameFault}
+use Rattle.capn_stream.specs.declared.fault.FrameFault.TheVariants as frame_faults
+use Rattle.capn_stream.proofs.shared.FrameLaws.{refused_whole, stands_alone, whole_of, one_refusal}
+use Rattle.capn_canon.specs.declared.form.Form.{Form}
+use Rattle.capn_canon.specs.declared.form.Form.TheVariants as forms
+use Rattle.capn_serve.specs.declared.fault.RunFault.{RunFault}
+use Rattle.capn_serve.specs.declared.service.Run.{Run}
+use Rattle.capn_serve.specs.Fold.{AreServed, EndsRefused, EndsUnframed, Fold, IsFolded, Part, end_of, frames_of, texts_of}
+use Rattle.capn_serve.specs.FormRun.{AreMessages, most_stream}
+use Rattle.capn_serve.specs.StreamRun.{behind, has_more, taken_of}
+use Rattle.capn_serve.proofs.shared.OneServing.{one_front}
+use Rattle.capn_archive.specs.ArchiveRun as archives
+use Rattle.capn_archive.specs.FilterRun as filters
+use Rattle.capn_archive.specs.FilterMessages.{serves}
+use Rattle.capn_archive.specs.Finish.{Closes, IsWholeText, outcome_by}
+use Rattle.capn_archive.specs.Laws.{FilteredIsListed, listing}
+use Rattle.capn_archive.specs.Tasks as archive_tasks
+use Rattle.capn_archive.specs.Tasks.{IsServedBy, IsSkippedBy}
+use Rattle.capn_archive.specs.declared.task.Task.TheVariants as tasks
+use Rattle.capn_archive.specs.declared.tally.Tally.{Tally}
+use Rattle.capn_serve.specs.declared.position.Position.{Position}
+use Rattle.capn_archive.specs.declared.archive_service.ArchiveService.{ArchiveService}
+use Rattle.capn_archive.specs.declared.fault.ArchiveFault.{ArchiveFault}
+use Rattle.capn_archive.specs.declared.filter_order.FilterOrder.{FilterOrder}
+use Rattle.capn_archive.specs.declared.filter_service.FilterService.{FilterService}
+use Rattle.capn_archive.specs.declared.tally.SkippedSoFar.{SkippedSoFar}
+use Rattle.capn_archive.specs.declared.task.ArchiveOrder.{ArchiveOrder}
+use Rattle.capn_archive.proofs.OneFilter.{accepted_of, not_refused}
+
+abbrev Ending : Type 0
+Ending = Result (Unit {0}) RunFault
+
+abbrev Last : Type 0
+Last = Result (Unit {0}) ArchiveFault
+
+abbrev Filtering : Type 0
+Filtering = Run FilterService
+
+abbrev Listing : Type 0
+Listing = Run ArchiveService
+
+-- the frames of these messages are whole, and each is accepted
+abbrev AreAccepted : Bounds → List Part → Type 0
+AreAccepted limits [] = ⊤
+AreAccepted limits (p ∷ ps) = Frames p.frame p.message × (total p.message ≤ limits.message_words)
+    × IsAccepted p.message limits × AreAccepted limits ps
+
+-- some messages that are accepted, of which a text is the frames, no longer than these bytes
+record Kept (limits : Bounds) (text bytes : List ℕ) : Type 0 where
+  pub parts : List Part
+  pub are : AreAccepted limits parts
+  pub joined : text ≡ frames_of parts
+  pub short : length text ≤ length bytes
+
+-- ---- what a filter lets through
+
+module _ (order : FilterOrder) where
+  abbrev f : Fold Filtering
+  f = filters.filter_fold order
+
+  -- one message more, which is let through
+  one_kept : (p : Part) (text bytes : List ℕ) → Frames p.frame p.message → total p.message ≤ order.limits.message_words
+      → IsAccepted p.message order.limits → p.text ≡ p.frame → Kept order.limits text bytes
+      → Kept order.limits (p.text ++ text) (p.frame ++ bytes)
+  one_kept p text bytes framed room is own kept = record {
+    parts = p ∷ kept.parts;
+    are = (framed, room, is, kept.are);
+    joined = λ i. own i ++ kept.joined i;
+    short = omega (
+      arith,
+      kept.short,
+      ap length own,
+      length-append p.text text,
+      length-append p.frame bytes,
+    );
+  }
+
+  -- or is held back
+  none_kept : (p : Part) (text bytes : List ℕ) → p.text ≡ [] → Kept order.limits text bytes
+      → Kept order.limits (p.text ++ text) (p.frame ++ bytes)
+  none_kept p text bytes none kept = record {
+    parts = kept.parts;
+    are = kept.are;
+    joined = ap (λ (l : List ℕ). l ++ text) none ∙ kept.joined;
+    short = omega (
+      arith,
+      kept.short,
+      ap length none,
+      length-append p.text text,
+      length-append p.frame bytes,
+    );
+  }
+
+  -- the texts of messages are the frames of those that are let through
+  kept_of : (x y : Filtering) (ps : List Part) → x.service.order ≡ order → AreServed f x ps y
+      → Kept order.limits (texts_of ps) (frames_of ps)
+  kept_of x y [] same is = record { parts = []; are = tt; joined = refl; short = omega arith }
+  kept_of x y (p ∷ ps) same (mid, part, step, more) = go step.0
+    where
+      go : serves x.service x.at p.frame p.message p.text mid.service
+          → Kept order.limits (texts_of (p ∷ ps)) (frames_of (p ∷ ps))
+      go (inl (passes, own, stays)) =
+          let is = subst (λ (o : FilterOrder). IsAccepted p.message o.limits) same
+          (accepted_of p.message x.service.order.limits x.service.order.canonical passes) in
+          let next = kept_of mid y ps (ap (λ (s : FilterService). s.order) stays ∙ same) more in
+          one_kept p (texts_of ps) (frames_of ps) part.frame part.room is own next
+      go (inr (inl (going, held, none, after))) =
+          none_kept p (texts_of ps) (frames_of ps) none
+          (kept_of mid y ps (ap (λ (s : FilterService). s.order) after ∙ same) more)
+      go (inr (inr (ends, held, none, after))) =
+          none_kept p (texts_of ps) (frames_of ps) none
+          (kept_of mid y ps (ap (λ (s : FilterService). s.order) after ∙ same) more)
+
+  -- what is written of bytes that are not too many is frames of accepted messages, and not too long
+  record Through (text : List ℕ) : Type 0 where
+    pub parts : List Part
+    pub are : AreAccepted order.limits parts
+    pub joined : text ≡ frames_of parts
+    pub short : length text ≤ most_stream
+
+  through_of : (bytes text : List ℕ) (last : Option RunFault) (r : Ending) (y : Filtering)
+      → IsFolded f (filters.first_run order) (taken_of most_stream bytes) last text r y → Through text
+  through_of bytes text last r y due =
+      let kept = kept_of (filters.first_run order) y due.parts refl due.are.each in
+      record {
+        parts = kept.parts;
+        are = kept.are;
+        joined = due.joined ∙ kept.joined;
+        short = omega (
+          arith,
+          kept.short,
+          ap length due.joined,
+          ap length due.are.is,
+          length-append (frames_of due.parts) due.rest,
+          length-take most_stream bytes,
+        );
+      }
+
+  -- a stream, packed or not
+  of_messages : (form : Form) (input text : List ℕ) (r : Ending) (y : Filtering) → form ≢ forms.Bare
+      → AreMessages f (filters.first_run order) form input text r y → Through text
+  of_messages forms.Stream input text r y other due =
+      through_of input text (behind (has_more most_stream input)) r y due
+  of_messages forms.Packed input text r y other due = through_of due.stream text _ r y due.due
+  of_messages forms.Bare input text r y other due = absurd (other refl)
+
+  of_closed : (messages text : List ℕ) (served : Ending) (y : Filtering) (r : Last)
+      → Closes f (filters.first_run order) filters.filter_finish messages served y text r → text ≡ messages
+  of_closed messages text (Ok u) y r (is, ends) = is ∙ append-nil messages
+  of_closed messages text (Err e) y r (is, ends) = is
+
+  of_whole : (input text : List ℕ) (r : Last) → order.form ≢ forms.Bare
+      → IsWholeText f (filters.first_run order) filters.filter_finish order.form input text r → Through text
+  of_whole input text r other (messages, served, y, are, closes) =
+      subst (λ (t : List ℕ). Through t) (sym (of_closed messages text served y r closes))
+      (of_messages order.form input messages served y other are)
+
+-- ---- what `list` does with it
+
+module _ (limits : Bounds) where
+  abbrev g : Fold Listing
+  g = archives.archive_fold (listing limits)
+
+  -- what a run ends with, and how many it has skipped
+  abbrev IsDone : Listing → Listing → Ending → Type 0
+  IsDone x y r = (r ≡ Ok tt) × (y.service.tally.skipped ≡ x.service.tally.skipped)
+
+  abbrev Open : Listing → List ℕ → Ending → Type 0
+  Open y rest r = EndsUnframed g y rest None r ⊎ EndsRefused g y rest r
+
+  -- an accepted message comes first in bytes
+  first_whole : (p : Part) (more : List ℕ) → Frames p.frame p.message → total p.message ≤ limits.message_words
+      → StandsFirst (p.frame ++ more) limits.message_words p.message (length p.frame)
+  first_whole p more framed room =
+      let front : take (length p.frame) (p.frame ++ more) ≡ p.frame =
+      take-append-le (length p.frame) p.frame more (omega arith) ∙ take-length p.frame in
+      record {
+        inside = omega (arith, length-append p.frame more);
+        frame = subst (λ (xs : List ℕ). Frames xs p.message) (sym front) framed;
+        room = room;
+      }
+
+  -- no bytes are no frame
+  no_frame : (frame more : List ℕ) (message : List (List ℕ)) → Frames frame message
+      → total message ≤ limits.message_words → [] ≡ frame ++ more → ⊥
+  no_frame frame more message framed room none =
+      let is : length frame ≡ 0 = omega (arith, ap length none, length-append frame more) in
+      let whole = whole_of frame limits.message_words message (length frame)
+      (stands_alone frame limits.message_words message framed room) in
+      let bad = refused_whole frame limits.message_words frame_faults.Empty whole is in cc
+
+  -- after all bytes a run is done
+  ends_empty : (y : Listing) (r : Ending) → Open y [] r → r ≡ Ok tt
+  ends_empty y r (inl (e, other, refused, is)) =
+      let empty = one_refusal [] limits.message_words e frame_faults.Empty refused refl other (λ h. cc) in
+      is ∙ ap (λ (x : FrameFault). end_of y.at x None) empty
+  ends_empty y r (inr (frame, more, message, refusal, is, framed, room, why, e)) =
+      absurd (no_frame frame more message framed room is)
+
+  -- it does not end before an accepted message
+  never_before : (y : Listing) (p : Part) (more : List ℕ) (r : Ending) → y.service.order ≡ listing limits
+      → Frames p.frame p.message → total p.message ≤ limits.message_words → IsAccepted p.message limits
+      → Open y (p.frame ++ more) r → ⊥
+  never_before y p more r same framed room is (inl (e, other, refused, ends)) =
+      other (refused_whole (p.frame ++ more) limits.message_words e
+      (whole_of (p.frame ++ more) limits.message_words p.message (length p.frame) (first_whole p more framed room))
+      refused)
+  never_before y p more r same framed room is (inr (frame, after, message, refusal, joined, also, few, why, ends)) =
+      let one = one_front limits.message_words frame p.frame after more message p.message also few framed room
+      (sym joined) in
+      let refused = subst (λ (o : ArchiveOrder). archive_tasks.IsRefusedBy o.task message o.limits refusal) same why.1 in
+      not_refused p.message limits refusal is
+      (subst (λ (m : List (List ℕ)). archive_tasks.IsRefusedBy (listing limits).task m limits refusal) one.0 refused)
+
+  -- a message is listed, and none is skipped
+  listed_tally : (tally after : Tally) (at : Position) (frame text : List ℕ) (message : List (List ℕ))
+      → (IsServedBy tasks.List limits tally at frame message text after
+      ⊎ IsSkippedBy (listing limits) tally at frame message text after) → after.skipped ≡ tally.skipped
+  listed_tally tally after at frame text message (inl (findings, are, line, same)) =
+      ap (λ (t : Tally). t.skipped) same
+  listed_tally tally after at frame text message (inr (going, skipped)) = absurd (cc)
+
+  listed : (s t : ArchiveService) (at : Position) (frame text : List ℕ) (message : List (List ℕ))
+      → s.order ≡ listing limits → archive_tasks.serves s at frame message text t
+      → (t.order ≡ listing limits) × (t.tally.skipped ≡ s.tally.skipped)
+  listed s t at frame text message same (order, does) = (
+    order ∙ same,
+    listed_tally s.tally t.tally at frame text message (subst (λ (o : ArchiveOrder).
+    IsServedBy o.task o.limits s.tally at frame message text t.tally
+    ⊎ IsSkippedBy o s.tally at frame message text t.tally) same does),
+  )
+
+  -- a run over the frames of accepted messages is done, and has skipped no more
+  done_of : (x y : Listing) (ks qs : List Part) (rest : List ℕ) (r : Ending) → x.service.order ≡ listing limits
+      → AreAccepted limits ks → AreServed g x qs y → frames_of ks ≡ frames_of qs ++ rest → Open y rest r → IsDone x y r
+  done_of x y [] [] rest r same are is joined open = (
+    ends_empty y r (subst (λ (l : List ℕ). Open y l r) (sym joined) open),
+    sym (ap (λ (w : Listing). w.service.tally.skipped) is),
+  )
+  done_of x y [] (q ∷ qs) rest r same are (mid, part, step, more) joined open =
+      absurd (no_frame q.frame (frames_of qs ++ rest) q.message part.frame part.room
+      (joined ∙ append_assoc q.frame (frames_of qs) rest))
+  done_of x y (k ∷ ks) [] rest r same (framed, room, accepted, are) is joined open =
+      absurd (never_before y k (frames_of ks) r (ap (λ (w : Listing). w.service.order) (sym is) ∙ same) framed room
+      accepted (subst (λ (l : List ℕ). Open y l r) (sym joined) open))
+  done_of x y (k ∷ ks) (q ∷ qs) rest r same (framed, room, accepted, are) (mid, part, step, more) joined open =
+      let split = one_front limits.message_words k.frame q.frame (frames_of ks) (frames_of qs ++ rest) k.message
+      q.message framed room part.frame part.room (joined ∙ append_assoc q.frame (frames_of qs) rest) in
+      let next = listed x.service mid.service x.at q.frame q.text q.message same step.0 in
+      let last = done_of mid y ks qs rest r next.0 are more split.1.1 open in
+      (last.0, last.1 ∙ next.1)
+
+  -- so it ends as done
+  closed : (messages lines : List ℕ) (served : Ending) (y : Listing) (s : Last) → IsDone (archives.first_run
+      (listing limits)) y served → Closes g (archives.first_run (listing limits))
+      (archives.archive_finish (listing limits)) messages served y lines s → s ≡ Ok tt
+  closed messages lines (Ok u) y s (ends, none) (is, last) =
+      last ∙ ap (λ (k : Option SkippedSoFar). outcome_by k y.at.index) none
+  closed messages lines (Err e) y s (ends, none) closes = absurd (cc)
+
+  listed_all : (text lines : List ℕ) (s : Last) (ks : List Part) → AreAccepted limits ks → text ≡ frames_of ks
+      → length text ≤ most_stream
+      → IsWholeText g (archives.first_run (listing limits)) (archives.archive_finish (listing limits)) forms.Stream text
+      lines s → s ≡ Ok tt
+  listed_all text lines s ks are is short (messages, served, y, due, closes) =
+      let x = archives.first_run (listing limits) in
+      let all : taken_of most_stream text ≡ text = take_all most_stream text short in
+      let no_more : has_more most_stream text ≡ false = le-ltb most_stream (length text) short in
+      let ends = subst (λ (b : Bool). IsFolded g x (taken_of most_stream text) (behind b) messages served y) no_more
+      due in
+      closed messages lines served y s
+      (done_of x y ks ends.parts ends.rest served refl are ends.are.each (sym is ∙ sym all ∙ ends.are.is) ends.ends)
+      closes
+
+pub filtered_listed : FilteredIsListed
+filtered_listed order input text lines r s other through listed =
+    let kept = of_whole order input text r other through in
+    listed_all order.limits text lines s kept.parts kept.are kept.joined kept.short listed
