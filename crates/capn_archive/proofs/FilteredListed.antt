@@ -1,6 +1,6 @@
 -- What a filter lets through is accepted.
-use Rattle.std.proofs.Common.{◌≡◌, ◌≢◌, ◌⊎◌, inl, inr, ℕ, ◌+◌, ◌≤◌, List, [], ◌∷◌, ◌++◌, length, take, Bool, true, false}
-use Rattle.std.proofs.Common.{Option, Some, None, Result, Ok, Err, ⊤, refl, ap, sym, subst, ◌∙◌, append_assoc, arith}
+use Rattle.std.proofs.Common.{◌≡◌, ◌≢◌, ◌⊎◌, inl, inr, ℕ, ◌≤◌, List, [], ◌∷◌, ◌++◌, length, take, Bool, true, false}
+use Rattle.std.proofs.Common.{Option, None, Result, Ok, Err, ⊤, refl, ap, sym, subst, ◌∙◌, append_assoc, arith}
 use Rattle.std.proofs.Common.{append-nil, length-append}
 use Rattle.std.proofs.Math.Seq.{take-length, take-append-le}
 use Rattle.std.proofs.lemmas.Bool.{le-ltb}
@@ -16,7 +16,8 @@ use Rattle.capn_canon.specs.declared.form.Form.{Form}
 use Rattle.capn_canon.specs.declared.form.Form.TheVariants as forms
 use Rattle.capn_serve.specs.declared.fault.RunFault.{RunFault}
 use Rattle.capn_serve.specs.declared.service.Run.{Run}
-use Rattle.capn_serve.specs.Fold.{AreServed, EndsRefused, EndsUnframed, Fold, IsFolded, Part, end_of, frames_of, texts_of}
+use Rattle.capn_serve.specs.Fold.{AreServed, EndsRefused, EndsUnframed, Fold, IsFolded, Part, end_of, frames_of}
+use Rattle.capn_serve.specs.Fold.{texts_of}
 use Rattle.capn_serve.specs.FormRun.{AreMessages, most_stream}
 use Rattle.capn_serve.specs.StreamRun.{behind, has_more, taken_of}
 use Rattle.capn_serve.proofs.shared.OneServing.{one_front}
@@ -26,7 +27,7 @@ use Rattle.capn_archive.specs.FilterMessages.{serves}
 use Rattle.capn_archive.specs.Finish.{Closes, IsWholeText, outcome_by}
 use Rattle.capn_archive.specs.Laws.{FilteredIsListed, listing}
 use Rattle.capn_archive.specs.Tasks as archive_tasks
-use Rattle.capn_archive.specs.Tasks.{IsServedBy, IsSkippedBy}
+use Rattle.capn_archive.specs.Tasks.{IsRefusedBy, IsServedBy, IsSkippedBy}
 use Rattle.capn_archive.specs.declared.task.Task.TheVariants as tasks
 use Rattle.capn_archive.specs.declared.tally.Tally.{Tally}
 use Rattle.capn_serve.specs.declared.position.Position.{Position}
@@ -219,9 +220,9 @@ module _ (limits : Bounds) where
   never_before y p more r same framed room is (inr (frame, after, message, refusal, joined, also, few, why, ends)) =
       let one = one_front limits.message_words frame p.frame after more message p.message also few framed room
       (sym joined) in
-      let refused = subst (λ (o : ArchiveOrder). archive_tasks.IsRefusedBy o.task message o.limits refusal) same why.1 in
+      let refused = subst (λ (o : ArchiveOrder). IsRefusedBy o.task message o.limits refusal) same why.1 in
       not_refused p.message limits refusal is
-      (subst (λ (m : List (List ℕ)). archive_tasks.IsRefusedBy (listing limits).task m limits refusal) one.0 refused)
+      (subst (λ (m : List (List ℕ)). IsRefusedBy tasks.List m limits refusal) one.0 refused)
 
   -- a message is listed, and none is skipped
   listed_tally : (tally after : Tally) (at : Position) (frame text : List ℕ) (message : List (List ℕ))
