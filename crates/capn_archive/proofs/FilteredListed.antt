@@ -103,25 +103,28 @@ module _ (order : FilterOrder) where
     );
   }
 
+  -- the order stays, and the message is let through or held back
+  more_kept : (s t : FilterService) (at : Position) (p : Part) (text bytes : List ℕ) → s.order ≡ order
+      → Frames p.frame p.message → total p.message ≤ order.limits.message_words
+      → serves s at p.frame p.message p.text t → (t.order ≡ order → Kept order.limits text bytes)
+      → Kept order.limits (p.text ++ text) (p.frame ++ bytes)
+  more_kept s t at p text bytes same framed room (inl (passes, own, stays)) next =
+      one_kept p text bytes framed room
+      (subst (λ (o : FilterOrder). IsAccepted p.message o.limits) same
+      (accepted_of p.message s.order.limits s.order.canonical passes)) own
+      (next (ap (λ (x : FilterService). x.order) stays ∙ same))
+  more_kept s t at p text bytes same framed room (inr (inl (going, held, none, after))) next =
+      none_kept p text bytes none (next (ap (λ (x : FilterService). x.order) after ∙ same))
+  more_kept s t at p text bytes same framed room (inr (inr (ends, held, none, after))) next =
+      none_kept p text bytes none (next (ap (λ (x : FilterService). x.order) after ∙ same))
+
   -- the texts of messages are the frames of those that are let through
   kept_of : (x y : Filtering) (ps : List Part) → x.service.order ≡ order → AreServed f x ps y
       → Kept order.limits (texts_of ps) (frames_of ps)
   kept_of x y [] same is = record { parts = []; are = tt; joined = refl; short = omega arith }
-  kept_of x y (p ∷ ps) same (mid, part, step, more) = go step.0
-    where
-      go : serves x.service x.at p.frame p.message p.text mid.service
-          → Kept order.limits (texts_of (p ∷ ps)) (frames_of (p ∷ ps))
-      go (inl (passes, own, stays)) =
-          let is = subst (λ (o : FilterOrder). IsAccepted p.message o.limits) same
-          (accepted_of p.message x.service.order.limits x.service.order.canonical passes) in
-          let next = kept_of mid y ps (ap (λ (s : FilterService). s.order) stays ∙ same) more in
-          one_kept p (texts_of ps) (frames_of ps) part.frame part.room is own next
-      go (inr (inl (going, held, none, after))) =
-          none_kept p (texts_of ps) (frames_of ps) none
-          (kept_of mid y ps (ap (λ (s : FilterService). s.order) after ∙ same) more)
-      go (inr (inr (ends, held, none, after))) =
-          none_kept p (texts_of ps) (frames_of ps) none
-          (kept_of mid y ps (ap (λ (s : FilterService). s.order) after ∙ same) more)
+  kept_of x y (p ∷ ps) same (mid, part, step, more) =
+      more_kept x.service mid.service x.at p (texts_of ps) (frames_of ps) same part.frame part.room step.0
+      (λ next. kept_of mid y ps next more)
 
   -- what is written of bytes that are not too many is frames of accepted messages, and not too long
   record Through (text : List ℕ) : Type 0 where
