@@ -1,5 +1,8 @@
 -- A message that is let through, or held back.
-use Rattle.std.proofs.Common.{◌≡◌, inl, inr, ℕ, List, [], Bool, true, false, Result, Ok, Err, refl}
+use Rattle.std.proofs.Common.{◌≡◌, inl, inr, ℕ, List, [], Bool, true, false, Result, Ok, Err, refl, sym, ◌∙◌}
+use Rattle.capn_walk.specs.Limits.{Bounds}
+use Rattle.capn_canon.specs.Measure.{IsChecked}
+use Rattle.capn_canon.specs.declared.surveyed_bare.SurveyedBare.{SurveyedBare}
 use Rattle.capn_canon.specs.declared.refusal.Refusal.{Refusal}
 use Rattle.capn_serve.specs.declared.position.Position.{Position}
 use Rattle.capn_serve.specs.declared.fault.ServeFault.{ServeFault}
@@ -9,8 +12,18 @@ use Rattle.capn_serve.specs.Service.{DoesService}
 use Rattle.capn_serve.proofs.shared.Adding.{added_none, does_add}
 use Rattle.capn_archive.specs.declared.filter_service.FilterService.{FilterService}
 use Rattle.capn_archive.specs.declared.task.Task.TheVariants as tasks
-use Rattle.capn_archive.specs.FilterMessages.{Passes, refuses, serves}
+use Rattle.capn_archive.specs.FilterMessages.{IsUncanonical, Passes, refuses, serves}
 use Rattle.capn_archive.specs.Tasks.{IsRefusedBy}
+
+module _ (m : List (List ℕ)) (limits : Bounds) (c : SurveyedBare) (checked : IsChecked m limits c) where
+  -- what is found says that it is canonical
+  pub is_canonical : c.is_canonical ≡ true → Passes true m limits
+  is_canonical yes = (checked.value, checked.is, checked.answer.0 yes)
+
+  -- or that it is not
+  pub is_uncanonical : c.is_canonical ≡ false → IsUncanonical true m limits
+  is_uncanonical no =
+      (checked.value, checked.is, λ own. (let bad : true ≡ false = sym (checked.answer.1 own) ∙ no in cc))
 
 abbrev Ending : Type 0
 Ending = Result (Unit {0}) ServeFault

@@ -1,6 +1,6 @@
 -- What a filter lets through is accepted.
-use Rattle.std.proofs.Common.{◌≡◌, ◌≢◌, ◌⊎◌, inl, inr, ℕ, ◌≤◌, List, [], ◌∷◌, ◌++◌, length, take, Bool, true, false}
-use Rattle.std.proofs.Common.{Option, None, Result, Ok, Err, ⊤, refl, ap, sym, subst, ◌∙◌, append_assoc, arith}
+use Rattle.std.proofs.Common.{◌≡◌, ◌≢◌, ◌⊎◌, inl, inr, ℕ, ◌≤◌, List, [], ◌∷◌, ◌++◌, length, take, Bool, false, Option}
+use Rattle.std.proofs.Common.{None, Result, Ok, Err, refl, ap, sym, subst, ◌∙◌, append_assoc, arith}
 use Rattle.std.proofs.Common.{append-nil, length-append}
 use Rattle.std.proofs.Math.Seq.{take-length, take-append-le}
 use Rattle.std.proofs.lemmas.Bool.{le-ltb}
@@ -23,9 +23,9 @@ use Rattle.capn_serve.specs.StreamRun.{behind, has_more, taken_of}
 use Rattle.capn_serve.proofs.shared.OneServing.{one_front}
 use Rattle.capn_archive.specs.ArchiveRun as archives
 use Rattle.capn_archive.specs.FilterRun as filters
-use Rattle.capn_archive.specs.FilterMessages.{serves}
+use Rattle.capn_archive.specs.FilterMessages.{Passes, serves}
 use Rattle.capn_archive.specs.Finish.{Closes, IsWholeText, outcome_by}
-use Rattle.capn_archive.specs.Laws.{FilteredIsListed, listing}
+use Rattle.capn_archive.specs.Laws.{AreLetThrough, FilteredIsListed, FiltersAccepted, IsLetThrough, listing}
 use Rattle.capn_archive.specs.Tasks as archive_tasks
 use Rattle.capn_archive.specs.Tasks.{IsRefusedBy, IsServedBy, IsSkippedBy}
 use Rattle.capn_archive.specs.declared.task.Task.TheVariants as tasks
@@ -51,33 +51,30 @@ Filtering = Run FilterService
 abbrev Listing : Type 0
 Listing = Run ArchiveService
 
--- the frames of these messages are whole, and each is accepted
-abbrev AreAccepted : Bounds → List Part → Type 0
-AreAccepted limits [] = ⊤
-AreAccepted limits (p ∷ ps) = Frames p.frame p.message × (total p.message ≤ limits.message_words)
-    × IsAccepted p.message limits × AreAccepted limits ps
-
--- some messages that are accepted, of which a text is the frames, no longer than these bytes
-record Kept (limits : Bounds) (text bytes : List ℕ) : Type 0 where
-  pub parts : List Part
-  pub are : AreAccepted limits parts
-  pub joined : text ≡ frames_of parts
-  pub short : length text ≤ length bytes
-
--- ---- what a filter lets through
-
 module _ (order : FilterOrder) where
+  abbrev limits : Bounds
+  limits = order.limits
+
+  -- ---- what a filter lets through
+
   abbrev f : Fold Filtering
   f = filters.filter_fold order
 
+  -- a text is a row of frames that are let through, no longer than these bytes
+  record Kept (text bytes : List ℕ) : Type 0 where
+    pub parts : List Part
+    pub each : AreLetThrough order parts
+    pub is : text ≡ frames_of parts
+    pub short : length text ≤ length bytes
+
   -- one message more, which is let through
   one_kept : (p : Part) (text bytes : List ℕ) → Frames p.frame p.message → total p.message ≤ order.limits.message_words
-      → IsAccepted p.message order.limits → p.text ≡ p.frame → Kept order.limits text bytes
-      → Kept order.limits (p.text ++ text) (p.frame ++ bytes)
-  one_kept p text bytes framed room is own kept = record {
+      → Passes order.canonical p.message order.limits → p.text ≡ p.frame → Kept text bytes
+      → Kept (p.text ++ text) (p.frame ++ bytes)
+  one_kept p text bytes framed room passes own kept = record {
     parts = p ∷ kept.parts;
-    are = (framed, room, is, kept.are);
-    joined = λ i. own i ++ kept.joined i;
+    each = (framed, room, passes, kept.each);
+    is = λ i. own i ++ kept.is i;
     short = omega (
       arith,
       kept.short,
@@ -88,12 +85,12 @@ module _ (order : FilterOrder) where
   }
 
   -- or is held back
-  none_kept : (p : Part) (text bytes : List ℕ) → p.text ≡ [] → Kept order.limits text bytes
-      → Kept order.limits (p.text ++ text) (p.frame ++ bytes)
+  none_kept : (p : Part) (text bytes : List ℕ) → p.text ≡ [] → Kept text bytes
+      → Kept (p.text ++ text) (p.frame ++ bytes)
   none_kept p text bytes none kept = record {
     parts = kept.parts;
-    are = kept.are;
-    joined = ap (λ (l : List ℕ). l ++ text) none ∙ kept.joined;
+    each = kept.each;
+    is = ap (λ (l : List ℕ). l ++ text) none ∙ kept.is;
     short = omega (
       arith,
       kept.short,
@@ -106,12 +103,11 @@ module _ (order : FilterOrder) where
   -- the order stays, and the message is let through or held back
   more_kept : (s t : FilterService) (at : Position) (p : Part) (text bytes : List ℕ) → s.order ≡ order
       → Frames p.frame p.message → total p.message ≤ order.limits.message_words
-      → serves s at p.frame p.message p.text t → (t.order ≡ order → Kept order.limits text bytes)
-      → Kept order.limits (p.text ++ text) (p.frame ++ bytes)
+      → serves s at p.frame p.message p.text t → (t.order ≡ order → Kept text bytes)
+      → Kept (p.text ++ text) (p.frame ++ bytes)
   more_kept s t at p text bytes same framed room (inl (passes, own, stays)) next =
       one_kept p text bytes framed room
-      (subst (λ (o : FilterOrder). IsAccepted p.message o.limits) same
-      (accepted_of p.message s.order.limits s.order.canonical passes)) own
+      (subst (λ (o : FilterOrder). Passes o.canonical p.message o.limits) same passes) own
       (next (ap (λ (x : FilterService). x.order) stays ∙ same))
   more_kept s t at p text bytes same framed room (inr (inl (going, held, none, after))) next =
       none_kept p text bytes none (next (ap (λ (x : FilterService). x.order) after ∙ same))
@@ -120,27 +116,20 @@ module _ (order : FilterOrder) where
 
   -- the texts of messages are the frames of those that are let through
   kept_of : (x y : Filtering) (ps : List Part) → x.service.order ≡ order → AreServed f x ps y
-      → Kept order.limits (texts_of ps) (frames_of ps)
-  kept_of x y [] same is = record { parts = []; are = tt; joined = refl; short = omega arith }
+      → Kept (texts_of ps) (frames_of ps)
+  kept_of x y [] same is = record { parts = []; each = tt; is = refl; short = omega arith }
   kept_of x y (p ∷ ps) same (mid, part, step, more) =
       more_kept x.service mid.service x.at p (texts_of ps) (frames_of ps) same part.frame part.room step.0
       (λ next. kept_of mid y ps next more)
 
-  -- what is written of bytes that are not too many is frames of accepted messages, and not too long
-  record Through (text : List ℕ) : Type 0 where
-    pub parts : List Part
-    pub are : AreAccepted order.limits parts
-    pub joined : text ≡ frames_of parts
-    pub short : length text ≤ most_stream
-
   through_of : (bytes text : List ℕ) (last : Option RunFault) (r : Ending) (y : Filtering)
-      → IsFolded f (filters.first_run order) (taken_of most_stream bytes) last text r y → Through text
+      → IsFolded f (filters.first_run order) (taken_of most_stream bytes) last text r y → IsLetThrough order text
   through_of bytes text last r y due =
       let kept = kept_of (filters.first_run order) y due.parts refl due.are.each in
       record {
         parts = kept.parts;
-        are = kept.are;
-        joined = due.joined ∙ kept.joined;
+        each = kept.each;
+        is = due.joined ∙ kept.is;
         short = omega (
           arith,
           kept.short,
@@ -153,7 +142,7 @@ module _ (order : FilterOrder) where
 
   -- a stream, packed or not
   of_messages : (form : Form) (input text : List ℕ) (r : Ending) (y : Filtering) → form ≢ forms.Bare
-      → AreMessages f (filters.first_run order) form input text r y → Through text
+      → AreMessages f (filters.first_run order) form input text r y → IsLetThrough order text
   of_messages forms.Stream input text r y other due =
       through_of input text (behind (has_more most_stream input)) r y due
   of_messages forms.Packed input text r y other due = through_of due.stream text _ r y due.due
@@ -165,14 +154,14 @@ module _ (order : FilterOrder) where
   of_closed messages text (Err e) y r (is, ends) = is
 
   of_whole : (input text : List ℕ) (r : Last) → order.form ≢ forms.Bare
-      → IsWholeText f (filters.first_run order) filters.filter_finish order.form input text r → Through text
+      → IsWholeText f (filters.first_run order) filters.filter_finish order.form input text r
+      → IsLetThrough order text
   of_whole input text r other (messages, served, y, are, closes) =
-      subst (λ (t : List ℕ). Through t) (sym (of_closed messages text served y r closes))
+      subst (λ (t : List ℕ). IsLetThrough order t) (sym (of_closed messages text served y r closes))
       (of_messages order.form input messages served y other are)
 
--- ---- what `list` does with it
+  -- ---- what `list` does with it
 
-module _ (limits : Bounds) where
   abbrev g : Fold Listing
   g = archives.archive_fold (listing limits)
 
@@ -247,7 +236,7 @@ module _ (limits : Bounds) where
 
   -- a run over the frames of accepted messages is done, and has skipped no more
   done_of : (x y : Listing) (ks qs : List Part) (rest : List ℕ) (r : Ending) → x.service.order ≡ listing limits
-      → AreAccepted limits ks → AreServed g x qs y → frames_of ks ≡ frames_of qs ++ rest → Open y rest r → IsDone x y r
+      → AreLetThrough order ks → AreServed g x qs y → frames_of ks ≡ frames_of qs ++ rest → Open y rest r → IsDone x y r
   done_of x y [] [] rest r same are is joined open = (
     ends_empty y r (subst (λ (l : List ℕ). Open y l r) (sym joined) open),
     sym (ap (λ (w : Listing). w.service.tally.skipped) is),
@@ -255,10 +244,10 @@ module _ (limits : Bounds) where
   done_of x y [] (q ∷ qs) rest r same are (mid, part, step, more) joined open =
       absurd (no_frame q.frame (frames_of qs ++ rest) q.message part.frame part.room
       (joined ∙ append_assoc q.frame (frames_of qs) rest))
-  done_of x y (k ∷ ks) [] rest r same (framed, room, accepted, are) is joined open =
+  done_of x y (k ∷ ks) [] rest r same (framed, room, passes, are) is joined open =
       absurd (never_before y k (frames_of ks) r (ap (λ (w : Listing). w.service.order) (sym is) ∙ same) framed room
-      accepted (subst (λ (l : List ℕ). Open y l r) (sym joined) open))
-  done_of x y (k ∷ ks) (q ∷ qs) rest r same (framed, room, accepted, are) (mid, part, step, more) joined open =
+      (accepted_of k.message limits order.canonical passes) (subst (λ (l : List ℕ). Open y l r) (sym joined) open))
+  done_of x y (k ∷ ks) (q ∷ qs) rest r same (framed, room, passes, are) (mid, part, step, more) joined open =
       let split = one_front limits.message_words k.frame q.frame (frames_of ks) (frames_of qs ++ rest) k.message
       q.message framed room part.frame part.room (joined ∙ append_assoc q.frame (frames_of qs) rest) in
       let next = listed x.service mid.service x.at q.frame q.text q.message same step.0 in
@@ -273,7 +262,7 @@ module _ (limits : Bounds) where
       last ∙ ap (λ (k : Option SkippedSoFar). outcome_by k y.at.index) none
   closed messages lines (Err e) y s (ends, none) closes = absurd (cc)
 
-  listed_all : (text lines : List ℕ) (s : Last) (ks : List Part) → AreAccepted limits ks → text ≡ frames_of ks
+  listed_all : (text lines : List ℕ) (s : Last) (ks : List Part) → AreLetThrough order ks → text ≡ frames_of ks
       → length text ≤ most_stream
       → IsWholeText g (archives.first_run (listing limits)) (archives.archive_finish (listing limits)) forms.Stream text
       lines s → s ≡ Ok tt
@@ -287,7 +276,10 @@ module _ (limits : Bounds) where
       (done_of x y ks ends.parts ends.rest served refl are ends.are.each (sym is ∙ sym all ∙ ends.are.is) ends.ends)
       closes
 
+pub filters_accepted : FiltersAccepted
+filters_accepted order input text r other through = of_whole order input text r other through
+
 pub filtered_listed : FilteredIsListed
 filtered_listed order input text lines r s other through listed =
     let kept = of_whole order input text r other through in
-    listed_all order.limits text lines s kept.parts kept.are kept.joined kept.short listed
+    listed_all order text lines s kept.parts kept.each kept.is kept.short listed

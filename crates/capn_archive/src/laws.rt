@@ -1,6 +1,6 @@
 //! The laws of runs over an archive, as empty functions.
 
-ghost use Rattle.capn_archive.specs.Laws.{FilteredIsListed, OneArchive, OneFilter, OneUniq};
+ghost use Rattle.capn_archive.specs.Laws.{FilteredIsListed, FiltersAccepted, OneArchive, OneFilter, OneUniq};
 
 /// An order says one text and one ending of an input.
 pub fn one_text()
@@ -9,7 +9,9 @@ pub fn one_text()
     ensures filter { OneFilter }
 {}
 
-/// What a filter lets through of a stream is accepted with the same limits.
+/// What a filter writes of a stream are frames of messages that are accepted, or of canonical ones, so that `list` with
+/// the same limits takes them all.
 pub fn let_through()
-    ensures { FilteredIsListed }
+    ensures accepted { FiltersAccepted }
+    ensures listed { FilteredIsListed }
 {}
