@@ -1,29 +1,16 @@
 -- A message that is let through, or held back.
-use Rattle.std.proofs.Common.{◌≡◌, inl, inr, ℕ, List, [], Bool, true, false, Result, Ok, Err, refl, sym, ◌∙◌}
-use Rattle.capn_walk.specs.Limits.{Bounds}
-use Rattle.capn_canon.specs.Measure.{IsChecked}
-use Rattle.capn_canon.specs.declared.surveyed_bare.SurveyedBare.{SurveyedBare}
+use Rattle.std.proofs.Common.{◌≡◌, inl, inr, ℕ, List, [], Bool, true, false, Option, Some, Result, Ok, Err, refl, ap}
 use Rattle.capn_canon.specs.declared.refusal.Refusal.{Refusal}
 use Rattle.capn_serve.specs.declared.position.Position.{Position}
 use Rattle.capn_serve.specs.declared.fault.ServeFault.{ServeFault}
-use Rattle.capn_serve.specs.declared.fault.ServeFault.TheVariants as faults
 use Rattle.capn_serve.specs.Outgoing.{Outgoing, AddsBytes}
 use Rattle.capn_serve.specs.Service.{DoesService}
 use Rattle.capn_serve.proofs.shared.Adding.{added_none, does_add}
+use Rattle.capn_archive.specs.declared.filter_order.FilterOrder.{FilterOrder}
 use Rattle.capn_archive.specs.declared.filter_service.FilterService.{FilterService}
-use Rattle.capn_archive.specs.declared.task.Task.TheVariants as tasks
-use Rattle.capn_archive.specs.FilterMessages.{IsUncanonical, Passes, refuses, serves}
-use Rattle.capn_archive.specs.Tasks.{IsRefusedBy}
-
-module _ (m : List (List ℕ)) (limits : Bounds) (c : SurveyedBare) (checked : IsChecked m limits c) where
-  -- what is found says that it is canonical
-  pub is_canonical : c.is_canonical ≡ true → Passes true m limits
-  is_canonical yes = (checked.value, checked.is, checked.answer.0 yes)
-
-  -- or that it is not
-  pub is_uncanonical : c.is_canonical ≡ false → IsUncanonical true m limits
-  is_uncanonical no =
-      (checked.value, checked.is, λ own. (let bad : true ≡ false = sym (checked.answer.1 own) ∙ no in cc))
+use Rattle.capn_archive.specs.declared.tally.SkippedSoFar.{SkippedSoFar}
+use Rattle.capn_archive.specs.FilterMessages.{IsHeldBack, IsUncanonical, Passes, refuses, serves}
+use Rattle.capn_archive.specs.Tally.{one_more}
 
 abbrev Ending : Type 0
 Ending = Result (Unit {0}) ServeFault
@@ -31,8 +18,9 @@ Ending = Result (Unit {0}) ServeFault
 abbrev done : Ending
 done = Ok tt
 
-abbrev stopped : ServeFault → Ending
-stopped fault = Err fault
+-- a state of these parts
+abbrev state : FilterOrder → Option SkippedSoFar → Option Position → FilterService
+state order skipped ended = record { order = order; skipped = skipped; ended = ended }
 
 module _ (s : FilterService) (at : Position) (frame : List ℕ) (message : List (List ℕ)) where
   -- its frame was added
@@ -42,12 +30,19 @@ module _ (s : FilterService) (at : Position) (frame : List ℕ) (message : List 
       does_add serves refuses s s at frame message a b frame (inl (passes, refl, refl)) failed r adds
 
   module _ (a : Outgoing) (failed : Bool) (fine : failed ≡ false) where
-    -- it writes nothing
-    pub held_back : (t : FilterService) → serves s at frame message [] t
+    held_back : (t : FilterService) → serves s at frame message [] t
         → DoesService serves refuses s at frame message a a failed done t
     held_back t is = (([], is, added_none a, fine), λ h. h)
 
-    -- it is refused by its walk, and ends the run
-    pub refused : (r : Refusal) → s.order.keep_going ≡ false → IsRefusedBy tasks.List message s.order.limits r
-        → DoesService serves refuses s at frame message a a failed (stopped (faults.Refused r)) s
-    refused r stays is = ((stays, is), added_none a, fine)
+    -- it was skipped
+    pub skips : s.order.keep_going ≡ true → IsHeldBack s message → (more : SkippedSoFar) → more ≡ one_more s.skipped at
+        → DoesService serves refuses s at frame message a a failed done (state s.order (Some more) s.ended)
+    skips going held more one =
+        held_back (state s.order (Some more) s.ended)
+        (inr (inl (going, held, refl, ap (λ (k : SkippedSoFar). state s.order (Some k) s.ended) one)))
+
+    -- it ended the run
+    pub ends : s.order.keep_going ≡ false → IsUncanonical s.order.canonical message s.order.limits
+        → DoesService serves refuses s at frame message a a failed done (state s.order s.skipped (Some at))
+    ends stays other =
+        held_back (state s.order s.skipped (Some at)) (inr (inr (stays, other, refl, refl)))

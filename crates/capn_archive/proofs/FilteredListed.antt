@@ -237,21 +237,21 @@ module _ (order : FilterOrder) where
   -- a run over the frames of accepted messages is done, and has skipped no more
   done_of : (x y : Listing) (ks qs : List Part) (rest : List ℕ) (r : Ending) → x.service.order ≡ listing limits
       → AreLetThrough order ks → AreServed g x qs y → frames_of ks ≡ frames_of qs ++ rest → Open y rest r → IsDone x y r
-  done_of x y [] [] rest r same are is joined open = (
-    ends_empty y r (subst (λ (l : List ℕ). Open y l r) (sym joined) open),
+  done_of x y [] [] rest r same are is joined ends_so = (
+    ends_empty y r (subst (λ (l : List ℕ). Open y l r) (sym joined) ends_so),
     sym (ap (λ (w : Listing). w.service.tally.skipped) is),
   )
-  done_of x y [] (q ∷ qs) rest r same are (mid, part, step, more) joined open =
+  done_of x y [] (q ∷ qs) rest r same are (mid, part, step, more) joined ends_so =
       absurd (no_frame q.frame (frames_of qs ++ rest) q.message part.frame part.room
       (joined ∙ append_assoc q.frame (frames_of qs) rest))
-  done_of x y (k ∷ ks) [] rest r same (framed, room, passes, are) is joined open =
+  done_of x y (k ∷ ks) [] rest r same (framed, room, passes, are) is joined ends_so =
       absurd (never_before y k (frames_of ks) r (ap (λ (w : Listing). w.service.order) (sym is) ∙ same) framed room
-      (accepted_of k.message limits order.canonical passes) (subst (λ (l : List ℕ). Open y l r) (sym joined) open))
-  done_of x y (k ∷ ks) (q ∷ qs) rest r same (framed, room, passes, are) (mid, part, step, more) joined open =
+      (accepted_of k.message limits order.canonical passes) (subst (λ (l : List ℕ). Open y l r) (sym joined) ends_so))
+  done_of x y (k ∷ ks) (q ∷ qs) rest r same (framed, room, passes, are) (mid, part, step, more) joined ends_so =
       let split = one_front limits.message_words k.frame q.frame (frames_of ks) (frames_of qs ++ rest) k.message
       q.message framed room part.frame part.room (joined ∙ append_assoc q.frame (frames_of qs) rest) in
       let next = listed x.service mid.service x.at q.frame q.text q.message same step.0 in
-      let last = done_of mid y ks qs rest r next.0 are more split.1.1 open in
+      let last = done_of mid y ks qs rest r next.0 are more split.1.1 ends_so in
       (last.0, last.1 ∙ next.1)
 
   -- so it ends as done
