@@ -602,9 +602,11 @@ def needed(greatest, found, tariff):
     return "".join(f"{line}\n" for line in lines).encode()
 
 
-def run(task, data, form="stream", message_words=8388608, keep_going=False, with_digest=False, count=False, **limits):
+def run(task, data, form="stream", message_words=8388608, keep_going=False, with_digest=False, count=False,
+        only_canonical=False, **limits):
     """What a command over an archive writes, what is on standard error, and its exit status. The task is list, limits,
-    canonical or uniq; `with_digest` is for list, and `count` for uniq. The limits are those of the walk."""
+    canonical, uniq or filter; `with_digest` is for list, `count` for uniq, and `only_canonical` for filter. The limits
+    are those of the walk."""
     found, fault = messages(data, form, message_words)
     out, passed, greatest = [], [], {"message-words": (0, 0), "budget": (0, 0), "depth": (0, 0)}
     kept = set()
@@ -615,6 +617,8 @@ def run(task, data, form="stream", message_words=8388608, keep_going=False, with
             walk = Walk(segments, **limits)
             if task in ("canonical", "uniq"):
                 without_capability(walk)
+            if only_canonical and not is_own(walk, segments):
+                raise Refused("not canonical")
         except Refused as refused:
             if not keep_going:
                 fault = (str(refused), index, offset)
@@ -631,6 +635,8 @@ def run(task, data, form="stream", message_words=8388608, keep_going=False, with
         if task == "uniq" and digest(walk.value) not in kept:
             kept.add(digest(walk.value))
             out.append(b"" if count else frame)
+        if task == "filter":
+            out.append(frame)
         for name, figure in [("message-words", words), ("budget", walk.paid), ("depth", walk.height)]:
             if not greatest[name][1] or figure > greatest[name][0]:
                 greatest[name] = (figure, index)
@@ -657,6 +663,10 @@ def run_limits(data, **options):
 
 def run_uniq(data, **options):
     return run("uniq", data, **options)
+
+
+def run_filter(data, canonical=False, **options):
+    return run("filter", data, only_canonical=canonical, **options)
 
 
 def run_canonical(data, framed=False, keep_going=False, **options):

@@ -14,7 +14,8 @@ use Rattle.capn_archive.specs.declared.fault.Skipped.{Skipped}
 use Rattle.capn_archive.specs.declared.fault.ArchiveFault.{ArchiveFault}
 use Rattle.capn_archive.specs.declared.fault.ArchiveFault.TheVariants as faults
 use Rattle.capn_archive.specs.declared.tally.SkippedSoFar.{SkippedSoFar}
-use Rattle.capn_archive.specs.Finish.{after_skipped, fault_after, outcome_by, refused_after, skipped_of}
+use Rattle.capn_archive.specs.Finish.{after_skipped, fault_after, outcome_by, outcome_unless, refused_after}
+use Rattle.capn_archive.specs.Finish.{skipped_of}
 use Rattle.capn_archive.specs.inner.Closing.{PutsClosing}
 use Rattle.capn_archive.specs.ArchiveRun.{closing_by}
 use Rattle.capn_archive.specs.UniqRun as uniqs
@@ -131,17 +132,26 @@ count_some true kept served is =
     some_after (decimal kept) (codes " of " ++ (decimal served ++ codes "\n"))
     (λ h. absurd (omega (arith, ap length h)))
 
-pub not_io : (skipped : Option SkippedSoFar) (messages : ℕ) → outcome_by skipped messages ≡ Err faults.Io → ⊥
-not_io None messages is = absurd (cc)
-not_io (Some s) messages is = absurd (cc)
+pub not_io : (ended : Option Position) (skipped : Option SkippedSoFar) (messages : ℕ)
+    → outcome_unless ended skipped messages ≡ Err faults.Io → ⊥
+not_io (Some at) skipped messages is = absurd (cc)
+not_io None None messages is = absurd (cc)
+not_io None (Some s) messages is = absurd (cc)
 
-pub not_memory : (skipped : Option SkippedSoFar) (messages : ℕ) → outcome_by skipped messages ≡ Err faults.Memory → ⊥
-not_memory None messages is = absurd (cc)
-not_memory (Some s) messages is = absurd (cc)
+pub not_memory : (ended : Option Position) (skipped : Option SkippedSoFar) (messages : ℕ)
+    → outcome_unless ended skipped messages ≡ Err faults.Memory → ⊥
+not_memory (Some at) skipped messages is = absurd (cc)
+not_memory None None messages is = absurd (cc)
+not_memory None (Some s) messages is = absurd (cc)
 
 pub reader_fine : (reader writer : Bool) → ((served (Ok tt) ≡ Err run_faults.Io) ↔ ((reader ≡ true) ⊎ (writer ≡ true)))
     → reader ≡ true → ⊥
 reader_fine reader writer (to, from) failed = let k = from (inl failed) in absurd (cc)
+
+pub writer_fine : (reader writer : Bool) → ((served (Ok tt) ≡ Err run_faults.Io) ↔ ((reader ≡ true) ⊎ (writer ≡ true)))
+    → writer ≡ false
+writer_fine reader false io = refl
+writer_fine reader true (to, from) = let k = from (inr refl) in absurd (cc)
 
 pub neither : (reader before after : Bool)
     → ((served (Ok tt) ≡ Err run_faults.Io) ↔ ((reader ≡ true) ⊎ (before ≡ true))) → after ≡ false

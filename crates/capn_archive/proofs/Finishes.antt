@@ -3,7 +3,7 @@ use Rattle.std.proofs.Common.{◌≡◌, ◌≢◌, inl, inr, ℕ, ◌+◌, List
 use Rattle.std.proofs.Common.{None, Some, IfSome, Result, Ok, Err, refl, ap, sym, subst, ◌∙◌}
 use Rattle.std.proofs.Math.Seq.{take-length, take-append-add}
 use Rattle.std.specs.Io.KnownBytes.{Appends}
-use Rattle.std.proofs.KnownBytes.{Appends-trans}
+use Rattle.std.proofs.KnownBytes.{Appends-nil, Appends-trans}
 use Rattle.capn_words.specs.Watched.{HasBegun}
 use Rattle.capn_canon.specs.declared.form.Form.{Form}
 use Rattle.capn_canon.specs.declared.form.Form.TheVariants as forms
@@ -17,7 +17,7 @@ use Rattle.capn_serve.specs.StreamRun.{HasWrittenAll, IsAhead}
 use Rattle.capn_serve.specs.PackedRun.{HasWrittenAllPacked}
 use Rattle.capn_serve.specs.FormRun.{HasWritten, IsReadSoFar, MessagesEnd, ServesMessages, most_stream}
 use Rattle.capn_archive.proofs.Closings.{io_is_not_memory, memory_is_not_io, neither, not_io, not_memory}
-use Rattle.capn_archive.proofs.Closings.{reader_fine, same_io, told, told_memory}
+use Rattle.capn_archive.proofs.Closings.{reader_fine, same_io, told, told_memory, writer_fine}
 use Rattle.capn_archive.proofs.ToldAlone.{TellsAlone}
 
 module _ {X : Type 0} (f : Fold X) (x : X) (finish : Finish X) (form : Form) where
@@ -54,6 +54,7 @@ module _ {X : Type 0} (f : Fold X) (x : X) (finish : Finish X) (form : Form) whe
       bytes = run.begun.bytes;
       read = run.begun.read;
       bounded = run.begun.bounded;
+      needed = run.begun.needed;
       written = inl run.begun.written;
     };
     heard = run.heard;
@@ -139,21 +140,27 @@ module _ {X : Type 0} (f : Fold X) (x : X) (finish : Finish X) (form : Form) (a 
   finished_closed d after wrote fine = record {
     exact = closed_exact f x finish form a c m d y run.exact wrote;
     io = (
-      λ h. absurd (not_io (finish.skipped y) (f.place y).index h),
+      λ h. absurd (not_io (finish.ended y) (finish.skipped y) (f.place y).index h),
       λ h. absurd (neither reader before after run.io fine h),
     );
     begun = record {
       bytes = run.begun.bytes;
       read = run.begun.read;
       bounded = read_so_far f x form run.begun.bytes (finish.closing y) c m d run.begun.bounded wrote;
+      needed = run.begun.needed;
       written = inr (begins_closing f x finish form a b c m d reader before y run (
         length (finish.closing y),
         subst (Appends m d) (sym (take-length (finish.closing y))) wrote,
       ));
     };
     heard = λ h. absurd (reader_fine reader before run.io h);
-    memory = λ h. absurd (not_memory (finish.skipped y) (f.place y).index h);
+    memory = λ h. absurd (not_memory (finish.ended y) (finish.skipped y) (f.place y).index h);
   }
+
+  -- nothing is to be written
+  pub finished_done : finish.closing y ≡ [] → Finished f x finish form a b c m reader before (outcome f x finish y)
+  finished_done none =
+      finished_closed m before (subst (Appends m m) (sym none) (Appends-nil m)) (writer_fine reader before run.io)
 
   -- memory was refused for what is written at the end
   unclosed : (d : Option (List ℕ)) (after : Bool) → d ≡ m → after ≡ false → finish.closing y ≢ []
@@ -168,6 +175,7 @@ module _ {X : Type 0} (f : Fold X) (x : X) (finish : Finish X) (form : Form) (a 
       bytes = run.begun.bytes;
       read = run.begun.read;
       bounded = subst (IsReadSoFar f x form run.begun.bytes c) (sym same) run.begun.bounded;
+      needed = run.begun.needed;
       written = inl (subst (HasWritten f x form run.begun.bytes c) (sym same) run.begun.written);
     };
     heard = λ h. absurd (reader_fine reader before run.io h);
@@ -185,6 +193,7 @@ module _ {X : Type 0} (f : Fold X) (x : X) (finish : Finish X) (form : Form) (a 
       read = run.begun.read;
       bounded = read_so_far f x form run.begun.bytes (take begun.0 (finish.closing y)) c m d run.begun.bounded
           begun.1;
+      needed = run.begun.needed;
       written = inr (begins_closing f x finish form a b c m d reader before y run begun);
     };
     heard = λ h. absurd (reader_fine reader before run.io h);

@@ -7,4 +7,7 @@ pub mod Finishes
 pub mod UniqServed
 pub mod OneArchive
 pub mod OneUniq
+pub mod FilterServed
+pub mod OneFilter
+pub mod FilteredListed
 pub mod OneWhole

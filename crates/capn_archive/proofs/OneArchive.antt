@@ -59,7 +59,7 @@ module _ (m : List (List ℕ)) (limits : Bounds) where
   one_unaccepted r s h other k another =
       one_message_refusal m limits r s other another (unaccepted_message r h other) (unaccepted_message s k another)
 
-  not_accepted : (r : Refusal) → IsAccepted m limits → IsUnaccepted m limits r → (r ≡ refusals.Memory → ⊥) → ⊥
+  pub not_accepted : (r : Refusal) → IsAccepted m limits → IsUnaccepted m limits r → (r ≡ refusals.Memory → ⊥) → ⊥
   not_accepted (refusals.Walk s) is h other = accepted-not_refused m limits s is h
   not_accepted refusals.Memory is h other = other refl
   not_accepted (refusals.Capability k) is h other = h
@@ -150,7 +150,7 @@ module _ (m : List (List ℕ)) (limits : Bounds) where
     served_refused tasks.Canonical t p r (x, c, is, e, a) (h, other) = not_answered x c r is h other
     served_refused tasks.Limits t p r (d, is, deep, e, a) (h, other) = not_accepted r is h other
 
-  one_refused : (task : Task) (r s : Refusal) → IsRefusedBy task m limits r → IsRefusedBy task m limits s → r ≡ s
+  pub one_refused : (task : Task) (r s : Refusal) → IsRefusedBy task m limits r → IsRefusedBy task m limits s → r ≡ s
   one_refused tasks.List r s (h, other) (k, another) = one_unaccepted r s h other k another
   one_refused tasks.Digests r s (h, other) (k, another) = one_unaccepted r s h other k another
   one_refused tasks.Limits r s (h, other) (k, another) = one_unaccepted r s h other k another

@@ -15,6 +15,8 @@ use Rattle.capn_archive.specs.declared.task.Task.TheVariants as tasks
 use Rattle.capn_archive.specs.declared.uniq_order.UniqOrder.{UniqOrder}
 use Rattle.capn_archive.specs.ArchiveRun.{archive_fold}
 use Rattle.capn_archive.specs.UniqRun.{uniq_fold}
+use Rattle.capn_archive.specs.FilterRun.{filter_fold}
+use Rattle.capn_archive.specs.declared.filter_order.FilterOrder.{FilterOrder}
 use Rattle.capn_archive.specs.Finish.{refused_after}
 use Rattle.capn_archive.specs.Tasks.{IsRefusedBy}
 use Rattle.capn_archive.proofs.OneArchive.{unaccepted_message}
@@ -55,3 +57,6 @@ archive_alone order x frame message r h =
 
 pub uniq_alone : (order : UniqOrder) → TellsAlone (uniq_fold order)
 uniq_alone order x frame message r h = message_alone message x.service.order.limits r h.1.0
+
+pub filter_alone : (order : FilterOrder) → TellsAlone (filter_fold order)
+filter_alone order x frame message r h = task_alone message x.service.order.limits tasks.List r h.1

@@ -1,6 +1,6 @@
 -- What a run over an archive did: what is written at its end, and the rest by the definition for all runs that write
 -- something there. (Own.)
-use Rattle.std.specs.Prelude.{ℕ, List, [], Bool, Option, Result}
+use Rattle.std.specs.Prelude.{ℕ, List, [], Bool, Option, None, Result}
 use Rattle.capn_serve.specs.declared.service.Run.{Run}
 use Rattle.capn_serve.specs.Fold.{Fold, fold_of}
 use Rattle.capn_serve.specs.StreamRun.{start}
@@ -44,7 +44,11 @@ closing order run = closing_by order.task (needs_of order run)
 
 -- what a run does after its last message
 abbrev pub archive_finish : ArchiveOrder → Finish (Run ArchiveService)
-archive_finish order = record { closing = λ y. closing order y; skipped = λ y. y.service.tally.skipped }
+archive_finish order = record {
+  closing = λ y. closing order y;
+  skipped = λ y. y.service.tally.skipped;
+  ended = λ y. None;
+}
 
 -- what a run did, over a reader (from a to b) and a writer (from c to d)
 abbrev pub Archived : ArchiveOrder → Option (List ℕ) → Option (List ℕ) → Option (List ℕ) → Option (List ℕ) → Bool → Bool

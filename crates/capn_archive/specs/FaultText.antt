@@ -16,6 +16,10 @@ use Rattle.capn_archive.specs.declared.fault.ArchiveFault.TheVariants as faults
 abbrev pub text_of_refused : Position → Refusal → List ℕ
 text_of_refused at refusal = codes "message " ++ (place_text at ++ (codes ": " ++ refusal_text refusal))
 
+-- the message at a position is not canonical
+abbrev pub text_of_uncanonical : Position → List ℕ
+text_of_uncanonical at = codes "message " ++ (place_text at ++ codes ": not canonical")
+
 -- how many messages were skipped, of how many, and the first of them
 abbrev pub text_of_skipped : Skipped → List ℕ
 text_of_skipped skipped =
@@ -28,6 +32,7 @@ archive_text faults.Memory = out_of_memory
 archive_text faults.Io = codes "input or output failed"
 archive_text faults.InputTooLong = codes "input too long"
 archive_text (faults.Refused at refusal) = text_of_refused at refusal
+archive_text (faults.NotCanonical at) = text_of_uncanonical at
 archive_text (faults.Skipped skipped) = text_of_skipped skipped
 archive_text (faults.RefusedAfterSkipped skipped at refusal) =
     text_of_skipped skipped ++ (codes "\ncapn: " ++ text_of_refused at refusal)
@@ -48,17 +53,22 @@ refused : archive_text (faults.Refused third (refusals.Capability 2)) ≡ codes 
 unfolding digits
 refused = refl
 
+not_canonical : archive_text (faults.NotCanonical third) ≡ codes "message 3 at 40: not canonical"
+unfolding digits
+not_canonical = refl
+
 after_skipped : archive_text (faults.RefusedAfterSkipped (record { refused = 1; messages = 2; first = second }) third
     (refusals.Frame frame_faults.Cut))
     ≡ codes "1 of 2 messages refused, the first is 2 at 24\ncapn: message 3 at 40: frame: Cut"
 unfolding digits
 after_skipped = refl
 
--- 1 where a message is refused or was skipped, 3 where it could not be carried out
+-- 1 where a message is refused, is not canonical or was skipped, 3 where it could not be carried out
 abbrev pub status_of : ArchiveFault → ℕ
 status_of faults.Memory = 3
 status_of faults.Io = 3
 status_of faults.InputTooLong = 3
 status_of (faults.Refused at refusal) = 1
+status_of (faults.NotCanonical at) = 1
 status_of (faults.Skipped skipped) = 1
 status_of (faults.RefusedAfterSkipped skipped at refusal) = 1

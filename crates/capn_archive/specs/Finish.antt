@@ -15,7 +15,7 @@ use Rattle.capn_archive.specs.declared.fault.ArchiveFault.{ArchiveFault}
 use Rattle.capn_archive.specs.declared.fault.ArchiveFault.TheVariants as faults
 use Rattle.capn_archive.specs.declared.tally.SkippedSoFar.{SkippedSoFar}
 use Rattle.capn_serve.specs.Fold.{Fold}
-use Rattle.capn_serve.specs.FormRun.{AreMessages, HasWritten, IsReadSoFar, KeepsUp, MayNeedMemory}
+use Rattle.capn_serve.specs.FormRun.{AreMessages, HasWritten, IsNeededSoFar, IsReadSoFar, KeepsUp, MayNeedMemory}
 
 -- the messages skipped so far, of this many
 abbrev pub skipped_of : SkippedSoFar → ℕ → Skipped
@@ -25,6 +25,11 @@ skipped_of s messages = record { refused = s.count; messages = messages; first =
 abbrev pub outcome_by : Option SkippedSoFar → ℕ → Result (Unit {0}) ArchiveFault
 outcome_by None messages = Ok tt
 outcome_by (Some s) messages = Err (faults.Skipped (skipped_of s messages))
+
+-- the same unless a message ended it that the run itself refused, since it is not canonical: then with its position
+abbrev pub outcome_unless : Option Position → Option SkippedSoFar → ℕ → Result (Unit {0}) ArchiveFault
+outcome_unless None skipped messages = outcome_by skipped messages
+outcome_unless (Some at) skipped messages = Err (faults.NotCanonical at)
 
 -- an input that is refused at a position, after this many messages: with those of them that were skipped, if any was
 abbrev pub after_skipped : Option SkippedSoFar → ℕ → Position → Refusal → ArchiveFault
@@ -48,16 +53,17 @@ fault_after skipped messages run_faults.Io = faults.Io
 fault_after skipped messages run_faults.InputTooLong = faults.InputTooLong
 fault_after skipped messages (run_faults.Refused at r) = refused_after skipped messages at r
 
--- what a run does after its last message, by its state then: the text that it writes, and which messages it has
--- skipped
+-- what a run does after its last message, by its state then: the text that it writes, which messages it has skipped,
+-- and where the message is that ended it, if one did that is not canonical
 pub record Finish (X : Type 0) : Type 0 where
   pub closing : X → List ℕ
   pub skipped : X → Option SkippedSoFar
+  pub ended : X → Option Position
 
 module _ {X : Type 0} (f : Fold X) (x : X) (finish : Finish X) where
-  -- how a run ends that has served all of its input
+  -- how a run ends whose messages no fault ended
   abbrev pub outcome : X → Result (Unit {0}) ArchiveFault
-  outcome y = outcome_by (finish.skipped y) (f.place y).index
+  outcome y = outcome_unless (finish.ended y) (finish.skipped y) (f.place y).index
 
   -- how one ends whose messages a fault ended
   abbrev pub stopped_by : X → RunFault → Result (Unit {0}) ArchiveFault
@@ -94,11 +100,13 @@ module _ {X : Type 0} (f : Fold X) (x : X) (finish : Finish X) where
       × IfSome input (λ bytes. (messages : List ℕ) × AreMessages f x form bytes messages (Ok tt) y)
       × (finish.closing y ≢ [])
 
-  -- a reader gave some bytes, as far as is read, and a writer took a beginning of their text
+  -- a reader gave some bytes, as far as is read, and none after a piece that leads to the end; and a writer took a
+  -- beginning of their text
   pub record Begins (form : Form) (a b c d : Option (List ℕ)) : Type 0 where
     pub bytes : List ℕ
     pub read : Consumes a b bytes
     pub bounded : IsReadSoFar f x form bytes c d
+    pub needed : IsNeededSoFar f x form bytes
     pub written : HasWritten f x form bytes c d ⊎ HasBegunClosing form a c d
 
   -- what a run did, over a reader (from a to b) and a writer (from c to d)

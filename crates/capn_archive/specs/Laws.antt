@@ -1,10 +1,20 @@
 -- What holds of the definitions alone. (Own.)
-use Rattle.std.specs.Prelude.{◌≡◌, ℕ, List, Result}
+use Rattle.std.specs.Prelude.{◌≡◌, ◌≢◌, ℕ, ◌≤◌, List, [], ◌∷◌, length, false, Result, Ok, ⊤}
+use Rattle.capn_words.specs.Message.{total}
+use Rattle.capn_walk.specs.Limits.{Bounds}
+use Rattle.capn_stream.specs.Frames.{Frames}
+use Rattle.capn_canon.specs.declared.form.Form.TheVariants as forms
+use Rattle.capn_serve.specs.Fold.{Part, frames_of}
+use Rattle.capn_serve.specs.FormRun.{most_stream}
 use Rattle.capn_archive.specs.ArchiveRun as archives
 use Rattle.capn_archive.specs.UniqRun as uniqs
+use Rattle.capn_archive.specs.FilterMessages.{Passes}
+use Rattle.capn_archive.specs.FilterRun as filters
 use Rattle.capn_archive.specs.Finish.{IsWholeText}
 use Rattle.capn_archive.specs.declared.fault.ArchiveFault.{ArchiveFault}
+use Rattle.capn_archive.specs.declared.filter_order.FilterOrder.{FilterOrder}
 use Rattle.capn_archive.specs.declared.task.ArchiveOrder.{ArchiveOrder}
+use Rattle.capn_archive.specs.declared.task.Task.TheVariants as tasks
 use Rattle.capn_archive.specs.declared.uniq_order.UniqOrder.{UniqOrder}
 
 -- a run over an archive writes one text of an input, and ends in one way
@@ -21,3 +31,42 @@ OneUniq = (order : UniqOrder) (input t u : List ℕ) (r s : Result (Unit {0}) Ar
     → IsWholeText (uniqs.uniq_fold order) (uniqs.first_run order) uniqs.uniq_finish order.form input t r
     → IsWholeText (uniqs.uniq_fold order) (uniqs.first_run order) uniqs.uniq_finish order.form input u s
     → (t ≡ u) × (r ≡ s)
+
+-- and so does one that lets accepted messages through
+abbrev pub OneFilter : Type 0
+OneFilter = (order : FilterOrder) (input t u : List ℕ) (r s : Result (Unit {0}) ArchiveFault)
+    → IsWholeText (filters.filter_fold order) (filters.first_run order) filters.filter_finish order.form input t r
+    → IsWholeText (filters.filter_fold order) (filters.first_run order) filters.filter_finish order.form input u s
+    → (t ≡ u) × (r ≡ s)
+
+-- the frames of messages that a filter of this order lets through
+abbrev pub AreLetThrough : FilterOrder → List Part → Type 0
+AreLetThrough order [] = ⊤
+AreLetThrough order (p ∷ ps) = Frames p.frame p.message × (total p.message ≤ order.limits.message_words)
+    × Passes order.canonical p.message order.limits × AreLetThrough order ps
+
+-- a text is a row of such frames, and has no more bytes than a stream may have
+pub record IsLetThrough (order : FilterOrder) (text : List ℕ) : Type 0 where
+  pub parts : List Part
+  pub each : AreLetThrough order parts
+  pub is : text ≡ frames_of parts
+  pub short : length text ≤ most_stream
+
+-- what a filter writes of a stream, which may be packed, is that, whatever the input is and however the filter ends
+abbrev pub FiltersAccepted : Type 0
+FiltersAccepted = (order : FilterOrder) (input text : List ℕ) (r : Result (Unit {0}) ArchiveFault)
+    → order.form ≢ forms.Bare
+    → IsWholeText (filters.filter_fold order) (filters.first_run order) filters.filter_finish order.form input text r
+    → IsLetThrough order text
+
+-- `list` over a stream, with these limits
+abbrev pub listing : Bounds → ArchiveOrder
+listing limits = record { task = tasks.List; form = forms.Stream; limits = limits; keep_going = false }
+
+-- so `list` with the same limits ends as done over it
+abbrev pub FilteredIsListed : Type 0
+FilteredIsListed = (order : FilterOrder) (input text lines : List ℕ) (r s : Result (Unit {0}) ArchiveFault)
+    → order.form ≢ forms.Bare
+    → IsWholeText (filters.filter_fold order) (filters.first_run order) filters.filter_finish order.form input text r
+    → IsWholeText (archives.archive_fold (listing order.limits)) (archives.first_run (listing order.limits))
+    (archives.archive_finish (listing order.limits)) forms.Stream text lines s → s ≡ Ok tt

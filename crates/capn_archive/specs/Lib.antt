@@ -9,5 +9,7 @@ pub mod Finish
 pub mod ArchiveRun
 pub mod UniqMessages
 pub mod UniqRun
+pub mod FilterMessages
+pub mod FilterRun
 pub mod FaultText
 pub mod Laws

@@ -1,5 +1,5 @@
 -- What a run of `uniq` did. (Own.)
-use Rattle.std.specs.Prelude.{◌≡◌, ℕ, List, [], ◌++◌, codes, length, Bool, true, false, Option, Result, refl}
+use Rattle.std.specs.Prelude.{◌≡◌, ℕ, List, [], ◌++◌, codes, length, Bool, true, false, Option, None, Result, refl}
 use Rattle.std.specs.Fmt.{decimal, digits}
 use Rattle.capn_archive.specs.declared.fault.ArchiveFault.{ArchiveFault}
 use Rattle.capn_serve.specs.declared.service.Run.{Run}
@@ -36,7 +36,7 @@ closing s = closing_by s.order.count (length s.digests.keys) s.served
 
 -- what a run does after its last message
 abbrev pub uniq_finish : Finish (Run UniqState)
-uniq_finish = record { closing = λ y. closing y.service; skipped = λ y. y.service.skipped }
+uniq_finish = record { closing = λ y. closing y.service; skipped = λ y. y.service.skipped; ended = λ y. None }
 
 -- what a run did, over a reader (from a to b) and a writer (from c to d)
 abbrev pub Deduplicated : UniqOrder → Option (List ℕ) → Option (List ℕ) → Option (List ℕ) → Option (List ℕ) → Bool

@@ -2,7 +2,7 @@
 
 ghost use Rattle.capn_words.specs.Watched.{inner_of, has_failed};
 ghost use Rattle.capn_endings.specs.Line.{Says, way};
-ghost use Rattle.capn_archive.specs.FaultText.{text_of_refused, text_of_skipped};
+ghost use Rattle.capn_archive.specs.FaultText.{text_of_refused, text_of_skipped, text_of_uncanonical};
 
 use capn_canon::Refusal;
 use capn_endings::{Ending, Line};
@@ -32,6 +32,8 @@ pub enum ArchiveFault {
     InputTooLong,
     /// The message at this position is refused, or no message can begin there.
     Refused(Position, Refusal),
+    /// The message at this position is accepted and not canonical, and only canonical ones are let through.
+    NotCanonical(Position),
     /// All of the input was served, except for messages that were skipped.
     Skipped(Skipped),
     /// The frame or the packed text at this position is refused, after messages of which these were skipped.
@@ -48,6 +50,17 @@ fn say_refused<E: Write>(at: &Position, refusal: &Refusal, line: &mut Line, erro
     say_place(at, line, errors);
     line.put(b": ", errors);
     say_refusal(refusal, line, errors);
+}
+
+/// Says that the message at a position is not canonical.
+fn say_uncanonical<E: Write>(at: &Position, line: &mut Line, errors: &mut Watched<E>)
+    ensures { Says (text_of_uncanonical at.now)
+        (way line.old (E.contents (inner_of errors.old)) (has_failed errors.old))
+        (way line.new (E.contents (inner_of errors.new)) (has_failed errors.new)) }
+{
+    line.put(b"message ", errors);
+    say_place(at, line, errors);
+    line.put(b": not canonical", errors);
 }
 
 /// Says how many messages were skipped, of how many, and where the first of them is.
@@ -75,6 +88,7 @@ impl Ending for ArchiveFault {
             ArchiveFault::Io => line.put(b"input or output failed", errors),
             ArchiveFault::InputTooLong => line.put(b"input too long", errors),
             ArchiveFault::Refused(at, refusal) => say_refused(at, refusal, line, errors),
+            ArchiveFault::NotCanonical(at) => say_uncanonical(at, line, errors),
             ArchiveFault::Skipped(skipped) => say_skipped(skipped, line, errors),
             ArchiveFault::RefusedAfterSkipped(skipped, at, refusal) => {
                 say_skipped(skipped, line, errors);
@@ -87,7 +101,7 @@ impl Ending for ArchiveFault {
     fn exit_status(&self) -> u8 {
         match self {
             ArchiveFault::Refused(_, _) | ArchiveFault::Skipped(_) => 1,
-            ArchiveFault::RefusedAfterSkipped(_, _, _) => 1,
+            ArchiveFault::NotCanonical(_) | ArchiveFault::RefusedAfterSkipped(_, _, _) => 1,
             ArchiveFault::Memory | ArchiveFault::Io | ArchiveFault::InputTooLong => 3,
         }
     }

@@ -1,9 +1,17 @@
 //! The laws of runs over an archive, as empty functions.
 
-ghost use Rattle.capn_archive.specs.Laws.{OneArchive, OneUniq};
+ghost use Rattle.capn_archive.specs.Laws.{FilteredIsListed, FiltersAccepted, OneArchive, OneFilter, OneUniq};
 
 /// An order says one text and one ending of an input.
 pub fn one_text()
     ensures archive { OneArchive }
     ensures uniq { OneUniq }
+    ensures filter { OneFilter }
+{}
+
+/// What a filter writes of a stream are frames of messages that are accepted, or of canonical ones, so that `list` with
+/// the same limits takes them all.
+pub fn let_through()
+    ensures accepted { FiltersAccepted }
+    ensures listed { FilteredIsListed }
 {}

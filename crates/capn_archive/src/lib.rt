@@ -3,8 +3,9 @@
 //!
 //! [`run_archive`] carries an order out, an [`ArchiveOrder`]: by its service, the [`ArchiveService`], it lists
 //! messages, says what limits they need, or writes their canonical bytes as frames. [`run_uniq`] carries out a
-//! [`UniqOrder`] by a [`UniqService`]: it leaves out messages whose canonical bytes one before them had. The loops over
-//! the messages are those of [`capn_serve`].
+//! [`UniqOrder`] by a [`UniqService`]: it leaves out messages whose canonical bytes one before them had. [`run_filter`]
+//! carries out a [`FilterOrder`] by a [`FilterService`]: it lets messages through that are accepted. The loops over the
+//! messages are those of [`capn_serve`].
 #![tactic(auto)]
 
 mod archive_run;
@@ -13,6 +14,9 @@ mod canonical_frame;
 mod digest;
 mod end_of_archive;
 mod fault;
+mod filter_order;
+mod filter_run;
+mod filter_service;
 mod findings;
 pub mod laws;
 mod limits_report;
@@ -31,6 +35,9 @@ pub use capn_serve::{
     Position, Run, RunFault, ServeFault, Service, run_bare, run_packed, run_stream,
 };
 pub use fault::{ArchiveFault, Skipped};
+pub use filter_order::FilterOrder;
+pub use filter_run::run_filter;
+pub use filter_service::FilterService;
 pub use task::{ArchiveOrder, Task};
 pub use uniq_order::UniqOrder;
 pub use uniq_run::run_uniq;

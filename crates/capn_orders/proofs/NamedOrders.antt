@@ -35,6 +35,8 @@ list_means rows (orders.Explain x) m =
     absurd (let bad : 335 ≡ 344 = told (codes "list", rows) (orders.Explain x) m in omega arith)
 list_means rows (orders.Uniq u) m =
     absurd (let bad : 335 ≡ 320 = told (codes "list", rows) (orders.Uniq u) m in omega arith)
+list_means rows (orders.Filter h) m =
+    absurd (let bad : 335 ≡ 321 = told (codes "list", rows) (orders.Filter h) m in omega arith)
 list_means rows (orders.Pick p) m =
     absurd (let bad : 335 ≡ 303 = told (codes "list", rows) (orders.Pick p) m in omega arith)
 list_means rows (orders.Only p) m =
@@ -82,6 +84,7 @@ canonical_means rows o m = go o m (told (codes "canonical", rows) o m)
     go (orders.Show s) m e = absurd (omega arith)
     go (orders.Explain x) m e = absurd (omega arith)
     go (orders.Uniq u) m e = absurd (omega arith)
+    go (orders.Filter h) m e = absurd (omega arith)
     go (orders.Pick p) m e = absurd (omega arith)
     go (orders.Only p) m e = absurd (omega arith)
     go (orders.Flow flows.Pack) m e = absurd (omega arith)
@@ -120,6 +123,7 @@ survey_means name rows o m e = go o m e
     go (orders.Show s) m e = other e
     go (orders.Explain x) m e = other e
     go (orders.Uniq u) m e = other e
+    go (orders.Filter h) m e = other e
     go (orders.Pick p) m e = other e
     go (orders.Only p) m e = other e
     go (orders.Flow flows.Pack) m e = other e
@@ -140,7 +144,8 @@ abbrev pub IsName : Text → Type 0
 IsName name =
     (name ≡ codes "show") ⊎ ((name ≡ codes "check") ⊎ ((name ≡ codes "list") ⊎ ((name ≡ codes "limits")
     ⊎ ((name ≡ codes "canonical") ⊎ ((name ≡ codes "uniq") ⊎ ((name ≡ codes "pick") ⊎ ((name ≡ codes "pack")
-    ⊎ ((name ≡ codes "unpack") ⊎ ((name ≡ codes "make") ⊎ ((name ≡ codes "hash") ⊎ (name ≡ codes "explain")))))))))))
+    ⊎ ((name ≡ codes "unpack") ⊎ ((name ≡ codes "make") ⊎ ((name ≡ codes "hash") ⊎ ((name ≡ codes "explain")
+    ⊎ (name ≡ codes "filter"))))))))))))
 
 pub named : (name : Text) (rows : List Row) (o : Order) → MeansOrder (Some (name, rows)) o → IsName name
 named name rows o m = go o m
@@ -159,9 +164,10 @@ named name rows o m = go o m
     go (orders.Message (commands.Canonical f l)) m = inr (inr (inr (inr (inl m.0.0))))
     go (orders.Message (commands.Hash f l)) m = inr (inr (inr (inr (inr (inr (inr (inr (inr (inr (inl m.0.0))))))))))
     go (orders.Show s) m = inl m.0
-    go (orders.Explain x) m = inr (inr (inr (inr (inr (inr (inr (inr (inr (inr (inr m.0))))))))))
+    go (orders.Explain x) m = inr (inr (inr (inr (inr (inr (inr (inr (inr (inr (inr (inl m.0)))))))))))
     go (orders.Archive a) m = task a.task m.0
     go (orders.Uniq u) m = inr (inr (inr (inr (inr (inl m.0)))))
+    go (orders.Filter h) m = inr (inr (inr (inr (inr (inr (inr (inr (inr (inr (inr (inr m.0)))))))))))
     go (orders.Pick p) m = inr (inr (inr (inr (inr (inr (inl m.0))))))
     go (orders.Only p) m = inr (inr (inr (inr (inr (inr (inl m.0))))))
     go (orders.Flow flows.Pack) m = inr (inr (inr (inr (inr (inr (inr (inl m.0)))))))
@@ -191,6 +197,7 @@ pack_means rows o m = go o m (told (codes "pack", rows) o m)
     go (orders.Show s) m e = absurd (omega arith)
     go (orders.Explain x) m e = absurd (omega arith)
     go (orders.Uniq u) m e = absurd (omega arith)
+    go (orders.Filter h) m e = absurd (omega arith)
     go (orders.Pick p) m e = absurd (omega arith)
     go (orders.Only p) m e = absurd (omega arith)
     go (orders.Make f) m e = absurd (omega arith)
@@ -223,6 +230,7 @@ unpack_means rows o m = go o m (told (codes "unpack", rows) o m)
     go (orders.Show s) m e = absurd (omega arith)
     go (orders.Explain x) m e = absurd (omega arith)
     go (orders.Uniq u) m e = absurd (omega arith)
+    go (orders.Filter h) m e = absurd (omega arith)
     go (orders.Pick p) m e = absurd (omega arith)
     go (orders.Only p) m e = absurd (omega arith)
     go (orders.Make f) m e = absurd (omega arith)
@@ -291,6 +299,7 @@ show_means rows o m = go o m (told (codes "show", rows) o m)
     }
     go (orders.Explain x) m e = absurd (omega arith)
     go (orders.Uniq u) m e = absurd (omega arith)
+    go (orders.Filter h) m e = absurd (omega arith)
     go (orders.Pick p) m e = absurd (omega arith)
     go (orders.Only p) m e = absurd (omega arith)
     go (orders.Flow flows.Pack) m e = absurd (omega arith)
@@ -317,6 +326,7 @@ pick_means rows o m = go o m (told (codes "pick", rows) o m)
     go (orders.Archive a) m e = absurd (task a.task e)
     go (orders.Explain x) m e = absurd (omega arith)
     go (orders.Uniq u) m e = absurd (omega arith)
+    go (orders.Filter h) m e = absurd (omega arith)
     go (orders.Pick p) m e = inl (p, m.1)
     go (orders.Only p) m e = inr (p, m.1)
     go (orders.Flow flows.Pack) m e = absurd (omega arith)
@@ -339,6 +349,7 @@ explain_means rows o m = go o m (told (codes "explain", rows) o m)
     go (orders.Explain x) m e = (x, m.1)
     go (orders.Archive a) m e = absurd (task a.task e)
     go (orders.Uniq u) m e = absurd (omega arith)
+    go (orders.Filter h) m e = absurd (omega arith)
     go (orders.Pick p) m e = absurd (omega arith)
     go (orders.Only p) m e = absurd (omega arith)
     go (orders.Flow flows.Pack) m e = absurd (omega arith)

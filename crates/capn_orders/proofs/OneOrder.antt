@@ -9,13 +9,14 @@ use Rattle.capn_canon.specs.declared.form.Form.{Form}
 use Rattle.capn_canon.specs.declared.form.Form.TheVariants as forms
 use Rattle.capn_orders.specs.Meaning.{Means, AreOptions, AreSame, ExplainIs, HasNoFlag, IsFlow, IsNumbered, IsSameWay}
 use Rattle.capn_orders.specs.Meaning.{IsTask, MakeIs, MeansOneOrder, MeansOrder, OnlyIs, PickIs, ShowIs, StyleIs}
-use Rattle.capn_orders.specs.Meaning.{UniqIs, WayIs, MarksAre, form_of, is_plain, usual_with}
+use Rattle.capn_orders.specs.Meaning.{FilterIs, UniqIs, WayIs, MarksAre, form_of, is_plain, usual_with}
 use Rattle.capn_orders.proofs.OneMeaning.{form_one, limits_one, means_one, number_one}
 use Rattle.capn_commands.specs.declared.command.Command.{Command}
 use Rattle.capn_commands.specs.declared.command.Command.TheVariants as commands
 use Rattle.capn_archive.specs.declared.task.ArchiveOrder.{ArchiveOrder}
 use Rattle.capn_archive.specs.declared.task.Task.{Task}
 use Rattle.capn_archive.specs.declared.task.Task.TheVariants as tasks
+use Rattle.capn_archive.specs.declared.filter_order.FilterOrder.{FilterOrder}
 use Rattle.capn_archive.specs.declared.uniq_order.UniqOrder.{UniqOrder}
 use Rattle.capn_report.specs.declared.explain.Explain.{Explain}
 use Rattle.capn_serve.specs.declared.pick.Pick.{Pick}
@@ -79,6 +80,7 @@ tell_of (orders.Show s) = 326
 tell_of (orders.Explain x) = 344
 tell_of (orders.Archive a) = tell_task a.task
 tell_of (orders.Uniq u) = 320
+tell_of (orders.Filter h) = 321
 tell_of (orders.Pick k) = 303
 tell_of (orders.Only k) = 303
 tell_of (orders.Flow w) = tell_flow w
@@ -109,6 +111,7 @@ told said (orders.Show s) m = ap tell m.0
 told said (orders.Explain x) m = ap tell m.0
 told said (orders.Archive a) m = told_task said.0 said.1 a.task m.0
 told said (orders.Uniq u) m = ap tell m.0
+told said (orders.Filter h) m = ap tell m.0
 told said (orders.Pick k) m = ap tell m.0
 told said (orders.Only k) m = ap tell m.0
 told said (orders.Flow w) m = told_flow said.0 said.1 w m
@@ -116,7 +119,7 @@ told said (orders.Make f) m = ap tell m.0
 
 -- no command over messages or bytes is named so
 abbrev is_no_command : ℕ → Bool
-is_no_command n = n == 303 || (n == 311 || (n == 320 || (n == 323 || (n == 335 || n == 344))))
+is_no_command n = n == 303 || (n == 311 || (n == 320 || (n == 321 || (n == 323 || (n == 335 || n == 344)))))
 
 no_command : (c : Command) → is_no_command (tell_command c) ≡ false
 no_command (commands.Show f l) = refl
@@ -131,7 +134,8 @@ never_command c n other e = let bad : false ≡ true = sym (no_command c) ∙ ap
 
 -- and no task
 abbrev is_no_task : ℕ → Bool
-is_no_task n = n == 303 || (n == 311 || (n == 320 || (n == 326 || (n == 295 || (n == 334 || n == 344)))))
+is_no_task n =
+    n == 303 || (n == 311 || (n == 320 || (n == 321 || (n == 326 || (n == 295 || (n == 334 || n == 344))))))
 
 no_task : (t : Task) → is_no_task (tell_task t) ≡ false
 no_task tasks.List = refl
@@ -144,7 +148,7 @@ never_task t n other e = let bad : false ≡ true = sym (no_task t) ∙ ap is_no
 
 -- and no flow
 abbrev is_no_flow : ℕ → Bool
-is_no_flow n = n == 303 || (n == 311 || (n == 320 || (n == 326 || n == 344)))
+is_no_flow n = n == 303 || (n == 311 || (n == 320 || (n == 321 || (n == 326 || n == 344))))
 
 no_flow : (w : Flow) → is_no_flow (tell_flow w) ≡ false
 no_flow flows.Pack = refl
@@ -210,6 +214,14 @@ uniq_one rows u v (f, l, k, c) (g, m, j, d) =
     uniq_same u v (form_one u.form v.form (sym f ∙ g)) (limits_one rows u.limits v.limits l m)
     (flag_one rows (codes "keep-going") u.keep_going v.keep_going k j)
     (flag_one rows (codes "count") u.count v.count c d)
+
+filter_one : (rows : List Row) (u v : FilterOrder) → FilterIs rows u → FilterIs rows v → u ≡ v
+filter_one rows u v (f, l, k, c) (g, m, j, d) =
+    let form : u.form ≡ v.form = form_one u.form v.form (sym f ∙ g) in
+    let limits : u.limits ≡ v.limits = limits_one rows u.limits v.limits l m in
+    let going : u.keep_going ≡ v.keep_going = flag_one rows (codes "keep-going") u.keep_going v.keep_going k j in
+    let canonical : u.canonical ≡ v.canonical = flag_one rows (codes "canonical") u.canonical v.canonical c d in
+    λ i. record { form = form i; limits = limits i; keep_going = going i; canonical = canonical i }
 
 make_one : (rows : List Row) (p q : Make) → MakeIs rows p → MakeIs rows q → p ≡ q
 make_one rows p q (f, b) (g, c) =
@@ -400,6 +412,7 @@ same s (orders.Message c) (orders.Show t) e m n = absurd (shows s.1 c t e m.1 n.
 same s (orders.Message c) (orders.Explain y) e m n = absurd (never_command c 344 refl e)
 same s (orders.Message c) (orders.Archive b) e m n = absurd (apart s.0 s.1 c b.task e m.1 n.0)
 same s (orders.Message c) (orders.Uniq v) e m n = absurd (never_command c 320 refl e)
+same s (orders.Message c) (orders.Filter h) e m n = absurd (never_command c 321 refl e)
 same s (orders.Message c) (orders.Pick k) e m n = absurd (never_command c 303 refl e)
 same s (orders.Message c) (orders.Only k) e m n = absurd (never_command c 303 refl e)
 same s (orders.Message c) (orders.Flow w) e m n = absurd (streams s.0 s.1 c w e m.1 n)
@@ -409,6 +422,7 @@ same s (orders.Show r) (orders.Show t) e m n = show_one s.1 r t m.1 n.1
 same s (orders.Show r) (orders.Explain y) e m n = absurd (omega arith)
 same s (orders.Show r) (orders.Archive b) e m n = absurd (never_task b.task 326 refl (sym e))
 same s (orders.Show r) (orders.Uniq v) e m n = absurd (omega arith)
+same s (orders.Show r) (orders.Filter h) e m n = absurd (omega arith)
 same s (orders.Show r) (orders.Pick k) e m n = absurd (omega arith)
 same s (orders.Show r) (orders.Only k) e m n = absurd (omega arith)
 same s (orders.Show r) (orders.Flow w) e m n = absurd (never_flow w 326 refl (sym e))
@@ -419,6 +433,7 @@ same s (orders.Explain x) (orders.Explain y) e m n =
     ap (λ (v : Explain). orders.Explain v) (explain_one s.1 x y m.1 n.1)
 same s (orders.Explain x) (orders.Archive b) e m n = absurd (never_task b.task 344 refl (sym e))
 same s (orders.Explain x) (orders.Uniq v) e m n = absurd (omega arith)
+same s (orders.Explain x) (orders.Filter h) e m n = absurd (omega arith)
 same s (orders.Explain x) (orders.Pick k) e m n = absurd (omega arith)
 same s (orders.Explain x) (orders.Only k) e m n = absurd (omega arith)
 same s (orders.Explain x) (orders.Flow w) e m n = absurd (never_flow w 344 refl (sym e))
@@ -429,6 +444,7 @@ same s (orders.Archive a) (orders.Explain y) e m n = absurd (never_task a.task 3
 same s (orders.Archive a) (orders.Archive b) e m n =
     ap (λ (x : ArchiveOrder). orders.Archive x) (archive_one s.0 s.1 a b e m.0 m.1 n.0 n.1)
 same s (orders.Archive a) (orders.Uniq v) e m n = absurd (never_task a.task 320 refl e)
+same s (orders.Archive a) (orders.Filter h) e m n = absurd (never_task a.task 321 refl e)
 same s (orders.Archive a) (orders.Pick k) e m n = absurd (never_task a.task 303 refl e)
 same s (orders.Archive a) (orders.Only k) e m n = absurd (never_task a.task 303 refl e)
 same s (orders.Archive a) (orders.Flow w) e m n = absurd (stays a.task w e)
@@ -438,15 +454,28 @@ same s (orders.Uniq u) (orders.Show t) e m n = absurd (omega arith)
 same s (orders.Uniq u) (orders.Explain y) e m n = absurd (omega arith)
 same s (orders.Uniq u) (orders.Archive b) e m n = absurd (never_task b.task 320 refl (sym e))
 same s (orders.Uniq u) (orders.Uniq v) e m n = ap (λ (x : UniqOrder). orders.Uniq x) (uniq_one s.1 u v m.1 n.1)
+same s (orders.Uniq u) (orders.Filter h) e m n = absurd (omega arith)
 same s (orders.Uniq u) (orders.Pick k) e m n = absurd (omega arith)
 same s (orders.Uniq u) (orders.Only k) e m n = absurd (omega arith)
 same s (orders.Uniq u) (orders.Flow w) e m n = absurd (never_flow w 320 refl (sym e))
 same s (orders.Uniq u) (orders.Make g) e m n = absurd (omega arith)
+same s (orders.Filter h) (orders.Message d) e m n = absurd (never_command d 321 refl (sym e))
+same s (orders.Filter h) (orders.Show t) e m n = absurd (omega arith)
+same s (orders.Filter h) (orders.Explain y) e m n = absurd (omega arith)
+same s (orders.Filter h) (orders.Archive b) e m n = absurd (never_task b.task 321 refl (sym e))
+same s (orders.Filter h) (orders.Uniq v) e m n = absurd (omega arith)
+same s (orders.Filter h) (orders.Filter k) e m n =
+    ap (λ (x : FilterOrder). orders.Filter x) (filter_one s.1 h k m.1 n.1)
+same s (orders.Filter h) (orders.Pick k) e m n = absurd (omega arith)
+same s (orders.Filter h) (orders.Only k) e m n = absurd (omega arith)
+same s (orders.Filter h) (orders.Flow w) e m n = absurd (never_flow w 321 refl (sym e))
+same s (orders.Filter h) (orders.Make g) e m n = absurd (omega arith)
 same s (orders.Pick k) (orders.Message d) e m n = absurd (never_command d 303 refl (sym e))
 same s (orders.Pick k) (orders.Show t) e m n = absurd (omega arith)
 same s (orders.Pick k) (orders.Explain y) e m n = absurd (omega arith)
 same s (orders.Pick k) (orders.Archive b) e m n = absurd (never_task b.task 303 refl (sym e))
 same s (orders.Pick k) (orders.Uniq v) e m n = absurd (omega arith)
+same s (orders.Pick k) (orders.Filter h) e m n = absurd (omega arith)
 same s (orders.Pick k) (orders.Pick l) e m n = ap (λ (x : Pick). orders.Pick x) (pick_one s.1 k l m.1 n.1)
 same s (orders.Pick k) (orders.Only l) e m n = absurd (listed s.1 k l m.1 n.1)
 same s (orders.Pick k) (orders.Flow w) e m n = absurd (never_flow w 303 refl (sym e))
@@ -456,6 +485,7 @@ same s (orders.Only k) (orders.Show t) e m n = absurd (omega arith)
 same s (orders.Only k) (orders.Explain y) e m n = absurd (omega arith)
 same s (orders.Only k) (orders.Archive b) e m n = absurd (never_task b.task 303 refl (sym e))
 same s (orders.Only k) (orders.Uniq v) e m n = absurd (omega arith)
+same s (orders.Only k) (orders.Filter h) e m n = absurd (omega arith)
 same s (orders.Only k) (orders.Pick l) e m n = absurd (listed s.1 l k n.1 m.1)
 same s (orders.Only k) (orders.Only l) e m n = only_one s.1 k l m.1 n.1
 same s (orders.Only k) (orders.Flow w) e m n = absurd (never_flow w 303 refl (sym e))
@@ -465,6 +495,7 @@ same s (orders.Flow v) (orders.Show t) e m n = absurd (never_flow v 326 refl e)
 same s (orders.Flow v) (orders.Explain y) e m n = absurd (never_flow v 344 refl e)
 same s (orders.Flow v) (orders.Archive b) e m n = absurd (stays b.task v (sym e))
 same s (orders.Flow v) (orders.Uniq u) e m n = absurd (never_flow v 320 refl e)
+same s (orders.Flow v) (orders.Filter h) e m n = absurd (never_flow v 321 refl e)
 same s (orders.Flow v) (orders.Pick k) e m n = absurd (never_flow v 303 refl e)
 same s (orders.Flow v) (orders.Only k) e m n = absurd (never_flow v 303 refl e)
 same s (orders.Flow v) (orders.Flow w) e m n = ap (λ (x : Flow). orders.Flow x) (flow_one v w e)
@@ -474,6 +505,7 @@ same s (orders.Make f) (orders.Show t) e m n = absurd (omega arith)
 same s (orders.Make f) (orders.Explain y) e m n = absurd (omega arith)
 same s (orders.Make f) (orders.Archive b) e m n = absurd (never_task b.task 311 refl (sym e))
 same s (orders.Make f) (orders.Uniq v) e m n = absurd (omega arith)
+same s (orders.Make f) (orders.Filter h) e m n = absurd (omega arith)
 same s (orders.Make f) (orders.Pick k) e m n = absurd (omega arith)
 same s (orders.Make f) (orders.Only k) e m n = absurd (omega arith)
 same s (orders.Make f) (orders.Flow w) e m n = absurd (never_flow w 311 refl (sym e))
@@ -490,6 +522,7 @@ same_command (orders.Show show) command is = is
 same_command (orders.Explain explain) command is = is
 same_command (orders.Archive archive) command is = is
 same_command (orders.Uniq uniq) command is = is
+same_command (orders.Filter filter) command is = is
 same_command (orders.Pick pick) command is = is
 same_command (orders.Only only) command is = is
 same_command (orders.Flow flow) command is = is

@@ -61,14 +61,14 @@ HasLine command line = (app_of command ≡ line) × ((out-Command command).has_g
 -- the commands over messages that take limits
 abbrev pub limited : List Text
 limited = codes "show" ∷ codes "check" ∷ codes "explain" ∷ codes "list" ∷ codes "limits" ∷ codes "canonical"
-    ∷ codes "hash" ∷ codes "uniq" ∷ []
+    ∷ codes "hash" ∷ codes "uniq" ∷ codes "filter" ∷ []
 
 -- each option, and the commands that take it: where an option is there twice, help says two things of it
 abbrev pub options : List (Rule × List Text)
 options = (
   form_rule,
   codes "show" ∷ codes "check" ∷ codes "explain" ∷ codes "list" ∷ codes "limits" ∷ codes "hash"
-      ∷ codes "uniq" ∷ [],
+      ∷ codes "uniq" ∷ codes "filter" ∷ [],
 )
     ∷ (form_rule, codes "canonical" ∷ [])
     ∷ (form_rule, codes "pick" ∷ [])
@@ -86,10 +86,11 @@ options = (
     ∷ (flag_rule (codes "ways"), codes "show" ∷ [])
     ∷ (asked_rule (codes "number"), codes "explain" ∷ [])
     ∷ (flag_rule (codes "framed"), codes "canonical" ∷ [])
-    ∷ (flag_rule (codes "keep-going"), codes "list" ∷ codes "limits" ∷ codes "uniq" ∷ [])
+    ∷ (flag_rule (codes "keep-going"), codes "list" ∷ codes "limits" ∷ codes "uniq" ∷ codes "filter" ∷ [])
     ∷ (flag_rule (codes "keep-going"), codes "canonical" ∷ [])
     ∷ (flag_rule (codes "digest"), codes "list" ∷ [])
     ∷ (flag_rule (codes "count"), codes "uniq" ∷ [])
+    ∷ (flag_rule (codes "canonical"), codes "filter" ∷ [])
     ∷ (place_rule (codes "from") (codes "1"), codes "pick" ∷ [])
     ∷ (place_rule (codes "to") (codes "18446744073709551615"), codes "pick" ∷ [])
     ∷ (asked_rule (codes "only"), codes "pick" ∷ [])
@@ -101,7 +102,7 @@ options = (
 -- the commands
 abbrev pub commands : List Text
 commands = codes "show" ∷ codes "check" ∷ codes "explain" ∷ codes "list" ∷ codes "limits" ∷ codes "canonical"
-    ∷ codes "hash" ∷ codes "uniq" ∷ codes "pick" ∷ codes "pack" ∷ codes "unpack" ∷ codes "make" ∷ []
+    ∷ codes "hash" ∷ codes "uniq" ∷ codes "filter" ∷ codes "pick" ∷ codes "pack" ∷ codes "unpack" ∷ codes "make" ∷ []
 
 -- a line with those of some options more that the command of this name takes
 abbrev pub with_options : Text → App → List (Rule × List Text) → App

@@ -9,6 +9,7 @@ use Rattle.capn_canon.specs.declared.form.Form.{Form}
 use Rattle.capn_canon.specs.declared.form.Form.TheVariants as forms
 use Rattle.capn_commands.specs.declared.command.Command.{Command}
 use Rattle.capn_commands.specs.declared.command.Command.TheVariants as commands
+use Rattle.capn_archive.specs.declared.filter_order.FilterOrder.{FilterOrder}
 use Rattle.capn_archive.specs.declared.task.ArchiveOrder.{ArchiveOrder}
 use Rattle.capn_archive.specs.declared.task.Task.{Task}
 use Rattle.capn_archive.specs.declared.task.Task.TheVariants as tasks
@@ -41,6 +42,11 @@ AreOptions rows archive = FormIs rows archive.form × LimitsAre rows archive.lim
 abbrev pub UniqIs : List Row → UniqOrder → Type 0
 UniqIs rows uniq = FormIs rows uniq.form × LimitsAre rows uniq.limits
     × FlagIs rows (codes "keep-going") uniq.keep_going × FlagIs rows (codes "count") uniq.count
+
+-- the options of `filter` have these values
+abbrev pub FilterIs : List Row → FilterOrder → Type 0
+FilterIs rows filter = FormIs rows filter.form × LimitsAre rows filter.limits
+    × FlagIs rows (codes "keep-going") filter.keep_going × FlagIs rows (codes "canonical") filter.canonical
 
 -- the form of an input that holds a stream so
 abbrev pub form_of : StreamForm → Form
@@ -168,6 +174,7 @@ MeansOrder (Some s) (orders.Show show) = (s.0 ≡ codes "show") × ShowIs s.1 sh
 MeansOrder (Some s) (orders.Explain explain) = (s.0 ≡ codes "explain") × ExplainIs s.1 explain
 MeansOrder (Some s) (orders.Archive archive) = IsTask s.0 s.1 archive.task × AreOptions s.1 archive
 MeansOrder (Some s) (orders.Uniq uniq) = (s.0 ≡ codes "uniq") × UniqIs s.1 uniq
+MeansOrder (Some s) (orders.Filter filter) = (s.0 ≡ codes "filter") × FilterIs s.1 filter
 MeansOrder (Some s) (orders.Pick pick) = (s.0 ≡ codes "pick") × PickIs s.1 pick
 MeansOrder (Some s) (orders.Only only) = (s.0 ≡ codes "pick") × OnlyIs s.1 only
 MeansOrder (Some s) (orders.Flow flow) = IsFlow s.0 s.1 flow

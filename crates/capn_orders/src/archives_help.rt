@@ -116,6 +116,35 @@ With 1 and 3 one line on standard error says why, or with `--keep-going` two;
 the manual page explains them under DIAGNOSTICS.",
 };
 
+/// `filter`.
+pub const FILTER: Page = Page {
+    first: "To let through what is accepted, before a reader that sets itself no limits:
+  capn filter --keep-going < messages | reader
+  capn filter --canonical < messages > canonical-ones",
+    usage: "capn filter [OPTIONS] < INPUT",
+    about: "Writes each message that is accepted, and holds back the others",
+    more: "It guards a reader that sets itself no limits. A message is written as it
+stands, with its segment table, byte for byte; of a packed input it is written
+unpacked, and a bare input is written as it is. A message that `list` refuses
+with the same limits ends the run, and neither it nor any after it is written;
+with `--keep-going` it is left out. A capability is no reason to hold a message
+back, but with `--canonical`: then one with a capability, as any other that is
+not canonical, is refused as `not canonical`. `capn explain --number N` says why
+a message isn't canonical.
+Each message is answered as soon as it is complete, and the input may have any
+length.
+
+Exit status:
+  0  Done
+  1  A message was refused; those before it have been written, and with
+     `--keep-going` all others
+  2  The command line is wrong
+  3  Reading or writing failed, the input is longer than 2^64 - 1 bytes, or
+     memory ran out
+With 1 and 3 one line on standard error says why, or with `--keep-going` two;
+the manual page explains them under DIAGNOSTICS.",
+};
+
 /// `pick`.
 pub const PICK: Page = Page {
     first: "To take messages out of an archive by their numbers:

@@ -4,11 +4,12 @@ ghost use Rattle.std.specs.Prelude.{◌≡◌, [], true, codes, map};
 ghost use Rattle.std.specs.Prelude.{IfErr, IfOk, IfSome, IsSome, Some};
 ghost use Rattle.clap.specs.Words.{Text, fault_of, found_of, kind_of, rows_of, subcommand_of, takes};
 ghost use Rattle.capn_orders.specs.Usage.{error_of, IsReason, Orders};
+ghost use Rattle.capn_archive.specs.declared.filter_order.FilterOrder.{FilterOrder};
 ghost use Rattle.capn_archive.specs.declared.task.ArchiveOrder.{ArchiveOrder};
 ghost use Rattle.capn_archive.specs.declared.uniq_order.UniqOrder.{UniqOrder};
 ghost use Rattle.capn_serve.specs.declared.pick.Pick.{Pick};
 ghost use Rattle.capn_orders.specs.CommandLine.{program_line};
-ghost use Rattle.capn_orders.specs.Meaning.{AreOptions, ListIs, MakeIs, MeansOrder, OnlyIs, PickIs, UniqIs};
+ghost use Rattle.capn_orders.specs.Meaning.{AreOptions, FilterIs, ListIs, MakeIs, MeansOrder, OnlyIs, PickIs, UniqIs};
 ghost use Rattle.capn_orders.specs.declared.order.Make.{Make};
 ghost use Rattle.capn_orders.specs.declared.order.Only.{Only};
 ghost use Rattle.capn_orders.specs.declared.order.Order.{Order};
@@ -22,7 +23,7 @@ use crate::range_list::is_range_list;
 use crate::show_options::show_of;
 use crate::subcommands::program_command;
 use crate::usage::Usage;
-use capn_archive::{ArchiveOrder, Task, UniqOrder};
+use capn_archive::{ArchiveOrder, FilterOrder, Task, UniqOrder};
 use capn_commands::Command;
 use capn_serve::Pick;
 use capn_words::MOST_MESSAGE_WORDS;
@@ -71,6 +72,19 @@ fn uniq_of(matches: &ArgMatches) -> Option<UniqOrder>
         limits: limits_of(matches)?,
         keep_going: flag_of(matches, "keep-going")?,
         count: flag_of(matches, "count")?,
+    })
+}
+
+/// The run of `filter` that has these options, if they mean one.
+fn filter_of(matches: &ArgMatches) -> Option<FilterOrder>
+    ensures are { IfSome result (FilterIs (rows_of (found_of matches.now))) }
+    ensures served { (filter : FilterOrder) → FilterIs (rows_of (found_of matches.now)) filter → IsSome result }
+{
+    Some(FilterOrder {
+        form: form_of(matches)?,
+        limits: limits_of(matches)?,
+        keep_going: flag_of(matches, "keep-going")?,
+        canonical: flag_of(matches, "canonical")?,
     })
 }
 
@@ -209,6 +223,7 @@ fn named_order<'a>(name: &str, matches: &ArgMatches<'a>) -> Option<Order<'a>>
         "limits" => Some(Order::Archive(archive_of(Task::Limits, matches)?)),
         "canonical" => canonical_of(matches),
         "uniq" => Some(Order::Uniq(uniq_of(matches)?)),
+        "filter" => Some(Order::Filter(filter_of(matches)?)),
         "pick" => pick_order(matches),
         "pack" => pack_of(matches),
         "unpack" => unpack_of(matches),

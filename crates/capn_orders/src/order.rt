@@ -1,6 +1,6 @@
 //! The orders of the program.
 
-use capn_archive::{ArchiveOrder, UniqOrder};
+use capn_archive::{ArchiveOrder, FilterOrder, UniqOrder};
 use capn_canon::Form;
 use capn_commands::Command;
 use capn_report::Explain;
@@ -67,6 +67,8 @@ pub enum Order<'a> {
     Archive(ArchiveOrder),
     /// Writes the messages of an archive without duplicates, or counts them.
     Uniq(UniqOrder),
+    /// Writes the messages of an archive that are accepted, or that are canonical, as they stand.
+    Filter(FilterOrder),
     /// Writes the messages of a stream from one number to another, as they stand.
     Pick(Pick),
     /// Writes the messages of a stream that are in a list, as they stand.

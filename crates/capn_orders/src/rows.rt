@@ -50,10 +50,11 @@ const LIMITED: &[&str] = &[
     "canonical",
     "hash",
     "uniq",
+    "filter",
 ];
 
 /// The commands, in the order in which help lists them.
-pub const COMMANDS: [&str; 12] = [
+pub const COMMANDS: [&str; 13] = [
     "show",
     "check",
     "explain",
@@ -62,6 +63,7 @@ pub const COMMANDS: [&str; 12] = [
     "canonical",
     "hash",
     "uniq",
+    "filter",
     "pick",
     "pack",
     "unpack",
@@ -78,6 +80,7 @@ pub(crate) fn page_of(name: &str) -> Page {
         "limits" => archives_help::LIMITS,
         "canonical" => archives_help::CANONICAL,
         "uniq" => archives_help::UNIQ,
+        "filter" => archives_help::FILTER,
         "pick" => archives_help::PICK,
         "pack" => bytes_help::PACK,
         "unpack" => bytes_help::UNPACK,
@@ -87,7 +90,7 @@ pub(crate) fn page_of(name: &str) -> Page {
 }
 
 /// The options. Help lists those of a command in this order.
-pub const OPTIONS: [OptionRow; 27] = [
+pub const OPTIONS: [OptionRow; 28] = [
     OptionRow {
         name: "form",
         taken: FORM,
@@ -95,7 +98,9 @@ pub const OPTIONS: [OptionRow; 27] = [
 after its segment table; `packed`, the same, packed;
 or `bare`, one message with no table, like canonical
 bytes",
-        commands: &["show", "check", "explain", "list", "limits", "hash", "uniq"],
+        commands: &[
+            "show", "check", "explain", "list", "limits", "hash", "uniq", "filter",
+        ],
     },
     OptionRow {
         name: "form",
@@ -220,7 +225,7 @@ one segment for each",
         taken: Taken::Flag,
         help: "Pass over a message that is refused, and go on with
 the next one",
-        commands: &["list", "limits", "uniq"],
+        commands: &["list", "limits", "uniq", "filter"],
     },
     OptionRow {
         name: "keep-going",
@@ -242,6 +247,13 @@ the message, or `-` if it has a capability",
         help: "Write no message, but at the end a line `U of N`: how
 many would be written, and of how many",
         commands: &["uniq"],
+    },
+    OptionRow {
+        name: "canonical",
+        taken: Taken::Flag,
+        help: "Let only canonical messages through: of one segment
+that is the canonical bytes of its value",
+        commands: &["filter"],
     },
     OptionRow {
         name: "from",

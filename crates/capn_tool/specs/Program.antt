@@ -5,6 +5,7 @@ use Rattle.capn_commands.specs.ExitStatus.{status_of}
 use Rattle.capn_commands.specs.FaultText.{ReportsEnding}
 use Rattle.capn_commands.specs.declared.fault.ToolFault.TheVariants as faults
 use Rattle.capn_archive.specs.ArchiveRun.{Archived}
+use Rattle.capn_archive.specs.FilterRun.{Filtered}
 use Rattle.capn_archive.specs.UniqRun.{Deduplicated}
 use Rattle.capn_archive.specs.declared.fault.ArchiveFault.TheVariants as archive_faults
 use Rattle.capn_serve.specs.PickRun.{Picks}
@@ -65,6 +66,10 @@ EndsArchive =
 abbrev pub EndsUniq : List Text → Course → Course → Course → ℕ → Type 0
 EndsUniq = EndsRunOrder (λ uniq. orders.Uniq uniq) archive_faults.Io Deduplicated WritesArchiveEnding archive_status
 
+-- the words order that accepted messages are let through
+abbrev pub EndsFilter : List Text → Course → Course → Course → ℕ → Type 0
+EndsFilter = EndsRunOrder (λ filter. orders.Filter filter) archive_faults.Io Filtered WritesArchiveEnding archive_status
+
 -- the words order that messages are picked
 abbrev pub EndsPick : List Text → Course → Course → Course → ℕ → Type 0
 EndsPick =
@@ -93,7 +98,8 @@ Ends words input output errors status =
     ⊎ (EndsExplain words input output errors status
     ⊎ (EndsArchive words input output errors status
     ⊎ (EndsUniq words input output errors status
+    ⊎ (EndsFilter words input output errors status
     ⊎ (EndsPick words input output errors status
     ⊎ (EndsOnly words input output errors status
     ⊎ (EndsFlow words input output errors status
-    ⊎ (EndsMake words input output errors status ⊎ Unordered words input output errors status))))))))
+    ⊎ (EndsMake words input output errors status ⊎ Unordered words input output errors status)))))))))

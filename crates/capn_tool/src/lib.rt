@@ -37,7 +37,9 @@ pub use capn_orders::{
 pub use capn_commands::{Command, ToolFault, end, fault_text, run, status};
 
 // What the signatures above name.
-pub use capn_archive::{ArchiveFault, ArchiveOrder, Position, RunFault, Skipped, Task, UniqOrder};
+pub use capn_archive::{
+    ArchiveFault, ArchiveOrder, FilterOrder, Position, RunFault, Skipped, Task, UniqOrder,
+};
 pub use capn_canon::{Form, Limits, Refusal, Tariff};
 pub use capn_flow::FlowFault;
 pub use capn_make::{MakeFault, Misfit};

@@ -2,7 +2,7 @@
 
 use crate::runs::{command_line, tool_told};
 use anyhow::{Result, anyhow};
-use capn_archive::{run_archive, run_uniq};
+use capn_archive::{run_archive, run_filter, run_uniq};
 use capn_endings::end;
 use capn_flow::{FlowFault, pack_stream, unpack_stream};
 use capn_make::{MakeFault, make, make_texts};
@@ -85,6 +85,10 @@ pub(crate) fn archive_answer(alloc: Global, heap: &Heap, words: &[&str]) -> Resu
         }
         Order::Uniq(uniq) => {
             let outcome = run_uniq(heap, uniq, &mut reader, &mut writer);
+            archive_told(alloc, outcome, writer.into_inner().as_slice())
+        }
+        Order::Filter(filter) => {
+            let outcome = run_filter(heap, filter, &mut reader, &mut writer);
             archive_told(alloc, outcome, writer.into_inner().as_slice())
         }
         Order::Pick(pick) => {

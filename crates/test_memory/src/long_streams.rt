@@ -2,7 +2,9 @@
 //! A run holds a piece and the message in hand.
 
 use crate::subject::MOST;
-use capn_archive::{ArchiveOrder, Task, UniqOrder, run_archive, run_uniq};
+use capn_archive::{
+    ArchiveOrder, FilterOrder, Task, UniqOrder, run_archive, run_filter, run_uniq,
+};
 use capn_canon::Form;
 use capn_flow::{pack_stream, unpack_stream};
 use capn_serve::{Pick, StreamForm, run_pick};
@@ -91,6 +93,7 @@ const UNPACKED: u64 = 65_536 * 978 * 17;
 enum Order {
     Archive(Task),
     Uniq(bool),
+    Filter(bool),
     Pick,
     Pack,
     Unpack,
@@ -129,6 +132,15 @@ fn taken(alloc: Global, order: Order, form: Form, row: &[u8], left: u64) -> Opti
                 count,
             };
             run_uniq(&heap, uniq, &mut reader, &mut writer).is_ok()
+        }
+        Order::Filter(canonical) => {
+            let filter = FilterOrder {
+                form,
+                limits,
+                keep_going: false,
+                canonical,
+            };
+            run_filter(&heap, filter, &mut reader, &mut writer).is_ok()
         }
         Order::Pick => {
             let pick = Pick {
@@ -206,6 +218,22 @@ fn the_frame_of_two_hundred_thousand_that_are_one(rt: HostRuntime) -> Result<(),
 #[test]
 fn the_count_of_two_hundred_thousand_that_are_one(rt: HostRuntime) -> Result<(), Fail> {
     let is_right = writes(rt.alloc(), Order::Uniq(true), 12)?;
+    assert!(rt; is_right);
+    Ok(())
+}
+
+/// Tests that nothing is kept of a message that is let through.
+#[test]
+fn the_frames_of_two_hundred_thousand_messages(rt: HostRuntime) -> Result<(), Fail> {
+    let is_right = writes(rt.alloc(), Order::Filter(false), 16 * 200_704)?;
+    assert!(rt; is_right);
+    Ok(())
+}
+
+/// Tests that nothing is kept if only canonical ones are let through, and that no canonical bytes are made.
+#[test]
+fn two_hundred_thousand_canonical_messages(rt: HostRuntime) -> Result<(), Fail> {
+    let is_right = writes(rt.alloc(), Order::Filter(true), 16 * 200_704)?;
     assert!(rt; is_right);
     Ok(())
 }

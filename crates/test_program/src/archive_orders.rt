@@ -2,7 +2,8 @@
 
 use crate::orders::expect_usage;
 use capn_tool::{
-    ArchiveOrder, Form, Limits, Only, Order, Pick, StreamForm, Tariff, Task, UniqOrder, order_of,
+    ArchiveOrder, FilterOrder, Form, Limits, Only, Order, Pick, StreamForm, Tariff, Task,
+    UniqOrder, order_of,
 };
 use std::alloc::Global;
 use std::process::Abort;
@@ -21,6 +22,15 @@ fn is_uniq(alloc: Global, words: &[&str], want: UniqOrder) -> bool {
     let told = order_of(alloc, words);
     match &told {
         Ok(Order::Uniq(uniq)) => *uniq == want,
+        _ => false,
+    }
+}
+
+/// Tests whether the words let these messages through.
+fn is_filter(alloc: Global, words: &[&str], want: FilterOrder) -> bool {
+    let told = order_of(alloc, words);
+    match &told {
+        Ok(Order::Filter(filter)) => *filter == want,
         _ => false,
     }
 }
@@ -138,6 +148,30 @@ fn doubles_are_left_out_or_counted(rt: HostRuntime) {
 }
 
 #[test]
+fn messages_are_let_through(rt: HostRuntime) {
+    for (flag, keep_going, canonical) in
+        [("--keep-going", true, false), ("--canonical", false, true)]
+    {
+        let want = FilterOrder {
+            form: Form::Packed,
+            limits: Limits::new(7, 5, 3).unwrap_or(Limits::usual()),
+            keep_going,
+            canonical,
+        };
+        let words = [
+            "capn",
+            "filter",
+            "--form=packed",
+            "--message-words=7",
+            "--budget=5",
+            "--depth=3",
+            flag,
+        ];
+        assert!(rt; is_filter(rt.alloc(), &words, want), "{words:?}");
+    }
+}
+
+#[test]
 fn messages_are_picked_by_their_numbers(rt: HostRuntime) {
     let want = Pick {
         form: StreamForm::Packed,
@@ -240,6 +274,12 @@ fn what_a_command_does_not_take_is_refused(rt: HostRuntime) {
         &["capn", "list", "--count"][..],
         &["capn", "limits", "--digest"][..],
         &["capn", "uniq", "--digest"][..],
+        &["capn", "uniq", "--canonical"][..],
+        &["capn", "list", "--canonical"][..],
+        &["capn", "filter", "--count"][..],
+        &["capn", "filter", "--digest"][..],
+        &["capn", "filter", "message"][..],
+        &["capn", "filter", "-"][..],
         &["capn", "limits", "--framed"][..],
         &["capn", "show", "--keep-going"][..],
         &["capn", "check", "--framed"][..],
@@ -279,6 +319,7 @@ fn help_names_each_command(rt: HostRuntime) {
         "canonical",
         "hash",
         "uniq",
+        "filter",
         "pick",
         "pack",
         "unpack",

@@ -21,8 +21,10 @@ const OVER_ARCHIVES: [&[&str]; 4] = [
 ];
 
 /// Runs that leave messages out.
-const WITH_FEWER: [&[&str]; 3] = [
+const WITH_FEWER: [&[&str]; 5] = [
     &["capn", "uniq", "--keep-going"],
+    &["capn", "filter"],
+    &["capn", "filter", "--canonical", "--keep-going"],
     &["capn", "pick", "--from=2", "--to=3"],
     &["capn", "pick"],
 ];
@@ -35,8 +37,9 @@ const SHOWING: [&[&str]; 3] = [
 ];
 
 /// Runs that do so with the messages of a packed stream, or with its words.
-const OVER_PACKED: [&[&str]; 4] = [
+const OVER_PACKED: [&[&str]; 5] = [
     &["capn", "list", "--form=packed", "--keep-going"],
+    &["capn", "filter", "--form=packed", "--keep-going"],
     &["capn", "pick", "--form=packed", "--from=2"],
     &["capn", "show", "--form=packed", "--at=0"],
     &["capn", "unpack", "--streaming"],
@@ -220,6 +223,7 @@ fn the_writer_of_messages_fails_after_each_byte(rt: HostRuntime) {
     for words in [
         &["capn", "canonical", "--framed", "--keep-going"][..],
         &["capn", "uniq", "--keep-going"],
+        &["capn", "filter", "--keep-going"],
         &["capn", "pick"],
         &PACK,
     ] {

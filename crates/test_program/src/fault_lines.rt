@@ -103,6 +103,11 @@ fn a_run_over_an_archive_ends_with_its_line(rt: HostRuntime) {
         (Ok(()), 0, ""),
         (Err(ArchiveFault::Skipped(SKIPPED)), 1, SKIPPED_LINE),
         (Err(REFUSED_AFTER), 1, TWO_LINES),
+        (
+            Err(ArchiveFault::NotCanonical(LAST)),
+            1,
+            "capn: message 18446744073709551616 at 18446744073709551615: not canonical\n",
+        ),
     ] {
         let mut errors = Watched::new(Vec::new(rt.alloc()));
         assert!(rt; end(&outcome, &mut errors) == status, "{line}");
@@ -144,6 +149,10 @@ fn lines_of_faults(rt: HostRuntime) {
         (
             ArchiveFault::Refused(first, Refusal::Capability(2)),
             "capn: message 3 at 40: capability 2\n",
+        ),
+        (
+            ArchiveFault::NotCanonical(first),
+            "message 3 at 40: not canonical",
         ),
         (
             ArchiveFault::Skipped(skipped),

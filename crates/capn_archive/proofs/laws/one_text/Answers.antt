@@ -1,7 +1,9 @@
 use Rattle.capn_archive.specs.ArchiveRun as archives
 use Rattle.capn_archive.specs.UniqRun as uniqs
+use Rattle.capn_archive.specs.FilterRun as filters
 use Rattle.capn_archive.proofs.OneArchive.{archive_one_way}
 use Rattle.capn_archive.proofs.OneUniq.{uniq_one_way}
+use Rattle.capn_archive.proofs.OneFilter.{filter_one_way}
 use Rattle.capn_archive.proofs.OneWhole.{one_whole}
 use Rattle.capn_archive.proofs.laws.one_text.Goals as goal
 
@@ -14,3 +16,8 @@ pub returns-clause-uniq : goal.returns-clause-uniq
 returns-clause-uniq c order input t u r s h k =
     one_whole (uniqs.uniq_fold order) (uniq_one_way order) (uniqs.first_run order) uniqs.uniq_finish order.form
     input t u r s h k
+
+pub returns-clause-filter : goal.returns-clause-filter
+returns-clause-filter c order input t u r s h k =
+    one_whole (filters.filter_fold order) (filter_one_way order) (filters.first_run order) filters.filter_finish
+    order.form input t u r s h k

@@ -46,5 +46,7 @@ returns-in_default-clause-served c order means =
       | inr (inr (inr (inr (inr (inr (inr (inr (inl unpack)))))))) ↦ c.in_default.not-unpack unpack
       | inr (inr (inr (inr (inr (inr (inr (inr (inr (inl make))))))))) ↦ c.in_default.not-make make
       | inr (inr (inr (inr (inr (inr (inr (inr (inr (inr (inl hash)))))))))) ↦ c.in_default.not-hash hash
-      | inr (inr (inr (inr (inr (inr (inr (inr (inr (inr (inr explain)))))))))) ↦ c.in_default.not-explain explain
+      | inr (inr (inr (inr (inr (inr (inr (inr (inr (inr (inr (inl explain))))))))))) ↦
+          c.in_default.not-explain explain
+      | inr (inr (inr (inr (inr (inr (inr (inr (inr (inr (inr (inr filter))))))))))) ↦ c.in_default.not-filter filter
     ])

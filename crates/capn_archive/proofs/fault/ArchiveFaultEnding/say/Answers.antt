@@ -13,6 +13,9 @@ returns-in-InputTooLong g c = rw c.in-InputTooLong.is c.put-in-InputTooLong.ensu
 pub returns-in-Refused : goal.returns-in-Refused
 returns-in-Refused g c = rw c.in-Refused.is c.say_refused.ensures
 
+pub returns-in-NotCanonical : goal.returns-in-NotCanonical
+returns-in-NotCanonical g c = rw c.in-NotCanonical.is c.say_uncanonical.ensures
+
 pub returns-in-Skipped : goal.returns-in-Skipped
 returns-in-Skipped g c = rw c.in-Skipped.is c.say_skipped.ensures
 

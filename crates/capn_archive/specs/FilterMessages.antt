@@ -1,0 +1,64 @@
+-- Which messages `filter` lets through: those that are accepted, or of these only those that are canonical. (Own.)
+use Rattle.std.specs.Prelude.{◌≡◌, ◌⊎◌, ℕ, List, [], Bool, true, false, Option, None, Some, is_some}
+use Rattle.capn_value.specs.Tree.{Tree}
+use Rattle.capn_walk.specs.Limits.{Bounds}
+use Rattle.capn_walk.specs.Accepted.{IsAccepted, IsValueOf}
+use Rattle.capn_canon.specs.Measure.{IsCanonicalOf}
+use Rattle.capn_canon.specs.declared.refusal.Refusal.{Refusal}
+use Rattle.capn_serve.specs.declared.position.Position.{Position}
+use Rattle.capn_archive.specs.declared.filter_order.FilterOrder.{FilterOrder}
+use Rattle.capn_archive.specs.declared.filter_service.FilterService.{FilterService}
+use Rattle.capn_archive.specs.declared.task.Task.TheVariants as tasks
+use Rattle.capn_archive.specs.Tally.{one_more}
+use Rattle.capn_archive.specs.Tasks.{IsRefusedBy}
+
+-- a message is accepted, and where only canonical ones are let through it is one: its only segment is the canonical
+-- bytes of its value, which has no capability
+abbrev pub Passes : Bool → List (List ℕ) → Bounds → Type 0
+Passes false message limits = IsAccepted message limits
+Passes true message limits = (v : Tree) × IsValueOf message limits v × IsCanonicalOf message v
+
+-- only canonical messages are let through, and this one is accepted and not canonical
+abbrev pub IsUncanonical : Bool → List (List ℕ) → Bounds → Type 0
+IsUncanonical false message limits = ⊥
+IsUncanonical true message limits = (v : Tree) × IsValueOf message limits v × (IsCanonicalOf message v → ⊥)
+
+-- nothing has been let through
+abbrev pub first_state : FilterOrder → FilterService
+first_state order = record { order = order; skipped = None; ended = None }
+
+-- a message with its frame is let through: it writes its frame, as it stands
+abbrev pub LetsThrough : FilterService → List ℕ → List (List ℕ) → List ℕ → FilterService → Type 0
+LetsThrough s frame message text t =
+    Passes s.order.canonical message s.order.limits × (text ≡ frame) × (t ≡ s)
+
+-- a message is held back: its walk refuses it, as for `list`, or it is not canonical where only such are let through
+abbrev pub IsHeldBack : FilterService → List (List ℕ) → Type 0
+IsHeldBack s message =
+    IsUncanonical s.order.canonical message s.order.limits
+    ⊎ ((r : Refusal) × IsRefusedBy tasks.List message s.order.limits r)
+
+-- a message at a position is skipped: it is held back, and the run keeps going; it writes nothing
+abbrev pub IsSkipped : FilterService → Position → List (List ℕ) → List ℕ → FilterService → Type 0
+IsSkipped s at message text t =
+    (s.order.keep_going ≡ true) × IsHeldBack s message × (text ≡ [])
+    × (t ≡ record { order = s.order; skipped = Some (one_more s.skipped at); ended = s.ended })
+
+-- a message at a position ends the run: it is not canonical, and the run doesn't keep going; it writes nothing
+abbrev pub EndsAt : FilterService → Position → List (List ℕ) → List ℕ → FilterService → Type 0
+EndsAt s at message text t =
+    (s.order.keep_going ≡ false) × IsUncanonical s.order.canonical message s.order.limits × (text ≡ [])
+    × (t ≡ record { order = s.order; skipped = s.skipped; ended = Some at })
+
+-- from one state to the next, a message is let through or skipped, or ends the run
+abbrev pub serves : FilterService → Position → List ℕ → List (List ℕ) → List ℕ → FilterService → Type 0
+serves s at frame message text t =
+    LetsThrough s frame message text t ⊎ (IsSkipped s at message text t ⊎ EndsAt s at message text t)
+
+-- a message that its walk refuses ends a run that does not keep going
+abbrev pub refuses : FilterService → Position → List ℕ → List (List ℕ) → Refusal → Type 0
+refuses s at frame message r = (s.order.keep_going ≡ false) × IsRefusedBy tasks.List message s.order.limits r
+
+-- no more is served after a message that ended the run
+abbrev pub done : FilterService → Position → Bool
+done s at = is_some s.ended

@@ -1,0 +1,32 @@
+-- What a run of `filter` did. (Own.)
+use Rattle.std.specs.Prelude.{ℕ, List, [], Bool, Option, Result}
+use Rattle.capn_serve.specs.declared.service.Run.{Run}
+use Rattle.capn_serve.specs.Fold.{Fold, fold_until}
+use Rattle.capn_serve.specs.StreamRun.{start}
+use Rattle.capn_archive.specs.declared.fault.ArchiveFault.{ArchiveFault}
+use Rattle.capn_archive.specs.declared.filter_order.FilterOrder.{FilterOrder}
+use Rattle.capn_archive.specs.declared.filter_service.FilterService.{FilterService}
+use Rattle.capn_archive.specs.FilterMessages.{done, first_state, refuses, serves}
+use Rattle.capn_archive.specs.Finish.{Finish, Finished}
+
+-- the fold over the messages of an archive, up to one that ends the run
+abbrev pub filter_fold : FilterOrder → Fold (Run FilterService)
+filter_fold order = fold_until serves refuses done order.limits.message_words
+
+-- nothing has been served
+abbrev pub first_run : FilterOrder → Run FilterService
+first_run order = record { service = first_state order; at = start }
+
+-- after its last message a run writes nothing
+abbrev pub filter_finish : Finish (Run FilterService)
+filter_finish = record {
+  closing = λ y. [];
+  skipped = λ y. y.service.skipped;
+  ended = λ y. y.service.ended;
+}
+
+-- what a run did, over a reader (from a to b) and a writer (from c to d)
+abbrev pub Filtered : FilterOrder → Option (List ℕ) → Option (List ℕ) → Option (List ℕ) → Option (List ℕ) → Bool → Bool
+    → Result (Unit {0}) ArchiveFault → Type 0
+Filtered order a b c d reader_failed writer_failed r =
+    Finished (filter_fold order) (first_run order) filter_finish order.form a b c d reader_failed writer_failed r

@@ -1,0 +1,14 @@
+-- What is found of a message before it is let through or held back.
+use Rattle.std.specs.Prelude.{ℕ, List, Bool}
+use Rattle.capn_walk.specs.Limits.{Bounds}
+use Rattle.capn_archive.specs.declared.filter_service.Verdict.{Verdict}
+use Rattle.capn_archive.specs.declared.filter_service.Verdict.TheVariants as verdicts
+use Rattle.capn_archive.specs.declared.task.Task.TheVariants as tasks
+use Rattle.capn_archive.specs.FilterMessages.{IsUncanonical, Passes}
+use Rattle.capn_archive.specs.Tasks.{IsRefusedBy}
+
+-- it is let through, is not canonical, or is refused by its walk, by whether only canonical ones are let through
+abbrev pub IsVerdict : Bool → List (List ℕ) → Bounds → Verdict → Type 0
+IsVerdict canonical message limits verdicts.Passes = Passes canonical message limits
+IsVerdict canonical message limits verdicts.NotCanonical = IsUncanonical canonical message limits
+IsVerdict canonical message limits (verdicts.Refused r) = IsRefusedBy tasks.List message limits r

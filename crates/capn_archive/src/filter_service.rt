@@ -1,0 +1,131 @@
+//! The service of `filter`.
+
+ghost use Rattle.std.specs.Prelude.{◌≡◌, true};
+ghost use Rattle.capn_archive.specs.FilterMessages.{first_state};
+ghost use Rattle.capn_archive.specs.inner.FilterVerdict.{IsVerdict};
+
+use crate::filter_order::FilterOrder;
+use crate::tally::{SkippedSoFar, one_more};
+use capn_canon::{Refusal, measure, survey};
+use capn_serve::{Position, ServeFault, Service, add_bytes};
+use capn_walk::Limits;
+use capn_words::{Space, Watched};
+use std::alloc::Allocator;
+use std::io::Write;
+
+/// The service that lets messages through: it writes the frame of each message that is accepted, as it stands, or only
+/// of those that are canonical.
+///
+/// A message that is held back writes nothing. It ends the run, or, if the order says to keep going, is skipped. One
+/// that its walk refuses ends it with that refusal. One that is accepted and not canonical is refused by the service
+/// itself: it is served no more after that, and keeps where the message is. Of a run it keeps how many messages were
+/// skipped, and takes no memory.
+#[derive(Clone, Copy, Debug, PartialEq, Eq)]
+pub struct FilterService {
+    /// What it does.
+    pub order: FilterOrder,
+    /// The messages that it has skipped, if any was.
+    pub skipped: Option<SkippedSoFar>,
+    /// Where the message is that ended the run, if one did that is not canonical.
+    pub ended: Option<Position>,
+}
+
+/// What is found of a message.
+#[derive(Clone, Copy)]
+pub(crate) enum Verdict {
+    /// It is let through.
+    Passes,
+    /// It is accepted and not canonical, where only canonical ones are let through.
+    NotCanonical,
+    /// Its walk refuses it.
+    Refused(Refusal),
+}
+
+/// Whether a message is canonical, found as for `list`: no canonical bytes are made.
+fn judge_canonical<S: Space, A: Allocator + Copy>(
+    alloc: A,
+    limits: Limits,
+    message: &S,
+) -> Verdict
+    ensures { IsVerdict true (S.message message.now) limits result }
+{
+    match measure(alloc, message, limits) {
+        Ok(measured) => {
+            if measured.survey.is_canonical {
+                return Verdict::Passes;
+            }
+            Verdict::NotCanonical
+        }
+        Err(stopped) => Verdict::Refused(Refusal::Walk(stopped)),
+    }
+}
+
+/// Whether a message is let through, or why it is held back. It takes no memory.
+fn judge<S: Space, A: Allocator + Copy>(alloc: A, order: &FilterOrder, message: &S) -> Verdict
+    ensures { IsVerdict order.now.canonical (S.message message.now) order.now.limits result }
+{
+    if order.canonical {
+        return judge_canonical(alloc, order.limits, message);
+    }
+    match survey(alloc, message, order.limits) {
+        Ok(_) => Verdict::Passes,
+        Err(refusal) => Verdict::Refused(refusal),
+    }
+}
+
+impl FilterService {
+    /// A service that has let nothing through.
+    pub(crate) fn new(order: FilterOrder) -> FilterService
+        ensures { result ≡ first_state order }
+    {
+        FilterService {
+            order,
+            skipped: None,
+            ended: None,
+        }
+    }
+}
+
+impl Service for FilterService {
+    ghost use Rattle.capn_archive.specs.FilterMessages as spec;
+
+    ghost serves = { spec.serves };
+
+    ghost refuses = { spec.refuses };
+
+    ghost done = { spec.done };
+
+    #[inline(always)]
+    fn is_done(&self, _at: Position) -> bool {
+        self.ended.is_some()
+    }
+
+    fn serve<S: Space, W: Write, A: Allocator + Copy>(
+        &mut self,
+        alloc: A,
+        at: Position,
+        frame: &[u8],
+        message: &S,
+        text: &mut Vec<u8, A>,
+        writer: &mut Watched<W>,
+    ) -> Result<(), ServeFault> {
+        match judge(alloc, &self.order, message) {
+            Verdict::Passes => add_bytes(frame, text, writer),
+            Verdict::NotCanonical => {
+                if self.order.keep_going {
+                    self.skipped = Some(one_more(self.skipped, at));
+                    return Ok(());
+                }
+                self.ended = Some(at);
+                Ok(())
+            }
+            Verdict::Refused(refusal) => {
+                if self.order.keep_going {
+                    self.skipped = Some(one_more(self.skipped, at));
+                    return Ok(());
+                }
+                Err(ServeFault::Refused(refusal))
+            }
+        }
+    }
+}
