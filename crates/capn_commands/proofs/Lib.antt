@@ -12,4 +12,7 @@ pub mod Served
 mod ShownMessage
 pub mod EachServed
 pub mod BareServed
+pub mod OneRead
+pub mod OneRun
+pub mod OnePiece
 pub mod PackedServed

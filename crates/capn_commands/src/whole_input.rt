@@ -20,8 +20,8 @@ use capn_words::{Bare, Watched};
 use std::alloc::Allocator;
 use std::io::Read;
 
-/// Where the one message of a bare input begins.
-const START: Position = Position {
+/// Where the one message of an input begins.
+pub(crate) const START: Position = Position {
     index: 0,
     offset: 0,
 };

@@ -87,7 +87,7 @@ pub(crate) fn page_of(name: &str) -> Page {
 }
 
 /// The options. Help lists those of a command in this order.
-pub const OPTIONS: [OptionRow; 27] = [
+pub const OPTIONS: [OptionRow; 28] = [
     OptionRow {
         name: "form",
         taken: FORM,
@@ -200,6 +200,14 @@ and a tab",
         help: "Begin each line with the way to what it is about, and
 a tab; with `--offsets` the byte comes first",
         commands: &["show"],
+    },
+    OptionRow {
+        name: "one",
+        taken: Taken::Flag,
+        help: "Take exactly one message: all of the input is read
+first, and refused if it has none, or more than one;
+a bare input is one anyway",
+        commands: &["show", "check", "hash"],
     },
     OptionRow {
         name: "number",
