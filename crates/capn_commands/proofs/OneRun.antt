@@ -58,7 +58,7 @@ all_kept P (Some all) b kept bytes is_longer k h =
 module _ (makes : List ℕ → List ℕ → Type 0) (fails : List ℕ → ToolFault → Type 0) (a b c : Option (List ℕ))
     (r w : Bool) where
   -- how it ends
-  Ends : Option (List ℕ) → Ending → Type 0
+  abbrev Ends : Option (List ℕ) → Ending → Type 0
   Ends d e = IfSome a (λ input. WholeEnds makes fails c d e (taken_of input) (has_more input))
 
   ends_unread : (d : Option (List ℕ)) (fault : ToolFault) → (fault ≡ faults.Memory) ⊎ (fault ≡ faults.Io)
@@ -275,14 +275,10 @@ module _ {S : Type 0} (serves : S → Position → List ℕ → List (List ℕ) 
   abbrev IsUnwritten : List ℕ → Refusal → Type 0
   IsUnwritten frame q = RefusesFrame (refuses s start) most frame q
 
-  -- what is held of a stream
-  abbrev held : ℕ
-  held = 8 * (most + most_table_words) + 1
-
-  module _ (bytes frame : List ℕ) (is : take held bytes ≡ frame) where
+  module _ (bytes frame : List ℕ) (is : take (8 * (most + most_table_words) + 1) bytes ≡ frame) where
     all_held : (message : List (List ℕ)) → IsFramed frame most message → bytes ≡ frame
     all_held message framed =
-        sym (framed_first held most bytes (omega arith) message
+        sym (framed_first (8 * (most + most_table_words) + 1) most bytes (omega arith) message
         (subst (λ (l : List ℕ). IsFramed l most message) (sym is) framed)) ∙ is
 
     stream_writes : (text : List ℕ) → IsWritten frame text → WritesOne serves refuses s most streams.Stream bytes text
@@ -291,7 +287,7 @@ module _ {S : Type 0} (serves : S → Position → List ℕ → List (List ℕ) 
     stream_refuses : (q : Refusal) → IsUnwritten frame q
         → RefusesOne serves refuses s most streams.Stream bytes (faults.Refused q)
     stream_refuses q (inl why) =
-        (q, refl, inl (misframed_first held most bytes (omega arith) q
+        (q, refl, inl (misframed_first (8 * (most + most_table_words) + 1) most bytes (omega arith) q
         (subst (λ (l : List ℕ). IsMisframed l most q) (sym is) why)))
     stream_refuses q (inr (message, framed, why)) =
         (q, refl, inr (frame, message, all_held message framed, framed, why))

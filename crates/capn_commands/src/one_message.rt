@@ -7,46 +7,21 @@ ghost use Rattle.capn_serve.specs.StreamRun.{start};
 ghost use Rattle.capn_commands.specs.CommandRun.{Runs};
 ghost use Rattle.capn_commands.specs.OneMessage.{RefusesOne, Writes, WritesOne};
 ghost use Rattle.capn_commands.specs.WholeRun.{RunsWhole};
-ghost use Rattle.capn_commands.specs.inner.OneServing.{HoldsFrame, RefusesFrame, ServesWhole, WritesFrame};
-ghost use Rattle.capn_commands.specs.inner.ReadInput.{TakesAll};
+ghost use Rattle.capn_commands.specs.inner.OneServing.{RefusesFrame, ServesWhole, WritesFrame};
 ghost use Rattle.capn_commands.specs.declared.plan.Plan.TheVariants as plans;
 ghost use Rattle.capn_commands.specs.declared.plan.Whole.TheVariants as wholes;
 
 use crate::fault::ToolFault;
 use crate::message_texts::MessageTexts;
-use crate::pending::read_words;
 use crate::plan::MessageText;
-use crate::whole_input::START;
+use crate::whole_input::{START, read_frame};
 use capn_canon::Refusal;
-use capn_serve::{ServeFault, Service, StreamForm, read_all};
-use capn_stream::{MOST_TABLE_WORDS, first};
+use capn_serve::{ServeFault, Service, StreamForm};
+use capn_stream::first;
 use capn_walk::Limits;
 use capn_words::{Space, Watched};
 use std::alloc::Allocator;
 use std::io::{Read, Write};
-
-/// The frame that an input holds of its one message, which has at most this many words. All of the input is read; no
-/// more is held of a stream than the longest such frame, and one byte, and of a packed one than it packs.
-fn read_frame<R: Read, A: Allocator>(
-    alloc: A,
-    reader: &mut Watched<R>,
-    form: StreamForm,
-    most: u32,
-) -> Result<Vec<u8, A>, ToolFault>
-    requires small { most ≤ most_message_words }
-    requires fine { has_failed reader.old ≡ false }
-    ensures { TakesAll (HoldsFrame form most) (R.remaining (inner_of reader.old))
-        (R.remaining (inner_of reader.new)) (has_failed reader.new) result }
-{
-    let words = most + MOST_TABLE_WORDS;
-    match form {
-        StreamForm::Stream => {
-            let input = read_all(alloc, reader, 8 * words as usize + 1)?;
-            Ok(input.bytes)
-        }
-        StreamForm::Packed => read_words(alloc, reader, words),
-    }
-}
 
 /// Has a message served, with its frame, and writes all of its text.
 fn serve_message<M: Space, S: Service + Drop, W: Write, A: Allocator + Copy>(

@@ -1,7 +1,7 @@
 use Rattle.std.proofs.Common.{arith}
 use Rattle.std.proofs.lemmas.Result.{err_from_is_err_and}
 use Rattle.capn_commands.proofs.OneRead.{first_held, unheld, words_held}
-use Rattle.capn_commands.proofs.one_message.read_frame.Goals as goal
+use Rattle.capn_commands.proofs.whole_input.read_frame.Goals as goal
 
 pub returns-in_err-input-in-Stream : goal.returns-in_err-input-in-Stream
 returns-in_err-input-in-Stream g c =
