@@ -1,3 +1,4 @@
+pub mod shared
 pub mod ReadMore
 pub mod Given
 pub mod Unpending

@@ -44,7 +44,7 @@ runs_plan whole a b c d r w e h = record {
 }
 
 -- a frame of a message is read as that
-reads_of : (form : StreamForm) (most : ℕ) (bytes frame : List ℕ) (message : List (List ℕ))
+pub reads_of : (form : StreamForm) (most : ℕ) (bytes frame : List ℕ) (message : List (List ℕ))
     → IsFrameOf form most bytes frame → IsFramed frame most message → Reads (form_of form) bytes most message
 reads_of streams.Stream most bytes frame message is framed =
     subst (λ (l : List ℕ). IsFramed l most message) (sym is) framed
@@ -56,7 +56,7 @@ module _ (bytes : List ℕ) (limits : Bounds) where
   IsRefusal piece form r = (r ≢ refusals.Memory) × IsOneRefused piece form bytes limits r
 
   -- bytes that are not read are refused as `canonical` refuses them
-  misread_known : (form : Form) (r : Refusal) → IsMisread form bytes limits.message_words r
+  pub misread_known : (form : Form) (r : Refusal) → IsMisread form bytes limits.message_words r
       → (piece : MessageText) → IsRefusal piece form r
   misread_known form (refusals.Bare e) h kinds.Text = (λ is. cc, h)
   misread_known form (refusals.Bare e) h kinds.Price = (λ is. cc, h)
