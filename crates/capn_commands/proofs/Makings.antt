@@ -120,16 +120,6 @@ module _ {A : Type 0} (a b : Option (List ℕ)) (f : Bool) where
       takes_so (Gives (wholes.Canonical forms.Packed limits)) a b f r bytes all
       (gives_packed limits bytes frame.items packs.0 (omega (arith, same_most, packs.1)) r (subst P same gives))
 
-  -- no frame is
-  pub unmade_framed : (form : StreamForm) (limits : Bounds) (most : ℕ) (fault : ToolFault)
-      → most ≡ limits.message_words → TakesAll {T = Vec ℕ A} (HoldsFrame form most) a b f (Err fault)
-      → TakesNone (λ bytes. Fails (wholes.Canonical (form_of form) limits) bytes fault) a b f fault
-  unmade_framed form limits most fault same (inl untaken) = inl untaken
-  unmade_framed streams.Stream limits most fault same (inr (bytes, all, none)) = absurd none
-  unmade_framed streams.Packed limits most fault same (inr (bytes, all, why)) =
-      inr (bytes, all, fails_unpacked limits bytes fault
-      (subst (λ (n : ℕ). Fails (wholes.Unpacked (n + most_table_words)) bytes fault) same why))
-
   -- ---- bare bytes
 
   pub made_bare : (at : Position) (whole : Whole) (input : Vec ℕ A) (held : List ℕ) (r : Result (Vec ℕ A) ToolFault)
@@ -138,3 +128,14 @@ module _ {A : Type 0} (a b : Option (List ℕ)) (f : Bool) where
   made_bare at whole input held r (bytes, all, is) same gives =
       takes_so (Gives whole) a b f r bytes all
       (subst (λ (xs : List ℕ). Gives whole xs r) (same ∙ sym is) gives)
+
+-- no frame is made of it
+pub unmade_framed : (A : Type 0) (a b : Option (List ℕ)) (f : Bool) (form : StreamForm) (limits : Bounds) (most : ℕ)
+    (fault : ToolFault) → most ≡ limits.message_words
+    → TakesAll {T = Vec ℕ A} (HoldsFrame form most) a b f (Err fault)
+    → TakesNone (λ bytes. Fails (wholes.Canonical (form_of form) limits) bytes fault) a b f fault
+unmade_framed A a b f form limits most fault same (inl h) = inl h
+unmade_framed A a b f streams.Stream limits most fault same (inr (bytes, all, none)) = absurd none
+unmade_framed A a b f streams.Packed limits most fault same (inr (bytes, all, why)) =
+    inr (bytes, all, fails_unpacked limits bytes fault
+    (subst (λ (n : ℕ). Fails (wholes.Unpacked (n + most_table_words)) bytes fault) same why))

@@ -42,6 +42,9 @@ Ending = Result (Unit {0}) ToolFault
 abbrev stopped : ToolFault → Ending
 stopped fault = Err fault
 
+abbrev ended : ServeFault → Result (Unit {0}) ServeFault
+ended fault = Err fault
+
 -- ---- what is held of an input
 
 module _ {A : Type 0} (a b : Option (List ℕ)) (f : Bool) (most : ℕ) where
@@ -51,12 +54,6 @@ module _ {A : Type 0} (a b : Option (List ℕ)) (f : Bool) (most : ℕ) where
   first_held n input same (bytes, all, is) =
       (bytes, all, subst (λ (k : ℕ). take k bytes ≡ input.bytes.items) same is.0)
 
-  pub unheld : (form : StreamForm) (fault : RunFault)
-      → served.IsUntaken a b f fault ⊎ ((bytes : List ℕ) × HasGivenAll a b f bytes × ⊥)
-      → TakesAll {T = Vec ℕ A} (HoldsFrame form most) a b f (Err (unplaced fault))
-  unheld form fault (inl h) = inl (untaken a b f fault h)
-  unheld form fault (inr (bytes, all, none)) = absurd none
-
   pub words_held : (words : ℕ) (r : Result (Vec ℕ A) ToolFault) → words ≡ most + most_table_words
       → TakesAll {T = Vec ℕ A} (Gives (wholes.Unpacked words)) a b f r
       → TakesAll {T = Vec ℕ A} (HoldsFrame streams.Packed most) a b f r
@@ -64,6 +61,12 @@ module _ {A : Type 0} (a b : Option (List ℕ)) (f : Bool) (most : ℕ) where
       subst (λ (k : ℕ). TakesAll {T = Vec ℕ A} (Gives (wholes.Unpacked k)) a b f (Ok text)) same h
   words_held words (Err fault) same h =
       subst (λ (k : ℕ). TakesAll {T = Vec ℕ A} (Gives (wholes.Unpacked k)) a b f (Err fault)) same h
+
+pub unheld : (A : Type 0) (a b : Option (List ℕ)) (f : Bool) (most : ℕ) (form : StreamForm) (fault : RunFault)
+    → served.IsUntaken a b f fault ⊎ ((bytes : List ℕ) × HasGivenAll a b f bytes × ⊥)
+    → TakesAll {T = Vec ℕ A} (HoldsFrame form most) a b f (Err (unplaced fault))
+unheld A a b f most form fault (inl h) = inl (untaken a b f fault h)
+unheld A a b f most form fault (inr (bytes, all, none)) = absurd none
 
 -- ---- its message
 
@@ -158,13 +161,17 @@ module _ {S : Type 0} (serves : S → Position → List ℕ → List (List ℕ) 
   message_refused r (why, adds, good) = (why, unwritten adds, good)
 
   -- memory was refused
-  pub message_memory : Does (Err serve_faults.Memory) → Serves m fine (Err faults.Memory)
-  message_memory (inl adds, good) = (inl (unwritten adds), good)
-  message_memory (inr (text, y, count, is, (w, wrote, e)), good) =
+  of_memory : Does (Err serve_faults.Memory) → Serves m fine (Err faults.Memory)
+  of_memory (inl adds, good) = (inl (unwritten adds), good)
+  of_memory (inr (text, y, count, is, (w, wrote, e)), good) =
       let less = take_less (length w) count text in
       let front : w ≡ take less.0 text = written_front w kept (take count text) (joined w (take count text) e)
       ∙ less.1 in
       (inr (text, less.0, (y, is), subst (Appends c m) front wrote), good)
+
+  pub message_memory : (fault : ServeFault) → fault ≡ serve_faults.Memory → Does (ended fault)
+      → Serves m fine (Err faults.Memory)
+  message_memory fault is h = of_memory (subst (λ (x : ServeFault). Does (ended x)) is h)
 
   -- the writer failed
   pub message_io : Does (Err serve_faults.Io) → Serves m fine (Err faults.Io)

@@ -334,18 +334,17 @@ module _ {S : Type 0} (serves : S → Position → List ℕ → List (List ℕ) 
         (λ (q : Refusal). RefusesOne serves refuses s most streams.Packed bytes (faults.Refused q)) c d w e
         (packed_writes bytes frame P R) (packed_refuses bytes frame P R) served)
 
-    -- no frame was held
-    pub one_unread : (form : StreamForm) (fault : ToolFault) → w ≡ false
-        → TakesAll {T = Vec ℕ A} (HoldsFrame form most) a b r (Err fault)
-        → RunsWhole (WritesOne serves refuses s most form) (RefusesOne serves refuses s most form) a b c c r w
-        (Err fault)
-    one_unread form fault good (inl untaken) =
-        runs_untaken (WritesOne serves refuses s most form) (RefusesOne serves refuses s most form) a b c r w fault good
-        untaken
-    one_unread streams.Stream fault good (inr (bytes, all, none)) = absurd none
-    one_unread streams.Packed fault good (inr (bytes, all, inl memory)) =
-        runs_none (WritesOne serves refuses s most streams.Packed) (RefusesOne serves refuses s most streams.Packed)
-        a b c r w bytes all c fault good (Appends-nil c) (λ e. cc) (inl memory)
-    one_unread streams.Packed fault good (inr (bytes, all, inr (e, is, n, h))) =
-        runs_none (WritesOne serves refuses s most streams.Packed) (RefusesOne serves refuses s most streams.Packed)
-        a b c r w bytes all c fault good (Appends-nil c) (λ e. cc) (inr (refusals.Packed e, is, inl (n, h)))
+  -- no frame was held
+  pub one_unread : (A : Type 0) (a b c : Option (List ℕ)) (r w : Bool) (form : StreamForm) (fault : ToolFault)
+      → w ≡ false → TakesAll {T = Vec ℕ A} (HoldsFrame form most) a b r (Err fault)
+      → RunsWhole (WritesOne serves refuses s most form) (RefusesOne serves refuses s most form) a b c c r w (Err fault)
+  one_unread A a b c r w form fault good (inl untaken) =
+      runs_untaken (WritesOne serves refuses s most form) (RefusesOne serves refuses s most form) a b c r w fault good
+      untaken
+  one_unread A a b c r w streams.Stream fault good (inr (bytes, all, none)) = absurd none
+  one_unread A a b c r w streams.Packed fault good (inr (bytes, all, inl memory)) =
+      runs_none (WritesOne serves refuses s most streams.Packed) (RefusesOne serves refuses s most streams.Packed)
+      a b c r w bytes all c fault good (Appends-nil c) (λ e. cc) (inl memory)
+  one_unread A a b c r w streams.Packed fault good (inr (bytes, all, inr (e, is, n, h))) =
+      runs_none (WritesOne serves refuses s most streams.Packed) (RefusesOne serves refuses s most streams.Packed)
+      a b c r w bytes all c fault good (Appends-nil c) (λ i. cc) (inr (refusals.Packed e, is, inl (n, h)))

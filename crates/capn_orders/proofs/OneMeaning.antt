@@ -70,7 +70,7 @@ not_both : (rows : List Row) (option : Text) → FlagIs rows option false → Fl
 not_both rows option x y = let bad : 199 ≡ 230 = ap mark_in (sym x ∙ y) in omega arith
 
 -- that of the name of the command that writes this of a message
-abbrev mark_of_piece : MessageText → ℕ
+abbrev pub mark_of_piece : MessageText → ℕ
 mark_of_piece pieces.Text = 219
 mark_of_piece pieces.Price = 203
 mark_of_piece pieces.Digest = 201

@@ -7,11 +7,11 @@ use Rattle.capn_commands.proofs.OneRead.{frame_refused, framed_whole}
 use Rattle.capn_commands.proofs.OneRun.{serves_more}
 use Rattle.capn_commands.proofs.one_message.serve_frame.Goals as goal
 
-pub returns-then-in-Ok : goal.returns-then-in-Ok
-returns-then-in-Ok g c = (inl (c.in-Ok.message, c.in-Ok.ensures.found, omega arith), Appends-nil _, c.requires.fine)
+pub returns-then-taken-frame : goal.returns-then-taken-frame
+returns-then-taken-frame g c = (inl (c.in-Ok.message, c.in-Ok.ensures.found, omega arith), Appends-nil _, c.requires.fine)
 
-pub returns-in-Ok : goal.returns-in-Ok
-returns-in-Ok g c =
+pub returns-else-taken-frame : goal.returns-else-taken-frame
+returns-else-taken-frame g c =
     let frame = c.args.frame.now in
     let m = c.in-Ok.message in
     let is = framed_whole frame c.args.most m c.in-Ok.taken c.in-Ok.ensures.found (omega arith) in
@@ -24,4 +24,4 @@ returns-in-Ok g c =
 pub returns-in-Err : goal.returns-in-Err
 returns-in-Err g c =
     frame_refused c.args.frame.now c.args.most _ (g.S.Service.refuses c.args.service start) _ _ c.in-Err.fault
-    c.from.result c.from-2.result c.requires.fine c.in-Err.ensures.refused c.from.ensures c.from-2.ensures
+    c.from.result c.from-in-Err.result c.requires.fine c.in-Err.ensures.refused c.from.ensures c.from-in-Err.ensures

@@ -7,10 +7,10 @@ pub returns-in_err-input-in-Stream : goal.returns-in_err-input-in-Stream
 returns-in_err-input-in-Stream g c =
     let p = err_from_is_err_and c.from_residual.result c.from_residual.ensures.1 in
     rw (p.1, p.2)
-    (unheld _ _ _ c.args.most c.args.form c.in_err-input-in-Stream.field-0.0 c.in_err-input-in-Stream.ensures)
+    (unheld g.row.A.Denot _ _ _ c.args.most c.args.form c.in_err-input-in-Stream.field-0.0 c.in_err-input-in-Stream.ensures)
 
-pub returns-in-Stream : goal.returns-in-Stream
-returns-in-Stream g c =
+pub returns-in_ok-input-in-Stream : goal.returns-in_ok-input-in-Stream
+returns-in_ok-input-in-Stream g c =
     rw c.in-Stream.is
     (first_held _ _ _ c.args.most _ c.in_ok-input-in-Stream.input (omega arith) c.in_ok-input-in-Stream.ensures)
 
