@@ -67,13 +67,13 @@ _capn() {
         'pick --only') words='' ;;
         'unpack --message-words') words='' ;;
         'make --form') words='stream packed bare' ;;
-        'show '*) words='--form --message-words --budget --depth --tariff --at --text --json --offsets --ways --help' ;;
-        'check '*) words='--form --message-words --budget --depth --tariff --help' ;;
+        'show '*) words='--form --message-words --budget --depth --tariff --at --text --json --offsets --ways --one --help' ;;
+        'check '*) words='--form --message-words --budget --depth --tariff --one --help' ;;
         'explain '*) words='--form --message-words --budget --depth --tariff --number --help' ;;
         'list '*) words='--form --message-words --budget --depth --tariff --keep-going --digest --help' ;;
         'limits '*) words='--form --message-words --budget --depth --tariff --keep-going --help' ;;
         'canonical '*) words='--form --message-words --budget --depth --tariff --framed --keep-going --help' ;;
-        'hash '*) words='--form --message-words --budget --depth --tariff --help' ;;
+        'hash '*) words='--form --message-words --budget --depth --tariff --one --help' ;;
         'uniq '*) words='--form --message-words --budget --depth --tariff --keep-going --count --help' ;;
         'filter '*) words='--form --message-words --budget --depth --tariff --keep-going --canonical --help' ;;
         'pick '*) words='--form --message-words --from --to --only --help' ;;

@@ -40,6 +40,7 @@ _capn() {
                 '--json[Write each message as a line of JSON]' \
                 '--offsets[Begin each line with the byte of what it is about, and a tab]' \
                 '--ways[Begin each line with the way to what it is about, and a tab]' \
+                '--one[Take exactly one message]' \
                 '--help[Print help]' ;;
         check)
             _arguments \
@@ -48,6 +49,7 @@ _capn() {
                 '--budget=[The most words that reading one message may cost, from 0 to 268435456]:budget:()' \
                 '--depth=[The most objects one below the other, from 1 to 256]:depth:()' \
                 '--tariff=[What reading a struct or list costs beside its words]:tariff:(strict plain)' \
+                '--one[Take exactly one message]' \
                 '--help[Print help]' ;;
         explain)
             _arguments \
@@ -94,6 +96,7 @@ _capn() {
                 '--budget=[The most words that reading one message may cost, from 0 to 268435456]:budget:()' \
                 '--depth=[The most objects one below the other, from 1 to 256]:depth:()' \
                 '--tariff=[What reading a struct or list costs beside its words]:tariff:(strict plain)' \
+                '--one[Take exactly one message]' \
                 '--help[Print help]' ;;
         uniq)
             _arguments \

@@ -489,9 +489,16 @@ def styled(value, style):
 # Commands that answer each message of a stream.
 
 
-def each(data, text_of, form="stream", message_words=8388608, **limits):
+def each(data, text_of, form="stream", message_words=8388608, one=False, **limits):
     """The texts of messages, by their walk, their segments, their offset and their frame, up to the first one that is
-    refused; the line on standard error, and the exit status. The limits are those of the walk."""
+    refused, or of exactly one; the line on standard error, and the exit status. The limits are those of the walk."""
+    if one:
+        try:
+            segments = only_message(data, form, message_words)
+            frame = unpacked(data)[0] if form == "packed" else data
+            return text_of(Walk(segments, **limits), segments, 0, frame).encode(), "", 0
+        except Refused as refused:
+            return b"", f"capn: {refused}\n", 1
     found, fault = messages(data, form, message_words)
     out = []
     for offset, frame, segments in found:

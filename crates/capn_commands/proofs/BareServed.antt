@@ -31,7 +31,7 @@ bare_text kinds.Price words limits text other is = absurd (other refl)
 bare_text kinds.Digest words limits text other is = is
 
 -- what is said of all bytes is said of those that are taken, since these are all
-taken : (P : List ℕ → Bool → Type 0) (bytes : List ℕ) → length bytes ≤ 2 ^ 32 → P bytes false
+pub taken : (P : List ℕ → Bool → Type 0) (bytes : List ℕ) → length bytes ≤ 2 ^ 32 → P bytes false
     → P (taken_of bytes) (has_more bytes)
 taken P bytes short p =
     subst (λ (more : Bool). P (taken_of bytes) more) (sym (is_all bytes short))

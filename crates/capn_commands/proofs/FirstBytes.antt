@@ -45,7 +45,7 @@ cut_length bs most (inr (inr contents)) =
 
 module _ (n most : ℕ) (bytes : List ℕ) (enough : 8 * (most + most_table_words) < n) where
   -- first bytes that are a frame are all
-  framed_first : (message : List (List ℕ)) → IsFramed (take n bytes) most message → take n bytes ≡ bytes
+  pub framed_first : (message : List (List ℕ)) → IsFramed (take n bytes) most message → take n bytes ≡ bytes
   framed_first message f =
       take_all n bytes (omega (arith, enough, length-take n bytes, framed_length (take n bytes) most message f))
 
@@ -78,7 +78,7 @@ module _ (n most : ℕ) (bytes : List ℕ) (enough : 8 * (most + most_table_word
         omega (arith, size, more),
       )
 
-  misframed_first : (r : Refusal) → IsMisframed (take n bytes) most r → IsMisframed bytes most r
+  pub misframed_first : (r : Refusal) → IsMisframed (take n bytes) most r → IsMisframed bytes most r
   misframed_first (refusals.Frame e) (other, h) = elim (cases_lt n (length bytes)) [
     | inl more ↦ (other, refused_first e other more h)
     | inr all ↦ (other, subst (λ (bs : List ℕ). frames.IsFrameRefused bs most e) (take_all n bytes all) h)

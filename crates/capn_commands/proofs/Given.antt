@@ -24,10 +24,10 @@ pub given_broken : (a b c : Option (List ℕ)) (f g : Bool) (seen : List ℕ) �
     → g ≡ true → IsUntaken a c g faults.Io
 given_broken a b c f g seen h read broken = (seen, inr (read, h.bounded, broken, refl))
 
--- memory was refused
-pub given_memory : (a b : Option (List ℕ)) (f : Bool) (seen : List ℕ) → HasGiven a b f seen
+-- memory was refused for bytes that came
+pub given_memory : (a b : Option (List ℕ)) (f : Bool) (seen : List ℕ) → HasGiven a b f seen → 0 < length seen
     → IsUntaken a b f faults.Memory
-given_memory a b f seen h = (seen, inl (h, inl refl))
+given_memory a b f seen h some = (seen, inl (h, inl (refl, some)))
 
 -- there are more bytes than a run takes
 pub given_long : (a b : Option (List ℕ)) (f : Bool) (seen : List ℕ) → HasGiven a b f seen → 2 ^ 32 < length seen

@@ -1,3 +1,4 @@
+pub mod shared
 pub mod ReadMore
 pub mod Given
 pub mod Unpending
@@ -12,4 +13,7 @@ pub mod Served
 mod ShownMessage
 pub mod EachServed
 pub mod BareServed
+pub mod OneRead
+pub mod OneRun
+pub mod OnePiece
 pub mod PackedServed

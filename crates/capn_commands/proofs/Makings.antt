@@ -16,8 +16,12 @@ use Rattle.capn_serve.specs.WholeInput.{HasGivenAll, IsBeginning}
 use Rattle.capn_serve.specs.WholeInput as served
 use Rattle.capn_serve.specs.declared.fault.RunFault.{RunFault}
 use Rattle.capn_serve.specs.declared.position.Position.{Position}
+use Rattle.capn_serve.specs.declared.pick.StreamForm.{StreamForm}
+use Rattle.capn_serve.specs.declared.pick.StreamForm.TheVariants as streams
 use Rattle.capn_serve.specs.declared.whole_input.WholeInput.{WholeInput}
 use Rattle.capn_commands.specs.CommandRun.{unplaced}
+use Rattle.capn_commands.specs.Plan.{form_of}
+use Rattle.capn_commands.specs.inner.OneServing.{HoldsFrame}
 use Rattle.capn_commands.specs.inner.ReadInput.{IsUntaken, TakesAll}
 use Rattle.capn_commands.specs.WholeInput.{Gives, IsFaultOf, MakesNothing}
 use Rattle.capn_commands.specs.declared.plan.MessageText.{MessageText}
@@ -41,9 +45,9 @@ abbrev FailsBare : List ℕ → ToolFault → Type 0
 FailsBare bytes fault = (e : BareFault) × (fault ≡ faults.Refused (refusals.Bare e)) × ReadsBare bytes (Err e)
 
 -- an input that was not read to its end
-untaken : (a b : Option (List ℕ)) (f : Bool) (fault : RunFault) → served.IsUntaken a b f fault
+pub untaken : (a b : Option (List ℕ)) (f : Bool) (fault : RunFault) → served.IsUntaken a b f fault
     → IsUntaken a b f (unplaced fault)
-untaken a b f fault (bytes, inl (given, inl (is, some))) = (bytes, inl (given, inl (ap unplaced is)))
+untaken a b f fault (bytes, inl (given, inl (is, some))) = (bytes, inl (given, inl (ap unplaced is, some)))
 untaken a b f fault (bytes, inl (given, inr (is, long))) = (bytes, inl (given, inr (ap unplaced is, long)))
 untaken a b f fault (bytes, inr (read, bound, broken, is)) = (bytes, inr (read, bound, broken, ap unplaced is))
 
@@ -66,16 +70,6 @@ module _ (a b : Option (List ℕ)) (f : Bool) (fault : ToolFault) where
       → TakesNone Q a b f fault
   none_else P Q change (inl untaken) = inl untaken
   none_else P Q change (inr (bytes, all, p)) = inr (bytes, all, change bytes p)
-
-  -- a packed text that packs no words
-  pub unmade_packed : (limits : Bounds) (most : ℕ) → most ≡ limits.message_words + most_table_words
-      → TakesNone (λ bytes. Fails (wholes.Unpacked most) bytes fault) a b f fault
-      → TakesNone (λ bytes. Fails (wholes.Canonical forms.Packed limits) bytes fault) a b f fault
-  unmade_packed limits most is h =
-      none_else (λ bytes. Fails (wholes.Unpacked (limits.message_words + most_table_words)) bytes fault)
-      (λ bytes. Fails (wholes.Canonical forms.Packed limits) bytes fault)
-      (λ bytes why. fails_unpacked limits bytes fault why)
-      (subst (λ (n : ℕ). TakesNone (λ bytes. Fails (wholes.Unpacked n) bytes fault) a b f fault) is h)
 
   -- bytes that are no segment
   pub unmade_canonical : (limits : Bounds) → TakesNone (λ bytes. FailsBare bytes fault) a b f fault
@@ -110,25 +104,21 @@ module _ {A : Type 0} (a b : Option (List ℕ)) (f : Bool) where
       takes_so (Gives whole) a b f r bytes all
       (subst (λ (xs : List ℕ). Gives whole xs r) (same ∙ sym is.0 ∙ take_all (2 ^ 32) bytes all.within) gives)
 
-  -- of a frame its beginning is
-  pub made_framed : (limits : Bounds) (n : ℕ) (input : WholeInput A) (held : List ℕ) (r : Result (Vec ℕ A) ToolFault)
-      → 8 * (limits.message_words + most_table_words) < n → served.TakesAll (IsBeginning n) a b f (Ok input)
-      → held ≡ input.bytes.items → Gives (wholes.Canonical forms.Stream limits) held r
-      → TakesAll (Gives (wholes.Canonical forms.Stream limits)) a b f r
-  made_framed limits n input held r enough (bytes, all, is) same gives =
+  -- of a frame its beginning is, and of a packed one what it packs
+  pub made_framed : (form : StreamForm) (limits : Bounds) (most : ℕ) (frame : Vec ℕ A) (held : List ℕ)
+      (r : Result (Vec ℕ A) ToolFault) → most ≡ limits.message_words
+      → TakesAll {T = Vec ℕ A} (HoldsFrame form most) a b f (Ok frame)
+      → held ≡ frame.items → Gives (wholes.Canonical forms.Stream limits) held r
+      → TakesAll (Gives (wholes.Canonical (form_of form) limits)) a b f r
+  made_framed streams.Stream limits most frame held r same_most (bytes, all, is) same gives =
       let P : List ℕ → Type 0 = λ xs. Gives (wholes.Canonical forms.Stream limits) xs r in
       takes_so (Gives (wholes.Canonical forms.Stream limits)) a b f r bytes all
-      (gives_first n limits bytes enough r (subst P (same ∙ sym is.0) gives))
-
-  -- of a packed text its words are
-  pub made_packed : (limits : Bounds) (most : ℕ) (words : Vec ℕ A) (held : List ℕ) (r : Result (Vec ℕ A) ToolFault)
-      → most ≡ limits.message_words + most_table_words → TakesAll (Gives (wholes.Unpacked most)) a b f (Ok words)
-      → held ≡ words.items → Gives (wholes.Canonical forms.Stream limits) held r
-      → TakesAll (Gives (wholes.Canonical forms.Packed limits)) a b f r
-  made_packed limits most words held r is (bytes, all, packs) same gives =
+      (gives_first (8 * (most + most_table_words) + 1) limits bytes (omega (arith, same_most)) r
+      (subst P (same ∙ sym is) gives))
+  made_framed streams.Packed limits most frame held r same_most (bytes, all, packs) same gives =
       let P : List ℕ → Type 0 = λ xs. Gives (wholes.Canonical forms.Stream limits) xs r in
       takes_so (Gives (wholes.Canonical forms.Packed limits)) a b f r bytes all
-      (gives_packed limits bytes words.items packs.0 (omega (arith, is, packs.1)) r (subst P same gives))
+      (gives_packed limits bytes frame.items packs.0 (omega (arith, same_most, packs.1)) r (subst P same gives))
 
   -- ---- bare bytes
 
@@ -138,3 +128,14 @@ module _ {A : Type 0} (a b : Option (List ℕ)) (f : Bool) where
   made_bare at whole input held r (bytes, all, is) same gives =
       takes_so (Gives whole) a b f r bytes all
       (subst (λ (xs : List ℕ). Gives whole xs r) (same ∙ sym is) gives)
+
+-- no frame is made of it
+pub unmade_framed : (A : Type 0) (a b : Option (List ℕ)) (f : Bool) (form : StreamForm) (limits : Bounds) (most : ℕ)
+    (fault : ToolFault) → most ≡ limits.message_words
+    → TakesAll {T = Vec ℕ A} (HoldsFrame form most) a b f (Err fault)
+    → TakesNone (λ bytes. Fails (wholes.Canonical (form_of form) limits) bytes fault) a b f fault
+unmade_framed A a b f form limits most fault same (inl h) = inl h
+unmade_framed A a b f streams.Stream limits most fault same (inr (bytes, all, none)) = absurd none
+unmade_framed A a b f streams.Packed limits most fault same (inr (bytes, all, why)) =
+    inr (bytes, all, fails_unpacked limits bytes fault
+    (subst (λ (n : ℕ). Fails (wholes.Unpacked (n + most_table_words)) bytes fault) same why))

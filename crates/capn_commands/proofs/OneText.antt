@@ -30,15 +30,18 @@ use Rattle.capn_canon.specs.Denotes.{Denotes}
 use Rattle.capn_canon.specs.declared.form.Form.{Form}
 use Rattle.capn_canon.specs.declared.refusal.Refusal.{Refusal}
 use Rattle.capn_canon.specs.declared.refusal.Refusal.TheVariants as refusals
-use Rattle.capn_canon.proofs.shared.OneReading.{answers_only}
+use Rattle.capn_canon.proofs.shared.OneReading.{answers_only, one_message}
 use Rattle.capn_canon.proofs.shared.NotRefused.{accepted-not_refused, not_refused}
+use Rattle.capn_canon.proofs.shared.NotUnaccepted.{not_unaccepted}
+use Rattle.capn_canon.specs.Reads.{Reads}
+use Rattle.capn_canon.specs.Refusal.{IsRefused, IsUnacceptedIn}
 use Rattle.capn_commands.specs.MessageText.{AreCanonical, IsMessageText, IsBareMessageText, IsNoMessageText, IsStopped}
 use Rattle.capn_commands.specs.MessageText.{digest_line}
-use Rattle.capn_commands.specs.WholeInput.{Makes, MakesNothing}
+use Rattle.capn_commands.specs.WholeInput.{IsOneRefused, Makes, MakesNothing}
 use Rattle.capn_commands.specs.Streams.{Part, IsPart, frames_of, texts_of, end_of, EndsUnframed, EndsRefused, IsDueEach}
 use Rattle.capn_commands.specs.Streams.{behind_packed, behind_stream}
 use Rattle.capn_pack.proofs.shared.SplitLaws.{one_split}
-use Rattle.capn_commands.specs.Plan.{plan_of}
+use Rattle.capn_commands.specs.Plan.{form_of, plan_of}
 use Rattle.capn_commands.specs.Text.{taken_of, has_more, IsDueWhole, IsDue, IsText, EndsAs, EndsBy}
 use Rattle.capn_commands.specs.declared.command.Command.{Command}
 use Rattle.capn_commands.specs.declared.plan.MessageText.{MessageText}
@@ -126,6 +129,38 @@ one_made (wholes.Canonical form limits) bytes t u (p, a) (q, b) =
 one_made (wholes.Bare piece limits) bytes t u (ws, h, i) (vs, k, j) =
     one_bare_piece vs limits piece t u
     (subst (λ (x : List ℕ). IsBareMessageText piece x limits t) (one_bare bytes ws vs h k) i) j
+one_made (wholes.One piece form limits) bytes t u (m, h, i) (n, k, j) =
+    one_piece n limits piece t u
+    (subst (λ (x : List (List ℕ)). IsMessageText piece x limits t)
+    (one_message (form_of form) bytes limits.message_words m n h k) i) j
+
+module _ (form : Form) (bytes : List ℕ) (limits : Bounds) where
+  -- one message that has a piece is not refused
+  one_or_none : (piece : MessageText) (m : List (List ℕ)) (t : List ℕ) (r : Refusal)
+      → Reads form bytes limits.message_words m → IsMessageText piece m limits t
+      → IsOneRefused piece form bytes limits r → r ≡ refusals.Memory
+  one_or_none kinds.Text m t r reads (v, is, e) h =
+      not_unaccepted form bytes limits v r (record { message = m; reads = reads; value = is }) h
+  one_or_none kinds.Price m t r reads (v, is, e) h =
+      not_unaccepted form bytes limits v r (record { message = m; reads = reads; value = is }) h
+  one_or_none kinds.Digest m t r reads (answer, price, a, e) h =
+      not_refused form bytes limits a.value r (record { message = m; reads = reads; value = a.is }) a.free h
+
+  -- what is not accepted is refused
+  unaccepted : (r : Refusal) → IsUnacceptedIn form bytes limits r → IsRefused form bytes limits r
+  unaccepted (refusals.Walk s) h = h
+  unaccepted (refusals.Capability k) h = absurd h
+  unaccepted refusals.Memory h = h
+  unaccepted (refusals.Bare e) h = h
+  unaccepted (refusals.Packed e) h = h
+  unaccepted (refusals.Frame e) h = h
+  unaccepted (refusals.Trailing at) h = h
+
+  refused_one : (piece : MessageText) (r : Refusal) → IsOneRefused piece form bytes limits r
+      → IsRefused form bytes limits r
+  refused_one kinds.Text r h = unaccepted r h
+  refused_one kinds.Price r h = unaccepted r h
+  refused_one kinds.Digest r h = h
 
 made_or_none : (whole : Whole) (bytes t : List ℕ) (fault : ToolFault) → Makes whole bytes t
     → MakesNothing whole bytes fault → ⊥
@@ -137,6 +172,8 @@ made_or_none (wholes.Bare piece limits) bytes t fault (ws, h, i) (inl (e, f, k))
 made_or_none (wholes.Bare piece limits) bytes t fault (ws, h, i) (inr (vs, k, j)) =
     bare_or_none vs limits piece t fault
     (subst (λ (x : List ℕ). IsBareMessageText piece x limits t) (one_bare bytes ws vs h k) i) j
+made_or_none (wholes.One piece form limits) bytes t fault (m, h, i) (r, f, n, k) =
+    n (one_or_none (form_of form) bytes limits piece m t r h i k)
 
 one_nothing : (whole : Whole) (bytes : List ℕ) (f g : ToolFault) → MakesNothing whole bytes f
     → MakesNothing whole bytes g → f ≡ g
@@ -154,6 +191,12 @@ one_nothing (wholes.Bare piece limits) bytes f g (inr (ws, h, i)) (inl (e, b, k)
 one_nothing (wholes.Bare piece limits) bytes f g (inr (ws, h, i)) (inr (vs, k, j)) =
     one_no_piece (vs ∷ []) limits piece f g
     (subst (λ (x : List ℕ). IsNoMessageText piece (x ∷ []) limits f) (one_bare bytes ws vs h k) i) j
+one_nothing (wholes.One piece form limits) bytes f g (r, a, n, h) (s, b, o, k) =
+    a
+    ∙ ap (λ (x : Refusal). faults.Refused x)
+    (one_refusal (form_of form) bytes limits r s n o (refused_one (form_of form) bytes limits piece r h)
+    (refused_one (form_of form) bytes limits piece s k))
+    ∙ sym b
 
 one_due_whole : (whole : Whole) (bytes : List ℕ) (is_longer : Bool) (t u : List ℕ) (r s : Result (Unit {0}) ToolFault)
     → IsDueWhole whole bytes is_longer t r → IsDueWhole whole bytes is_longer u s → (t ≡ u) × (r ≡ s)

@@ -70,7 +70,8 @@ module _ (whole : Whole) (a b c : Option (List ℕ)) where
   pub unmade_ends : (failed : Bool) (fault : ToolFault)
       → Unmade whole a b failed fault
       → IfSome a (PlanEndsAs (plans.Whole whole) c c (Err fault))
-  unmade_ends failed fault (inl (bytes, inl (h, inl memory))) = ends_unread (plans.Whole whole) a c c fault (inl memory)
+  unmade_ends failed fault (inl (bytes, inl (h, inl memory))) =
+      ends_unread (plans.Whole whole) a c c fault (inl memory.0)
   unmade_ends failed fault (inl (bytes, inl (h, inr (is, long)))) =
       subst (λ (f : ToolFault). IfSome a (PlanEndsAs (plans.Whole whole) c c (Err f))) (sym is)
       (ends_long failed bytes h long)
@@ -130,7 +131,7 @@ made_fine whole a b failed text (bytes, all, made) = all.given.fine
 pub unmade_io : (whole : Whole) (a b : Option (List ℕ)) (failed : Bool) (fault : ToolFault)
     → Unmade whole a b failed fault
     → (fault ≡ faults.Io) ↔ (failed ≡ true)
-unmade_io whole a b failed fault (inl (bytes, inl (h, inl memory))) =
+unmade_io whole a b failed fault (inl (bytes, inl (h, inl (memory, some)))) =
     (λ e. absurd (cc), λ e. let fine = h.fine in absurd (cc))
 unmade_io whole a b failed fault (inl (bytes, inl (h, inr (is, long)))) =
     (λ e. absurd (cc), λ e. let fine = h.fine in absurd (cc))

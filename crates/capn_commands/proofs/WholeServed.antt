@@ -38,3 +38,4 @@ told_whole (wholes.Unpacked most) bytes fault h = told_refused fault _ h.1
 told_whole (wholes.Canonical form limits) bytes fault h = told_refused fault _ h.1
 told_whole (wholes.Bare piece limits) bytes fault (inl h) = told_refused fault _ h.1
 told_whole (wholes.Bare piece limits) bytes fault (inr h) = told_piece piece _ limits fault h.2
+told_whole (wholes.One piece form limits) bytes fault h = told_refused fault _ h.1

@@ -5,6 +5,8 @@ pub mod MessageText
 pub mod WholeInput
 pub mod Streams
 pub mod Text
+pub mod WholeRun
+pub mod OneMessage
 pub mod CommandRun
 pub mod ExitStatus
 pub mod FaultText

@@ -2,6 +2,8 @@
 use Rattle.capn_walk.specs.Limits.{Bounds}
 use Rattle.capn_canon.specs.declared.form.Form.{Form}
 use Rattle.capn_canon.specs.declared.form.Form.TheVariants as forms
+use Rattle.capn_serve.specs.declared.pick.StreamForm.{StreamForm}
+use Rattle.capn_serve.specs.declared.pick.StreamForm.TheVariants as streams
 use Rattle.capn_commands.specs.declared.command.Command.{Command}
 use Rattle.capn_commands.specs.declared.command.Command.TheVariants as commands
 use Rattle.capn_commands.specs.declared.plan.MessageText.{MessageText}
@@ -16,6 +18,17 @@ pieces_of piece forms.Bare limits = plans.Whole (wholes.Bare piece limits)
 pieces_of piece forms.Stream limits = plans.Each piece limits
 pieces_of piece forms.Packed limits = plans.Packed piece limits
 
+-- the form that holds frames so
+abbrev pub form_of : StreamForm → Form
+form_of streams.Stream = forms.Stream
+form_of streams.Packed = forms.Packed
+
+-- a piece of the one message that the input is: of a bare one as always
+abbrev pub one_piece_of : MessageText → Form → Bounds → Plan
+one_piece_of piece forms.Bare limits = plans.Whole (wholes.Bare piece limits)
+one_piece_of piece forms.Stream limits = plans.Whole (wholes.One piece streams.Stream limits)
+one_piece_of piece forms.Packed limits = plans.Whole (wholes.One piece streams.Packed limits)
+
 -- what a command does with its input
 abbrev pub plan_of : Command → Plan
 plan_of (commands.Show form limits) = pieces_of kinds.Text form limits
@@ -24,3 +37,4 @@ plan_of (commands.Hash form limits) = pieces_of kinds.Digest form limits
 plan_of commands.Pack = plans.Whole wholes.Packed
 plan_of (commands.Unpack most) = plans.Whole (wholes.Unpacked most)
 plan_of (commands.Canonical form limits) = plans.Whole (wholes.Canonical form limits)
+plan_of (commands.One piece form limits) = one_piece_of piece form limits

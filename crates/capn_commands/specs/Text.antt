@@ -22,12 +22,17 @@ taken_of input = take most_input input
 abbrev pub has_more : List ℕ → Bool
 has_more input = nat_lt most_input (length input)
 
--- the text and the ending of an input that is taken whole: none of one that is longer, else what is made of it, else
--- the reason
+-- the text and the ending of an input of whose bytes this is made, or nothing for these reasons: none of one that is
+-- longer, else what is made of it, else the reason
+abbrev pub IsDueOf : (List ℕ → List ℕ → Type 0) → (List ℕ → ToolFault → Type 0) → List ℕ → Bool → List ℕ
+    → Result (Unit {0}) ToolFault → Type 0
+IsDueOf makes fails bytes true text ending = (text ≡ []) × (ending ≡ Err faults.InputTooLong)
+IsDueOf makes fails bytes false text (Ok u) = makes bytes text
+IsDueOf makes fails bytes false text (Err fault) = (text ≡ []) × fails bytes fault
+
+-- the text and the ending of an input that is taken whole
 abbrev pub IsDueWhole : Whole → List ℕ → Bool → List ℕ → Result (Unit {0}) ToolFault → Type 0
-IsDueWhole whole bytes true text ending = (text ≡ []) × (ending ≡ Err faults.InputTooLong)
-IsDueWhole whole bytes false text (Ok u) = Makes whole bytes text
-IsDueWhole whole bytes false text (Err fault) = (text ≡ []) × MakesNothing whole bytes fault
+IsDueWhole whole bytes is_longer text ending = IsDueOf (Makes whole) (MakesNothing whole) bytes is_longer text ending
 
 -- the text and the ending that a plan makes of the bytes that are taken
 abbrev pub IsDue : Plan → List ℕ → Bool → List ℕ → Result (Unit {0}) ToolFault → Type 0

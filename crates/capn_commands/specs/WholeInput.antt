@@ -7,11 +7,17 @@ use Rattle.capn_pack.specs.Chosen.{Chosen}
 use Rattle.capn_pack.specs.UnpackRefusal as packs
 use Rattle.capn_pack.specs.declared.fault.UnpackFault.{UnpackFault}
 use Rattle.capn_pack.specs.declared.fault.UnpackFault.TheVariants as unpack_faults
+use Rattle.capn_walk.specs.Limits.{Bounds}
 use Rattle.capn_canon.specs.Denotes.{Answers}
-use Rattle.capn_canon.specs.Refusal.{IsRefused}
+use Rattle.capn_canon.specs.Reads.{Reads}
+use Rattle.capn_canon.specs.Refusal.{IsRefused, IsUnacceptedIn}
+use Rattle.capn_canon.specs.declared.form.Form.{Form}
 use Rattle.capn_canon.specs.declared.refusal.Refusal.{Refusal}
 use Rattle.capn_canon.specs.declared.refusal.Refusal.TheVariants as refusals
-use Rattle.capn_commands.specs.MessageText.{IsBareMessageText, IsNoMessageText}
+use Rattle.capn_commands.specs.MessageText.{IsBareMessageText, IsMessageText, IsNoMessageText}
+use Rattle.capn_commands.specs.Plan.{form_of}
+use Rattle.capn_commands.specs.declared.plan.MessageText.{MessageText}
+use Rattle.capn_commands.specs.declared.plan.MessageText.TheVariants as kinds
 use Rattle.capn_commands.specs.declared.plan.Whole.{Whole}
 use Rattle.capn_commands.specs.declared.plan.Whole.TheVariants as wholes
 use Rattle.capn_commands.specs.declared.fault.ToolFault.{ToolFault}
@@ -22,17 +28,27 @@ abbrev pub IsFaultOf : Refusal → ToolFault → Type 0
 IsFaultOf r fault =
     ((r ≡ refusals.Memory) × (fault ≡ faults.Memory)) ⊎ ((r ≢ refusals.Memory) × (fault ≡ faults.Refused r))
 
+-- why bytes have no piece as one message in a form: why they have no canonical bytes, but that a capability is no
+-- refusal of a text and of a price
+abbrev pub IsOneRefused : MessageText → Form → List ℕ → Bounds → Refusal → Type 0
+IsOneRefused kinds.Text form bytes limits r = IsUnacceptedIn form bytes limits r
+IsOneRefused kinds.Price form bytes limits r = IsUnacceptedIn form bytes limits r
+IsOneRefused kinds.Digest form bytes limits r = IsRefused form bytes limits r
+
 -- What is made of the bytes: the packer's text of them; the words that they pack, at most `most`; the canonical bytes
--- of the message that they are in a form; or a piece of the bare message that they are.
+-- of the message that they are in a form; a piece of the bare message that they are; or a piece of the one message that
+-- they are in a frame.
 abbrev pub Makes : Whole → List ℕ → List ℕ → Type 0
 Makes wholes.Packed bytes text = Chosen text bytes
 Makes (wholes.Unpacked most) bytes text = Packs bytes text × (length text ≤ 8 * most)
 Makes (wholes.Canonical form limits) bytes text = (price : ℕ) × Answers form bytes limits text price
 Makes (wholes.Bare piece limits) bytes text = (words : List ℕ) × IsBare bytes words
     × IsBareMessageText piece words limits text
+Makes (wholes.One piece form limits) bytes text = (message : List (List ℕ))
+    × Reads (form_of form) bytes limits.message_words message × IsMessageText piece message limits text
 
 -- Why nothing is: the bytes are no whole words; they pack no words, or more; they have no canonical bytes in the form;
--- or they are no bare message, or one that has no piece.
+-- they are no bare message, or one that has no piece; or they are no one message in a frame, or one that has no piece.
 abbrev pub MakesNothing : Whole → List ℕ → ToolFault → Type 0
 MakesNothing wholes.Packed bytes fault = (length bytes % 8 ≢ 0) × (fault ≡ faults.NotWhole (length bytes))
 MakesNothing (wholes.Unpacked most) bytes fault =
@@ -43,6 +59,9 @@ MakesNothing (wholes.Canonical form limits) bytes fault =
 MakesNothing (wholes.Bare piece limits) bytes fault =
     ((e : BareFault) × (fault ≡ faults.Refused (refusals.Bare e)) × ReadsBare bytes (Err e))
     ⊎ ((words : List ℕ) × IsBare bytes words × IsNoMessageText piece (words ∷ []) limits fault)
+MakesNothing (wholes.One piece form limits) bytes fault =
+    (r : Refusal) × (fault ≡ faults.Refused r) × (r ≢ refusals.Memory)
+    × IsOneRefused piece (form_of form) bytes limits r
 
 -- a call gave what is made of the bytes, or reported why nothing is, unless memory ran out
 abbrev pub Gives : {A : Type 0} → Whole → List ℕ → Result (Vec ℕ A) ToolFault → Type 0

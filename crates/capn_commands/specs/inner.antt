@@ -1,5 +1,6 @@
 -- What no public clause cites.
 pub mod MessageTexts
+pub mod OneServing
 pub mod Pending
 pub mod PriceRoom
 pub mod ReadInput

@@ -1,5 +1,6 @@
 //! The commands of the tool.
 
+use crate::plan::MessageText;
 use capn_canon::Form;
 use capn_walk::Limits;
 
@@ -18,4 +19,6 @@ pub enum Command {
     Canonical(Form, Limits),
     /// Writes for each message a line with the SHA-256 of its canonical bytes.
     Hash(Form, Limits),
+    /// Writes what `show`, `check` or `hash` writes of the one message that the whole input is.
+    One(MessageText, Form, Limits),
 }

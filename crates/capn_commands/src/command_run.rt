@@ -16,6 +16,7 @@ use crate::bare_message::run_one;
 use crate::command::Command;
 use crate::fault::ToolFault;
 use crate::message_stream::{run_each, run_each_packed};
+use crate::one_message::run_framed;
 use crate::pending::read_words;
 use crate::plan::{MessageText, Plan, Whole, plan_of};
 use crate::whole_input::{make_canonical, make_text, make_verdict};
@@ -86,6 +87,9 @@ fn perform<R: Read, W: Write, A: Allocator + Copy>(
                 write_made(make_canonical(alloc, reader, form, limits), writer)
             }
             Whole::Bare(piece, limits) => run_bare_piece(alloc, piece, limits, reader, writer),
+            Whole::One(piece, form, limits) => {
+                run_framed(alloc, piece, form, limits, reader, writer)
+            }
         },
         Plan::Each(piece, limits) => run_each(alloc, piece, limits, reader, writer),
         Plan::Packed(piece, limits) => run_each_packed(alloc, piece, limits, reader, writer),
@@ -94,10 +98,10 @@ fn perform<R: Read, W: Write, A: Allocator + Copy>(
 
 /// Carries a command out: reads from the reader to its end, then writes the text of the input to the writer.
 ///
-/// `pack`, `unpack`, `canonical` and the form bare take the input whole, and write nothing where it is refused. `show`,
-/// `check` and `hash` of a stream, packed or not, take it message by message: before the reader is asked again, the
-/// text of all messages that are whole by then has been written, mostly by one call. Where a message is refused, the
-/// text of those before it has been written.
+/// `pack`, `unpack`, `canonical`, a run over exactly one message and the form bare take the input whole, and write
+/// nothing where it is refused. `show`, `check` and `hash` of a stream, packed or not, take it message by message:
+/// before the reader is asked again, the text of all messages that are whole by then has been written, mostly by one
+/// call. Where a message is refused, the text of those before it has been written.
 ///
 /// Refusals: `Memory` where a growth was refused; `Io` exactly where the reader or the writer has failed;
 /// `InputTooLong` for a byte past 2^32; else the command's own. After `Memory` and `Io` a beginning of the text was
@@ -105,9 +109,9 @@ fn perform<R: Read, W: Write, A: Allocator + Copy>(
 /// grow with the input: 128 KiB, the texts of what one call read, at most 1 MiB for unpacked words, and what the
 /// longest message takes.
 ///
-/// Of an input that is taken whole, `canonical` holds the first 8 * (message words + 2,049) bytes and one more, or as
-/// many words of a packed one, and `unpack` its answer; what follows is read and dropped. The form bare holds at most
-/// 2^28 + 1 words, and `pack` all of its input.
+/// Of an input that is taken whole, `canonical` and a run over exactly one message hold the first 8 * (message words +
+/// 2,049) bytes and one more, or as many words of a packed one, and `unpack` its answer; what follows is read and
+/// dropped. The form bare holds at most 2^28 + 1 words, and `pack` all of its input.
 pub fn run<R: Read, W: Write, A: Allocator + Copy>(
     alloc: A,
     command: Command,

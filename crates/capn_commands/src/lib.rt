@@ -4,7 +4,8 @@
 //! [`run`] carries a [`Command`] out: it writes exactly the text for its input, and its outcome says how it ended;
 //! [`status`] and [`fault_text`] are the exit status and the text for the user, and [`end`] writes that. `show`,
 //! `check` and `hash` take one bare message, or the messages of a stream, packed or not, as they come in; `canonical`
-//! takes one message in any of the three forms.
+//! takes one message in any of the three forms. So do the three as [`Command::One`]; [`serve_one`] is what that does to
+//! a frame, for any service of [`capn_serve`].
 //!
 //! ```text
 //! let command = Command::Canonical(Form::Bare, Limits::usual());
@@ -20,6 +21,7 @@ mod fault;
 mod message_stream;
 mod message_text;
 mod message_texts;
+mod one_message;
 mod pending;
 mod plan;
 mod price_line;
@@ -29,6 +31,8 @@ pub use command::Command;
 pub use command_run::run;
 pub use exit_status::{end, fault_text, status};
 pub use fault::ToolFault;
+pub use one_message::serve_one;
+pub use plan::MessageText;
 
 // What the signatures above name.
 pub use capn_canon::{Form, Limits, Refusal, Tariff};

@@ -5,10 +5,11 @@ ghost use Rattle.capn_commands.specs.Plan as spec;
 
 use crate::command::Command;
 use capn_canon::Form;
+use capn_serve::StreamForm;
 use capn_walk::Limits;
 
 /// What is written of a message.
-#[derive(Clone, Copy)]
+#[derive(Clone, Copy, Debug, PartialEq, Eq)]
 pub enum MessageText {
     /// Its text, and a line `end`.
     Text,
@@ -29,6 +30,8 @@ pub enum Whole {
     Canonical(Form, Limits),
     /// A piece of the one bare message that it is.
     Bare(MessageText, Limits),
+    /// A piece of the one message that it is in a frame.
+    One(MessageText, StreamForm, Limits),
 }
 
 /// How an input is taken.
@@ -53,6 +56,17 @@ fn pieces(piece: MessageText, form: Form, limits: Limits) -> Plan
     }
 }
 
+/// How a piece is written of the one message that an input is in a form.
+fn one_piece(piece: MessageText, form: Form, limits: Limits) -> Plan
+    ensures { result ≡ spec.one_piece_of piece form limits }
+{
+    match form {
+        Form::Bare => Plan::Whole(Whole::Bare(piece, limits)),
+        Form::Stream => Plan::Whole(Whole::One(piece, StreamForm::Stream, limits)),
+        Form::Packed => Plan::Whole(Whole::One(piece, StreamForm::Packed, limits)),
+    }
+}
+
 /// What a command does with its input.
 pub fn plan_of(command: Command) -> Plan
     ensures { result ≡ spec.plan_of command }
@@ -64,5 +78,6 @@ pub fn plan_of(command: Command) -> Plan
         Command::Pack => Plan::Whole(Whole::Packed),
         Command::Unpack(most) => Plan::Whole(Whole::Unpacked(most)),
         Command::Canonical(form, limits) => Plan::Whole(Whole::Canonical(form, limits)),
+        Command::One(piece, form, limits) => one_piece(piece, form, limits),
     }
 }

@@ -1,7 +1,10 @@
 //! Outputs made of an input taken whole.
 
-ghost use Rattle.std.specs.Prelude.{◌≡◌, false};
+ghost use Rattle.std.specs.Prelude.{◌≡◌, ◌≤◌, false};
+ghost use Rattle.capn_words.specs.Message.{most_message_words};
 ghost use Rattle.capn_words.specs.Watched.{inner_of, has_failed};
+ghost use Rattle.capn_commands.specs.Plan.{form_of};
+ghost use Rattle.capn_commands.specs.inner.OneServing.{HoldsFrame};
 ghost use Rattle.capn_commands.specs.inner.ReadInput.{TakesAll};
 ghost use Rattle.capn_commands.specs.WholeInput.{Gives};
 ghost use Rattle.capn_canon.specs.declared.form.Form.TheVariants as forms;
@@ -13,15 +16,15 @@ use crate::message_text::put_verdict;
 use crate::pending::read_words;
 use capn_canon::{Form, Refusal, canonicalise};
 use capn_pack::{PackFault, pack};
-use capn_serve::{MOST_INPUT, Position, read_all, read_bare};
+use capn_serve::{MOST_INPUT, Position, StreamForm, read_all, read_bare};
 use capn_stream::MOST_TABLE_WORDS;
 use capn_walk::Limits;
 use capn_words::{Bare, Watched};
 use std::alloc::Allocator;
 use std::io::Read;
 
-/// Where the one message of a bare input begins.
-const START: Position = Position {
+/// Where the one message of an input begins.
+pub(crate) const START: Position = Position {
     index: 0,
     offset: 0,
 };
@@ -55,35 +58,42 @@ fn verdict<A: Allocator + Copy>(
     }
 }
 
-/// The canonical bytes of the one message that an input is the frame of. Of the input no more is held than the longest
-/// frame within the limits, and one byte.
+/// The frame that an input holds of its one message, which has at most this many words. All of the input is read; no
+/// more is held of a stream than the longest such frame, and one byte, and of a packed one than it packs.
+pub(crate) fn read_frame<R: Read, A: Allocator>(
+    alloc: A,
+    reader: &mut Watched<R>,
+    form: StreamForm,
+    most: u32,
+) -> Result<Vec<u8, A>, ToolFault>
+    requires small { most ≤ most_message_words }
+    requires fine { has_failed reader.old ≡ false }
+    ensures { TakesAll (HoldsFrame form most) (R.remaining (inner_of reader.old))
+        (R.remaining (inner_of reader.new)) (has_failed reader.new) result }
+{
+    let words = most + MOST_TABLE_WORDS;
+    match form {
+        StreamForm::Stream => {
+            let input = read_all(alloc, reader, 8 * words as usize + 1)?;
+            Ok(input.bytes)
+        }
+        StreamForm::Packed => read_words(alloc, reader, words),
+    }
+}
+
+/// The canonical bytes of the one message that an input is in a frame.
 fn make_framed<R: Read, A: Allocator + Copy>(
     alloc: A,
     reader: &mut Watched<R>,
+    form: StreamForm,
     limits: Limits,
 ) -> Result<Vec<u8, A>, ToolFault>
     requires { has_failed reader.old ≡ false }
-    ensures { TakesAll (Gives (wholes.Canonical forms.Stream limits)) (R.remaining (inner_of reader.old))
+    ensures { TakesAll (Gives (wholes.Canonical (form_of form) limits)) (R.remaining (inner_of reader.old))
         (R.remaining (inner_of reader.new)) (has_failed reader.new) result }
 {
-    let words = limits.message_words() as usize + MOST_TABLE_WORDS as usize;
-    let input = read_all(alloc, reader, 8 * words + 1)?;
-    let canonical = canonicalise(alloc, Form::Stream, &input.bytes, limits)?;
-    Ok(canonical.bytes)
-}
-
-/// The canonical bytes of the one message that an input packs the frame of. It is unpacked while it is read.
-fn make_packed<R: Read, A: Allocator + Copy>(
-    alloc: A,
-    reader: &mut Watched<R>,
-    limits: Limits,
-) -> Result<Vec<u8, A>, ToolFault>
-    requires { has_failed reader.old ≡ false }
-    ensures { TakesAll (Gives (wholes.Canonical forms.Packed limits)) (R.remaining (inner_of reader.old))
-        (R.remaining (inner_of reader.new)) (has_failed reader.new) result }
-{
-    let words = read_words(alloc, reader, limits.message_words() + MOST_TABLE_WORDS)?;
-    let canonical = canonicalise(alloc, Form::Stream, &words, limits)?;
+    let frame = read_frame(alloc, reader, form, limits.message_words())?;
+    let canonical = canonicalise(alloc, Form::Stream, &frame, limits)?;
     Ok(canonical.bytes)
 }
 
@@ -141,8 +151,8 @@ pub fn make_canonical<R: Read, A: Allocator + Copy>(
         (R.remaining (inner_of reader.new)) (has_failed reader.new) result }
 {
     match form {
-        Form::Stream => make_framed(alloc, reader, limits),
-        Form::Packed => make_packed(alloc, reader, limits),
+        Form::Stream => make_framed(alloc, reader, StreamForm::Stream, limits),
+        Form::Packed => make_framed(alloc, reader, StreamForm::Packed, limits),
         Form::Bare => make_trimmed(alloc, reader, limits),
     }
 }

@@ -8,6 +8,7 @@ use Rattle.capn_orders.specs.OptionValues.{FlagIs, FormIs, IsUsual, LimitsAre, U
 use Rattle.capn_orders.specs.Meaning.{AreOptions, ExplainIs, IsTask, MeansOrder, OnlyIs, PickIs, MarksAre, StyleIs}
 use Rattle.capn_orders.specs.Meaning.{WayIs, is_plain}
 use Rattle.capn_commands.specs.declared.command.Command.TheVariants as commands
+use Rattle.capn_commands.specs.declared.plan.MessageText.TheVariants as pieces
 use Rattle.capn_archive.specs.declared.task.ArchiveOrder.{ArchiveOrder}
 use Rattle.capn_archive.specs.declared.task.Task.{Task}
 use Rattle.capn_archive.specs.declared.task.Task.TheVariants as tasks
@@ -81,6 +82,9 @@ canonical_means rows o m = go o m (told (codes "canonical", rows) o m)
     go (orders.Message commands.Pack) m e = absurd (omega arith)
     go (orders.Message (commands.Unpack k)) m e = absurd (omega arith)
     go (orders.Message (commands.Hash f l)) m e = absurd (omega arith)
+    go (orders.Message (commands.One pieces.Text f l)) m e = absurd (omega arith)
+    go (orders.Message (commands.One pieces.Price f l)) m e = absurd (omega arith)
+    go (orders.Message (commands.One pieces.Digest f l)) m e = absurd (omega arith)
     go (orders.Show s) m e = absurd (omega arith)
     go (orders.Explain x) m e = absurd (omega arith)
     go (orders.Uniq u) m e = absurd (omega arith)
@@ -92,9 +96,10 @@ canonical_means rows o m = go o m (told (codes "canonical", rows) o m)
     go (orders.Make f) m e = absurd (omega arith)
     go (orders.Archive a) m e = inr (a, framed a.task m.0 e, m.1)
 
--- what `check` and `hash` order has a form and limits
+-- what `check` and `hash` order has a form and limits, and is told whether the input is exactly one message
 abbrev pub SurveyMeans : List Row → Type 0
-SurveyMeans rows = (form : Form) × (limits : Bounds) × FormIs rows form × LimitsAre rows limits
+SurveyMeans rows = (form : Form) × (limits : Bounds) × (one : Bool) × FormIs rows form × LimitsAre rows limits
+    × FlagIs rows (codes "one") one
 
 -- the two characters of their names
 abbrev is_survey : ℕ → Bool
@@ -114,10 +119,11 @@ survey_means name rows o m e = go o m e
     task tasks.Canonical e = other e
 
     go : (o : Order) → MeansOrder (Some (name, rows)) o → is_survey (tell_of o) ≡ true → SurveyMeans rows
-    go (orders.Message (commands.Show f l)) m e = (f, l, m.0.1, m.0.2)
-    go (orders.Message (commands.Check f l)) m e = (f, l, m.0.1, m.0.2)
-    go (orders.Message (commands.Canonical f l)) m e = (f, l, m.0.1, m.0.2)
-    go (orders.Message (commands.Hash f l)) m e = (f, l, m.0.1, m.0.2)
+    go (orders.Message (commands.Show f l)) m e = (f, l, false, m.0.1, m.0.2, m.0.3)
+    go (orders.Message (commands.Check f l)) m e = (f, l, false, m.0.1, m.0.2, m.0.3)
+    go (orders.Message (commands.Canonical f l)) m e = other e
+    go (orders.Message (commands.Hash f l)) m e = (f, l, false, m.0.1, m.0.2, m.0.3)
+    go (orders.Message (commands.One p f l)) m e = (f, l, true, m.0.1, m.0.2, m.0.3)
     go (orders.Message commands.Pack) m e = other e
     go (orders.Message (commands.Unpack k)) m e = other e
     go (orders.Show s) m e = other e
@@ -162,6 +168,10 @@ named name rows o m = go o m
     go (orders.Message commands.Pack) m = inr (inr (inr (inr (inr (inr (inr (inl m.0)))))))
     go (orders.Message (commands.Unpack k)) m = inr (inr (inr (inr (inr (inr (inr (inr (inl m.0.0))))))))
     go (orders.Message (commands.Canonical f l)) m = inr (inr (inr (inr (inl m.0.0))))
+    go (orders.Message (commands.One pieces.Text f l)) m = inl m.0.0
+    go (orders.Message (commands.One pieces.Price f l)) m = inr (inl m.0.0)
+    go (orders.Message (commands.One pieces.Digest f l)) m =
+        inr (inr (inr (inr (inr (inr (inr (inr (inr (inr (inl m.0.0))))))))))
     go (orders.Message (commands.Hash f l)) m = inr (inr (inr (inr (inr (inr (inr (inr (inr (inr (inl m.0.0))))))))))
     go (orders.Show s) m = inl m.0
     go (orders.Explain x) m = inr (inr (inr (inr (inr (inr (inr (inr (inr (inr (inr (inl m.0)))))))))))
@@ -194,6 +204,9 @@ pack_means rows o m = go o m (told (codes "pack", rows) o m)
     go (orders.Message (commands.Check f l)) m e = absurd (omega arith)
     go (orders.Message (commands.Unpack k)) m e = absurd (omega arith)
     go (orders.Message (commands.Hash f l)) m e = absurd (omega arith)
+    go (orders.Message (commands.One pieces.Text f l)) m e = absurd (omega arith)
+    go (orders.Message (commands.One pieces.Price f l)) m e = absurd (omega arith)
+    go (orders.Message (commands.One pieces.Digest f l)) m e = absurd (omega arith)
     go (orders.Show s) m e = absurd (omega arith)
     go (orders.Explain x) m e = absurd (omega arith)
     go (orders.Uniq u) m e = absurd (omega arith)
@@ -227,6 +240,9 @@ unpack_means rows o m = go o m (told (codes "unpack", rows) o m)
     go (orders.Message (commands.Show f l)) m e = absurd (omega arith)
     go (orders.Message (commands.Check f l)) m e = absurd (omega arith)
     go (orders.Message (commands.Hash f l)) m e = absurd (omega arith)
+    go (orders.Message (commands.One pieces.Text f l)) m e = absurd (omega arith)
+    go (orders.Message (commands.One pieces.Price f l)) m e = absurd (omega arith)
+    go (orders.Message (commands.One pieces.Digest f l)) m e = absurd (omega arith)
     go (orders.Show s) m e = absurd (omega arith)
     go (orders.Explain x) m e = absurd (omega arith)
     go (orders.Uniq u) m e = absurd (omega arith)
@@ -245,10 +261,12 @@ pub record ShowMeans (rows : List Row) : Type 0 where
   pub style : Style
   pub offsets : Bool
   pub ways : Bool
+  pub one : Bool
   pub form_is : FormIs rows form
   pub limits_are : LimitsAre rows limits
   pub style_is : StyleIs rows style
   pub marks_are : MarksAre rows style offsets ways
+  pub one_is : FlagIs rows (codes "one") one
   pub way : (first_of (codes "at") rows ≡ None)
       ⊎ ((text : Text) × (first_of (codes "at") rows ≡ Some text) × IsSome (way_of text))
 
@@ -274,10 +292,26 @@ show_means rows o m = go o m (told (codes "show", rows) o m)
       style = styles.Lines;
       offsets = false;
       ways = false;
+      one = false;
       form_is = m.0.1;
       limits_are = m.0.2;
       style_is = m.1.1;
       marks_are = m.1.2;
+      one_is = m.0.3;
+      way = inl m.1.0;
+    }
+    go (orders.Message (commands.One pieces.Text f l)) m e = record {
+      form = f;
+      limits = l;
+      style = styles.Lines;
+      offsets = false;
+      ways = false;
+      one = true;
+      form_is = m.0.1;
+      limits_are = m.0.2;
+      style_is = m.1.1;
+      marks_are = m.1.2;
+      one_is = m.0.3;
       way = inl m.1.0;
     }
     go (orders.Message (commands.Check f l)) m e = absurd (omega arith)
@@ -285,16 +319,20 @@ show_means rows o m = go o m (told (codes "show", rows) o m)
     go (orders.Message (commands.Unpack k)) m e = absurd (omega arith)
     go (orders.Message (commands.Canonical f l)) m e = absurd (omega arith)
     go (orders.Message (commands.Hash f l)) m e = absurd (omega arith)
+    go (orders.Message (commands.One pieces.Price f l)) m e = absurd (omega arith)
+    go (orders.Message (commands.One pieces.Digest f l)) m e = absurd (omega arith)
     go (orders.Show s) m e = record {
       form = s.form;
       limits = s.limits;
       style = s.style;
       offsets = s.offsets;
       ways = s.ways;
+      one = s.one;
       form_is = m.1.0;
       limits_are = m.1.1;
       style_is = m.1.2;
       marks_are = m.1.3;
+      one_is = m.1.5;
       way = way_means rows (is_plain s.style s.offsets s.ways) s.way m.1.4;
     }
     go (orders.Explain x) m e = absurd (omega arith)

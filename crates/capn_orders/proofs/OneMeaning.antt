@@ -1,6 +1,6 @@
 -- A subcommand with the values of its options means one command at most.
 use Rattle.std.proofs.Common.{◌≡◌, ℕ, ◌+◌, List, Option, Some, None, refl, sym, ap, ap₂, ◌∙◌, codes, slice_index}
-use Rattle.std.proofs.Common.{unwrap_or, arith}
+use Rattle.std.proofs.Common.{unwrap_or, arith, Bool, true, false, ◌==◌, ◌||◌}
 use Rattle.std.specs.Str.Parse.{digits_value, without_leading_plus}
 use Rattle.clap.specs.Words.{Row, Text}
 use Rattle.capn_stream.specs.Frames.{most_table_words}
@@ -11,8 +11,10 @@ use Rattle.capn_canon.specs.declared.form.Form.{Form}
 use Rattle.capn_canon.specs.declared.form.Form.TheVariants as forms
 use Rattle.capn_commands.specs.declared.command.Command.{Command}
 use Rattle.capn_commands.specs.declared.command.Command.TheVariants as commands
-use Rattle.capn_orders.specs.Meaning.{Means, MeansOne}
-use Rattle.capn_orders.specs.OptionValues.{NumberIs, LimitsAre, UnpackedIs, form_name, tariff_name}
+use Rattle.capn_commands.specs.declared.plan.MessageText.{MessageText}
+use Rattle.capn_commands.specs.declared.plan.MessageText.TheVariants as pieces
+use Rattle.capn_orders.specs.Meaning.{Means, MeansOne, name_of}
+use Rattle.capn_orders.specs.OptionValues.{FlagIs, NumberIs, LimitsAre, UnpackedIs, form_name, tariff_name}
 
 -- two characters of a text, by which the names differ
 abbrev pub mark : Text → ℕ
@@ -63,6 +65,45 @@ pub unpacked_one : (rows : List Row) (m n : ℕ) → UnpackedIs rows m → Unpac
 unpacked_one rows m n (k, a, i, x) (l, b, j, y) =
     let e = number_one rows _ k l a b in x ∙ ap (λ (n : ℕ). n + most_table_words) e ∙ sym y
 
+-- a flag is not both
+not_both : (rows : List Row) (option : Text) → FlagIs rows option false → FlagIs rows option true → ⊥
+not_both rows option x y = let bad : 199 ≡ 230 = ap mark_in (sym x ∙ y) in omega arith
+
+-- that of the name of the command that writes this of a message
+abbrev pub mark_of_piece : MessageText → ℕ
+mark_of_piece pieces.Text = 219
+mark_of_piece pieces.Price = 203
+mark_of_piece pieces.Digest = 201
+
+marked_piece : (name : Text) (piece : MessageText) → name ≡ name_of piece → mark name ≡ mark_of_piece piece
+marked_piece name pieces.Text is = ap mark is
+marked_piece name pieces.Price is = ap mark is
+marked_piece name pieces.Digest is = ap mark is
+
+piece_one : (p q : MessageText) → mark_of_piece p ≡ mark_of_piece q → p ≡ q
+piece_one pieces.Text pieces.Text e = refl
+piece_one pieces.Text pieces.Price e = absurd (omega arith)
+piece_one pieces.Text pieces.Digest e = absurd (omega arith)
+piece_one pieces.Price pieces.Text e = absurd (omega arith)
+piece_one pieces.Price pieces.Price e = refl
+piece_one pieces.Price pieces.Digest e = absurd (omega arith)
+piece_one pieces.Digest pieces.Text e = absurd (omega arith)
+piece_one pieces.Digest pieces.Price e = absurd (omega arith)
+piece_one pieces.Digest pieces.Digest e = refl
+
+-- no such command is named so
+abbrev is_no_piece : ℕ → Bool
+is_no_piece n = n == 209 || (n == 227 || n == 196)
+
+no_piece : (piece : MessageText) → is_no_piece (mark_of_piece piece) ≡ false
+no_piece pieces.Text = refl
+no_piece pieces.Price = refl
+no_piece pieces.Digest = refl
+
+never_piece : (piece : MessageText) (n : ℕ) → is_no_piece n ≡ true → n ≡ mark_of_piece piece → ⊥
+never_piece piece n other e =
+    let bad : false ≡ true = sym (no_piece piece) ∙ ap is_no_piece (sym e) ∙ other in absurd (cc)
+
 -- that of the name of each command
 abbrev pub mark_of : Command → ℕ
 mark_of (commands.Show f l) = 219
@@ -71,6 +112,7 @@ mark_of commands.Pack = 209
 mark_of (commands.Unpack f) = 227
 mark_of (commands.Canonical f l) = 196
 mark_of (commands.Hash f l) = 201
+mark_of (commands.One p f l) = mark_of_piece p
 
 -- the subcommand is named as its command
 pub marked : (said : Text × List Row) (c : Command) → Means (Some said) c → mark said.0 ≡ mark_of c
@@ -80,10 +122,11 @@ marked said commands.Pack m = ap mark m
 marked said (commands.Unpack f) m = ap mark m.0
 marked said (commands.Canonical f l) m = ap mark m.0
 marked said (commands.Hash f l) m = ap mark m.0
+marked said (commands.One p f l) m = marked_piece said.0 p m.0
 
 same : (said : Text × List Row) (c d : Command) → mark_of c ≡ mark_of d → Means (Some said) c → Means (Some said) d
     → c ≡ d
-same said (commands.Show f l) (commands.Show g k) e (a, b, i) (x, y, j) =
+same said (commands.Show f l) (commands.Show g k) e (a, b, i, o) (x, y, j, p) =
     ap₂ (λ (form : Form) (limits : Bounds). commands.Show form limits) (form_one f g (sym b ∙ y))
     (limits_one said.1 l k i j)
 same said (commands.Show f l) (commands.Check g k) e m n = absurd (omega arith)
@@ -92,7 +135,7 @@ same said (commands.Show f l) (commands.Unpack g) e m n = absurd (omega arith)
 same said (commands.Show f l) (commands.Canonical g k) e m n = absurd (omega arith)
 same said (commands.Show f l) (commands.Hash g k) e m n = absurd (omega arith)
 same said (commands.Check f l) (commands.Show g k) e m n = absurd (omega arith)
-same said (commands.Check f l) (commands.Check g k) e (a, b, i) (x, y, j) =
+same said (commands.Check f l) (commands.Check g k) e (a, b, i, o) (x, y, j, p) =
     ap₂ (λ (form : Form) (limits : Bounds). commands.Check form limits) (form_one f g (sym b ∙ y))
     (limits_one said.1 l k i j)
 same said (commands.Check f l) commands.Pack e m n = absurd (omega arith)
@@ -125,9 +168,26 @@ same said (commands.Hash f l) (commands.Check g k) e m n = absurd (omega arith)
 same said (commands.Hash f l) commands.Pack e m n = absurd (omega arith)
 same said (commands.Hash f l) (commands.Unpack g) e m n = absurd (omega arith)
 same said (commands.Hash f l) (commands.Canonical g k) e m n = absurd (omega arith)
-same said (commands.Hash f l) (commands.Hash g k) e (a, b, i) (x, y, j) =
+same said (commands.Hash f l) (commands.Hash g k) e (a, b, i, o) (x, y, j, p) =
     ap₂ (λ (form : Form) (limits : Bounds). commands.Hash form limits) (form_one f g (sym b ∙ y))
     (limits_one said.1 l k i j)
+same said (commands.Show f l) (commands.One q g k) e m n = absurd (not_both said.1 (codes "one") m.3 n.3)
+same said (commands.Check f l) (commands.One q g k) e m n = absurd (not_both said.1 (codes "one") m.3 n.3)
+same said (commands.Hash f l) (commands.One q g k) e m n = absurd (not_both said.1 (codes "one") m.3 n.3)
+same said commands.Pack (commands.One q g k) e m n = absurd (never_piece q 209 refl e)
+same said (commands.Unpack f) (commands.One q g k) e m n = absurd (never_piece q 227 refl e)
+same said (commands.Canonical f l) (commands.One q g k) e m n = absurd (never_piece q 196 refl e)
+same said (commands.One p f l) (commands.Show g k) e m n = absurd (not_both said.1 (codes "one") n.3 m.3)
+same said (commands.One p f l) (commands.Check g k) e m n = absurd (not_both said.1 (codes "one") n.3 m.3)
+same said (commands.One p f l) (commands.Hash g k) e m n = absurd (not_both said.1 (codes "one") n.3 m.3)
+same said (commands.One p f l) commands.Pack e m n = absurd (never_piece p 209 refl (sym e))
+same said (commands.One p f l) (commands.Unpack g) e m n = absurd (never_piece p 227 refl (sym e))
+same said (commands.One p f l) (commands.Canonical g k) e m n = absurd (never_piece p 196 refl (sym e))
+same said (commands.One p f l) (commands.One q g k) e m n =
+    let piece = piece_one p q e in
+    let form = form_one f g (sym m.1 ∙ n.1) in
+    let limits = limits_one said.1 l k m.2 n.2 in
+    λ i. commands.One (piece i) (form i) (limits i)
 
 pub means_one : MeansOne
 means_one None c d m n = absurd m
@@ -145,4 +205,6 @@ means_unpack name rows (commands.Canonical f l) is m =
     absurd (let bad : 227 ≡ 196 = ap mark (sym is ∙ m.0) in omega arith)
 means_unpack name rows (commands.Hash f l) is m =
     absurd (let bad : 227 ≡ 201 = ap mark (sym is ∙ m.0) in omega arith)
+means_unpack name rows (commands.One p f l) is m =
+    absurd (never_piece p 227 refl (ap mark (sym is) ∙ marked_piece name p m.0))
 means_unpack name rows commands.Pack is m = absurd (let bad : 227 ≡ 209 = ap mark (sym is ∙ m) in omega arith)

@@ -9,7 +9,9 @@ use Rattle.capn_canon.specs.declared.form.Form.{Form}
 use Rattle.capn_canon.specs.declared.form.Form.TheVariants as forms
 use Rattle.capn_orders.specs.Meaning.{Means, AreOptions, AreSame, ExplainIs, HasNoFlag, IsFlow, IsNumbered, IsSameWay}
 use Rattle.capn_orders.specs.Meaning.{IsTask, MakeIs, MeansOneOrder, MeansOrder, OnlyIs, PickIs, ShowIs, StyleIs}
-use Rattle.capn_orders.specs.Meaning.{FilterIs, UniqIs, WayIs, MarksAre, form_of, is_plain, usual_with}
+use Rattle.capn_orders.specs.Meaning.{FilterIs, UniqIs, WayIs, MarksAre, is_plain, usual_with}
+use Rattle.capn_commands.specs.Plan.{form_of}
+use Rattle.capn_commands.specs.declared.plan.MessageText.TheVariants as pieces
 use Rattle.capn_orders.proofs.OneMeaning.{form_one, limits_one, means_one, number_one}
 use Rattle.capn_commands.specs.declared.command.Command.{Command}
 use Rattle.capn_commands.specs.declared.command.Command.TheVariants as commands
@@ -60,6 +62,9 @@ tell_command commands.Pack = 295
 tell_command (commands.Unpack m) = 334
 tell_command (commands.Canonical f l) = 317
 tell_command (commands.Hash f l) = 327
+tell_command (commands.One pieces.Text f l) = 326
+tell_command (commands.One pieces.Price f l) = 306
+tell_command (commands.One pieces.Digest f l) = 327
 
 -- that of a task
 abbrev pub tell_task : Task → ℕ
@@ -93,6 +98,9 @@ told_command said commands.Pack m = ap tell m
 told_command said (commands.Unpack n) m = ap tell m.0
 told_command said (commands.Canonical f l) m = ap tell m.0
 told_command said (commands.Hash f l) m = ap tell m.0
+told_command said (commands.One pieces.Text f l) m = ap tell m.0
+told_command said (commands.One pieces.Price f l) m = ap tell m.0
+told_command said (commands.One pieces.Digest f l) m = ap tell m.0
 
 told_task : (name : Text) (rows : List Row) (task : Task) → IsTask name rows task → tell name ≡ tell_task task
 told_task name rows tasks.List is = ap tell is.0
@@ -128,6 +136,9 @@ no_command commands.Pack = refl
 no_command (commands.Unpack n) = refl
 no_command (commands.Canonical f l) = refl
 no_command (commands.Hash f l) = refl
+no_command (commands.One pieces.Text f l) = refl
+no_command (commands.One pieces.Price f l) = refl
+no_command (commands.One pieces.Digest f l) = refl
 
 pub never_command : (c : Command) (n : ℕ) → is_no_command n ≡ true → tell_command c ≡ n → ⊥
 never_command c n other e = let bad : false ≡ true = sym (no_command c) ∙ ap is_no_command e ∙ other in absurd (cc)
@@ -312,13 +323,14 @@ way_one rows f g (Some v) (Some w) is also =
     ap (λ (o : Option Text). unwrap_or o (codes "")) (sym is.0 ∙ also.0)
 
 show_one : (rows : List Row) (s t : Show) → ShowIs rows s → ShowIs rows t → AreSame (orders.Show s) (orders.Show t)
-show_one rows s t (f, l, style, (offsets, ways, fit), way) (g, m, other, (too, more, fits), also) = (
+show_one rows s t (f, l, style, (offsets, ways, fit), way, one) (g, m, other, (too, more, fits), also, single) = (
   form_one s.form t.form (sym f ∙ g),
   limits_one rows s.limits t.limits l m,
   style_one rows s.style t.style style other,
   flag_one rows (codes "offsets") s.offsets t.offsets offsets too,
   flag_one rows (codes "ways") s.ways t.ways ways more,
   way_one rows (is_plain s.style s.offsets s.ways) (is_plain t.style t.offsets t.ways) s.way t.way way also,
+  flag_one rows (codes "one") s.one t.one one single,
 )
 
 -- the value of `--number` is one number
@@ -353,7 +365,7 @@ no_show rows plain (Some way) none is other = let bad : None ≡ Some way.now = 
 -- the style and the marks are those of a plain `show`
 plainly : (rows : List Row) (s : Show) → StyleIs rows styles.Lines → MarksAre rows styles.Lines false false
     → ShowIs rows s → is_plain s.style s.offsets s.ways ≡ true
-plainly rows s lines (bare, still, fit) (f, l, style, (offsets, ways, fits), way) =
+plainly rows s lines (bare, still, fit) (f, l, style, (offsets, ways, fits), way, one) =
     ap (λ (x : Style). is_plain x s.offsets s.ways) (style_one rows s.style styles.Lines style lines)
     ∙ ap (λ (x : Bool). is_plain styles.Lines x s.ways) (flag_one rows (codes "offsets") s.offsets false offsets bare)
     ∙ ap (λ (x : Bool). is_plain styles.Lines false x) (flag_one rows (codes "ways") s.ways false ways still)
@@ -366,6 +378,10 @@ shows rows commands.Pack s e none is = omega arith
 shows rows (commands.Unpack m) s e none is = omega arith
 shows rows (commands.Canonical f l) s e none is = omega arith
 shows rows (commands.Hash f l) s e none is = omega arith
+shows rows (commands.One pieces.Text f l) s e none is =
+    no_show rows (is_plain s.style s.offsets s.ways) s.way none.0 (plainly rows s none.1 none.2 is) is.4
+shows rows (commands.One pieces.Price f l) s e none is = omega arith
+shows rows (commands.One pieces.Digest f l) s e none is = omega arith
 
 -- a command over messages and a run over an archive are not named alike, or `--framed` tells them apart
 apart : (name : Text) (rows : List Row) (c : Command) (t : Task) → tell_command c ≡ tell_task t → HasNoFlag rows c
@@ -378,6 +394,9 @@ apart name rows (commands.Check f l) tasks.Canonical e n is = omega arith
 apart name rows commands.Pack tasks.Canonical e n is = omega arith
 apart name rows (commands.Unpack m) tasks.Canonical e n is = omega arith
 apart name rows (commands.Hash f l) tasks.Canonical e n is = omega arith
+apart name rows (commands.One pieces.Text f l) tasks.Canonical e n is = omega arith
+apart name rows (commands.One pieces.Price f l) tasks.Canonical e n is = omega arith
+apart name rows (commands.One pieces.Digest f l) tasks.Canonical e n is = omega arith
 apart name rows (commands.Canonical f l) tasks.Canonical e n is =
     let bad : false ≡ true = flag_one rows (codes "framed") false true n.0 is.1 in cc
 
@@ -398,6 +417,12 @@ streams name rows (commands.Canonical f l) flows.Pack e n is = omega arith
 streams name rows (commands.Canonical f l) flows.Unpack e n is = omega arith
 streams name rows (commands.Hash f l) flows.Pack e n is = omega arith
 streams name rows (commands.Hash f l) flows.Unpack e n is = omega arith
+streams name rows (commands.One pieces.Text f l) flows.Pack e n is = omega arith
+streams name rows (commands.One pieces.Text f l) flows.Unpack e n is = omega arith
+streams name rows (commands.One pieces.Price f l) flows.Pack e n is = omega arith
+streams name rows (commands.One pieces.Price f l) flows.Unpack e n is = omega arith
+streams name rows (commands.One pieces.Digest f l) flows.Pack e n is = omega arith
+streams name rows (commands.One pieces.Digest f l) flows.Unpack e n is = omega arith
 
 -- a task and a flow are not named alike
 stays : (t : Task) (w : Flow) → tell_task t ≡ tell_flow w → ⊥

@@ -84,6 +84,7 @@ options = (
     ∷ (flag_rule (codes "json"), codes "show" ∷ [])
     ∷ (flag_rule (codes "offsets"), codes "show" ∷ [])
     ∷ (flag_rule (codes "ways"), codes "show" ∷ [])
+    ∷ (flag_rule (codes "one"), codes "show" ∷ codes "check" ∷ codes "hash" ∷ [])
     ∷ (asked_rule (codes "number"), codes "explain" ∷ [])
     ∷ (flag_rule (codes "framed"), codes "canonical" ∷ [])
     ∷ (flag_rule (codes "keep-going"), codes "list" ∷ codes "limits" ∷ codes "uniq" ∷ codes "filter" ∷ [])

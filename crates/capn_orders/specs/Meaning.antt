@@ -5,11 +5,12 @@ use Rattle.clap.specs.Words.{Row, Text, first_of}
 use Rattle.capn_words.specs.Message.{most_message_words}
 use Rattle.capn_value.specs.declared.tariff.Tariff.TheVariants as tariffs
 use Rattle.capn_walk.specs.Limits.{Bounds}
-use Rattle.capn_canon.specs.declared.form.Form.{Form}
-use Rattle.capn_canon.specs.declared.form.Form.TheVariants as forms
 use Rattle.capn_commands.specs.declared.command.Command.{Command}
 use Rattle.capn_commands.specs.declared.command.Command.TheVariants as commands
 use Rattle.capn_archive.specs.declared.filter_order.FilterOrder.{FilterOrder}
+use Rattle.capn_commands.specs.declared.plan.MessageText.{MessageText}
+use Rattle.capn_commands.specs.declared.plan.MessageText.TheVariants as pieces
+use Rattle.capn_commands.specs.Plan.{form_of}
 use Rattle.capn_archive.specs.declared.task.ArchiveOrder.{ArchiveOrder}
 use Rattle.capn_archive.specs.declared.task.Task.{Task}
 use Rattle.capn_archive.specs.declared.task.Task.TheVariants as tasks
@@ -17,8 +18,6 @@ use Rattle.capn_archive.specs.declared.uniq_order.UniqOrder.{UniqOrder}
 use Rattle.capn_show.specs.declared.style.Style.{Style}
 use Rattle.capn_show.specs.declared.style.Style.TheVariants as styles
 use Rattle.capn_serve.specs.declared.pick.Pick.{Pick}
-use Rattle.capn_serve.specs.declared.pick.StreamForm.{StreamForm}
-use Rattle.capn_serve.specs.declared.pick.StreamForm.TheVariants as streams
 use Rattle.capn_report.specs.declared.explain.Explain.{Explain}
 use Rattle.capn_orders.specs.CommandLine.{most_number}
 use Rattle.capn_orders.specs.OptionValues.{FlagIs, FormIs, IsUsual, LimitsAre, NumberIn, UnpackedIs}
@@ -47,11 +46,6 @@ UniqIs rows uniq = FormIs rows uniq.form × LimitsAre rows uniq.limits
 abbrev pub FilterIs : List Row → FilterOrder → Type 0
 FilterIs rows filter = FormIs rows filter.form × LimitsAre rows filter.limits
     × FlagIs rows (codes "keep-going") filter.keep_going × FlagIs rows (codes "canonical") filter.canonical
-
--- the form of an input that holds a stream so
-abbrev pub form_of : StreamForm → Form
-form_of streams.Stream = forms.Stream
-form_of streams.Packed = forms.Packed
 
 -- the usual limits, with this number of words of a message
 abbrev pub usual_with : ℕ → Bounds
@@ -142,20 +136,32 @@ abbrev pub ShowIs : List Row → Show → Type 0
 ShowIs rows show = FormIs rows show.form × LimitsAre rows show.limits × StyleIs rows show.style
     × MarksAre rows show.style show.offsets show.ways
     × WayIs rows (is_plain show.style show.offsets show.ways) show.way
+    × FlagIs rows (codes "one") show.one
+
+-- the name of the subcommand that writes this of a message
+abbrev pub name_of : MessageText → Text
+name_of pieces.Text = codes "show"
+name_of pieces.Price = codes "check"
+name_of pieces.Digest = codes "hash"
 
 -- the subcommand of this name is that of this command over messages or bytes, and the options that it shares with
 -- others have these values
 abbrev pub Means : Option (Text × List Row) → Command → Type 0
 Means None command = ⊥
 Means (Some s) (commands.Show form limits) = (s.0 ≡ codes "show") × FormIs s.1 form × LimitsAre s.1 limits
+    × FlagIs s.1 (codes "one") false
 Means (Some s) (commands.Check form limits) = (s.0 ≡ codes "check") × FormIs s.1 form × LimitsAre s.1 limits
+    × FlagIs s.1 (codes "one") false
 Means (Some s) commands.Pack = s.0 ≡ codes "pack"
 Means (Some s) (commands.Unpack most) = (s.0 ≡ codes "unpack") × UnpackedIs s.1 most
 Means (Some s) (commands.Canonical form limits) = (s.0 ≡ codes "canonical") × FormIs s.1 form × LimitsAre s.1 limits
 Means (Some s) (commands.Hash form limits) = (s.0 ≡ codes "hash") × FormIs s.1 form × LimitsAre s.1 limits
+    × FlagIs s.1 (codes "one") false
+Means (Some s) (commands.One piece form limits) = (s.0 ≡ name_of piece) × FormIs s.1 form × LimitsAre s.1 limits
+    × FlagIs s.1 (codes "one") true
 
 -- `canonical`, `pack` and `unpack` are commands over one input where none of their flags is given, and `show` where
--- neither a flag nor `--at` is; no other command over messages has such an option
+-- neither a flag but `--one` nor `--at` is; no other command over messages has such an option
 abbrev pub HasNoFlag : List Row → Command → Type 0
 HasNoFlag rows (commands.Show form limits) = (first_of (codes "at") rows ≡ None) × StyleIs rows styles.Lines
     × MarksAre rows styles.Lines false false
@@ -165,6 +171,10 @@ HasNoFlag rows (commands.Unpack most) = FlagIs rows (codes "streaming") false
 HasNoFlag rows (commands.Canonical form limits) =
     FlagIs rows (codes "framed") false × FlagIs rows (codes "keep-going") false
 HasNoFlag rows (commands.Hash form limits) = ⊤
+HasNoFlag rows (commands.One pieces.Text form limits) = (first_of (codes "at") rows ≡ None)
+    × StyleIs rows styles.Lines × MarksAre rows styles.Lines false false
+HasNoFlag rows (commands.One pieces.Price form limits) = ⊤
+HasNoFlag rows (commands.One pieces.Digest form limits) = ⊤
 
 -- the subcommand of this name, with these values, orders this
 abbrev pub MeansOrder : Option (Text × List Row) → Order → Type 0
@@ -196,7 +206,7 @@ IsSameWay (Some way) (Some other) = way.now ≡ other.now
 abbrev pub AreSame : Order → Order → Type 0
 AreSame (orders.Show s) (orders.Show t) =
     (s.form ≡ t.form) × (s.limits ≡ t.limits) × (s.style ≡ t.style) × (s.offsets ≡ t.offsets) × (s.ways ≡ t.ways)
-    × IsSameWay s.way t.way
+    × IsSameWay s.way t.way × (s.one ≡ t.one)
 AreSame (orders.Only s) (orders.Only t) = (s.form ≡ t.form) × (s.limits ≡ t.limits) × (s.list.now ≡ t.list.now)
 AreSame o p = o ≡ p
 

@@ -24,7 +24,7 @@ use crate::show_options::show_of;
 use crate::subcommands::program_command;
 use crate::usage::Usage;
 use capn_archive::{ArchiveOrder, FilterOrder, Task, UniqOrder};
-use capn_commands::Command;
+use capn_commands::{Command, MessageText};
 use capn_serve::Pick;
 use capn_words::MOST_MESSAGE_WORDS;
 use clap::ArgMatches;
@@ -205,6 +205,34 @@ fn unpack_of<'a>(matches: &ArgMatches<'a>) -> Option<Order<'a>>
     None
 }
 
+/// What `check` orders with these options, if they mean something: with `--one` the input is exactly one message.
+fn check_of<'a>(matches: &ArgMatches<'a>) -> Option<Order<'a>>
+    ensures means { IfSome result (MeansOrder (Some (codes "check", rows_of (found_of matches.now)))) }
+    ensures served { (order : Order) → MeansOrder (Some (codes "check", rows_of (found_of matches.now))) order
+        → IsSome result }
+{
+    let form = form_of(matches)?;
+    let limits = limits_of(matches)?;
+    if flag_of(matches, "one")? {
+        return Some(Order::Message(Command::One(MessageText::Price, form, limits)));
+    }
+    Some(Order::Message(Command::Check(form, limits)))
+}
+
+/// What `hash` orders with these options, if they mean something: with `--one` the input is exactly one message.
+fn hash_of<'a>(matches: &ArgMatches<'a>) -> Option<Order<'a>>
+    ensures means { IfSome result (MeansOrder (Some (codes "hash", rows_of (found_of matches.now)))) }
+    ensures served { (order : Order) → MeansOrder (Some (codes "hash", rows_of (found_of matches.now))) order
+        → IsSome result }
+{
+    let form = form_of(matches)?;
+    let limits = limits_of(matches)?;
+    if flag_of(matches, "one")? {
+        return Some(Order::Message(Command::One(MessageText::Digest, form, limits)));
+    }
+    Some(Order::Message(Command::Hash(form, limits)))
+}
+
 /// What the subcommand of this name orders with these options, if they mean something.
 fn named_order<'a>(name: &str, matches: &ArgMatches<'a>) -> Option<Order<'a>>
     ensures means { IfSome result (MeansOrder (Some (name.now, rows_of (found_of matches.now)))) }
@@ -213,11 +241,7 @@ fn named_order<'a>(name: &str, matches: &ArgMatches<'a>) -> Option<Order<'a>>
 {
     match name {
         "show" => show_of(matches),
-        "check" => {
-            let form = form_of(matches)?;
-            let limits = limits_of(matches)?;
-            Some(Order::Message(Command::Check(form, limits)))
-        }
+        "check" => check_of(matches),
         "explain" => Some(Order::Explain(explain_of(matches)?)),
         "list" => list_of(matches),
         "limits" => Some(Order::Archive(archive_of(Task::Limits, matches)?)),
@@ -228,11 +252,7 @@ fn named_order<'a>(name: &str, matches: &ArgMatches<'a>) -> Option<Order<'a>>
         "pack" => pack_of(matches),
         "unpack" => unpack_of(matches),
         "make" => Some(Order::Make(make_of(matches)?)),
-        "hash" => {
-            let form = form_of(matches)?;
-            let limits = limits_of(matches)?;
-            Some(Order::Message(Command::Hash(form, limits)))
-        }
+        "hash" => hash_of(matches),
         _ => None,
     }
 }

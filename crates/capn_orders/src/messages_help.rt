@@ -13,7 +13,8 @@ To go on with other tools, or to see where each part lies and how it is reached:
   capn show --offsets --ways < message",
     usage: "capn show [OPTIONS] < INPUT",
     about: "Writes the value of each message as text, and then the line `end`",
-    more: "Each message is answered as soon as it is complete.
+    more: "Each message is answered as soon as it is complete. With `--one` all of the
+input is read first, and nothing is written unless it is exactly one message.
 With `--text` a list of bytes that is a text is one line, as `bytes 3 \"hi\\0\"`:
 each byte but the last is from 0x20 to 0x7e, and the last is so too or is zero.
 A quote is written `\\\"`, a backslash `\\\\` and the last zero `\\0`.
@@ -34,10 +35,12 @@ The whole message is checked first.
 
 Exit status:
   0  Done
-  1  A message was refused; those before it have been written
+  1  A message was refused; those before it have been written, or with `--one`
+     nothing
   2  The command line is wrong
   3  Reading or writing failed, the input is longer than 2^32 bytes, or with
-     `--at`, `--text`, `--json` or marks than 2^64 - 1, or memory ran out
+     `--at`, `--text`, `--json` or marks, without `--one`, than 2^64 - 1, or
+     memory ran out
 With 1 and 3 one line on standard error says why; the manual page explains it
 under DIAGNOSTICS.",
 };
@@ -52,11 +55,13 @@ pub const CHECK: Page = Page {
 were visited, the root's included. With `--form bare` the line ends with one
 word more: `canonical` if the input is the canonical bytes of its message, else
 `not-canonical`.
-Each message is answered as soon as it is complete.
+Each message is answered as soon as it is complete. With `--one` all of the
+input is read first, and nothing is written unless it is exactly one message.
 
 Exit status:
   0  Done
-  1  A message was refused; the lines of those before it have been written
+  1  A message was refused; the lines of those before it have been written, or
+     with `--one` nothing
   2  The command line is wrong
   3  Reading or writing failed, the input is longer than 2^32 bytes, or memory
      ran out
@@ -101,16 +106,19 @@ under DIAGNOSTICS.",
 /// `hash`.
 pub const HASH: Page = Page {
     first: "To sign messages, or to compare and find them by their values:
-  capn hash < message",
+  capn hash < messages
+  capn hash --one < message",
     usage: "capn hash [OPTIONS] < INPUT",
     about: "Writes the SHA-256 of each message's canonical bytes, one to a line",
     more: "A line has 64 lower-case hexadecimal digits. A message with a capability has no
 canonical bytes and is refused.
-Each message is answered as soon as it is complete.
+Each message is answered as soon as it is complete. With `--one` all of the
+input is read first, and nothing is written unless it is exactly one message.
 
 Exit status:
   0  Done
-  1  A message was refused; the lines of those before it have been written
+  1  A message was refused; the lines of those before it have been written, or
+     with `--one` nothing
   2  The command line is wrong
   3  Reading or writing failed, the input is longer than 2^32 bytes, or memory
      ran out

@@ -6,7 +6,7 @@ ghost use Rattle.capn_words.specs.Message.{most_message_words};
 ghost use Rattle.capn_orders.specs.OptionValues.{FormIs, NumberIs, FlagIs, IsUsual, NumberIn, source_of};
 ghost use Rattle.capn_serve.specs.declared.pick.StreamForm.{StreamForm};
 ghost use Rattle.capn_orders.specs.Meaning.{usual_with};
-ghost use Rattle.capn_orders.specs.Meaning as meaning;
+ghost use Rattle.capn_commands.specs.Plan as plans;
 
 use crate::input_options::form_of;
 use capn_canon::Form;
@@ -76,8 +76,8 @@ pub(crate) fn number_in(matches: &ArgMatches, id: &str, least: u64, most: u64) -
 
 /// The form of a stream that `--form` names, if it names one.
 pub(crate) fn stream_form_of(matches: &ArgMatches) -> Option<StreamForm>
-    ensures named { IfSome result (λ form. FormIs (rows_of (found_of matches.now)) (meaning.form_of form)) }
-    ensures served { (form : StreamForm) → FormIs (rows_of (found_of matches.now)) (meaning.form_of form)
+    ensures named { IfSome result (λ form. FormIs (rows_of (found_of matches.now)) (plans.form_of form)) }
+    ensures served { (form : StreamForm) → FormIs (rows_of (found_of matches.now)) (plans.form_of form)
         → IsSome result }
 {
     match form_of(matches)? {

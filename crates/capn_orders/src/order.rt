@@ -30,6 +30,8 @@ pub struct Show<'a> {
     pub offsets: bool,
     /// Whether before each line, after its byte, stands the way to what it is about.
     pub ways: bool,
+    /// Whether all of the input is exactly one message.
+    pub one: bool,
     /// The way: numbers parted by dots. Without one, all of the message is shown.
     pub way: Option<&'a str>,
 }

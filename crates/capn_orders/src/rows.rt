@@ -207,6 +207,14 @@ a tab; with `--offsets` the byte comes first",
         commands: &["show"],
     },
     OptionRow {
+        name: "one",
+        taken: Taken::Flag,
+        help: "Take exactly one message: all of the input is read
+first, and refused if it has none, or more than one;
+a bare input is one anyway",
+        commands: &["show", "check", "hash"],
+    },
+    OptionRow {
         name: "number",
         taken: Taken::Asked("K"),
         help: "The number of the message to explain, from 1; usually

@@ -3,7 +3,7 @@
 ghost use Rattle.std.specs.Prelude.{◌≡◌, Bool, List, codes, IfSome, IsSome, None, Some};
 ghost use Rattle.clap.specs.Words.{Row, first_of, found_of, rows_of};
 ghost use Rattle.capn_show.specs.declared.style.Style.{Style};
-ghost use Rattle.capn_orders.specs.OptionValues.{FormIs, LimitsAre};
+ghost use Rattle.capn_orders.specs.OptionValues.{FlagIs, FormIs, LimitsAre};
 ghost use Rattle.capn_orders.specs.Meaning as meaning;
 ghost use Rattle.capn_orders.specs.Meaning.{MarksAre, MeansOrder, StyleIs};
 ghost use Rattle.capn_orders.specs.inner.Styles as spec;
@@ -14,7 +14,7 @@ use crate::option_values::{flag_of, text_in};
 use crate::order::{Order, Show};
 use crate::way::is_way;
 use capn_canon::Form;
-use capn_commands::Command;
+use capn_commands::{Command, MessageText};
 use capn_show::Style;
 use capn_walk::Limits;
 use clap::ArgMatches;
@@ -76,29 +76,41 @@ fn is_plain(style: Style, offsets: bool, ways: bool) -> bool
     }
 }
 
-/// What `show` orders without `--at`, in a style with marks: all of each message.
-fn whole_order<'a>(form: Form, limits: Limits, style: Style, offsets: bool, ways: bool) -> Order<'a>
+/// What `show` orders without `--at`, in a style with marks: all of each message, or of exactly one.
+fn whole_order<'a>(
+    form: Form,
+    limits: Limits,
+    style: Style,
+    offsets: bool,
+    ways: bool,
+    one: bool,
+) -> Order<'a>
     ensures { (rows : List Row) → FormIs rows form → LimitsAre rows limits → StyleIs rows style
-        → MarksAre rows style offsets ways → first_of (codes "at") rows ≡ None
+        → MarksAre rows style offsets ways → FlagIs rows (codes "one") one → first_of (codes "at") rows ≡ None
         → MeansOrder (Some (codes "show", rows)) result }
 {
-    if is_plain(style, offsets, ways) {
-        Order::Message(Command::Show(form, limits))
-    } else {
-        Order::Show(Show {
+    if !is_plain(style, offsets, ways) {
+        return Order::Show(Show {
             form,
             limits,
             style,
             offsets,
             ways,
+            one,
             way: None,
-        })
+        });
+    }
+    if one {
+        Order::Message(Command::One(MessageText::Text, form, limits))
+    } else {
+        Order::Message(Command::Show(form, limits))
     }
 }
 
 /// What `show` orders with these options, if they mean something: with `--at`, whose value is a way, that parts of
 /// messages are shown; with `--text`, `--json` or both that messages or parts are shown in another style; and with
-/// `--offsets` or `--ways`, but not in JSON, that marks stand before the lines.
+/// `--offsets` or `--ways`, but not in JSON, that marks stand before the lines. With `--one` the input is exactly one
+/// message.
 pub(crate) fn show_of<'a>(matches: &ArgMatches<'a>) -> Option<Order<'a>>
     ensures means { IfSome result (MeansOrder (Some (codes "show", rows_of (found_of matches.now)))) }
     ensures served { (order : Order) → MeansOrder (Some (codes "show", rows_of (found_of matches.now))) order
@@ -108,6 +120,7 @@ pub(crate) fn show_of<'a>(matches: &ArgMatches<'a>) -> Option<Order<'a>>
     let limits = limits_of(matches)?;
     let style = style_of(matches)?;
     let (offsets, ways) = marks_of(matches, style)?;
+    let one = flag_of(matches, "one")?;
     match text_in(matches, "at") {
         Some(way) => {
             if is_way(way) {
@@ -118,12 +131,13 @@ pub(crate) fn show_of<'a>(matches: &ArgMatches<'a>) -> Option<Order<'a>>
                     style,
                     offsets,
                     ways,
+                    one,
                     way,
                 }))
             } else {
                 None
             }
         }
-        None => Some(whole_order(form, limits, style, offsets, ways)),
+        None => Some(whole_order(form, limits, style, offsets, ways, one)),
     }
 }

@@ -1,9 +1,14 @@
 -- What holds of the definitions alone. (Own.)
-use Rattle.std.specs.Prelude.{◌≡◌, ℕ, List, Result}
+use Rattle.std.specs.Prelude.{◌≡◌, ℕ, List, Bool, Result}
 use Rattle.capn_serve.specs.FormRun.{AreMessages}
 use Rattle.capn_serve.specs.StreamRun.{first_run}
 use Rattle.capn_serve.specs.declared.service.Run.{Run}
 use Rattle.capn_serve.specs.declared.fault.RunFault.{RunFault}
+use Rattle.capn_serve.specs.declared.pick.StreamForm.{StreamForm}
+use Rattle.capn_commands.specs.OneMessage.{RefusesOne, WritesOne}
+use Rattle.capn_commands.specs.Text.{IsDueOf}
+use Rattle.capn_commands.specs.declared.fault.ToolFault.{ToolFault}
+use Rattle.capn_parts.specs.PartTexts.{refuses, serves}
 use Rattle.capn_parts.specs.ShowRun.{part_fold}
 use Rattle.capn_parts.specs.declared.part_texts.PartTexts.{PartTexts}
 use Rattle.capn_tool.specs.PartRun.{Follows}
@@ -15,3 +20,15 @@ OneShown = (show : Show) (way : List ℕ) (p q : PartTexts) → Follows show way
     → (input t u : List ℕ) (r s : Result (Unit {0}) RunFault) (y z : Run PartTexts)
     → AreMessages (part_fold show.limits.message_words) (first_run p) show.form input t r y
     → AreMessages (part_fold show.limits.message_words) (first_run q) show.form input u s z → (t ≡ u) × (r ≡ s)
+
+-- the text and the ending of an input, by a service that shows the one message that it is in a frame
+abbrev pub IsShownAlone : PartTexts → ℕ → StreamForm → List ℕ → Bool → List ℕ → Result (Unit {0}) ToolFault → Type 0
+IsShownAlone p most frame input is_longer text ending =
+    IsDueOf (WritesOne serves refuses p most frame) (RefusesOne serves refuses p most frame) input is_longer text ending
+
+-- by an order for exactly one message and a way one text of an input is shown, and a run over it ends in one way
+abbrev pub OneShownAlone : Type 0
+OneShownAlone = (show : Show) (way : List ℕ) (p q : PartTexts) → Follows show way p → Follows show way q
+    → (frame : StreamForm) (input : List ℕ) (is_longer : Bool) (t u : List ℕ) (r s : Result (Unit {0}) ToolFault)
+    → IsShownAlone p show.limits.message_words frame input is_longer t r
+    → IsShownAlone q show.limits.message_words frame input is_longer u s → (t ≡ u) × (r ≡ s)

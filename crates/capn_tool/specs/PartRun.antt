@@ -1,9 +1,16 @@
 -- What a run that shows messages did: of each, in a style or with marks, what is at a way from its root. (Own.)
-use Rattle.std.specs.Prelude.{◌≡◌, ◌⊎◌, ℕ, List, Bool, true, false, Option, Some, Result, Ok, Err, is_some}
+use Rattle.std.specs.Prelude.{◌≡◌, ◌⊎◌, ℕ, List, Bool, true, false, Option, Some, None, Result, Ok, Err, is_some}
+use Rattle.capn_canon.specs.declared.form.Form.{Form}
+use Rattle.capn_canon.specs.declared.form.Form.TheVariants as forms
 use Rattle.capn_serve.specs.declared.fault.RunFault.{RunFault}
+use Rattle.capn_serve.specs.declared.pick.StreamForm.{StreamForm}
+use Rattle.capn_serve.specs.declared.pick.StreamForm.TheVariants as streams
+use Rattle.capn_parts.specs.PartTexts.{refuses, serves}
 use Rattle.capn_parts.specs.ShowRun.{Shown}
 use Rattle.capn_parts.specs.declared.part_texts.PartTexts.{PartTexts}
 use Rattle.capn_commands.specs.CommandRun.{unplaced}
+use Rattle.capn_commands.specs.OneMessage.{RefusesOne, WritesOne}
+use Rattle.capn_commands.specs.WholeRun.{RunsWhole}
 use Rattle.capn_commands.specs.declared.fault.ToolFault.{ToolFault}
 use Rattle.capn_commands.specs.declared.fault.ToolFault.TheVariants as faults
 use Rattle.capn_orders.specs.Way.{numbers_of}
@@ -32,6 +39,28 @@ pub record Served (show : Show) (way : List ℕ) (a b c d : Option (List ℕ)) (
   pub shown : Shown service a b c d reader_failed writer_failed ending
   pub is : r ≡ unplaced_end ending
 
+-- the one message of a whole input was served, which holds it so in a frame, by such a service
+pub record ServedOne (show : Show) (frame : StreamForm) (way : List ℕ) (a b c d : Option (List ℕ))
+    (reader_failed writer_failed : Bool) (r : Result (Unit {0}) ToolFault) : Type 0 where
+  pub service : PartTexts
+  pub follows : Follows show way service
+  pub shown : RunsWhole (WritesOne serves refuses service show.limits.message_words frame)
+      (RefusesOne serves refuses service show.limits.message_words frame) a b c d reader_failed writer_failed r
+
+-- how an input holds the one message of an order for exactly one, if that is in a frame
+abbrev pub one_frame : Bool → Form → Option StreamForm
+one_frame false form = None
+one_frame true forms.Stream = Some streams.Stream
+one_frame true forms.Packed = Some streams.Packed
+one_frame true forms.Bare = None
+
+-- its messages were served, or its one message in a frame was
+abbrev pub ServedBy : Option StreamForm → Show → List ℕ → Option (List ℕ) → Option (List ℕ) → Option (List ℕ)
+    → Option (List ℕ) → Bool → Bool → Result (Unit {0}) ToolFault → Type 0
+ServedBy None show way a b c d reader_failed writer_failed r = Served show way a b c d reader_failed writer_failed r
+ServedBy (Some frame) show way a b c d reader_failed writer_failed r =
+    ServedOne show frame way a b c d reader_failed writer_failed r
+
 -- a way is given, memory was refused for its numbers, and nothing was read or written
 abbrev pub NeedsMemory : Show → Option (List ℕ) → Option (List ℕ) → Option (List ℕ) → Option (List ℕ) → Bool → Bool
     → Result (Unit {0}) ToolFault → Type 0
@@ -39,8 +68,10 @@ NeedsMemory show a b c d reader_failed writer_failed r = (is_some show.way ≡ t
     × (b ≡ a) × (d ≡ c) × (reader_failed ≡ false) × (writer_failed ≡ false)
 
 -- What a run did, over a reader (from a to b) and a writer (from c to d). The text of its order, if it has one, is a
--- way; if it has none, all of each message is shown, which is at the way of no numbers.
+-- way; if it has none, all of each message is shown, which is at the way of no numbers. An order for exactly one
+-- message is for the one that the whole input is.
 abbrev pub PartsShown : Show → Option (List ℕ) → Option (List ℕ) → Option (List ℕ) → Option (List ℕ) → Bool → Bool
     → Result (Unit {0}) ToolFault → Type 0
 PartsShown show a b c d reader_failed writer_failed r = (way : List ℕ) → numbers_of show.way ≡ Some way
-    → NeedsMemory show a b c d reader_failed writer_failed r ⊎ Served show way a b c d reader_failed writer_failed r
+    → NeedsMemory show a b c d reader_failed writer_failed r
+    ⊎ ServedBy (one_frame show.one show.form) show way a b c d reader_failed writer_failed r

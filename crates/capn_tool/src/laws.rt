@@ -1,10 +1,15 @@
 //! Laws of command lines and of shown texts, as empty functions.
 
-ghost use Rattle.capn_tool.specs.Laws.{OneShown};
+ghost use Rattle.capn_tool.specs.Laws.{OneShown, OneShownAlone};
 
 pub use capn_orders::laws::{command, meaning};
 
 /// By an order and a way one text of an input is shown, and a run over it ends in one way.
 pub fn one_text()
     ensures { OneShown }
+{}
+
+/// The same of exactly one message.
+pub fn one_alone()
+    ensures { OneShownAlone }
 {}

@@ -34,7 +34,7 @@ pub use capn_orders::{
 };
 
 // The commands over messages and bytes, their run and how it ends.
-pub use capn_commands::{Command, ToolFault, end, fault_text, run, status};
+pub use capn_commands::{Command, MessageText, ToolFault, end, fault_text, run, status};
 
 // What the signatures above name.
 pub use capn_archive::{

@@ -1,18 +1,36 @@
 //! A run of `show`, over messages or their parts.
 
 ghost use Rattle.std.specs.Prelude.{◌≡◌, false};
+ghost use Rattle.capn_tool.specs.PartRun as spec;
 ghost use Rattle.capn_words.specs.Watched.{inner_of, has_failed};
 ghost use Rattle.capn_tool.specs.PartRun.{PartsShown};
 
-use capn_commands::ToolFault;
+use capn_canon::Form;
+use capn_commands::{ToolFault, serve_one};
 use capn_orders::{Show, numbers_of};
 use capn_parts::{PartTexts, run_show};
+use capn_serve::StreamForm;
 use capn_words::Watched;
 use std::alloc::Allocator;
 use std::io::{Read, Write};
 
+/// How an input holds the one message of an order for exactly one, if that is in a frame.
+fn one_frame(show: &Show) -> Option<StreamForm>
+    ensures { result ≡ spec.one_frame show.now.one show.now.form }
+{
+    if !show.one {
+        return None;
+    }
+    match show.form {
+        Form::Stream => Some(StreamForm::Stream),
+        Form::Packed => Some(StreamForm::Packed),
+        Form::Bare => None,
+    }
+}
+
 /// Writes of each message of an input, in a style or with marks, the text of what is at a way from its root, or of all
-/// of it, as [`run_show`] does. A way that is given takes memory for its numbers.
+/// of it, as [`run_show`] does; or of exactly one message, as [`serve_one`] does. A way that is given takes memory for
+/// its numbers.
 pub fn show_parts<R: Read, W: Write, A: Allocator + Copy>(
     alloc: A,
     show: &Show,
@@ -34,6 +52,14 @@ pub fn show_parts<R: Read, W: Write, A: Allocator + Copy>(
         offsets: show.offsets,
         ways: show.ways,
     };
-    run_show(alloc, &texts, reader, writer)?;
-    Ok(())
+    match one_frame(show) {
+        Some(form) => {
+            let most = show.limits.message_words();
+            serve_one(alloc, texts, form, most, reader, writer)
+        }
+        None => {
+            run_show(alloc, &texts, reader, writer)?;
+            Ok(())
+        }
+    }
 }

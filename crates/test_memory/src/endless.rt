@@ -2,7 +2,7 @@
 //! It holds no more, and answers what is right of all.
 
 use capn_canon::{Form, Refusal};
-use capn_commands::{Command, ToolFault, run};
+use capn_commands::{Command, MessageText, ToolFault, run};
 use capn_pack::UnpackFault;
 use capn_stream::FrameFault;
 use capn_walk::Limits;
@@ -49,6 +49,7 @@ const ROOM: usize = 2 * 8 * (1_000 + 2_049);
 enum Order {
     Unpack,
     Canonical(Form),
+    One(MessageText, Form),
 }
 
 /// Returns the end of a command that is let no growth through for more room.
@@ -57,6 +58,7 @@ fn outcome_of(alloc: Global, order: Order, first: &[u8], pieces: u64) -> Result<
     let command = match order {
         Order::Unpack => Command::Unpack(WORDS),
         Order::Canonical(form) => Command::Canonical(form, limits),
+        Order::One(piece, form) => Command::One(piece, form, limits),
     };
     let heap = Refusing::nth(alloc, 0);
     heap.refuse_above(ROOM);
@@ -74,6 +76,8 @@ fn an_input_without_end(rt: HostRuntime) {
         Order::Unpack,
         Order::Canonical(Form::Stream),
         Order::Canonical(Form::Packed),
+        Order::One(MessageText::Text, Form::Stream),
+        Order::One(MessageText::Digest, Form::Packed),
     ] {
         for first in [b"".as_slice(), b"y\ny\ny\ny\n".as_slice()] {
             let outcome = outcome_of(rt.alloc(), order, first, ENDLESS);
@@ -99,9 +103,15 @@ const STREAMS: [([u8; 8], Refusal); 4] = [
 #[test]
 fn a_mebibyte_behind_a_message(rt: HostRuntime) {
     for (first, refusal) in STREAMS {
-        let stream = Order::Canonical(Form::Stream);
-        let outcome = outcome_of(rt.alloc(), stream, &first, MEBIBYTE);
-        assert!(rt; outcome == Err(ToolFault::Refused(refusal)), "{refusal}");
+        for stream in [
+            Order::Canonical(Form::Stream),
+            Order::One(MessageText::Text, Form::Stream),
+            Order::One(MessageText::Price, Form::Stream),
+            Order::One(MessageText::Digest, Form::Stream),
+        ] {
+            let outcome = outcome_of(rt.alloc(), stream, &first, MEBIBYTE);
+            assert!(rt; outcome == Err(ToolFault::Refused(refusal)), "{refusal}");
+        }
     }
 }
 
@@ -110,6 +120,7 @@ fn a_mebibyte_of_packed_zeros(rt: HostRuntime) {
     for (order, at) in [
         (Order::Unpack, 2_000u64),
         (Order::Canonical(Form::Packed), 6_098),
+        (Order::One(MessageText::Price, Form::Packed), 6_098),
     ] {
         let outcome = outcome_of(rt.alloc(), order, b"", MEBIBYTE);
         let refusal = Refusal::Packed(UnpackFault::TooLong { at });

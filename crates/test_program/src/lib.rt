@@ -19,3 +19,5 @@ mod option_texts;
 mod orders;
 #[cfg(test)]
 mod picks;
+#[cfg(test)]
+mod whole_inputs;

@@ -1,6 +1,8 @@
 //! Orders of command lines.
 
-use capn_tool::{Command, Explain, Flow, Form, Limits, Make, Order, Style, Tariff, order_of};
+use capn_tool::{
+    Command, Explain, Flow, Form, Limits, Make, MessageText, Order, Style, Tariff, order_of,
+};
 use std::alloc::Global;
 use std::process::Abort;
 
@@ -122,6 +124,30 @@ fn their_options_are_as_they_were(rt: HostRuntime) {
         is_command(rt.alloc(), &words, Command::Unpack(2_050)),
         "{words:?}"
     );
+}
+
+#[test]
+fn exactly_one_message_is_taken(rt: HostRuntime) {
+    for (name, piece) in [
+        ("show", MessageText::Text),
+        ("check", MessageText::Price),
+        ("hash", MessageText::Digest),
+    ] {
+        let want = Command::One(piece, Form::Packed, Limits::usual());
+        let words = ["capn", name, "--one", "--form=packed"];
+        assert!(rt; is_command(rt.alloc(), &words, want), "{words:?}");
+    }
+    for option in ["--at=0", "--json", "--text", "--offsets", "--ways"] {
+        let told = order_of(rt.alloc(), &["capn", "show", option, "--one"]);
+        let one = match &told {
+            Ok(Order::Show(show)) => show.one,
+            _ => false,
+        };
+        assert!(rt; one, "{option}");
+    }
+    for name in ["canonical", "list", "limits", "uniq", "pick", "explain"] {
+        expect_usage(&rt, rt.alloc(), &["capn", name, "--one"], 2);
+    }
 }
 
 #[test]

@@ -21,10 +21,11 @@ pub record Kept (old new : Option (List ℕ)) (kept : List ℕ) (is_longer : Boo
   pub more : has_more bytes ≡ is_longer
   pub ended : is_longer ≡ false → IsAtEnd new
 
--- an input was not taken: memory was refused; or the reader failed; or there are more bytes than a run takes
+-- an input was not taken: memory was refused for bytes that came; or the reader failed; or there are more bytes than a
+-- run takes
 abbrev pub IsUntaken : Option (List ℕ) → Option (List ℕ) → Bool → ToolFault → Type 0
 IsUntaken old new failed fault = (bytes : List ℕ)
-    × ((HasGiven old new failed bytes × ((fault ≡ faults.Memory)
+    × ((HasGiven old new failed bytes × (((fault ≡ faults.Memory) × (0 < length bytes))
     ⊎ ((fault ≡ faults.InputTooLong) × (most_input < length bytes))))
     ⊎ (Consumes old new bytes × (length bytes ≤ most_input + 1) × (failed ≡ true) × (fault ≡ faults.Io)))
 

@@ -32,7 +32,7 @@ use Rattle.capn_parts.specs.declared.part_texts.PartTexts.{PartTexts}
 -- ---- with each message one thing is done
 
 module _ (s : PartTexts) (at : Position) (frame : List ℕ) (m : List (List ℕ)) where
-  one_part : (t u : List ℕ) (p q : PartTexts) → serves s at frame m t p → serves s at frame m u q
+  pub one_part : (t u : List ℕ) (p q : PartTexts) → serves s at frame m t p → serves s at frame m u q
       → (t ≡ u) × (p ≡ q)
   one_part t u p q ((v, is, e), same) ((w, also, h), alike) = (
     e ∙ ap (λ (x : Tree). part_of s at m x ++ part_end s at m) (unique m v w root is.is also.is) ∙ sym h,
@@ -45,11 +45,11 @@ module _ (s : PartTexts) (at : Position) (frame : List ℕ) (m : List (List ℕ)
   no_memory : (r : Refusal) → refuses s at frame m r → r ≡ refusals.Memory → ⊥
   no_memory r (stop, e, h) k = let bad : refusals.Walk stop ≡ refusals.Memory = sym e ∙ k in cc
 
-  one_refusal : (r q : Refusal) → refuses s at frame m r → refuses s at frame m q → r ≡ q
+  pub one_refusal : (r q : Refusal) → refuses s at frame m r → refuses s at frame m q → r ≡ q
   one_refusal r q h k =
       one_message_refusal m s.limits r q (no_memory r h) (no_memory q k) (refused_message r h) (refused_message q k)
 
-  not_both : (t : List ℕ) (p : PartTexts) (r : Refusal) → serves s at frame m t p → refuses s at frame m r → ⊥
+  pub not_both : (t : List ℕ) (p : PartTexts) (r : Refusal) → serves s at frame m t p → refuses s at frame m r → ⊥
   not_both t p r ((v, is, e), same) (stop, why, h) = accepted-not_refused m s.limits stop is.accepted h
 
 pub part_one_way : (most : ℕ) → IsOneWay (part_fold most)
@@ -189,6 +189,20 @@ module _ (most : ℕ) (q : PartTexts) where
       (short, (words, bare, step_by x y input text (words ∷ []) like step))
   messages_by forms.Bare x y input text (Err g) like (ends, none, is) =
       (bare_by x input g like ends, none, ap by is)
+
+-- ---- one message alone, by two orders that are alike
+
+module _ (p q : PartTexts) (like : IsLike p q) (at : Position) (frame : List ℕ) (m : List (List ℕ)) where
+  pub serves_like : (t : List ℕ) (x : PartTexts) → serves p at frame m t x → serves q at frame m t q
+  serves_like t x ((v, is, e), same) =
+      ((v, subst (λ (l : Bounds). IsValueOf m l v) like.limits is, e ∙ same_text p q at m v like), refl)
+
+  pub refuses_like : (r : Refusal) → refuses p at frame m r → refuses q at frame m r
+  refuses_like r (stop, e, h) = (
+    stop,
+    e,
+    subst (λ (l : Bounds). IsWalkRefused m l stop.fault stop.place stop.paid stop.visits) like.limits h,
+  )
 
 -- ---- by two orders that are alike one text is shown, and both runs end in one way
 

@@ -47,6 +47,13 @@ returns-in-Bare g c =
     c.run_bare_piece.result (c.in-Whole.is ∙ ap (λ (w : Whole). plans.Whole w) c.in-Bare.is)
     c.run_bare_piece.ensures
 
+pub returns-in-One : goal.returns-in-One
+returns-in-One g c =
+    runs_planned c.args.plan
+    (plans.Whole (wholes.One c.in-One.piece c.in-One.form c.in-One.limits)) _ _ _ _ _ _
+    c.run_framed.result (c.in-Whole.is ∙ ap (λ (w : Whole). plans.Whole w) c.in-One.is)
+    c.run_framed.ensures
+
 pub returns-in-Each : goal.returns-in-Each
 returns-in-Each g c =
     runs_planned c.args.plan (plans.Each c.in-Each.piece c.in-Each.limits) _ _ _ _ _ _ c.run_each.result c.in-Each.is

@@ -51,7 +51,13 @@ returns-in_err-take_chunk-in-Ok g c =
     (inl
     (given_memory _ _ _ _
     (given_more _ _ _ _ _ i.seen c.read.new.buf c.in-Ok.count i.given c.in-Ok.ensures.bytes.0 bound.0
-    (omega (arith, room, bound.0, i.size)) (still_fine _ _ i.given.fine c.in-Ok.ensures.failed))))
+    (omega (arith, room, bound.0, i.size)) (still_fine _ _ i.given.fine c.in-Ok.ensures.failed))
+    (omega (
+      arith,
+      c.in-Ok.count-test,
+      length-append i.seen (take c.in-Ok.count c.read.new.buf),
+      length-take-le c.in-Ok.count c.read.new.buf bound.0,
+    ))))
 
 pub slice_bounds-piece-end-in-Ok : goal.slice_bounds-piece-end-in-Ok
 slice_bounds-piece-end-in-Ok g c =

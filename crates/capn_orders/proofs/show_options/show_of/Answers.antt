@@ -21,6 +21,11 @@ returns-in_err-style-clause-served c order means =
     let all = show_means (rows_of (found_of c.args.matches.now)) order means in
     let bad : false ≡ true = c.in_err-style.ensures.served all.style all.style_is in absurd cc
 
+pub returns-in_err-one-clause-served : goal.returns-in_err-one-clause-served
+returns-in_err-one-clause-served c order means =
+    let all = show_means (rows_of (found_of c.args.matches.now)) order means in
+    let bad : false ≡ true = c.in_err-one.ensures.served all.one all.one_is in absurd cc
+
 pub returns-in_err-offsets-clause-served : goal.returns-in_err-offsets-clause-served
 returns-in_err-offsets-clause-served c order means =
     let rows = rows_of (found_of c.args.matches.now) in

@@ -1,11 +1,10 @@
-use Rattle.std.proofs.Common.{◌∙◌, inr, Ok, Err, refl}
+use Rattle.std.proofs.Common.{◌∙◌, inr, Ok, Err, refl, sym, subst}
 use Rattle.std.proofs.lemmas.Result.{err_from_is_err_and}
 use Rattle.capn_tool.proofs.part_run.show_parts.Goals as goal
 
-pub returns-in_err-run_show : goal.returns-in_err-run_show
-returns-in_err-run_show g c way is =
-    let p = err_from_is_err_and c.from_residual-in_err-run_show.result c.from_residual-in_err-run_show.ensures.1 in
-    rw (p.1, p.2)
+pub returns-in-Some : goal.returns-in-Some
+returns-in-Some g c way is =
+    rw (sym c.one_frame.ensures ∙ c.in-Some.is)
     (inr (record {
       service = _;
       follows = record {
@@ -16,14 +15,33 @@ returns-in_err-run_show g c way is =
         offsets = refl;
         ways = refl;
       };
-      ending = Err c.in_err-run_show.field-0.0;
-      shown = c.in_err-run_show.ensures;
+      shown = rw c.message_words-most.ensures.value at c.serve_one.ensures;
+    }))
+
+pub returns-in_err-run_show-in-None : goal.returns-in_err-run_show-in-None
+returns-in_err-run_show-in-None g c way is =
+    let p = err_from_is_err_and c.from_residual-in_err-run_show-in-None.result
+    c.from_residual-in_err-run_show-in-None.ensures.1 in
+    rw (sym c.one_frame.ensures ∙ c.in-None.is, p.1, p.2)
+    (inr (record {
+      service = _;
+      follows = record {
+        numbers = c.deref.ensures.value ∙ c.in_ok-way.ensures.found way is;
+        form = refl;
+        limits = refl;
+        style = refl;
+        offsets = refl;
+        ways = refl;
+      };
+      ending = Err c.in_err-run_show-in-None.field-0.0;
+      shown = c.in_err-run_show-in-None.ensures;
       is = refl;
     }))
 
-pub returns : goal.returns
-returns g c way is =
-    inr (record {
+pub returns-in-None : goal.returns-in-None
+returns-in-None g c way is =
+    rw (sym c.one_frame.ensures ∙ c.in-None.is)
+    (inr (record {
       service = _;
       follows = record {
         numbers = c.deref.ensures.value ∙ c.in_ok-way.ensures.found way is;
@@ -34,6 +52,6 @@ returns g c way is =
         ways = refl;
       };
       ending = Ok tt;
-      shown = c.in_ok-run_show.ensures;
+      shown = c.in_ok-run_show-in-None.ensures;
       is = refl;
-    })
+    }))

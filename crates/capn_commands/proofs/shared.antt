@@ -1,0 +1,2 @@
+-- Lemmas that other crates may cite.
+pub mod OneMessageLaws

@@ -1,0 +1,52 @@
+//! The greatest length of an input that is exactly one message.
+
+use capn_tool::{Form, Limits, Refusal, Show, Style, ToolFault, Watched, show_parts};
+use std::alloc::Global;
+use std::io::{self, Read};
+use std::process::Abort;
+
+/// A reader of pieces that fill the buffer, with what it holds: zeros.
+#[derive(Drop)]
+struct Zeros {
+    left: u64,
+}
+
+impl Read for Zeros {
+    fn read(&mut self, buf: &mut [u8]) -> io::Result<usize> {
+        if self.left == 0 {
+            return Ok(0);
+        }
+        self.left -= 1;
+        Ok(buf.len())
+    }
+}
+
+/// The pieces of 65,536 bytes that a run takes.
+const ALL: u64 = 65_536;
+
+/// How it ends that exactly one message of so many pieces is shown as JSON.
+fn outcome_of(alloc: Global, form: Form, pieces: u64) -> Result<(), ToolFault> {
+    let show = Show {
+        form,
+        limits: Limits::new(1_000, 1_000, 64).unwrap_or(Limits::usual()),
+        style: Style::Json,
+        offsets: false,
+        ways: false,
+        one: true,
+        way: None,
+    };
+    let mut reader = Watched::new(Zeros { left: pieces });
+    let mut writer = Watched::new(Vec::new(alloc));
+    show_parts(alloc, &show, &mut reader, &mut writer)
+}
+
+/// Zeros are a message without words, and more bytes.
+#[test]
+fn one_message_is_shown_of_2_to_the_32_bytes(rt: HostRuntime) {
+    let refused = Err(ToolFault::Refused(Refusal::Trailing(8)));
+    assert!(rt; outcome_of(rt.alloc(), Form::Stream, ALL) == refused);
+    for form in [Form::Stream, Form::Packed] {
+        let long = outcome_of(rt.alloc(), form, ALL.saturating_add(1));
+        assert!(rt; long == Err(ToolFault::InputTooLong));
+    }
+}
