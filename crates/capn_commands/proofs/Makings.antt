@@ -137,5 +137,9 @@ pub unmade_framed : (A : Type 0) (a b : Option (List ℕ)) (f : Bool) (form : St
 unmade_framed A a b f form limits most fault same (inl h) = inl h
 unmade_framed A a b f streams.Stream limits most fault same (inr (bytes, all, none)) = absurd none
 unmade_framed A a b f streams.Packed limits most fault same (inr (bytes, all, why)) =
-    inr (bytes, all, fails_unpacked limits bytes fault
-    (subst (λ (n : ℕ). Fails (wholes.Unpacked (n + most_table_words)) bytes fault) same why))
+    inr (
+      bytes,
+      all,
+      fails_unpacked limits bytes fault
+          (subst (λ (n : ℕ). Fails (wholes.Unpacked (n + most_table_words)) bytes fault) same why),
+    )

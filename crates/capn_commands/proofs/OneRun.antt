@@ -286,9 +286,12 @@ module _ {S : Type 0} (serves : S → Position → List ℕ → List (List ℕ) 
 
     stream_refuses : (q : Refusal) → IsUnwritten frame q
         → RefusesOne serves refuses s most streams.Stream bytes (faults.Refused q)
-    stream_refuses q (inl why) =
-        (q, refl, inl (misframed_first (8 * (most + most_table_words) + 1) most bytes (omega arith) q
-        (subst (λ (l : List ℕ). IsMisframed l most q) (sym is) why)))
+    stream_refuses q (inl why) = (
+      q,
+      refl,
+      inl (misframed_first (8 * (most + most_table_words) + 1) most bytes (omega arith) q
+          (subst (λ (l : List ℕ). IsMisframed l most q) (sym is) why)),
+    )
     stream_refuses q (inr (message, framed, why)) =
         (q, refl, inr (frame, message, all_held message framed, framed, why))
 

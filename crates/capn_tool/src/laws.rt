@@ -9,7 +9,7 @@ pub fn one_text()
     ensures { OneShown }
 {}
 
-/// The same of exactly one message.
+/// By an order for exactly one message one text of an input is shown, too, and the run ends in one way.
 pub fn one_alone()
     ensures { OneShownAlone }
 {}

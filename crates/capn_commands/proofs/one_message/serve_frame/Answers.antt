@@ -8,7 +8,8 @@ use Rattle.capn_commands.proofs.OneRun.{serves_more}
 use Rattle.capn_commands.proofs.one_message.serve_frame.Goals as goal
 
 pub returns-then-taken-frame : goal.returns-then-taken-frame
-returns-then-taken-frame g c = (inl (c.in-Ok.message, c.in-Ok.ensures.found, omega arith), Appends-nil _, c.requires.fine)
+returns-then-taken-frame g c =
+    (inl (c.in-Ok.message, c.in-Ok.ensures.found, omega arith), Appends-nil _, c.requires.fine)
 
 pub returns-else-taken-frame : goal.returns-else-taken-frame
 returns-else-taken-frame g c =

@@ -8,8 +8,8 @@ pub returns-in_err-frame : goal.returns-in_err-frame
 returns-in_err-frame g c =
     let p = err_from_is_err_and c.from_residual.result c.from_residual.ensures.1 in
     rw (p.1, p.2)
-    (unmade_framed g.row.A.Denot _ _ _ c.args.form c.args.limits _ c.in_err-frame.field-0.0 c.message_words.ensures.value
-    c.in_err-frame.ensures)
+    (unmade_framed g.row.A.Denot _ _ _ c.args.form c.args.limits _ c.in_err-frame.field-0.0
+    c.message_words.ensures.value c.in_err-frame.ensures)
 
 pub returns-in_err-canonical : goal.returns-in_err-canonical
 returns-in_err-canonical g c =

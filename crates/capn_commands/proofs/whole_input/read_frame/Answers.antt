@@ -7,7 +7,8 @@ pub returns-in_err-input-in-Stream : goal.returns-in_err-input-in-Stream
 returns-in_err-input-in-Stream g c =
     let p = err_from_is_err_and c.from_residual.result c.from_residual.ensures.1 in
     rw (p.1, p.2)
-    (unheld g.row.A.Denot _ _ _ c.args.most c.args.form c.in_err-input-in-Stream.field-0.0 c.in_err-input-in-Stream.ensures)
+    (unheld g.row.A.Denot _ _ _ c.args.most c.args.form c.in_err-input-in-Stream.field-0.0
+    c.in_err-input-in-Stream.ensures)
 
 pub returns-in_ok-input-in-Stream : goal.returns-in_ok-input-in-Stream
 returns-in_ok-input-in-Stream g c =
