@@ -6,7 +6,7 @@ from array import array
 from operator import index
 from struct import pack, unpack
 from types import TracebackType
-from typing import TYPE_CHECKING, Any, Iterator, Literal, NoReturn, Sequence, TypeVar, Union, overload
+from typing import TYPE_CHECKING, Any, Callable, Iterator, Literal, NoReturn, Sequence, TypeVar, Union, overload
 from weakref import WeakValueDictionary
 
 from ._bytes import Buffer, no_buffer
@@ -21,6 +21,8 @@ _entries_type = ffi.typeof("capn_entry[]")
 # The entries for which there is room at once; if there are more, the library says how many.
 _FEW = 64
 _WIDTHS = (8, 16, 32, 64)
+# Of the bits of a number, the kind of a list of such numbers.
+_SIZES = {1: "bits", 8: "bytes", 16: "u16", 32: "u32", 64: "u64"}
 # What objects of some kinds have, and of others not.
 _OF_KINDS = ("words", "slots", "word", "slot", "uint", "int", "float", "bool", "text", "view", "index")
 
@@ -64,6 +66,28 @@ class Object:
         """What is read as a list: the list that it is, and of a null pointer one without elements. A `Mismatch` of
         anything else. What its elements are is said by its `kind`."""
         raise Mismatch(f"there is no list, but {self!r}")
+
+    def rows(self) -> Sequence[Body]:
+        """What is read as a list of structs; of a null pointer none. Where an older schema has numbers or pointers,
+        each is a struct of that one field. A `Mismatch` of anything else, and of bits, which no schema makes structs
+        of."""
+        raise Mismatch(f"there is no list of structs, but {self!r}")
+
+    def numbers(self, bits: int) -> Sequence[int]:
+        """What is read as a list of numbers without sign, of 8, 16, 32 or 64 bits, or of 1, which are booleans; of a
+        null pointer none. Where a newer schema made structs of the numbers, it is the first field of each. A `Mismatch`
+        of anything else, and of numbers of another size."""
+        if bits not in _SIZES:
+            raise ValueError(f"a number has 1, 8, 16, 32 or 64 bits, not {bits!r}")
+        if self.kind != _SIZES[bits]:
+            raise Mismatch(f"there is no list of numbers of {bits} bits, but {self!r}")
+        found: Any = self
+        return found  # type: ignore[no-any-return]
+
+    def pointers(self) -> Sequence[Value]:
+        """What is read as a list of pointers: the object of each; of a null pointer none. Where a newer schema made
+        structs of the pointers, it is the first slot of each. A `Mismatch` of anything else."""
+        raise Mismatch(f"there is no list of pointers, but {self!r}")
 
     def __eq__(self, other: object) -> bool:
         if not isinstance(other, (Object, Row)):
@@ -124,6 +148,34 @@ class _Items(Sequence[_T]):
         if not isinstance(other, (list, tuple, range)):
             return NotImplemented
         return len(self) == len(other) and all(one == two for one, two in zip(self, other))
+
+
+class _Made(_Items[_T]):
+    """As many elements, each of which a call makes of its number."""
+
+    __slots__ = ("_count", "_make")
+
+    def __init__(self, count: int, make: Callable[[int], _T]) -> None:
+        self._count, self._make = count, make
+
+    def __len__(self) -> int:
+        return self._count
+
+    def _item(self, i: int) -> _T:
+        return self._make(i)
+
+    def __repr__(self) -> str:
+        return f"<capn elements, {len(self)}>"
+
+
+class _Nothing(_Items[Any]):
+    """The elements of a null pointer."""
+
+    __slots__ = ()
+    kind: Literal["null"] = "null"
+
+    def __len__(self) -> int:
+        return 0
 
 
 class Slots(_Items["Value"]):
@@ -268,7 +320,19 @@ class Null(Object, Body):
         return self
 
     def list(self) -> Sequence[Any]:
-        """A list without elements."""
+        """A list without elements, whose `kind` is "null"."""
+        return _Nothing()
+
+    def rows(self) -> Sequence[Body]:
+        """None."""
+        return ()
+
+    def numbers(self, bits: builtins.int) -> Sequence[builtins.int]:
+        """None."""
+        return () if bits in _SIZES else super().numbers(bits)
+
+    def pointers(self) -> Sequence[Value]:
+        """None."""
         return ()
 
     def __bool__(self) -> bool:
@@ -326,6 +390,10 @@ class Voids(List[None]):
     def _item(self, i: int) -> None:
         return None
 
+    def rows(self) -> Sequence[Body]:
+        """As many structs without fields."""
+        return _Made(len(self), lambda i: Row(Null.words, Slots(self._message, ())))
+
 
 class Bits(List[bool]):
     """A list of bits, as booleans."""
@@ -358,6 +426,10 @@ class _Numbers(List[int]):
 
     def _item(self, i: int) -> int:
         return self.view[i]
+
+    def rows(self) -> Sequence[Body]:
+        """A struct of each number."""
+        return _Made(len(self), lambda i: Row(memoryview(pack("<Q", self.view[i])).cast("Q"), Slots(self._message, ())))
 
     def __bytes__(self) -> bytes:
         return self.view.tobytes()
@@ -416,6 +488,15 @@ class Pointers(List["Value"]):
     def _item(self, i: int) -> Value:
         return self._slots._item(i)
 
+    def rows(self) -> Sequence[Body]:
+        """A struct of each pointer."""
+        places = self._slots._places
+        return _Made(len(self), lambda i: Row(Null.words, Slots(self._message, places[i:i + 1])))
+
+    def pointers(self) -> Sequence[Value]:
+        """Itself."""
+        return self
+
 
 class Rows(List[Row]):
     """A list of structs, each a row with its words and its slots."""
@@ -433,6 +514,22 @@ class Rows(List[Row]):
         begin = self._entry.offset + 8 + 8 * i * (words + slots)
         places = self._places[i * slots:(i + 1) * slots]
         return Row(self._message._numbers(begin, words, "Q", 8), Slots(self._message, places))
+
+    def rows(self) -> Sequence[Body]:
+        """Itself."""
+        return self
+
+    def numbers(self, bits: int) -> Sequence[int]:
+        """The first field of each, which no list of bits has."""
+        if bits not in _WIDTHS or not self._entry.words:
+            return super().numbers(bits)
+        return _Made(len(self), lambda i: self._item(i).uint(bits, 0))
+
+    def pointers(self) -> Sequence[Value]:
+        """The first slot of each."""
+        if not self._entry.slots:
+            return super().pointers()
+        return Slots(self._message, self._places[::self._entry.slots])
 
     def __repr__(self) -> str:
         return f"<capn rows, {len(self)} of {self._entry.words} words, {self._entry.slots} slots>"

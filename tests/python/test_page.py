@@ -16,6 +16,12 @@ CHILDREN = bytes.fromhex("0000000007000000" "0000000000000200" "0000000000000000
 TEXT = bytes.fromhex("0000000004000000" "0000000001000100" "0500000000000000" "0100000022000000" "6162630000000000")
 
 
+def children(words):
+    """A message whose slot 1 has this pointer, with what it leads to."""
+    segment = bytes.fromhex("0000000000000200" "0000000000000000" + words)
+    return bytes(4) + (len(segment) // 8).to_bytes(4, "little") + segment
+
+
 def programs():
     """The programs of the page: the first one, and each other one after it."""
     first, *others = re.findall(r"^```python\n(.*?)^```$", PAGE.read_text(), re.M | re.S)
@@ -80,11 +86,19 @@ class Page(unittest.TestCase):
         self.assertEqual(self.after_digest(MESSAGE, self.read), (0, "2 nobody\n"))
         self.assertEqual(self.after_digest(bytes(4) + b"\1" + bytes(11), self.read), (0, "7 nobody\n"))
         self.assertEqual(self.after_digest(CHILDREN, self.read), (0, "7 nobody\nab\nnobody\n"))
-        # Of three bytes the last one is no zero; a list of bytes is no struct, and a struct is no list.
+        # An older writer's children are texts, or numbers: each is a struct of that field.
+        self.assertEqual(self.after_digest(children("0100000016000000" "0500000012000000" "0000000000000000"
+                                                    "6100000000000000"), self.read), (0, "7 nobody\na\nnobody\n"))
+        for numbers in "0100000010000000", "0100000012000000", "0100000013000000", "0100000014000000":
+            self.assertEqual(self.after_digest(children(numbers + "0500000000000000"), self.read),
+                             (0, "7 nobody\nnobody\nnobody\n"))
+        # Bits are no structs. Of three bytes the last one is no zero; a list of bytes is no struct, and a struct is no
+        # list.
         for message, why in (
             (TEXT.replace(b"\x22", b"\x1a"), "the last byte of a text is zero"),
             (bytes.fromhex("0000000002000000" "010000001a000000" "6162630000000000"), "there is no struct, but"),
-            (CHILDREN.replace(b"\1\0\0\0\x17", b"\0\0\0\0\1"), "there is no list, but"),
+            (CHILDREN.replace(b"\1\0\0\0\x17", b"\0\0\0\0\1"), "there is no list of structs, but"),
+            (children("0100000011000000" "0300000000000000"), "there is no list of structs, but"),
         ):
             status, wrote = self.run_on(message, self.read)
             self.assertEqual(status, 1)

@@ -80,7 +80,7 @@ class Schemas(unittest.TestCase):
             lambda it: it.struct(), lambda it: it.list(), lambda it: it.words, lambda it: it.slots,
             lambda it: it.word(0), lambda it: it.slot(0), lambda it: it.uint(8, 0), lambda it: it.int(8, 0),
             lambda it: it.float(32, 0), lambda it: it.bool(0), lambda it: it.text(0), lambda it: it.text(0, "x"),
-            lambda it: it.view,
+            lambda it: it.view, lambda it: it.rows(), lambda it: it.numbers(8), lambda it: it.pointers(),
         ]
         answered = raised = 0
         for root in [*map(of, values), *(of(("struct", [], [value])).slot(0) for value in values), capability(7)]:
@@ -100,6 +100,67 @@ class Schemas(unittest.TestCase):
             elif root.kind != "null":
                 self.assertRaisesRegex(capn.Mismatch, "^there is no list, but <capn ", root.list)
         self.assertGreater(min(answered, raised), 50)
+
+    def test_lists_of_other_schemas(self):
+        # What each kind is read as: rows by their first number and the kind of their first slot, numbers of 16 bits,
+        # and the kinds of pointers. None where nothing is.
+        two = (0x10003).to_bytes(8, "little")
+        for value, rows, numbers, pointers in (
+            (None, [], [], []),
+            (("list", 0, 2, b""), [(0, "null")] * 2, None, None),
+            (("list", 1, 2, two), None, None, None),
+            (("list", 2, 3, two), [(3, "null"), (0, "null"), (1, "null")], None, None),
+            (("list", 3, 2, two), [(3, "null"), (1, "null")], [3, 1], None),
+            (("list", 4, 1, two), [(3, "null")], None, None),
+            (("list", 5, 1, two), [(3, "null")], None, None),
+            (("list", 3, 0, b""), [], [], None),
+            (("pointers", [text("abc"), None]), [(0, "bytes"), (0, "null")], None, ["bytes", "null"]),
+            (("rows", 1, 2, [([0x10003], [None, None]), ([4], [text("abc"), None])]), [(3, "null"), (4, "bytes")],
+             [3, 4], ["null", "bytes"]),
+            (("rows", 1, 0, [([5], [])]), [(5, "null")], [5], None),
+            (("rows", 0, 1, [([], [text("abc")])]), [(0, "bytes")], None, ["bytes"]),
+            (("rows", 0, 0, [([], [])] * 2), [(0, "null")] * 2, None, None),
+            (("struct", [1], [None]), None, None, None),
+        ):
+            slot = of(("struct", [], [value])).slot(0)
+            for what, wanted, read in (
+                ("structs", rows, lambda: [(row.uint(16, 0), row.slot(0).kind) for row in slot.rows()]),
+                ("numbers of 16 bits", numbers, lambda: list(slot.numbers(16))),
+                ("pointers", pointers, lambda: [found.kind for found in slot.pointers()]),
+            ):
+                with self.subTest(slot, what=what):
+                    if wanted is not None:
+                        self.assertEqual(read(), wanted)
+                    else:
+                        self.assertRaisesRegex(capn.Mismatch, f"^there is no list of {what}, but <capn ", read)
+        for read in (lambda it: it.rows(), lambda it: it.numbers(16), lambda it: it.pointers()):
+            self.assertRaises(capn.Mismatch, read, capability(7))
+
+    def test_numbers_of_other_sizes(self):
+        stored = (0x10003).to_bytes(8, "little")
+        bits = of(("list", 1, 3, stored))
+        self.assertEqual([*bits.numbers(1)], [True, True, False])
+        for size, code in (8, 2), (16, 3), (32, 4), (64, 5):
+            found = of(("list", code, 1, stored))
+            self.assertIs(found.numbers(size), found)
+            for other in {1, 8, 16, 32, 64} - {size}:
+                self.assertRaises(capn.Mismatch, found.numbers, other)
+            self.assertRaises(capn.Mismatch, bits.numbers, size)
+        rows = of(("rows", 1, 0, [([0x10003], []), ([1 << 63], [])]))
+        self.assertEqual([[*rows.numbers(size)] for size in (8, 16, 32, 64)],
+                         [[3, 0], [3, 0], [0x10003, 0], [0x10003, 1 << 63]])
+        self.assertRaises(capn.Mismatch, rows.numbers, 1)
+        for found in of(None), bits, rows, of(("struct", [], [])):
+            self.assertRaisesRegex(ValueError, "^a number has 1, 8, 16, 32 or 64 bits, not 3$", found.numbers, 3)
+
+    def test_sequences_of_other_schemas(self):
+        rows = of(("list", 3, 2, (0x10003).to_bytes(8, "little"))).rows()
+        self.assertEqual((len(rows), rows[-1].uint(16, 0), rows[0].uint(16, 1, 9), rows[0].text(0, "none")),
+                         (2, 1, 9, "none"))
+        self.assertEqual([row.word(0) for row in rows[1:]], [1])
+        for wrong in lambda: rows[2], lambda: of(None).list()[0]:
+            self.assertRaises(ValueError, wrong)
+        self.assertEqual((of(None).list().kind, len(of(None).list())), ("null", 0))
 
     def test_names_that_are_of_no_kind(self):
         with self.assertRaises(AttributeError) as caught:
