@@ -647,8 +647,13 @@ template <class T> class numbers {
 public:
     explicit numbers(const capn_items &items) noexcept : items_(items) {}
     std::uint32_t size() const noexcept { return items_.count; }
-    /* The number i, less than `size()`. */
+    /* The number i, less than `size()`, which whoever sends a message chooses: nothing checks it here. */
     T operator[](std::uint32_t i) const noexcept { return detail::of_bits<T>(capn_number(&items_, i)); }
+    /* The number i, or a `mismatch` if the list has no more than i. */
+    T at(std::uint32_t i) const {
+        if (i >= size()) throw mismatch("such element");
+        return (*this)[i];
+    }
 
     class iterator {
     public:

@@ -283,6 +283,10 @@ static void fields() {
     want("no text", root.slot(2).text("none") == "none" && root.slot(2).is_null());
     const auto numbers = root.slot(1).list<std::uint16_t>();
     want("numbers", numbers.size() == 2 && numbers[0] == 3 && numbers[1] == 4);
+    want("a number", numbers.at(1) == 4);
+    const auto none = root.slot(7).list<std::uint16_t>();
+    want("a number that is not there", thrown<capn::mismatch>([&] { numbers.at(2); }) == "there is no such element"
+         && thrown<capn::mismatch>([&] { none.at(0); }) == "there is no such element");
     want("a kind", index.root().kind() == capn::kind::structure && root.slot(1).kind() == capn::kind::rows);
     want("no text", thrown<capn::mismatch>([&] { root.slot(1).text(); }) == "there is no text");
     want("no struct", thrown<capn::mismatch>([&] { root.slot(0).as_struct(); }) == "there is no struct");
