@@ -177,6 +177,9 @@ class _Nothing(_Items[Any]):
     def __len__(self) -> int:
         return 0
 
+    def __repr__(self) -> str:
+        return "<capn elements, 0>"
+
 
 class Slots(_Items["Value"]):
     """The objects of some slots that stand beside each other."""
@@ -325,15 +328,15 @@ class Null(Object, Body):
 
     def rows(self) -> Sequence[Body]:
         """None."""
-        return ()
+        return _Nothing()
 
     def numbers(self, bits: builtins.int) -> Sequence[builtins.int]:
         """None."""
-        return () if bits in _SIZES else super().numbers(bits)
+        return _Nothing() if bits in _SIZES else super().numbers(bits)
 
     def pointers(self) -> Sequence[Value]:
         """None."""
-        return ()
+        return _Nothing()
 
     def __bool__(self) -> bool:
         return False

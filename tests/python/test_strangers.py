@@ -158,8 +158,12 @@ class Schemas(unittest.TestCase):
         self.assertEqual((len(rows), rows[-1].uint(16, 0), rows[0].uint(16, 1, 9), rows[0].text(0, "none")),
                          (2, 1, 9, "none"))
         self.assertEqual([row.word(0) for row in rows[1:]], [1])
-        for wrong in lambda: rows[2], lambda: of(None).list()[0]:
+        # An element that isn't there is a `ValueError` too: the sender chooses how many there are.
+        null, numbers = of(None), of(("rows", 1, 1, [([5], [None])]))
+        for wrong in (lambda: rows[2], lambda: null.list()[0], lambda: null.rows()[0], lambda: null.numbers(16)[0],
+                      lambda: null.pointers()[0], lambda: numbers.numbers(16)[1], lambda: numbers.pointers()[1]):
             self.assertRaises(ValueError, wrong)
+            self.assertRaises(IndexError, wrong)
         self.assertEqual((of(None).list().kind, len(of(None).list())), ("null", 0))
 
     def test_names_that_are_of_no_kind(self):
