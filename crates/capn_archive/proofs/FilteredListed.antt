@@ -230,8 +230,8 @@ module _ (order : FilterOrder) where
   listed s t at frame text message same (order, does) = (
     order ∙ same,
     listed_tally s.tally t.tally at frame text message (subst (λ (o : ArchiveOrder).
-    IsServedBy o.task o.limits s.tally at frame message text t.tally
-    ⊎ IsSkippedBy o s.tally at frame message text t.tally) same does),
+        IsServedBy o.task o.limits s.tally at frame message text t.tally
+        ⊎ IsSkippedBy o s.tally at frame message text t.tally) same does),
   )
 
   -- a run over the frames of accepted messages is done, and has skipped no more

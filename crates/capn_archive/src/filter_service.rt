@@ -42,11 +42,7 @@ pub(crate) enum Verdict {
 }
 
 /// Whether a message is canonical, found as for `list`: no canonical bytes are made.
-fn judge_canonical<S: Space, A: Allocator + Copy>(
-    alloc: A,
-    limits: Limits,
-    message: &S,
-) -> Verdict
+fn judge_canonical<S: Space, A: Allocator + Copy>(alloc: A, limits: Limits, message: &S) -> Verdict
     ensures { IsVerdict true (S.message message.now) limits result }
 {
     match measure(alloc, message, limits) {

@@ -2,9 +2,7 @@
 //! A run holds a piece and the message in hand.
 
 use crate::subject::MOST;
-use capn_archive::{
-    ArchiveOrder, FilterOrder, Task, UniqOrder, run_archive, run_filter, run_uniq,
-};
+use capn_archive::{ArchiveOrder, FilterOrder, Task, UniqOrder, run_archive, run_filter, run_uniq};
 use capn_canon::Form;
 use capn_flow::{pack_stream, unpack_stream};
 use capn_serve::{Pick, StreamForm, run_pick};

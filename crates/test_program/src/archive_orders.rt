@@ -149,9 +149,10 @@ fn doubles_are_left_out_or_counted(rt: HostRuntime) {
 
 #[test]
 fn messages_are_let_through(rt: HostRuntime) {
-    for (flag, keep_going, canonical) in
-        [("--keep-going", true, false), ("--canonical", false, true)]
-    {
+    for (flag, keep_going, canonical) in [
+        ("--keep-going", true, false),
+        ("--canonical", false, true),
+    ] {
         let want = FilterOrder {
             form: Form::Packed,
             limits: Limits::new(7, 5, 3).unwrap_or(Limits::usual()),
