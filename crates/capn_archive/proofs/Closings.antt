@@ -14,7 +14,7 @@ use Rattle.capn_archive.specs.declared.fault.Skipped.{Skipped}
 use Rattle.capn_archive.specs.declared.fault.ArchiveFault.{ArchiveFault}
 use Rattle.capn_archive.specs.declared.fault.ArchiveFault.TheVariants as faults
 use Rattle.capn_archive.specs.declared.tally.SkippedSoFar.{SkippedSoFar}
-use Rattle.capn_archive.specs.Finish.{after_skipped, fault_after, outcome_by, outcome_unless, refused_after}
+use Rattle.capn_archive.specs.Finish.{after_skipped, fault_after, outcome_unless, refused_after}
 use Rattle.capn_archive.specs.Finish.{skipped_of}
 use Rattle.capn_archive.specs.inner.Closing.{PutsClosing}
 use Rattle.capn_archive.specs.ArchiveRun.{closing_by}

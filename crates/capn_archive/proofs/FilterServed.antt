@@ -1,6 +1,5 @@
 -- A message that is let through, or held back.
-use Rattle.std.proofs.Common.{◌≡◌, inl, inr, ℕ, List, [], Bool, true, false, Option, Some, Result, Ok, Err, refl, ap}
-use Rattle.capn_canon.specs.declared.refusal.Refusal.{Refusal}
+use Rattle.std.proofs.Common.{◌≡◌, inl, inr, ℕ, List, [], Bool, true, false, Option, Some, Result, Ok, refl, ap}
 use Rattle.capn_serve.specs.declared.position.Position.{Position}
 use Rattle.capn_serve.specs.declared.fault.ServeFault.{ServeFault}
 use Rattle.capn_serve.specs.Outgoing.{Outgoing, AddsBytes}

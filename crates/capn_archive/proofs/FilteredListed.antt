@@ -222,7 +222,7 @@ module _ (order : FilterOrder) where
       ⊎ IsSkippedBy (listing limits) tally at frame message text after) → after.skipped ≡ tally.skipped
   listed_tally tally after at frame text message (inl (findings, are, line, same)) =
       ap (λ (t : Tally). t.skipped) same
-  listed_tally tally after at frame text message (inr (going, skipped)) = absurd (cc)
+  listed_tally tally after at frame text message (inr (going, refusal, refused, line, counted)) = absurd (cc)
 
   listed : (s t : ArchiveService) (at : Position) (frame text : List ℕ) (message : List (List ℕ))
       → s.order ≡ listing limits → archive_tasks.serves s at frame message text t
