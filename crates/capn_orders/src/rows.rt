@@ -90,7 +90,7 @@ pub(crate) fn page_of(name: &str) -> Page {
 }
 
 /// The options. Help lists those of a command in this order.
-pub const OPTIONS: [OptionRow; 28] = [
+pub const OPTIONS: [OptionRow; 29] = [
     OptionRow {
         name: "form",
         taken: FORM,
