@@ -67,7 +67,9 @@ unpacked_one rows m n (k, a, i, x) (l, b, j, y) =
 
 -- a flag is not both
 not_both : (rows : List Row) (option : Text) → FlagIs rows option false → FlagIs rows option true → ⊥
-not_both rows option x y = let bad : 199 ≡ 230 = ap mark_in (sym x ∙ y) in omega arith
+not_both rows option x y =
+    let texts : Some (codes "false") ≡ Some (codes "true") = sym x ∙ y in
+    let bad : 199 ≡ 230 = ap mark_in texts in omega arith
 
 -- that of the name of the command that writes this of a message
 abbrev pub mark_of_piece : MessageText → ℕ

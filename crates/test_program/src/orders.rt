@@ -138,14 +138,23 @@ fn exactly_one_message_is_taken(rt: HostRuntime) {
         assert!(rt; is_command(rt.alloc(), &words, want), "{words:?}");
     }
     for option in ["--at=0", "--json", "--text", "--offsets", "--ways"] {
-        let told = order_of(rt.alloc(), &["capn", "show", option, "--one"]);
+        let words = ["capn", "show", option, "--one"];
+        let told = order_of(rt.alloc(), &words);
         let one = match &told {
             Ok(Order::Show(show)) => show.one,
             _ => false,
         };
         assert!(rt; one, "{option}");
     }
-    for name in ["canonical", "list", "limits", "uniq", "pick", "explain"] {
+    for name in [
+        "canonical",
+        "list",
+        "limits",
+        "uniq",
+        "filter",
+        "pick",
+        "explain",
+    ] {
         expect_usage(&rt, rt.alloc(), &["capn", name, "--one"], 2);
     }
 }
