@@ -15,9 +15,9 @@ same_globals e = cc
 pub returns-clause-app : goal.returns-clause-app
 returns-clause-app c = same_line c.override_usage.ensures
     ∙ (same_line c.after_help.ensures ∙ (same_line c.about.ensures
-        ∙ (same_line c.before_help.ensures ∙ c.new.ensures.app)))
+    ∙ (same_line c.before_help.ensures ∙ c.new.ensures.app)))
 
 pub returns-clause-local : goal.returns-clause-local
 returns-clause-local c = same_globals c.override_usage.ensures
     ∙ (same_globals c.after_help.ensures ∙ (same_globals c.about.ensures
-        ∙ (same_globals c.before_help.ensures ∙ c.new.ensures.local)))
+    ∙ (same_globals c.before_help.ensures ∙ c.new.ensures.local)))
