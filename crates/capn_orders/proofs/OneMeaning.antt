@@ -14,7 +14,7 @@ use Rattle.capn_commands.specs.declared.command.Command.TheVariants as commands
 use Rattle.capn_commands.specs.declared.plan.MessageText.{MessageText}
 use Rattle.capn_commands.specs.declared.plan.MessageText.TheVariants as pieces
 use Rattle.capn_orders.specs.Meaning.{Means, MeansOne, name_of}
-use Rattle.capn_orders.specs.OptionValues.{FlagIs, NumberIs, LimitsAre, UnpackedIs, form_name, tariff_name}
+use Rattle.capn_orders.specs.OptionValues.{FlagIs, NumberIs, LimitsAre, UnpackedIs, flag_text, form_name, tariff_name}
 
 -- two characters of a text, by which the names differ
 abbrev pub mark : Text → ℕ
@@ -65,11 +65,23 @@ pub unpacked_one : (rows : List Row) (m n : ℕ) → UnpackedIs rows m → Unpac
 unpacked_one rows m n (k, a, i, x) (l, b, j, y) =
     let e = number_one rows _ k l a b in x ∙ ap (λ (n : ℕ). n + most_table_words) e ∙ sym y
 
+-- the first character of a text
+abbrev first_in : Option Text → ℕ
+first_in text = slice_index (unwrap_or text (codes "")) 0
+
+pub text_one : (a b : Bool) → Some (flag_text a) ≡ Some (flag_text b) → a ≡ b
+text_one true true e = refl
+text_one true false e = absurd (let bad : 116 ≡ 102 = ap first_in e in omega arith)
+text_one false true e = absurd (let bad : 102 ≡ 116 = ap first_in e in omega arith)
+text_one false false e = refl
+
+-- a flag is given or not
+pub flag_one : (rows : List Row) (option : Text) (a b : Bool) → FlagIs rows option a → FlagIs rows option b → a ≡ b
+flag_one rows option a b x y = text_one a b (sym x ∙ y)
+
 -- a flag is not both
 not_both : (rows : List Row) (option : Text) → FlagIs rows option false → FlagIs rows option true → ⊥
-not_both rows option x y =
-    let texts : Some (codes "false") ≡ Some (codes "true") = sym x ∙ y in
-    let bad : 199 ≡ 230 = ap mark_in texts in omega arith
+not_both rows option x y = let bad : false ≡ true = flag_one rows option false true x y in absurd (cc)
 
 -- that of the name of the command that writes this of a message
 abbrev pub mark_of_piece : MessageText → ℕ

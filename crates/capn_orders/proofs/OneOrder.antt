@@ -12,7 +12,7 @@ use Rattle.capn_orders.specs.Meaning.{IsTask, MakeIs, MeansOneOrder, MeansOrder,
 use Rattle.capn_orders.specs.Meaning.{FilterIs, UniqIs, WayIs, MarksAre, is_plain, usual_with}
 use Rattle.capn_commands.specs.Plan.{form_of}
 use Rattle.capn_commands.specs.declared.plan.MessageText.TheVariants as pieces
-use Rattle.capn_orders.proofs.OneMeaning.{form_one, limits_one, means_one, number_one}
+use Rattle.capn_orders.proofs.OneMeaning.{flag_one, form_one, limits_one, means_one, number_one}
 use Rattle.capn_commands.specs.declared.command.Command.{Command}
 use Rattle.capn_commands.specs.declared.command.Command.TheVariants as commands
 use Rattle.capn_archive.specs.declared.task.ArchiveOrder.{ArchiveOrder}
@@ -25,7 +25,6 @@ use Rattle.capn_serve.specs.declared.pick.Pick.{Pick}
 use Rattle.capn_serve.specs.declared.pick.StreamForm.{StreamForm}
 use Rattle.capn_serve.specs.declared.pick.StreamForm.TheVariants as stream_forms
 use Rattle.capn_orders.specs.MessageNumber.{number_of}
-use Rattle.capn_orders.specs.OptionValues.{FlagIs, flag_text}
 use Rattle.capn_orders.specs.declared.order.Flow.{Flow}
 use Rattle.capn_orders.specs.declared.order.Flow.TheVariants as flows
 use Rattle.capn_orders.specs.declared.order.Make.{Make}
@@ -33,20 +32,6 @@ use Rattle.capn_orders.specs.declared.order.Only.{Only}
 use Rattle.capn_orders.specs.declared.order.Show.{Show}
 use Rattle.capn_orders.specs.declared.order.Order.{Order}
 use Rattle.capn_orders.specs.declared.order.Order.TheVariants as orders
-
--- the first character of a text
-abbrev first_in : Option Text → ℕ
-first_in text = slice_index (unwrap_or text (codes "")) 0
-
-pub text_one : (a b : Bool) → Some (flag_text a) ≡ Some (flag_text b) → a ≡ b
-text_one true true e = refl
-text_one true false e = absurd (let bad : 116 ≡ 102 = ap first_in e in omega arith)
-text_one false true e = absurd (let bad : 102 ≡ 116 = ap first_in e in omega arith)
-text_one false false e = refl
-
--- a flag is given or not
-pub flag_one : (rows : List Row) (option : Text) (a b : Bool) → FlagIs rows option a → FlagIs rows option b → a ≡ b
-flag_one rows option a b x y = text_one a b (sym x ∙ y)
 
 -- ---- the names
 

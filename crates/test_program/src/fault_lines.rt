@@ -152,7 +152,7 @@ fn lines_of_faults(rt: HostRuntime) {
         ),
         (
             ArchiveFault::NotCanonical(first),
-            "message 3 at 40: not canonical",
+            "capn: message 3 at 40: not canonical\n",
         ),
         (
             ArchiveFault::Skipped(skipped),

@@ -1,7 +1,7 @@
 use Rattle.std.proofs.Common.{◌≡◌, ◌∙◌, codes, inl, inr, true, false}
 use Rattle.clap.specs.Words.{found_of, rows_of}
 use Rattle.capn_orders.proofs.NamedOrders.{unpack_means}
-use Rattle.capn_orders.proofs.OneOrder.{flag_one}
+use Rattle.capn_orders.proofs.OneMeaning.{flag_one}
 use Rattle.capn_orders.proofs.command_line.unpack_of.Goals as goal
 
 pub returns-in_err-flag_of-clause-served : goal.returns-in_err-flag_of-clause-served
