@@ -1,4 +1,4 @@
-use Rattle.std.proofs.Common.{◌∙◌, inr, Ok, Err, refl, sym, subst}
+use Rattle.std.proofs.Common.{◌∙◌, inr, Ok, Err, refl, sym}
 use Rattle.std.proofs.lemmas.Result.{err_from_is_err_and}
 use Rattle.capn_tool.proofs.part_run.show_parts.Goals as goal
 
@@ -38,8 +38,8 @@ returns-in_err-run_show-in-None g c way is =
       is = refl;
     }))
 
-pub returns-in-None : goal.returns-in-None
-returns-in-None g c way is =
+pub returns : goal.returns
+returns g c way is =
     rw (sym c.one_frame.ensures ∙ c.in-None.is)
     (inr (record {
       service = _;
