@@ -19,11 +19,13 @@ def limit_of(option, value):
 
 def ran(words, data):
     """What a run of `show` writes, the line on standard error, and its exit status."""
-    form, options, bounds, words = "stream", {}, {}, list(words)
+    form, options, bounds, words, is_one = "stream", {}, {}, list(words), False
     while words:
         word = words.pop(0)
         if word in ("--text", "--json"):
             options[word[2:]] = True
+        elif word == "--one":
+            is_one = True
         elif word == "--form":
             form = words.pop(0)
         elif word == "--at":
@@ -33,8 +35,8 @@ def ran(words, data):
             bounds[name] = value
     limits, out = capn.Limits(**bounds), ""
     try:
-        if form == "bare":
-            out = capn.show(data, "bare", limits, **options)
+        if form == "bare" or is_one:
+            out = capn.show(data, form, limits, **options)
         else:
             for frame in capn.messages(data, limits=limits, form=form):
                 out += capn.show(frame, limits=limits, **options)
