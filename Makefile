@@ -86,7 +86,7 @@ pages:
 
 # Writes all that scripts write into pages, packages and tests.
 write:
-	.ci/version --write && .ci/lists --write && .ci/places --write && .ci/readings --write && tests/cases --write
+	.ci/version --write && .ci/lists --write && .ci/readings --write && tests/cases --write
 	release/completions --write && release/manual --write && tests/pages/touched --write && .ci/counts --write
 
 # The shortest times of each operation on each shape of message, in nanoseconds a byte.
