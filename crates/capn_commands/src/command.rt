@@ -4,7 +4,7 @@ use crate::plan::MessageText;
 use capn_canon::Form;
 use capn_walk::Limits;
 
-/// What a run does with its input.
+/// The command that a run carries out on its input.
 #[derive(Clone, Copy, Debug, PartialEq, Eq)]
 pub enum Command {
     /// Writes the text of each message, and a line `end` after each.

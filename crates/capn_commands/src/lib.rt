@@ -34,7 +34,7 @@ pub use fault::ToolFault;
 pub use one_message::serve_one;
 pub use plan::MessageText;
 
-// What the signatures above name.
+// Types of the signatures above.
 pub use capn_canon::{Form, Limits, Refusal, Tariff};
 pub use capn_value::Memory;
 pub use capn_words::Watched;

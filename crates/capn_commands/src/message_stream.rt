@@ -50,7 +50,7 @@ pub fn run_each_packed<R: Read, W: Write, A: Allocator + Copy>(
 {
     let mut run = first_run(piece, limits);
     let most = limits.message_words();
-    // What this many packed bytes unpack to is taken whole.
+    // All that this many packed bytes unpack to is taken.
     run_packed(
         alloc,
         most,

@@ -20,10 +20,10 @@ use capn_words::{Space, Watched};
 use std::alloc::Allocator;
 use std::io::Write;
 
-/// What is written of each message, within limits. Nothing is kept of the messages before.
+/// The service that writes a text of each message, within limits. It keeps nothing of the messages before.
 #[derive(Clone, Copy)]
 pub struct MessageTexts {
-    /// What is written of a message.
+    /// The text that is written of a message.
     pub piece: MessageText,
     /// The limits of a message.
     pub limits: Limits,
@@ -72,7 +72,7 @@ fn add_shown<S: Space, W: Write, A: Allocator + Copy>(
     }
 }
 
-/// How a message ends whose piece was not put for this reason.
+/// Maps the fault of one message's text to a `ServeFault`.
 fn served_fault(fault: ToolFault) -> ServeFault
     ensures { result ≡ spec.served_fault fault }
 {
@@ -84,7 +84,7 @@ fn served_fault(fault: ToolFault) -> ServeFault
     }
 }
 
-/// How a message ends whose piece was put, or has none.
+/// Maps the outcome of one message's text to that of its service.
 #[inline(always)]
 fn served(put: Result<(), ToolFault>) -> Result<(), ServeFault>
     ensures { (s : MessageTexts) (at : Position) (frame : List ℕ) (message : List (List ℕ)) (old new : List ℕ)

@@ -19,17 +19,17 @@ use std::io::Read;
 /// Room for the beginning of a group and for a piece.
 const ROOM: usize = 2050 + CHUNK as usize;
 
-/// What of a packed input is not unpacked yet.
+/// The state of a packed input that is unpacked as it comes.
 #[derive(Drop)]
 pub(crate) struct Pending {
     /// Of these, the first `len` are held: the beginning of a group.
     pub text: [u8; ROOM],
     pub len: usize,
-    /// Where in the input that group begins.
+    /// The offset in the input at which that group begins.
     pub at: u64,
-    /// How many words are left of the maximum.
+    /// The number of words that may still come.
     pub left: u32,
-    /// Whether that group has more words. Then nothing is held any more.
+    /// True if that group has more words than that. Then nothing is held any more.
     pub is_long: bool,
 }
 
@@ -89,7 +89,7 @@ fn take_chunk<A: Allocator>(
     Ok(())
 }
 
-/// What a packed input is answered that ends here: its words, or why it has none.
+/// Returns the words at the end of a packed input, or the fault of a group that is cut or too long.
 fn end_pending<A: Allocator>(pending: &Pending, words: Vec<u8, A>) -> Result<Vec<u8, A>, ToolFault>
     ensures { (most : ℕ) (seen : List ℕ)
         → IsPending most seen words.items (take pending.now.len pending.now.text) pending.now.at

@@ -8,7 +8,7 @@ use capn_canon::Form;
 use capn_serve::StreamForm;
 use capn_walk::Limits;
 
-/// What is written of a message.
+/// The text that is written of a message.
 #[derive(Clone, Copy, Debug, PartialEq, Eq)]
 pub enum MessageText {
     /// Its text, and a line `end`.
@@ -19,7 +19,7 @@ pub enum MessageText {
     Digest,
 }
 
-/// What is made of an input that is taken whole.
+/// The output that is made of an input that is read whole.
 #[derive(Clone, Copy)]
 pub enum Whole {
     /// The packed text of its words.
@@ -34,7 +34,7 @@ pub enum Whole {
     One(MessageText, StreamForm, Limits),
 }
 
-/// How an input is taken.
+/// The way in which a command reads its input.
 #[derive(Clone, Copy)]
 pub enum Plan {
     /// As a whole.
@@ -45,7 +45,7 @@ pub enum Plan {
     Packed(MessageText, Limits),
 }
 
-/// How a piece is written of each message of an input in a form.
+/// Returns the plan that writes `piece` of each message of an input in `form`.
 fn pieces(piece: MessageText, form: Form, limits: Limits) -> Plan
     ensures { result ≡ spec.pieces_of piece form limits }
 {
@@ -56,7 +56,7 @@ fn pieces(piece: MessageText, form: Form, limits: Limits) -> Plan
     }
 }
 
-/// How a piece is written of the one message that an input is in a form.
+/// Returns the plan that writes `piece` of the one message that an input in `form` holds.
 fn one_piece(piece: MessageText, form: Form, limits: Limits) -> Plan
     ensures { result ≡ spec.one_piece_of piece form limits }
 {
@@ -67,7 +67,7 @@ fn one_piece(piece: MessageText, form: Form, limits: Limits) -> Plan
     }
 }
 
-/// What a command does with its input.
+/// Returns the plan of `command`.
 pub fn plan_of(command: Command) -> Plan
     ensures { result ≡ spec.plan_of command }
 {

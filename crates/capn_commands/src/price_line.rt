@@ -54,7 +54,7 @@ impl PriceLine {
         text.extend_from_slice(line.as_bytes())
     }
 
-    /// What is written of it.
+    /// Returns the bytes of the line.
     #[inline(always)]
     pub fn as_bytes(&self) -> &[u8]
         ensures { result.now ≡ self.now }

@@ -23,7 +23,7 @@ use capn_words::{Bare, Watched};
 use std::alloc::Allocator;
 use std::io::Read;
 
-/// Where the one message of an input begins.
+/// The position of the one message of an input.
 pub(crate) const START: Position = Position {
     index: 0,
     offset: 0,

@@ -11,7 +11,7 @@ use capn_show::Style;
 use capn_words::Space;
 use std::alloc::Allocator;
 
-/// Whether lists of bytes that are texts stand between quotes in a style of lines.
+/// Tells if `style` writes lists of bytes that are texts between quotes.
 fn is_quoted(style: Style) -> bool
     ensures { result ≡ spec.is_quoted style }
 {

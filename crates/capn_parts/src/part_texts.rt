@@ -20,24 +20,24 @@ use capn_words::{Space, Watched, total_words};
 use std::alloc::Allocator;
 use std::io::Write;
 
-/// What is written of each message of a stream, within limits: the text of what is at a way, and what ends it.
+/// The service that writes of each message of a stream, within limits, the text of the value at a way and its end.
 #[derive(Drop)]
 pub struct PartTexts<'w> {
     /// The numbers of the way.
     pub way: &'w [u64],
-    /// How the stream holds its messages.
+    /// The encoding of the stream.
     pub form: Form,
     /// The limits of a message.
     pub limits: Limits,
-    /// How the text is written.
+    /// The style of the text.
     pub style: Style,
-    /// Whether before each line stands the byte of what it is about. JSON goes without.
+    /// True if each line begins with the offset of the byte that it is about. Not with JSON.
     pub offsets: bool,
-    /// Whether before each line, after its byte, stands the way to what it is about. JSON goes without.
+    /// True if each line begins, after that offset, with the way to the slot that it is about. Not with JSON.
     pub ways: bool,
 }
 
-/// How a message ends that is refused, or whose text breaks off.
+/// Maps the fault of a message that is refused, or whose text breaks off, to a `ServeFault`.
 fn fault_of(fault: ShowFault) -> ServeFault
     ensures { IsFaultOf fault result }
 {
@@ -48,7 +48,7 @@ fn fault_of(fault: ShowFault) -> ServeFault
     }
 }
 
-/// What ends the text of a message: the line `end`, but nothing in JSON, where the text is one line.
+/// Returns the end of a message's text: the line `end`, or nothing for JSON, whose text is one line.
 fn end_of(style: Style) -> &'static [u8]
     ensures { result.now ≡ spec.end_of style }
 {
@@ -119,7 +119,7 @@ fn add_marked<S: Space, W: Write, A: Allocator + Copy>(
     }
 }
 
-/// Whether marks are asked for.
+/// Tells if `texts` asks for offsets or ways.
 fn has_marks(texts: &PartTexts) -> bool
     ensures { result ≡ (texts.now.offsets || texts.now.ways) }
 {

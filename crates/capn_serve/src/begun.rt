@@ -7,7 +7,7 @@ use capn_stream::Framer;
 use std::alloc::{Allocator, Global};
 use std::marker::Model;
 
-/// What a run held of its input when it ended: what came of a message, and of a packed group, that had begun. (Own.)
+/// The unfinished part of the input that a run held when it ended: of a message, and of a packed group. (Own.)
 ///
 /// [`serve_form_with`](crate::serve_form_with) puts it here, so that a refusal can be explained by the bytes that it is
 /// about. The bytes of a message are those of its frame, as they were unpacked where the input is packed.
@@ -36,15 +36,15 @@ impl<A: Allocator + Copy> Begun<A> {
         }
     }
 
-    /// What came of the message at which the run ended: all of it if it is cut, and of one with too many words at least
-    /// its table with the padding. None where no message had begun.
+    /// Returns the bytes of the message at which the run ended: all that came if it is cut, and of one with too many
+    /// words at least its table with the padding. Empty if no message had begun.
     pub fn message(&self) -> &[u8]
         ensures { result.now ≡ self.now.rest }
     {
         self.framer.held()
     }
 
-    /// What came of the packed group that is cut, from its tag on. None where none had begun.
+    /// Returns the bytes of the packed group that is cut, from its tag on. Empty if none had begun.
     pub fn group(&self) -> &[u8]
         ensures { result.now ≡ self.now.group }
     {

@@ -7,7 +7,7 @@ use capn_pack::Unpacker;
 use capn_stream::Framer;
 use std::alloc::Allocator;
 
-/// What is held of a packed stream between two of its slices.
+/// State of a packed stream between two of its slices.
 #[derive(Drop)]
 pub(crate) struct Packed<A: Allocator + Copy> {
     /// Holds an unfinished group.
@@ -16,7 +16,7 @@ pub(crate) struct Packed<A: Allocator + Copy> {
     pub framer: Framer<A>,
     /// Room for what a slice unpacks to.
     pub part: Vec<u8, A>,
-    /// How many more bytes are taken of what the stream unpacks to.
+    /// The number of unpacked bytes that may still come.
     pub left: u64,
 }
 

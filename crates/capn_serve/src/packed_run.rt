@@ -170,7 +170,7 @@ fn serve_packed<S: Service, W: Write, A: Allocator + Copy>(
     send_rest(served, text, writer)
 }
 
-/// How a run ends at a position whose packed input has ended. What is held stays.
+/// Ends a run at the end of its packed input, with a fault if a message or a group is cut. What is held stays.
 fn end_of_packed<A: Allocator + Copy>(at: Position, packed: &mut Packed<A>) -> Result<(), RunFault>
     requires held { packed.old.unpacker.failed ≡ false }
     requires part { IsUnfinished packed.old.framer.rest packed.old.framer.most }
@@ -251,7 +251,7 @@ pub(crate) fn packed_into<S: Service, R: Read, W: Write, A: Allocator + Copy>(
 /// Reads a packed stream, in chunks of at most 65,536 bytes, and has each message served that is whole before it reads
 /// again.
 ///
-/// Where the service is done nothing more is read or served, and what comes after is not looked at. A chunk is unpacked
+/// Once the service is done nothing more is read or served, and the rest is not looked at. A chunk is unpacked
 /// in slices of 512 bytes, of which come at most 512 KiB and an unfinished group. Positions are in what the stream
 /// unpacks to; of that at most `limit` bytes are taken, and of the stream itself `most_packed`. `most` is the greatest
 /// number of words of a message. The run ends as done, or with the first fault: a frame or a message that is refused,

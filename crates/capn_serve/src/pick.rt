@@ -2,7 +2,7 @@
 
 use capn_canon::Limits;
 
-/// How an input holds a stream of messages.
+/// The encoding of a stream of messages.
 #[derive(Clone, Copy, Debug, PartialEq, Eq)]
 pub enum StreamForm {
     /// Frames, one after the other.
@@ -11,10 +11,10 @@ pub enum StreamForm {
     Packed,
 }
 
-/// Which messages of a stream are picked: those from one number to another. (Own.)
+/// The order to pick messages of a stream by their numbers. (Own.)
 #[derive(Clone, Copy, Debug, PartialEq, Eq)]
 pub struct Pick {
-    /// How the input holds the messages.
+    /// The encoding of the input.
     pub form: StreamForm,
     /// The limits of a message, of which its number of words alone counts.
     pub limits: Limits,

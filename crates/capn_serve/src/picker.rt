@@ -21,7 +21,7 @@ pub(crate) struct Picker<'r> {
     pub rest: &'r [Range],
 }
 
-/// Whether a number is in the first of some ranges.
+/// Tells if `number` is in the first of the ranges `rest`.
 #[inline(always)]
 fn is_first(rest: &[Range], number: u128) -> bool
     ensures { result ≡ spec.is_first rest.now number }

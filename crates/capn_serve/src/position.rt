@@ -2,15 +2,15 @@
 
 ghost use Rattle.std.specs.Prelude.{◌≡◌, ◌+◌};
 
-/// Where a message is in a stream. (Own.)
+/// The place of a message in a stream. (Own.)
 ///
 /// The offset is that of its table, in bytes from the beginning of the stream; of a packed stream, in the bytes that it
 /// unpacks to. Of a bare input both numbers are 0.
 #[derive(Clone, Copy, Debug, PartialEq, Eq)]
 pub struct Position {
-    /// How many messages are before it: its number, counted from 0.
+    /// Its number, counted from 0.
     pub index: u64,
-    /// How many bytes are before it.
+    /// The number of bytes before it.
     pub offset: u64,
 }
 

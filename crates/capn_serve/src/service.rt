@@ -14,7 +14,7 @@ use capn_words::{Space, Watched};
 use std::alloc::Allocator;
 use std::io::Write;
 
-/// What is done with the messages of a stream, one after the other: a fold over them, whose state is the service.
+/// A fold over the messages of a stream, one after the other, whose state is the service.
 pub trait Service {
     /// From one state to the next, the message at a position, with its frame, writes a text.
     ghost serves: { Self → Position → List ℕ → List (List ℕ) → List ℕ → Self → Type 0 };
@@ -25,9 +25,9 @@ pub trait Service {
     /// In a state, at the position of the next message, no more is served.
     ghost done: { Self → Position → Bool };
 
-    /// Whether no more is served, asked with the position of the next message.
+    /// Tells if no more is served; `at` is the position of the next message.
     ///
-    /// It is asked before each read and after each message. Where it answers true nothing more is read or served, and
+    /// It is asked before each read and after each message. If it answers true nothing more is read or served, and
     /// the run ends as done, whatever comes after. A service of all messages answers false.
     fn is_done(&self, at: Position) -> bool
         ensures { result ≡ done self.now at };
@@ -58,7 +58,7 @@ pub trait Service {
 pub struct Run<S> {
     /// The service.
     pub service: S,
-    /// Where the next message begins.
+    /// The position of the next message.
     pub at: Position,
 }
 
@@ -78,7 +78,7 @@ impl<S> Run<S> {
 }
 
 impl<S: Service> Run<S> {
-    /// Whether the service serves no more.
+    /// Tells if the service serves no more.
     #[inline(always)]
     pub(crate) fn is_done(&self) -> bool
         ensures { result ≡ S.done self.now.service self.now.at }

@@ -32,7 +32,7 @@ pub(crate) fn fault_at(at: Position, fault: FrameFault) -> RunFault
     }
 }
 
-/// What a run does where no whole message comes first, for this reason: it goes on, unless memory was refused.
+/// Goes on after an incomplete frame, which is no error yet; refused memory is one.
 fn pass(fault: FrameFault) -> Result<(), RunFault>
     ensures { Passes fault result }
 {

@@ -19,7 +19,7 @@ use capn_words::Watched;
 use std::alloc::Allocator;
 use std::io::{Read, Write};
 
-/// How a run ends at a position whose input has ended.
+/// Ends a run at the end of its input: cleanly between two messages, else with the fault of a frame that is cut.
 pub(crate) fn end_of_input<A: Allocator + Copy>(
     at: Position,
     framer: &Framer<A>,
@@ -95,7 +95,7 @@ pub(crate) fn stream_into<S: Service, R: Read, W: Write, A: Allocator + Copy>(
 
 /// Reads a stream, in chunks of at most 65,536 bytes, and has each message served that is whole before it reads again.
 ///
-/// Where the service is done nothing more is read or served, and what comes after is not looked at. At most `limit`
+/// Once the service is done nothing more is read or served, and the rest is not looked at. At most `limit`
 /// bytes are taken, and one more is read, to know whether there are more. `most` is the greatest number of words of a
 /// message. The run ends as done, or with the first fault: a frame or a message that is refused, at its
 /// position; `InputTooLong`; `Io` if and only if the reader or the writer failed; `Memory` if a growth was refused. The

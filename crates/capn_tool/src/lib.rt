@@ -36,7 +36,7 @@ pub use capn_orders::{
 // The commands over messages and bytes, their run and how it ends.
 pub use capn_commands::{Command, MessageText, ToolFault, end, fault_text, run, status};
 
-// What the signatures above name.
+// Types of the signatures above.
 pub use capn_archive::{
     ArchiveFault, ArchiveOrder, FilterOrder, Position, RunFault, Skipped, Task, UniqOrder,
 };

@@ -14,7 +14,7 @@ use capn_words::Watched;
 use std::alloc::Allocator;
 use std::io::{Read, Write};
 
-/// How an input holds the one message of an order for exactly one, if that is in a frame.
+/// Returns the encoding of the input if `show` asks for exactly one message and that is in a frame.
 fn one_frame(show: &Show) -> Option<StreamForm>
     ensures { result ≡ spec.one_frame show.now.one show.now.form }
 {
