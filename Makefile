@@ -96,9 +96,9 @@ bench:
 # The program and the library as it is called from C, Python and Rust, on every stored vector; a million calls from C,
 # and calls in two threads; the guide's recipes, and the programs of the pages for C and Python; the package for Python;
 # and where the reference implementation is installed: messages that it wrote, the lines of docs/DIFFERENCES.md, its
-# answers and those of the crate capnp to the cases of vectors/, and its table of hostile inputs, by root in a root of
-# Debian 13 too, with the languages over the library. With the program that the gate builds, or with an installed one:
-# make interop CAPN=/usr/local/bin/capn.
+# answers and those of the crate capnp to the cases of vectors/, pairs of messages that its builders wrote, and its
+# table of hostile inputs, by root in a root of Debian 13 too, with the languages over the library. With the program
+# that the gate builds, or with an installed one: make interop CAPN=/usr/local/bin/capn.
 interop: $(if $(CAPN),,program library)
 	./tests/c/agree
 	./tests/c/watched
@@ -107,8 +107,8 @@ interop: $(if $(CAPN),,program library)
 	./tests/pages/beside
 	./tests/reference/run
 	./tests/reference/differences
-	@if command -v python3 > /dev/null; then ./tests/reference/vectors; \
-	else echo "vectors: skipped, since there is no python3"; fi
+	@if command -v python3 > /dev/null; then ./tests/reference/vectors && ./tests/reference/pairs; \
+	else echo "vectors, pairs: skipped, since there is no python3"; fi
 	./tests/reference/debian-13
 	@if command -v python3 > /dev/null; then ./tests/program/archives && ./tests/program/marks && ./tests/program/texts \
 		&& ./tests/program/memory; else echo "archives, marks, texts, memory: skipped, since there is no python3"; fi
