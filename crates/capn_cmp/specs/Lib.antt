@@ -1,0 +1,5 @@
+pub mod LinesApart
+pub mod ShownText
+pub mod CmpMessages
+pub mod CmpRun
+pub mod FaultText

@@ -1,0 +1,63 @@
+//! The report on a message that differs.
+
+ghost use Rattle.std.specs.Prelude.{◌≡◌, IfErr, IfOk};
+ghost use Rattle.capn_serve.specs.declared.fault.ServeFault.TheVariants as faults;
+ghost use Rattle.capn_cmp.specs.CmpMessages.{IsReport, report};
+
+use crate::beginning::begin_text;
+use crate::lines_apart::lines_apart;
+use capn_serve::{Position, ServeFault};
+use capn_walk::Limits;
+use std::alloc::Allocator;
+
+/// The lines of the report on the message at this position, of which this line is the first that differs from the
+/// first message's.
+fn report_of<A: Allocator + Copy>(
+    alloc: A,
+    at: Position,
+    first: &[u8],
+    other: &[u8],
+) -> Result<Vec<u8, A>, ServeFault>
+    ensures found { IfOk result (λ text. text.items ≡ report at first.now other.now) }
+    ensures only { IfErr result (λ e. e ≡ faults.Memory) }
+{
+    let number = u128::from(at.index) + 1;
+    let offset = at.offset;
+    let Ok(head) =
+        format!(in alloc; "message {number} at {offset} differs from message 1\n< ")
+    else {
+        return Err(ServeFault::Memory);
+    };
+    let mut text = Vec::new(alloc);
+    for part in [head.as_bytes(), first, b"\n> ", other, b"\n"] {
+        if text.extend_from_slice(part).is_err() {
+            return Err(ServeFault::Memory);
+        }
+    }
+    Ok(text)
+}
+
+/// The report on the message at this position, whose canonical bytes differ from the first message's.
+///
+/// Of both texts a beginning is made, and twice as much again, until both have the first lines in which they differ.
+/// It holds both, each at most twice as long as the text up to the end of these lines, or 65,536 bytes.
+pub(crate) fn find_report<A: Allocator + Copy>(
+    alloc: A,
+    at: Position,
+    limits: Limits,
+    first: &[u8],
+    other: &[u8],
+) -> Result<Vec<u8, A>, ServeFault>
+    ensures found { IfOk result (λ text. IsReport at first.now other.now text.items) }
+    ensures only { IfErr result (λ e. e ≡ faults.Memory) }
+{
+    for power in 16..48_u32 {
+        let room = 1_usize << power;
+        let text = begin_text(alloc, limits, first, room)?;
+        let other_text = begin_text(alloc, limits, other, room)?;
+        if let Some((line, other_line)) = lines_apart(&text, &other_text) {
+            return report_of(alloc, at, line, other_line);
+        }
+    }
+    Err(ServeFault::Memory)
+}
