@@ -1,1 +1,5 @@
-
+pub mod Lines
+pub mod Beginnings
+pub mod Reports
+pub mod CmpServed
+pub mod CmpRuns

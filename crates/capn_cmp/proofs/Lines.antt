@@ -5,7 +5,8 @@ use Rattle.std.specs.Cmp.Lexicographic.{pointwise, pointwise_decides}
 use Rattle.std.proofs.lemmas.Bool.{eqb-true, eq-eqb}
 use Rattle.std.proofs.Math.Seq.{take-suc}
 use Rattle.std.proofs.lemmas.List.{append_assoc}
-use Rattle.capn_cmp.specs.LinesApart.{AreApart, AreLines, BeginAlike, IsUnbroken, joined}
+use Rattle.capn_cmp.specs.LinesApart.{AreApart, AreLines, IsUnbroken, joined}
+use Rattle.capn_cmp.specs.inner.Alike.{BeginAlike}
 
 -- no line ends in bytes of which none ends in the first, and this one is no newline
 pub unbroken_more : (xs : List ℕ) (c : ℕ) → IsUnbroken xs → c ≢ 10 → IsUnbroken (xs ++ c ∷ [])

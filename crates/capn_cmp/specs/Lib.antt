@@ -1,3 +1,4 @@
+pub mod inner
 pub mod LinesApart
 pub mod ShownText
 pub mod CmpMessages

@@ -2,7 +2,9 @@
 
 ghost use Rattle.std.specs.Prelude.{◌≡◌, IfErr, IfOk};
 ghost use Rattle.capn_serve.specs.declared.fault.ServeFault.TheVariants as faults;
+ghost use Rattle.capn_words.specs.Watched.{inner_of};
 ghost use Rattle.capn_cmp.specs.ShownText.{IsShownFrom};
+ghost use Rattle.capn_cmp.specs.inner.Ended.{IsEnded};
 
 use capn_marks::{Marks, show_marked};
 use capn_serve::ServeFault;
@@ -44,11 +46,12 @@ impl<A: Allocator> Write for Beginning<A> {
     }
 }
 
-/// A text that has ended, as far as it was kept.
+/// Ends a text with the line `end`, and writes what is kept of it. At `Io` there is no more room.
 fn end_text<A: Allocator>(
     text: &mut Vec<u8, A>,
     writer: &mut Watched<Beginning<A>>,
 ) -> Result<(), Broken>
+    ensures { IsEnded (inner_of writer.old).bytes.items text.old.items (inner_of writer.new).bytes.items }
 {
     put(text, writer, b"\tend\n")?;
     match writer.write_all(text) {

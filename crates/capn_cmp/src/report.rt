@@ -1,6 +1,6 @@
 //! The report on a message that differs.
 
-ghost use Rattle.std.specs.Prelude.{◌≡◌, IfErr, IfOk};
+ghost use Rattle.std.specs.Prelude.{◌≡◌, ◌++◌, IfErr, IfOk, OnOk};
 ghost use Rattle.capn_serve.specs.declared.fault.ServeFault.TheVariants as faults;
 ghost use Rattle.capn_cmp.specs.CmpMessages.{IsReport, report};
 
@@ -10,15 +10,26 @@ use capn_serve::{Position, ServeFault};
 use capn_walk::Limits;
 use std::alloc::Allocator;
 
-/// The lines of the report on the message at this position, of which this line is the first that differs from the
-/// first message's.
+/// Appends a part to a text.
+fn put_part<A: Allocator>(text: &mut Vec<u8, A>, part: &[u8]) -> Result<(), ServeFault>
+    ensures put { OnOk result (text.new.items ≡ text.old.items ++ part.now) }
+    ensures only { IfErr result (λ e. e ≡ faults.Memory) }
+{
+    match text.extend_from_slice(part) {
+        Ok(()) => Ok(()),
+        Err(_) => Err(ServeFault::Memory),
+    }
+}
+
+/// The report on the message at this position: these lines, of the first message and of it, are the first that differ.
+#[tactic(auto, using(crate::proofs::Reports::in_parts))]
 fn report_of<A: Allocator + Copy>(
     alloc: A,
     at: Position,
-    first: &[u8],
+    line: &[u8],
     other: &[u8],
 ) -> Result<Vec<u8, A>, ServeFault>
-    ensures found { IfOk result (λ text. text.items ≡ report at first.now other.now) }
+    ensures found { IfOk result (λ text. text.items ≡ report at line.now other.now) }
     ensures only { IfErr result (λ e. e ≡ faults.Memory) }
 {
     let number = u128::from(at.index) + 1;
@@ -29,11 +40,11 @@ fn report_of<A: Allocator + Copy>(
         return Err(ServeFault::Memory);
     };
     let mut text = Vec::new(alloc);
-    for part in [head.as_bytes(), first, b"\n> ", other, b"\n"] {
-        if text.extend_from_slice(part).is_err() {
-            return Err(ServeFault::Memory);
-        }
-    }
+    put_part(&mut text, head.as_bytes())?;
+    put_part(&mut text, line)?;
+    put_part(&mut text, b"\n> ")?;
+    put_part(&mut text, other)?;
+    put_part(&mut text, b"\n")?;
     Ok(text)
 }
 

@@ -1,5 +1,5 @@
 use Rattle.std.proofs.Common.{length}
-use Rattle.capn_cmp.specs.LinesApart.{BeginAlike}
+use Rattle.capn_cmp.specs.inner.Alike.{BeginAlike}
 use Rattle.capn_cmp.proofs.lines_apart.lines_apart.Given as goal
 
 abbrev pub invariant-loop-first : goal.invariant-loop-first
