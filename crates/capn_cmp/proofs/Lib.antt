@@ -3,3 +3,5 @@ pub mod Beginnings
 pub mod Reports
 pub mod CmpServed
 pub mod CmpRuns
+pub mod OneComparison
+pub mod AllSame

@@ -4,3 +4,4 @@ pub mod ShownText
 pub mod CmpMessages
 pub mod CmpRun
 pub mod FaultText
+pub mod Laws

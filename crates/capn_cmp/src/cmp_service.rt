@@ -95,7 +95,7 @@ impl<B: Allocator> Service for CmpService<B> {
 
     #[inline(always)]
     fn is_done(&self, _at: Position) -> bool {
-        self.differs
+        self.differs()
     }
 
     fn serve<S: Space, W: Write, A: Allocator + Copy>(

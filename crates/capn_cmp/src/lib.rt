@@ -10,6 +10,7 @@ mod cmp_order;
 mod cmp_run;
 mod cmp_service;
 mod fault;
+pub mod laws;
 mod lines_apart;
 mod report;
 

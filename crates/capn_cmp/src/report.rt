@@ -34,8 +34,7 @@ fn report_of<A: Allocator + Copy>(
 {
     let number = u128::from(at.index) + 1;
     let offset = at.offset;
-    let Ok(head) =
-        format!(in alloc; "message {number} at {offset} differs from message 1\n< ")
+    let Ok(head) = format!(in alloc; "message {number} at {offset} differs from message 1\n< ")
     else {
         return Err(ServeFault::Memory);
     };

@@ -47,7 +47,11 @@ fn archive_told(
 }
 
 /// Returns the end of a run that compares: the status, what is written, and the line on standard error.
-fn found_told(alloc: Global, found: Result<Comparison, CmpFault>, written: &[u8]) -> Result<String> {
+fn found_told(
+    alloc: Global,
+    found: Result<Comparison, CmpFault>,
+    written: &[u8],
+) -> Result<String> {
     let digits = digits_of(alloc, written)?;
     match found {
         Ok(Comparison::Same) => Ok(format!(in alloc; "status 0, {digits}")?),

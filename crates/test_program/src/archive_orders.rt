@@ -203,7 +203,12 @@ fn messages_are_compared(rt: HostRuntime) {
         "--tariff=plain",
     ];
     assert!(rt; is_cmp(rt.alloc(), &words, want), "{words:?}");
-    for option in ["--form=bare", "--form=flat", "--tariff=cheap", "--keep-going"] {
+    for option in [
+        "--form=bare",
+        "--form=flat",
+        "--tariff=cheap",
+        "--keep-going",
+    ] {
         expect_usage(&rt, rt.alloc(), &["capn", "cmp", option], 2);
     }
 }
