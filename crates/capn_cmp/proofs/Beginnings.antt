@@ -10,8 +10,8 @@ use Rattle.capn_marks.specs.MarkedPart.{marked_at}
 use Rattle.capn_show.specs.Outgoing.{Outgoing, Adds, BreaksOff}
 use Rattle.capn_show.specs.declared.fault.Broken.{Broken}
 use Rattle.capn_show.specs.declared.fault.Broken.TheVariants as broken
-use Rattle.capn_cmp.specs.ShownText.{IsShownFrom, shown_with_ways, ways_alone}
-use Rattle.capn_cmp.specs.inner.Ended.{IsEnded, end_line}
+use Rattle.capn_cmp.specs.ShownText.{IsShownFrom, end_line, shown_with_ways, ways_alone}
+use Rattle.capn_cmp.specs.inner.Ended.{IsEnded}
 
 -- bytes that a writer has taken, and those that are kept for it
 abbrev pub out : List ℕ → List ℕ → Bool → Outgoing

@@ -105,6 +105,12 @@ one_line (c ∷ a) (d ∷ b) x y h k e =
     let same = one_line a b x y h.1 k.1 rest in
     (λ i. first i ∷ same.0 i, same.1)
 
+-- a first line that ends in texts that begin with others
+after_line : (a q x more : List ℕ) (qs : List (List ℕ)) → IsUnbroken a → IsUnbroken q
+    → a ++ 10 ∷ x ≡ joined (q ∷ qs) ++ more → (a ≡ q) × (x ≡ joined qs ++ more)
+after_line a q x more qs one other e =
+    one_line a q x (joined qs ++ more) one other (e ∙ append_assoc q (10 ∷ joined qs) more)
+
 -- texts whose first lines are these, after those before
 apart_from : (ps qs : List (List ℕ)) (a b c d x y u v : List ℕ) → AreLines ps → AreLines qs → IsUnbroken a
     → IsUnbroken b → IsUnbroken c → IsUnbroken d → a ≢ b → c ≢ d
@@ -113,18 +119,15 @@ apart_from : (ps qs : List (List ℕ)) (a b c d x y u v : List ℕ) → AreLines
 apart_from [] [] a b c d x y u v hp hq ha hb hc hd ab cd e f =
     ((one_line a c x u ha hc e).0, (one_line b d y v hb hd f).0)
 apart_from [] (q ∷ qs) a b c d x y u v hp hq ha hb hc hd ab cd e f =
-    let first = one_line a q x (joined qs ++ (c ++ 10 ∷ u)) ha hq.0 (e ∙ append_assoc q (10 ∷ joined qs) (c ++ 10 ∷ u)) in
-    let second = one_line b q y (joined qs ++ (d ++ 10 ∷ v)) hb hq.0 (f ∙ append_assoc q (10 ∷ joined qs) (d ++ 10 ∷ v)) in
-    absurd (ab (first.0 ∙ sym second.0))
+    absurd (ab ((after_line a q x (c ++ 10 ∷ u) qs ha hq.0 e).0 ∙ sym (after_line b q y (d ++ 10 ∷ v) qs hb hq.0 f).0))
 apart_from (p ∷ ps) [] a b c d x y u v hp hq ha hb hc hd ab cd e f =
-    let first = one_line p c (joined ps ++ (a ++ 10 ∷ x)) u hp.0 hc (sym (append_assoc p (10 ∷ joined ps) (a ++ 10 ∷ x)) ∙ e) in
-    let second = one_line p d (joined ps ++ (b ++ 10 ∷ y)) v hp.0 hd (sym (append_assoc p (10 ∷ joined ps) (b ++ 10 ∷ y)) ∙ f) in
-    absurd (cd (sym first.0 ∙ second.0))
+    absurd (cd ((after_line c p u (a ++ 10 ∷ x) ps hc hp.0 (sym e)).0
+    ∙ sym (after_line d p v (b ++ 10 ∷ y) ps hd hp.0 (sym f)).0))
 apart_from (p ∷ ps) (q ∷ qs) a b c d x y u v hp hq ha hb hc hd ab cd e f =
-    let first = one_line p q (joined ps ++ (a ++ 10 ∷ x)) (joined qs ++ (c ++ 10 ∷ u)) hp.0 hq.0
-    (sym (append_assoc p (10 ∷ joined ps) (a ++ 10 ∷ x)) ∙ e ∙ append_assoc q (10 ∷ joined qs) (c ++ 10 ∷ u)) in
-    let second = one_line p q (joined ps ++ (b ++ 10 ∷ y)) (joined qs ++ (d ++ 10 ∷ v)) hp.0 hq.0
-    (sym (append_assoc p (10 ∷ joined ps) (b ++ 10 ∷ y)) ∙ f ∙ append_assoc q (10 ∷ joined qs) (d ++ 10 ∷ v)) in
+    let first = after_line p q (joined ps ++ (a ++ 10 ∷ x)) (c ++ 10 ∷ u) qs hp.0 hq.0
+    (sym (append_assoc p (10 ∷ joined ps) (a ++ 10 ∷ x)) ∙ e) in
+    let second = after_line p q (joined ps ++ (b ++ 10 ∷ y)) (d ++ 10 ∷ v) qs hp.0 hq.0
+    (sym (append_assoc p (10 ∷ joined ps) (b ++ 10 ∷ y)) ∙ f) in
     apart_from ps qs a b c d x y u v hp.1 hq.1 ha hb hc hd ab cd first.1 second.1
 
 pub one_apart : (text other a b c d : List ℕ) → AreApart text other a b → AreApart text other c d → (a ≡ c) × (b ≡ d)

@@ -8,7 +8,7 @@ use Rattle.capn_walk.specs.Limits.{Bounds}
 use Rattle.capn_walk.specs.Accepted.{root}
 use Rattle.capn_walk.specs.ValueAt.{IsAt}
 use Rattle.capn_walk.proofs.shared.Unique.{unique}
-use Rattle.capn_layout.specs.Layout.{canon}
+use Rattle.capn_canon.specs.Layout.{canon}
 use Rattle.capn_canon.specs.Denotes.{AnswersMessage}
 use Rattle.capn_canon.specs.Refusal.{IsRefusedMessage}
 use Rattle.capn_canon.specs.declared.refusal.Refusal.{Refusal}

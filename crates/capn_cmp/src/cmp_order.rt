@@ -3,10 +3,10 @@
 use capn_serve::StreamForm;
 use capn_walk::Limits;
 
-/// What a run does that compares messages with the first one.
+/// The order to compare the messages of a stream with the first one.
 #[derive(Clone, Copy, Debug, PartialEq, Eq)]
 pub struct CmpOrder {
-    /// How the input holds the messages.
+    /// The form in which the input holds the messages.
     pub form: StreamForm,
     /// The limits of each message.
     pub limits: Limits,

@@ -14,12 +14,12 @@ use capn_words::Watched;
 use std::alloc::Allocator;
 use std::io::{Read, Write};
 
-/// What is found of the messages of a stream.
+/// The answer of a comparison.
 #[derive(Clone, Copy, Debug, PartialEq, Eq)]
 pub enum Comparison {
-    /// All have the value of the first one.
+    /// All messages have the value of the first one.
     Same,
-    /// One differs.
+    /// A message differs from the first one.
     Different,
 }
 
@@ -33,7 +33,7 @@ fn form_of(form: StreamForm) -> Form
     }
 }
 
-/// What is found, of a run whose messages no fault ended.
+/// The answer of a run whose messages no fault ended.
 fn found_by<A: Allocator>(run: &Run<CmpService<A>>) -> Result<Comparison, CmpFault>
     ensures { result ≡ spec.found_by run.now.service.differs run.now.at.index }
 {
@@ -46,10 +46,11 @@ fn found_by<A: Allocator>(run: &Run<CmpService<A>>) -> Result<Comparison, CmpFau
     Ok(Comparison::Same)
 }
 
-/// Reads the messages of a stream, and finds whether all have the value of the first one: equal canonical bytes.
+/// Reads the messages of a stream as `order` says, and finds whether all have the value of the first one: equal
+/// canonical bytes.
 ///
-/// It reads as [`serve_form`] does, and judges each message as soon as it is whole. At the first message that differs
-/// it writes three lines, and reads no more: where the message is, and the first lines in which the texts that `show
+/// It reads `reader` as [`serve_form`] does, and judges each message as soon as it is whole. At the first message that
+/// differs it writes three lines to `writer`, and reads no more: where the message is, and the first lines in which the texts that `show
 /// --ways --form bare` writes of the first message's canonical bytes and of its own differ. Else it writes nothing. It
 /// answers `Same` if all of the input was served, two messages at least; `Different`; or the first fault: a frame, a
 /// group or a message that is refused, by its walk or for a capability, at its position; `TooFew` after all of an

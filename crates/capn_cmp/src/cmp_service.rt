@@ -47,7 +47,7 @@ impl<B: Allocator> CmpService<B> {
         }
     }
 
-    /// Whether a message differed from the first one.
+    /// Returns `true` if a message differed from the first one.
     pub(crate) fn differs(&self) -> bool
         ensures { result ≡ self.now.differs }
     {

@@ -134,8 +134,8 @@ never_command c n other e = let bad : false ≡ true = sym (no_command c) ∙ ap
 
 -- and no task
 abbrev is_no_task : ℕ → Bool
-is_no_task n =
-    n == 303 || (n == 311 || (n == 320 || (n == 321 || (n == 326 || (n == 295 || (n == 333 || (n == 334 || n == 344)))))))
+is_no_task n = n == 303
+    || (n == 311 || (n == 320 || (n == 321 || (n == 326 || (n == 295 || (n == 333 || (n == 334 || n == 344)))))))
 
 no_task : (t : Task) → is_no_task (tell_task t) ≡ false
 no_task tasks.List = refl

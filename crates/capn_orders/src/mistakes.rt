@@ -59,9 +59,9 @@ fn said_of_show(matches: &ArgMatches) -> &'static str {
     }
 }
 
-/// The message for options of this command that mean nothing: for `pick` and `cmp`, one of their own; for `unpack`, which
-/// two don't go together; for the others, that on `--form`, or else on `--tariff`, or else on `--at` and `--json` of
-/// `show`, on `--number` of `explain`, and on `--keep-going` of `canonical`.
+/// The message for options of this command that mean nothing: for `pick` and `cmp`, one of their own; for `unpack`,
+/// which two don't go together; for the others, that on `--form`, or else on `--tariff`, or else on `--at` and `--json`
+/// of `show`, on `--number` of `explain`, and on `--keep-going` of `canonical`.
 fn said_of(name: &str, matches: &ArgMatches) -> &'static str {
     if name == "pick" {
         return said_of_pick(matches);

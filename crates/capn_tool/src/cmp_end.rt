@@ -13,7 +13,7 @@ use capn_serve::RunFault;
 use capn_words::Watched;
 use std::io::Write;
 
-/// How a run ends that has found this.
+/// The end of a run that has found this: done, or its fault.
 fn done_of(found: Result<Comparison, CmpFault>) -> Result<(), CmpFault>
     ensures { result ≡ spec.done_of found }
 {
@@ -23,7 +23,7 @@ fn done_of(found: Result<Comparison, CmpFault>) -> Result<(), CmpFault>
     }
 }
 
-/// The exit status of what a run has found, by how it ended after the flush of its output.
+/// The exit status of what a run has found, which ended so after the flush of its output.
 fn status_after(found: Result<Comparison, CmpFault>, ended: &Result<(), CmpFault>) -> u8
     ensures { result ≡ spec.cmp_status found ended.now }
 {
