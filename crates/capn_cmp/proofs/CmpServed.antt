@@ -44,7 +44,8 @@ module _ (s : CmpState) (at : Position) (bytes : List ℕ) where
     pub no_memory : (t : CmpState) (fault : ServeFault) → fault ≡ faults.Memory
         → TriesToCompare s at bytes a a failed (stopped fault) t
     no_memory t fault is =
-        subst (λ (e : ServeFault). TriesToCompare s at bytes a a failed (stopped e) t) (sym is) (inl (added_none a), fine)
+        subst (λ (e : ServeFault). TriesToCompare s at bytes a a failed (stopped e) t) (sym is)
+        (inl (added_none a), fine)
 
   -- it differs, and the report on it was added, or a beginning of that
   pub differs_with : at.index ≢ 0 → bytes ≢ s.first → (text : List ℕ) → IsReport at s.first bytes text

@@ -50,13 +50,13 @@ fn found_by<A: Allocator>(run: &Run<CmpService<A>>) -> Result<Comparison, CmpFau
 /// canonical bytes.
 ///
 /// It reads `reader` as [`serve_form`] does, and judges each message as soon as it is whole. At the first message that
-/// differs it writes three lines to `writer`, and reads no more: where the message is, and the first lines in which the texts that `show
-/// --ways --form bare` writes of the first message's canonical bytes and of its own differ. Else it writes nothing. It
-/// answers `Same` if all of the input was served, two messages at least; `Different`; or the first fault: a frame, a
-/// group or a message that is refused, by its walk or for a capability, at its position; `TooFew` after all of an
-/// input of fewer than two messages; `InputTooLong`; `Io` if and only if the reader or the writer failed; `Memory` if a
-/// growth was refused. It holds what its loop holds, the canonical bytes of the first message and of one more, and at a
-/// difference the beginnings of both texts.
+/// differs it writes three lines to `writer`, and reads no more: where the message is, and the first lines in which the
+/// texts differ that `show --ways --form bare` writes of the first message's canonical bytes and of its own. Else it
+/// writes nothing. It answers `Same` if all of the input was served, two messages at least; `Different`; or the first
+/// fault: a frame, a group or a message that is refused, by its walk or for a capability, at its position; `TooFew`
+/// after all of an input of fewer than two messages; `InputTooLong`; `Io` if and only if the reader or the writer
+/// failed; `Memory` if a growth was refused. It holds what its loop holds, the canonical bytes of the first message and
+/// of one more, and at a difference the beginnings of both texts.
 pub fn run_cmp<R: Read, W: Write, A: Allocator + Copy>(
     alloc: A,
     order: CmpOrder,
