@@ -26,23 +26,23 @@ use Rattle.capn_cmp.specs.declared.fault.CmpFault.{CmpFault}
 use Rattle.capn_cmp.specs.declared.fault.CmpFault.TheVariants as faults
 use Rattle.capn_cmp.proofs.OneComparison.{cmp_one_way}
 
-abbrev Ending : Type 0
+abbrev pub Ending : Type 0
 Ending = Result (Unit {0}) RunFault
 
-abbrev Found : Type 0
+abbrev pub Found : Type 0
 Found = Result Comparison CmpFault
 
 abbrev same : Found
 same = Ok comparisons.Same
 
-abbrev Comparing : Type 0
+abbrev pub Comparing : Type 0
 Comparing = Run CmpState
 
 no_bytes : (xs : List ℕ) → length xs ≡ 0 → xs ≡ []
 no_bytes [] e = refl
 no_bytes (x ∷ xs) e = absurd (omega (arith, e))
 
-both : (b : Bool) → b ≡ true → b ≡ false → ⊥
+pub both : (b : Bool) → b ≡ true → b ≡ false → ⊥
 both b h k = let bad : true ≡ false = sym h ∙ k in cc
 
 -- ---- what is found
@@ -70,7 +70,7 @@ module _ (order : CmpOrder) where
   -- ---- messages that were served without a difference
 
   -- after one none is served
-  stays : (x y : Comparing) (ps : List Part) → x.service.differs ≡ true → AreServed f x ps y
+  pub stays : (x y : Comparing) (ps : List Part) → x.service.differs ≡ true → AreServed f x ps y
       → y.service.differs ≡ false → ⊥
   stays x y [] yes is no = both x.service.differs yes (ap (λ (w : Comparing). w.service.differs) is ∙ no)
   stays x y (p ∷ ps) yes (mid, part, step, more) no = both x.service.differs yes part.going

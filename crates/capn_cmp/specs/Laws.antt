@@ -1,5 +1,5 @@
 -- What holds of the definitions alone. (Own.)
-use Rattle.std.specs.Prelude.{◌≡◌, ◌↔◌, ℕ, ◌≤◌, List, [], ◌∷◌, length, Result, Ok, ⊤}
+use Rattle.std.specs.Prelude.{◌≡◌, ◌≢◌, ◌↔◌, ℕ, ◌≤◌, List, [], ◌∷◌, length, Result, Ok, ⊤}
 use Rattle.capn_words.specs.Message.{total}
 use Rattle.capn_stream.specs.Frames.{Frames}
 use Rattle.capn_canon.specs.declared.form.Form.TheVariants as forms
@@ -18,6 +18,12 @@ OneCmp = (order : CmpOrder) (input t u : List ℕ) (r s : Result (Unit {0}) RunF
     → AreMessages (cmp_fold order) (first_run order) (form_of order.form) input t r y
     → AreMessages (cmp_fold order) (first_run order) (form_of order.form) input u s z
     → (t ≡ u) × (outcome r y ≡ outcome s z)
+
+-- something is written exactly where one differs
+abbrev pub WritesExactly : Type 0
+WritesExactly = (order : CmpOrder) (input text : List ℕ) (r : Result (Unit {0}) RunFault) (y : Run CmpState)
+    → AreMessages (cmp_fold order) (first_run order) (form_of order.form) input text r y
+    → (outcome r y ≡ Ok comparisons.Different) ↔ (text ≢ [])
 
 -- each of these is the frame of a message that is accepted and has these canonical bytes, and nothing is written of it
 abbrev pub AllHave : CmpOrder → List ℕ → List Part → Type 0
