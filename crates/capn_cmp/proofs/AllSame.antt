@@ -29,6 +29,12 @@ use Rattle.capn_cmp.proofs.OneComparison.{cmp_one_way}
 abbrev pub Ending : Type 0
 Ending = Result (Unit {0}) RunFault
 
+abbrev done : Ending
+done = Ok tt
+
+abbrev stopped : RunFault → Ending
+stopped fault = Err fault
+
 abbrev pub Found : Type 0
 Found = Result Comparison CmpFault
 
@@ -45,6 +51,9 @@ no_bytes (x ∷ xs) e = absurd (omega (arith, e))
 pub both : (b : Bool) → b ≡ true → b ≡ false → ⊥
 both b h k = let bad : true ≡ false = sym h ∙ k in cc
 
+no_fault : (r : Ending) (fault : RunFault) → r ≡ Ok tt → r ≡ Err fault → ⊥
+no_fault r fault fine e = let bad : done ≡ stopped fault = sym fine ∙ e in cc
+
 -- ---- what is found
 
 few_or_same : (few : Bool) → cond few (Err faults.TooFew) same ≡ same → few ≡ false
@@ -56,8 +65,8 @@ found_same true n e = absurd (cc)
 found_same false n e = (refl, ltb-false n 2 (few_or_same (nat_lt n 2) e))
 
 same_found : (differs : Bool) (n : ℕ) → differs ≡ false → 2 ≤ n → found_by differs n ≡ same
-same_found differs n no many =
-    ap (λ (b : Bool). found_by b n) no
+same_found differs n stay many =
+    ap (λ (b : Bool). found_by b n) stay
     ∙ ap (λ (b : Bool). cond b (Err faults.TooFew) same) (le-ltb n 2 many)
 
 module _ (order : CmpOrder) where
@@ -72,21 +81,21 @@ module _ (order : CmpOrder) where
   -- after one none is served
   pub stays : (x y : Comparing) (ps : List Part) → x.service.differs ≡ true → AreServed f x ps y
       → y.service.differs ≡ false → ⊥
-  stays x y [] yes is no = both x.service.differs yes (ap (λ (w : Comparing). w.service.differs) is ∙ no)
-  stays x y (p ∷ ps) yes (mid, part, step, more) no = both x.service.differs yes part.going
+  stays x y [] move is stay = both x.service.differs move (ap (λ (w : Comparing). w.service.differs) is ∙ stay)
+  stays x y (p ∷ ps) move (mid, part, step, more) stay = both x.service.differs move part.going
 
   later : (x y : Comparing) (ps : List Part) (bytes : List ℕ) → x.service.limits ≡ limits → x.service.first ≡ bytes
       → x.at.index ≢ 0 → AreServed f x ps y → y.service.differs ≡ false
       → AllHave order bytes ps × (y.at.index ≡ x.at.index + length ps)
-  later x y [] bytes bounds first past is no =
+  later x y [] bytes bounds first past is stay =
       (tt, let e = ap (λ (w : Comparing). w.at.index) is in omega (arith, e))
-  later x y (p ∷ ps) bytes bounds first past (mid, part, ((own, form, inl (none, text, t)), at), more) no =
+  later x y (p ∷ ps) bytes bounds first past (mid, part, ((own, form, inl (none, text, t)), at), more) stay =
       absurd (past none)
   later x y (p ∷ ps) bytes bounds first past (mid, part, ((own, form, inr (inl (late, alike, text, t))), at), more)
-      no =
+      stay =
       let index : mid.at.index ≡ x.at.index + 1 = ap (λ (q : Position). q.index) at in
       let rest = later mid y ps bytes (ap (λ (q : CmpState). q.limits) t ∙ bounds)
-      (ap (λ (q : CmpState). q.first) t ∙ first) (λ e. absurd (omega (arith, e, index))) more no in
+      (ap (λ (q : CmpState). q.first) t ∙ first) (λ e. absurd (omega (arith, e, index))) more stay in
       let last = rest.1 in (
         (
           part.frame,
@@ -99,23 +108,23 @@ module _ (order : CmpOrder) where
         omega (arith, last, index),
       )
   later x y (p ∷ ps) bytes bounds first past (mid, part, ((own, form, inr (inr (late, other, told, t))), at), more)
-      no =
-      absurd (stays mid y ps (ap (λ (q : CmpState). q.differs) t) more no)
+      stay =
+      absurd (stays mid y ps (ap (λ (q : CmpState). q.differs) t) more stay)
 
   -- two at least
   from_first : (y : Comparing) (ps : List Part) → AreServed f (first_run order) ps y → y.service.differs ≡ false
       → 2 ≤ y.at.index → (bytes : List ℕ) × AllHave order bytes ps × (2 ≤ length ps)
-  from_first y [] is no many =
+  from_first y [] is stay many =
       let e : 0 ≡ y.at.index = ap (λ (w : Comparing). w.at.index) is in absurd (omega (arith, e, many))
-  from_first y (p ∷ ps) (mid, part, ((own, form, inl (none, text, t)), at), more) no many =
+  from_first y (p ∷ ps) (mid, part, ((own, form, inl (none, text, t)), at), more) stay many =
       let index : mid.at.index ≡ 1 = ap (λ (q : Position). q.index) at in
       let rest = later mid y ps own (ap (λ (q : CmpState). q.limits) t) (ap (λ (q : CmpState). q.first) t)
-      (λ e. absurd (omega (arith, e, index))) more no in
+      (λ e. absurd (omega (arith, e, index))) more stay in
       let last = rest.1 in
       (own, (part.frame, part.room, form, text, rest.0), omega (arith, last, index, many))
-  from_first y (p ∷ ps) (mid, part, ((own, form, inr (inl (late, alike, text, t))), at), more) no many =
+  from_first y (p ∷ ps) (mid, part, ((own, form, inr (inl (late, alike, text, t))), at), more) stay many =
       absurd (late refl)
-  from_first y (p ∷ ps) (mid, part, ((own, form, inr (inr (late, other, told, t))), at), more) no many =
+  from_first y (p ∷ ps) (mid, part, ((own, form, inr (inr (late, other, told, t))), at), more) stay many =
       absurd (late refl)
 
   -- ---- the end
@@ -124,12 +133,12 @@ module _ (order : CmpOrder) where
   nothing_left : (y : Comparing) (rest : List ℕ) (r : Ending) → r ≡ Ok tt
       → EndsUnframed f y rest None r ⊎ EndsRefused f y rest r → rest ≡ []
   nothing_left y rest r fine (inl (frame_faults.Empty, other, refused, e)) = no_bytes rest refused
-  nothing_left y rest r fine (inl (frame_faults.Cut, other, refused, e)) = absurd (cc)
-  nothing_left y rest r fine (inl (frame_faults.TooManySegments n, other, refused, e)) = absurd (cc)
-  nothing_left y rest r fine (inl (frame_faults.TooManyWords n, other, refused, e)) = absurd (cc)
-  nothing_left y rest r fine (inl (frame_faults.Failed, other, refused, e)) = absurd (cc)
+  nothing_left y rest r fine (inl (frame_faults.Cut, other, refused, e)) = absurd (no_fault r _ fine e)
+  nothing_left y rest r fine (inl (frame_faults.TooManySegments n, other, refused, e)) = absurd (no_fault r _ fine e)
+  nothing_left y rest r fine (inl (frame_faults.TooManyWords n, other, refused, e)) = absurd (no_fault r _ fine e)
+  nothing_left y rest r fine (inl (frame_faults.Failed, other, refused, e)) = absurd (no_fault r _ fine e)
   nothing_left y rest r fine (inl (frame_faults.Memory, other, refused, e)) = absurd (other refl)
-  nothing_left y rest r fine (inr (frame, more, m, why, is, framed, room, h, e)) = absurd (cc)
+  nothing_left y rest r fine (inr (frame, more, m, why, is, framed, room, h, e)) = absurd (no_fault r _ fine e)
 
   is_same : (stream text : List ℕ) (r : Ending) (y : Comparing) → IsFolded f (first_run order) stream None text r y
       → outcome r y ≡ same → IsOfOneValue order stream
@@ -214,7 +223,7 @@ module _ (order : CmpOrder) where
               rest = [];
               are = record { each = served.1; is = h.is ∙ sym (append-nil (frames_of h.parts)) };
               joined = sym served.3;
-              ends = inl (frame_faults.Empty, λ e. absurd (cc), refl, refl);
+              ends = inl (frame_faults.Empty, λ e. cc, refl, refl);
             } in
             let taken = subst (λ (l : List ℕ). IsFolded f (first_run order) l None [] (Ok tt) z) (sym all) last in
             let also = subst (λ (b : Bool). IsFolded f (first_run order) (taken_of most_stream stream) (behind b) []

@@ -1,5 +1,5 @@
 -- The beginning of a text that a writer has kept.
-use Rattle.std.proofs.Common.{◌≡◌, ℕ, List, [], ◌∷◌, ◌++◌, Bool, Some, take, drop, refl, sym, ap, ◌∙◌}
+use Rattle.std.proofs.Common.{◌≡◌, ℕ, List, [], ◌∷◌, ◌++◌, Bool, Some, take, drop, refl, sym, ap, subst, ◌∙◌}
 use Rattle.std.proofs.lemmas.List.{append_assoc, take-append-drop}
 use Rattle.capn_words.specs.Message.{IsBare}
 use Rattle.capn_words.specs.Watched.{HasBegun}
@@ -7,7 +7,11 @@ use Rattle.capn_value.specs.Tree.{Tree}
 use Rattle.capn_walk.specs.Accepted.{root}
 use Rattle.capn_walk.specs.ValueAt.{IsAt}
 use Rattle.capn_marks.specs.MarkedPart.{marked_at}
+use Rattle.capn_walk.specs.Limits.{Bounds}
 use Rattle.capn_show.specs.Outgoing.{Outgoing, Adds, BreaksOff}
+use Rattle.capn_show.specs.Written.{IsBegun, IsUnwritten}
+use Rattle.capn_show.specs.declared.fault.ShowFault.{ShowFault}
+use Rattle.capn_show.specs.declared.fault.ShowFault.TheVariants as ends
 use Rattle.capn_show.specs.declared.fault.Broken.{Broken}
 use Rattle.capn_show.specs.declared.fault.Broken.TheVariants as broken
 use Rattle.capn_cmp.specs.ShownText.{IsShownFrom, end_line, shown_with_ways, ways_alone}
@@ -48,6 +52,11 @@ module _ (a k b l : List ℕ) (f g : Bool) where
         ∙ sym (append_assoc b (take n l) (drop n l)) ∙ ap (λ (x : List ℕ). x ++ drop n l) (sym wrote),
   )
 
+-- a text that broke off since there was no more room
+pub begun_of : (m : List (List ℕ)) (limits : Bounds) (of : Tree → List ℕ) (fault : ShowFault) (p q : Outgoing)
+    → fault ≡ ends.Io → IsUnwritten m limits of fault p q → IsBegun m limits of p q broken.Io
+begun_of m limits of fault p q is h = subst (λ (f : ShowFault). IsUnwritten m limits of f p q) is h
+
 -- ---- the text of canonical bytes
 
 module _ (bytes words : List ℕ) (v : Tree) (bare : IsBare bytes words) (is : IsAt (words ∷ []) root v) where
@@ -62,17 +71,21 @@ module _ (bytes words : List ℕ) (v : Tree) (bare : IsBare bytes words) (is : I
     same,
   )
 
-  pub whole_from : (b k c : List ℕ) (f g : Bool) → Adds (out [] [] f) (out b k g) text → IsEnded b k c
-      → IsShownFrom bytes c
-  whole_from b k c f g h (more, same) =
-      from c more
-      (ap (λ (x : List ℕ). x ++ end_line) (sym h.kept ∙ ap (λ (x : List ℕ). x ++ k) (sym h.taken))
-      ∙ append_assoc b k end_line ∙ same)
+  module _ (a k : List ℕ) (none : a ≡ []) (nothing : k ≡ []) where
+    pub whole_from : (b l c : List ℕ) (f g : Bool) → Adds (out a k f) (out b l g) text → IsEnded b l c
+        → IsShownFrom bytes c
+    whole_from b l c f g h (more, same) =
+        let first : b ≡ h.written = h.taken ∙ ap (λ (x : List ℕ). x ++ h.written) none in
+        let shown : b ++ l ≡ text = ap (λ (x : List ℕ). x ++ l) first ∙ h.kept
+        ∙ ap (λ (x : List ℕ). x ++ text) nothing in
+        from c more (ap (λ (x : List ℕ). x ++ end_line) (sym shown) ∙ append_assoc b l end_line ∙ same)
 
-  pub part_from : (b k : List ℕ) (f g : Bool) → BreaksOff (out [] [] f) (out b k g) broken.Io text
-      → IsShownFrom bytes b
-  part_from b k f g (n, wrote, failed) =
-      from b (drop n text ++ end_line)
-      (ap (λ (x : List ℕ). x ++ end_line) (sym (take-append-drop n text))
-      ∙ append_assoc (take n text) (drop n text) end_line
-      ∙ ap (λ (x : List ℕ). x ++ (drop n text ++ end_line)) (sym wrote))
+    pub part_from : (b l : List ℕ) (f g : Bool) → BreaksOff (out a k f) (out b l g) broken.Io text
+        → IsShownFrom bytes b
+    part_from b l f g (n, wrote, failed) =
+        let first : b ≡ take n text = wrote ∙ ap (λ (x : List ℕ). x ++ take n (k ++ text)) none
+        ∙ ap (λ (x : List ℕ). take n (x ++ text)) nothing in
+        from b (drop n text ++ end_line)
+        (ap (λ (x : List ℕ). x ++ end_line) (sym (take-append-drop n text))
+        ∙ append_assoc (take n text) (drop n text) end_line
+        ∙ ap (λ (x : List ℕ). x ++ (drop n text ++ end_line)) (sym first))

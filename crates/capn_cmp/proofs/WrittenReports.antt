@@ -22,7 +22,7 @@ use Rattle.capn_cmp.proofs.AllSame.{Comparing, Ending, Found, both, stays}
 abbrev different : Found
 different = Ok comparisons.Different
 
--- a text that goes on with others is not empty
+-- a text that goes on after some of it is not empty
 some_before : (xs ys : List ℕ) → xs ≢ [] → xs ++ ys ≢ []
 some_before [] ys some = absurd (some refl)
 some_before (x ∷ xs) ys some = λ h. cc
@@ -50,22 +50,22 @@ module _ (order : CmpOrder) where
   -- none is told where none differs
   none_told : (x y : Comparing) (ps : List Part) → AreServed f x ps y → y.service.differs ≡ false
       → texts_of ps ≡ []
-  none_told x y [] is no = refl
-  none_told x y (p ∷ ps) (mid, part, ((bytes, form, compares), at), more) no =
+  none_told x y [] is stay = refl
+  none_told x y (p ∷ ps) (mid, part, ((bytes, form, compares), at), more) stay =
       elim (silent_or_told x.service mid.service x.at bytes p.text compares) [
-        | inl h ↦ ap (λ (l : List ℕ). l ++ texts_of ps) h.0 ∙ none_told mid y ps more no
-        | inr h ↦ absurd (stays order mid y ps h.1 more no)
+        | inl h ↦ ap (λ (l : List ℕ). l ++ texts_of ps) h.0 ∙ none_told mid y ps more stay
+        | inr h ↦ absurd (stays order mid y ps h.1 more stay)
       ]
 
   -- one is told where one differs
   one_told : (x y : Comparing) (ps : List Part) → x.service.differs ≡ false → AreServed f x ps y
       → y.service.differs ≡ true → texts_of ps ≢ []
-  one_told x y [] no is yes =
-      absurd (both y.service.differs yes (sym (ap (λ (w : Comparing). w.service.differs) is) ∙ no))
-  one_told x y (p ∷ ps) no (mid, part, ((bytes, form, compares), at), more) yes =
+  one_told x y [] stay is move =
+      absurd (both y.service.differs move (sym (ap (λ (w : Comparing). w.service.differs) is) ∙ stay))
+  one_told x y (p ∷ ps) stay (mid, part, ((bytes, form, compares), at), more) move =
       elim (silent_or_told x.service mid.service x.at bytes p.text compares) [
         | inl h ↦
-            let rest = one_told mid y ps (h.1 ∙ no) more yes in
+            let rest = one_told mid y ps (h.1 ∙ stay) more move in
             λ e. rest (ap (λ (l : List ℕ). l ++ texts_of ps) (sym h.0) ∙ e)
         | inr h ↦ some_before p.text (texts_of ps) h.0
       ]
@@ -90,10 +90,10 @@ module _ (order : CmpOrder) where
   folded stream text behind r y h = (
     λ e none. one_told (first_run order) y h.parts refl h.are.each (other_found r y e) (sym h.joined ∙ none),
     λ some. elim (known y.service.differs) [
-      | inl yes ↦
-          ap (λ (q : Ending). outcome q y) (is_done f y h.rest behind r yes h.ends)
-          ∙ ap (λ (b : Bool). found_by b y.at.index) yes
-      | inr no ↦ absurd (some (h.joined ∙ none_told (first_run order) y h.parts h.are.each no))
+      | inl move ↦
+          ap (λ (q : Ending). outcome q y) (is_done f y h.rest behind r move h.ends)
+          ∙ ap (λ (b : Bool). found_by b y.at.index) move
+      | inr stay ↦ absurd (some (h.joined ∙ none_told (first_run order) y h.parts h.are.each stay))
     ],
   )
 

@@ -1,6 +1,6 @@
 //! The beginning of the text of canonical bytes.
 
-ghost use Rattle.std.specs.Prelude.{◌≡◌, IfErr, IfOk};
+ghost use Rattle.std.specs.Prelude.{◌≡◌, [], IfErr, IfOk};
 ghost use Rattle.capn_serve.specs.declared.fault.ServeFault.TheVariants as faults;
 ghost use Rattle.capn_words.specs.Watched.{inner_of};
 ghost use Rattle.capn_cmp.specs.ShownText.{IsShownFrom};
@@ -46,6 +46,21 @@ impl<A: Allocator> Write for Beginning<A> {
     }
 }
 
+/// A writer with room for this number of bytes.
+fn new_writer<A: Allocator>(alloc: A, room: usize) -> Watched<Beginning<A>>
+    ensures empty { (inner_of result).bytes.items ≡ [] }
+{
+    let bytes = Vec::new(alloc);
+    Watched::new(Beginning { bytes, room })
+}
+
+/// The bytes that a writer has kept.
+fn kept_by<A: Allocator>(writer: Watched<Beginning<A>>) -> Vec<u8, A>
+    ensures { result.items ≡ (inner_of writer).bytes.items }
+{
+    writer.into_inner().bytes
+}
+
 /// Ends a text with the line `end`, and writes what is kept of it. At `Io` there is no more room.
 fn end_text<A: Allocator>(
     text: &mut Vec<u8, A>,
@@ -75,14 +90,13 @@ pub(crate) fn begin_text<A: Allocator + Copy>(
         return Err(ServeFault::Memory);
     };
     let mut text = Vec::new(alloc);
-    let bytes = Vec::new(alloc);
-    let mut writer = Watched::new(Beginning { bytes, room });
+    let mut writer = new_writer(alloc, room);
     match show_marked(alloc, &mut text, &mut writer, &message, limits, WAYS, &[]) {
         Ok(()) => match end_text(&mut text, &mut writer) {
-            Ok(()) | Err(Broken::Io) => Ok(writer.into_inner().bytes),
+            Ok(()) | Err(Broken::Io) => Ok(kept_by(writer)),
             Err(Broken::Memory) => Err(ServeFault::Memory),
         },
-        Err(ShowFault::Io) => Ok(writer.into_inner().bytes),
+        Err(ShowFault::Io) => Ok(kept_by(writer)),
         Err(_) => Err(ServeFault::Memory),
     }
 }

@@ -1,8 +1,9 @@
 //! The report on a message that differs.
 
-ghost use Rattle.std.specs.Prelude.{◌≡◌, ◌++◌, IfErr, IfOk, OnOk};
+ghost use Rattle.std.specs.Prelude.{◌≡◌, ◌++◌, IfErr, IfOk, IfSome, OnOk};
 ghost use Rattle.capn_serve.specs.declared.fault.ServeFault.TheVariants as faults;
 ghost use Rattle.capn_cmp.specs.CmpMessages.{IsReport, report};
+ghost use Rattle.capn_cmp.specs.ShownText.{IsShownFrom};
 
 use crate::beginning::begin_text;
 use crate::lines_apart::lines_apart;
@@ -47,6 +48,30 @@ fn report_of<A: Allocator + Copy>(
     Ok(text)
 }
 
+/// The report on the message at this position, if these beginnings of both texts have the first lines in which the
+/// texts differ: that of the first message's canonical bytes, and that of its own.
+fn report_by<A: Allocator + Copy>(
+    alloc: A,
+    at: Position,
+    first: &[u8],
+    bytes: &[u8],
+    text: &[u8],
+    other: &[u8],
+) -> Result<Option<Vec<u8, A>>, ServeFault>
+    requires shown { IsShownFrom first.now text.now }
+    requires also { IsShownFrom bytes.now other.now }
+    ensures found { IfOk result (λ found. IfSome found (λ report. IsReport at first.now bytes.now report.items)) }
+    ensures only { IfErr result (λ e. e ≡ faults.Memory) }
+{
+    match lines_apart(text, other) {
+        Some((line, other_line)) => {
+            let report = report_of(alloc, at, line, other_line)?;
+            Ok(Some(report))
+        }
+        None => Ok(None),
+    }
+}
+
 /// The report on the message at this position, whose canonical bytes differ from the first message's.
 ///
 /// Of both texts a beginning is made, and twice as much again, until both have the first lines in which they differ.
@@ -56,17 +81,18 @@ pub(crate) fn find_report<A: Allocator + Copy>(
     at: Position,
     limits: Limits,
     first: &[u8],
-    other: &[u8],
+    bytes: &[u8],
 ) -> Result<Vec<u8, A>, ServeFault>
-    ensures found { IfOk result (λ text. IsReport at first.now other.now text.items) }
+    ensures found { IfOk result (λ text. IsReport at first.now bytes.now text.items) }
     ensures only { IfErr result (λ e. e ≡ faults.Memory) }
 {
     for power in 16..48_u32 {
         let room = 1_usize << power;
         let text = begin_text(alloc, limits, first, room)?;
-        let other_text = begin_text(alloc, limits, other, room)?;
-        if let Some((line, other_line)) = lines_apart(&text, &other_text) {
-            return report_of(alloc, at, line, other_line);
+        let other = begin_text(alloc, limits, bytes, room)?;
+        match report_by(alloc, at, first, bytes, &text, &other)? {
+            Some(report) => return Ok(report),
+            None => {}
         }
     }
     Err(ServeFault::Memory)
