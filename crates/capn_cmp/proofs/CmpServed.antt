@@ -1,5 +1,6 @@
 -- A message that was compared, as one that the service serves.
-use Rattle.std.proofs.Common.{◌≡◌, ◌≢◌, inl, inr, ℕ, List, [], Bool, true, false, Result, Ok, Err, refl, ap, subst, sym}
+use Rattle.std.proofs.Common.{◌≡◌, ◌≢◌, inl, inr, ℕ, List, [], Bool, true, false, Result, Ok, Err, refl, ap, subst}
+use Rattle.std.proofs.Common.{sym, ◌∙◌}
 use Rattle.capn_walk.specs.Limits.{Bounds}
 use Rattle.capn_canon.specs.Denotes.{AnswersMessage}
 use Rattle.capn_serve.specs.declared.position.Position.{Position}
@@ -70,3 +71,21 @@ tried_does s at frame message bytes price is a b failed (Err faults.Memory) t
 tried_does s at frame message bytes price is a b failed (Err faults.Io) t ((text, u, count, compares, breaks), broken) =
     ((text, u, count, (bytes, (price, is), compares), breaks), broken)
 tried_does s at frame message bytes price is a b failed (Err (faults.Refused r)) t none = absurd none
+
+-- ---- by the fields of a state
+
+module _ (limits : Bounds) (first : List ℕ) (differs : Bool) (s : CmpState) (same : state limits first differs ≡ s)
+    (at : Position) (later : at.index ≢ 0) (bytes own : List ℕ) (is : own ≡ first) where
+  pub agrees_with : own ≡ bytes → (a : Outgoing) (failed : Bool) → failed ≡ false
+      → TriesToCompare s at bytes a a failed done s
+  agrees_with alike a failed fine =
+      agrees s at bytes a failed fine later (sym alike ∙ is ∙ ap (λ (q : CmpState). q.first) same)
+
+  pub differs_from : own ≢ bytes → (other : List ℕ) → other ≡ first → (text : List ℕ) → IsReport at other bytes text
+      → (sent : List ℕ) → sent ≡ text → (a b : Outgoing) (failed : Bool) (r : Ending) → AddsBytes sent a b failed r
+      → TriesToCompare s at bytes a b failed r (state limits first true)
+  differs_from differ other there text report sent told a b failed r adds =
+      subst (λ (q : CmpState). TriesToCompare q at bytes a b failed r (state limits first true)) same
+      (differs_with (state limits first differs) at bytes later (λ e. differ (is ∙ sym e)) text
+      (subst (λ (x : List ℕ). IsReport at x bytes text) there report) a b failed r
+      (subst (λ (x : List ℕ). AddsBytes x a b failed r) told adds))

@@ -32,6 +32,12 @@ not_not false e = absurd (cc)
 pub found_same : (xs ys : List ℕ) (r : Bool) → r ≡ not (pointwise nat_eq xs ys) → r ≡ false → xs ≡ ys
 found_same xs ys r is e = (same_bytes xs ys).0 (not_not (pointwise nat_eq xs ys) (sym is ∙ e))
 
+pub found_equal : (xs ys : List ℕ) (r : Bool) → r ≡ pointwise nat_eq xs ys → r ≡ true → xs ≡ ys
+found_equal xs ys r is e = (same_bytes xs ys).0 (sym is ∙ e)
+
+pub found_other : (xs ys : List ℕ) (r : Bool) → r ≡ pointwise nat_eq xs ys → r ≡ false → xs ≢ ys
+found_other xs ys r is e same = let bad : true ≡ false = sym ((same_bytes xs ys).1 same) ∙ sym is ∙ e in cc
+
 -- one line more
 lines_more : (lines : List (List ℕ)) (line : List ℕ) → AreLines lines → IsUnbroken line → AreLines (lines ++ line ∷ [])
 lines_more [] line h is = (is, tt)

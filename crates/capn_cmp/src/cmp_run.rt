@@ -57,7 +57,6 @@ fn found_by<A: Allocator>(run: &Run<CmpService<A>>) -> Result<Comparison, CmpFau
 /// after all of an input of fewer than two messages; `InputTooLong`; `Io` if and only if the reader or the writer
 /// failed; `Memory` if a growth was refused. It holds what its loop holds, the canonical bytes of the first message and
 /// of one more, and at a difference the beginnings of both texts.
-#[tactic(auto, using(crate::proofs::CmpRuns::compared))]
 pub fn run_cmp<R: Read, W: Write, A: Allocator + Copy>(
     alloc: A,
     order: CmpOrder,
