@@ -9,7 +9,7 @@ _capn() {
     [[ ${COMP_WORDS[at - 1]} == = ]] && ((at--))
     local before=${COMP_WORDS[at - 1]}
     if ((COMP_CWORD == 1)); then
-        mapfile -t COMPREPLY < <(compgen -W 'show check explain list limits canonical hash uniq filter pick pack unpack make help --help --version' -- "$word")
+        mapfile -t COMPREPLY < <(compgen -W 'show check explain list limits canonical hash uniq filter cmp pick pack unpack make help --help --version' -- "$word")
         return
     fi
     case "$command $before" in
@@ -60,6 +60,11 @@ _capn() {
         'filter --budget') words='' ;;
         'filter --depth') words='' ;;
         'filter --tariff') words='strict plain' ;;
+        'cmp --form') words='stream packed' ;;
+        'cmp --message-words') words='' ;;
+        'cmp --budget') words='' ;;
+        'cmp --depth') words='' ;;
+        'cmp --tariff') words='strict plain' ;;
         'pick --form') words='stream packed' ;;
         'pick --message-words') words='' ;;
         'pick --from') words='' ;;
@@ -76,11 +81,12 @@ _capn() {
         'hash '*) words='--form --message-words --budget --depth --tariff --one --help' ;;
         'uniq '*) words='--form --message-words --budget --depth --tariff --keep-going --count --help' ;;
         'filter '*) words='--form --message-words --budget --depth --tariff --keep-going --canonical --help' ;;
+        'cmp '*) words='--form --message-words --budget --depth --tariff --help' ;;
         'pick '*) words='--form --message-words --from --to --only --help' ;;
         'pack '*) words='--streaming --help' ;;
         'unpack '*) words='--message-words --streaming --help' ;;
         'make '*) words='--form --text --help' ;;
-        'help '*) words='show check explain list limits canonical hash uniq filter pick pack unpack make' ;;
+        'help '*) words='show check explain list limits canonical hash uniq filter cmp pick pack unpack make' ;;
     esac
     mapfile -t COMPREPLY < <(compgen -W "$words" -- "$word")
 }

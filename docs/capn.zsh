@@ -12,6 +12,7 @@ _capn() {
         'hash:Writes the SHA-256 of each message'\''s canonical bytes, one to a line'
         'uniq:Writes each message whose value no message before it had'
         'filter:Writes each message that is accepted, and holds back the others'
+        'cmp:Finds whether all messages have the value of the first one'
         'pick:Writes some of the messages of a stream as they stand'
         'pack:Packs the input, whose bytes are whole words'
         'unpack:Unpacks the input, which is packed'
@@ -117,6 +118,14 @@ _capn() {
                 '--tariff=[What reading a struct or list costs beside its words]:tariff:(strict plain)' \
                 '--keep-going[Pass over a message that is refused, and go on with the next one]' \
                 '--canonical[Let only canonical messages through]' \
+                '--help[Print help]' ;;
+        cmp)
+            _arguments \
+                '--form=[How the input holds its messages]:form:(stream packed)' \
+                '--message-words=[The most words of a message, from 1 to 268435456]:message-words:()' \
+                '--budget=[The most words that reading one message may cost, from 0 to 268435456]:budget:()' \
+                '--depth=[The most objects one below the other, from 1 to 256]:depth:()' \
+                '--tariff=[What reading a struct or list costs beside its words]:tariff:(strict plain)' \
                 '--help[Print help]' ;;
         pick)
             _arguments \

@@ -676,6 +676,33 @@ def run_filter(data, canonical=False, **options):
     return run("filter", data, only_canonical=canonical, **options)
 
 
+def apart(first, other):
+    """The first lines in which the texts of two canonical bytes differ, with the way before each line."""
+    texts = [Marked([it], 0, False, True).part(()).splitlines() + ["\tend"] for it in (first, other)]
+    return next(both for both in zip(*texts) if both[0] != both[1])
+
+
+def run_cmp(data, form="stream", message_words=8388608, **limits):
+    found, fault = messages(data, form, message_words)
+    first = None
+    for index, (offset, _, segments) in enumerate(found, 1):
+        try:
+            walk = Walk(segments, **limits)
+            without_capability(walk)
+        except Refused as refused:
+            return b"", line_of((str(refused), index, offset)), 1
+        own = canonical(walk.value)
+        first = first or own
+        if own != first:
+            line, other = apart(first, own)
+            return f"message {index} at {offset} differs from message 1\n< {line}\n> {other}\n".encode(), "", 1
+    if fault is not None:
+        return b"", line_of(fault), 1
+    if len(found) < 2:
+        return b"", "capn: fewer than two messages\n", 1
+    return b"", "", 0
+
+
 def run_canonical(data, framed=False, keep_going=False, **options):
     return run("canonical", data, keep_going=keep_going, **options) if framed else canonical_of_one(data, **options)
 

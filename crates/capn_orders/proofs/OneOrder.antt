@@ -9,7 +9,7 @@ use Rattle.capn_canon.specs.declared.form.Form.{Form}
 use Rattle.capn_canon.specs.declared.form.Form.TheVariants as forms
 use Rattle.capn_orders.specs.Meaning.{Means, AreOptions, AreSame, ExplainIs, HasNoFlag, IsFlow, IsNumbered, IsSameWay}
 use Rattle.capn_orders.specs.Meaning.{IsTask, MakeIs, MeansOneOrder, MeansOrder, OnlyIs, PickIs, ShowIs, StyleIs}
-use Rattle.capn_orders.specs.Meaning.{FilterIs, UniqIs, WayIs, MarksAre, is_plain, usual_with}
+use Rattle.capn_orders.specs.Meaning.{CmpIs, FilterIs, UniqIs, WayIs, MarksAre, is_plain, usual_with}
 use Rattle.capn_commands.specs.Plan.{form_of}
 use Rattle.capn_commands.specs.declared.plan.MessageText.TheVariants as pieces
 use Rattle.capn_orders.proofs.OneMeaning.{flag_one, form_one, limits_one, means_one, number_one}
@@ -19,6 +19,7 @@ use Rattle.capn_archive.specs.declared.task.ArchiveOrder.{ArchiveOrder}
 use Rattle.capn_archive.specs.declared.task.Task.{Task}
 use Rattle.capn_archive.specs.declared.task.Task.TheVariants as tasks
 use Rattle.capn_archive.specs.declared.filter_order.FilterOrder.{FilterOrder}
+use Rattle.capn_cmp.specs.declared.cmp_order.CmpOrder.{CmpOrder}
 use Rattle.capn_archive.specs.declared.uniq_order.UniqOrder.{UniqOrder}
 use Rattle.capn_report.specs.declared.explain.Explain.{Explain}
 use Rattle.capn_serve.specs.declared.pick.Pick.{Pick}
@@ -71,6 +72,7 @@ tell_of (orders.Explain x) = 344
 tell_of (orders.Archive a) = tell_task a.task
 tell_of (orders.Uniq u) = 320
 tell_of (orders.Filter h) = 321
+tell_of (orders.Cmp z) = 333
 tell_of (orders.Pick k) = 303
 tell_of (orders.Only k) = 303
 tell_of (orders.Flow w) = tell_flow w
@@ -105,6 +107,7 @@ told said (orders.Explain x) m = ap tell m.0
 told said (orders.Archive a) m = told_task said.0 said.1 a.task m.0
 told said (orders.Uniq u) m = ap tell m.0
 told said (orders.Filter h) m = ap tell m.0
+told said (orders.Cmp z) m = ap tell m.0
 told said (orders.Pick k) m = ap tell m.0
 told said (orders.Only k) m = ap tell m.0
 told said (orders.Flow w) m = told_flow said.0 said.1 w m
@@ -112,7 +115,8 @@ told said (orders.Make f) m = ap tell m.0
 
 -- no command over messages or bytes is named so
 abbrev is_no_command : ℕ → Bool
-is_no_command n = n == 303 || (n == 311 || (n == 320 || (n == 321 || (n == 323 || (n == 335 || n == 344)))))
+is_no_command n =
+    n == 303 || (n == 311 || (n == 320 || (n == 321 || (n == 323 || (n == 333 || (n == 335 || n == 344))))))
 
 no_command : (c : Command) → is_no_command (tell_command c) ≡ false
 no_command (commands.Show f l) = refl
@@ -130,8 +134,8 @@ never_command c n other e = let bad : false ≡ true = sym (no_command c) ∙ ap
 
 -- and no task
 abbrev is_no_task : ℕ → Bool
-is_no_task n =
-    n == 303 || (n == 311 || (n == 320 || (n == 321 || (n == 326 || (n == 295 || (n == 334 || n == 344))))))
+is_no_task n = n == 303
+    || (n == 311 || (n == 320 || (n == 321 || (n == 326 || (n == 295 || (n == 333 || (n == 334 || n == 344)))))))
 
 no_task : (t : Task) → is_no_task (tell_task t) ≡ false
 no_task tasks.List = refl
@@ -144,7 +148,7 @@ never_task t n other e = let bad : false ≡ true = sym (no_task t) ∙ ap is_no
 
 -- and no flow
 abbrev is_no_flow : ℕ → Bool
-is_no_flow n = n == 303 || (n == 311 || (n == 320 || (n == 321 || (n == 326 || n == 344))))
+is_no_flow n = n == 303 || (n == 311 || (n == 320 || (n == 321 || (n == 326 || (n == 333 || n == 344)))))
 
 no_flow : (w : Flow) → is_no_flow (tell_flow w) ≡ false
 no_flow flows.Pack = refl
@@ -244,6 +248,13 @@ stream_form_one stream_forms.Stream stream_forms.Packed e =
 stream_form_one stream_forms.Packed stream_forms.Stream e =
     absurd (let bad : 1 ≡ 0 = ap (λ (f : Form). mark_of f) e in omega arith)
 stream_form_one stream_forms.Packed stream_forms.Packed e = refl
+
+cmp_one : (rows : List Row) (u v : CmpOrder) → CmpIs rows u → CmpIs rows v → u ≡ v
+cmp_one rows u v (f, l) (g, m) =
+    let form : u.form ≡ v.form =
+    stream_form_one u.form v.form (form_one (form_of u.form) (form_of v.form) (sym f ∙ g)) in
+    let limits : u.limits ≡ v.limits = limits_one rows u.limits v.limits l m in
+    λ i. record { form = form i; limits = limits i }
 
 pick_one : (rows : List Row) (p q : Pick) → PickIs rows p → PickIs rows q → p ≡ q
 pick_one rows p q (f, w, usual, a, b, none) (g, v, usually, c, d, also) =
@@ -423,6 +434,7 @@ same s (orders.Message c) (orders.Explain y) e m n = absurd (never_command c 344
 same s (orders.Message c) (orders.Archive b) e m n = absurd (apart s.0 s.1 c b.task e m.1 n.0)
 same s (orders.Message c) (orders.Uniq v) e m n = absurd (never_command c 320 refl e)
 same s (orders.Message c) (orders.Filter h) e m n = absurd (never_command c 321 refl e)
+same s (orders.Message c) (orders.Cmp z) e m n = absurd (never_command c 333 refl e)
 same s (orders.Message c) (orders.Pick k) e m n = absurd (never_command c 303 refl e)
 same s (orders.Message c) (orders.Only k) e m n = absurd (never_command c 303 refl e)
 same s (orders.Message c) (orders.Flow w) e m n = absurd (streams s.0 s.1 c w e m.1 n)
@@ -433,6 +445,7 @@ same s (orders.Show r) (orders.Explain y) e m n = absurd (omega arith)
 same s (orders.Show r) (orders.Archive b) e m n = absurd (never_task b.task 326 refl (sym e))
 same s (orders.Show r) (orders.Uniq v) e m n = absurd (omega arith)
 same s (orders.Show r) (orders.Filter h) e m n = absurd (omega arith)
+same s (orders.Show r) (orders.Cmp z) e m n = absurd (omega arith)
 same s (orders.Show r) (orders.Pick k) e m n = absurd (omega arith)
 same s (orders.Show r) (orders.Only k) e m n = absurd (omega arith)
 same s (orders.Show r) (orders.Flow w) e m n = absurd (never_flow w 326 refl (sym e))
@@ -444,6 +457,7 @@ same s (orders.Explain x) (orders.Explain y) e m n =
 same s (orders.Explain x) (orders.Archive b) e m n = absurd (never_task b.task 344 refl (sym e))
 same s (orders.Explain x) (orders.Uniq v) e m n = absurd (omega arith)
 same s (orders.Explain x) (orders.Filter h) e m n = absurd (omega arith)
+same s (orders.Explain x) (orders.Cmp z) e m n = absurd (omega arith)
 same s (orders.Explain x) (orders.Pick k) e m n = absurd (omega arith)
 same s (orders.Explain x) (orders.Only k) e m n = absurd (omega arith)
 same s (orders.Explain x) (orders.Flow w) e m n = absurd (never_flow w 344 refl (sym e))
@@ -455,6 +469,7 @@ same s (orders.Archive a) (orders.Archive b) e m n =
     ap (λ (x : ArchiveOrder). orders.Archive x) (archive_one s.0 s.1 a b e m.0 m.1 n.0 n.1)
 same s (orders.Archive a) (orders.Uniq v) e m n = absurd (never_task a.task 320 refl e)
 same s (orders.Archive a) (orders.Filter h) e m n = absurd (never_task a.task 321 refl e)
+same s (orders.Archive a) (orders.Cmp z) e m n = absurd (never_task a.task 333 refl e)
 same s (orders.Archive a) (orders.Pick k) e m n = absurd (never_task a.task 303 refl e)
 same s (orders.Archive a) (orders.Only k) e m n = absurd (never_task a.task 303 refl e)
 same s (orders.Archive a) (orders.Flow w) e m n = absurd (stays a.task w e)
@@ -465,6 +480,7 @@ same s (orders.Uniq u) (orders.Explain y) e m n = absurd (omega arith)
 same s (orders.Uniq u) (orders.Archive b) e m n = absurd (never_task b.task 320 refl (sym e))
 same s (orders.Uniq u) (orders.Uniq v) e m n = ap (λ (x : UniqOrder). orders.Uniq x) (uniq_one s.1 u v m.1 n.1)
 same s (orders.Uniq u) (orders.Filter h) e m n = absurd (omega arith)
+same s (orders.Uniq u) (orders.Cmp z) e m n = absurd (omega arith)
 same s (orders.Uniq u) (orders.Pick k) e m n = absurd (omega arith)
 same s (orders.Uniq u) (orders.Only k) e m n = absurd (omega arith)
 same s (orders.Uniq u) (orders.Flow w) e m n = absurd (never_flow w 320 refl (sym e))
@@ -476,16 +492,29 @@ same s (orders.Filter h) (orders.Archive b) e m n = absurd (never_task b.task 32
 same s (orders.Filter h) (orders.Uniq v) e m n = absurd (omega arith)
 same s (orders.Filter h) (orders.Filter k) e m n =
     ap (λ (x : FilterOrder). orders.Filter x) (filter_one s.1 h k m.1 n.1)
+same s (orders.Filter h) (orders.Cmp z) e m n = absurd (omega arith)
 same s (orders.Filter h) (orders.Pick k) e m n = absurd (omega arith)
 same s (orders.Filter h) (orders.Only k) e m n = absurd (omega arith)
 same s (orders.Filter h) (orders.Flow w) e m n = absurd (never_flow w 321 refl (sym e))
 same s (orders.Filter h) (orders.Make g) e m n = absurd (omega arith)
+same s (orders.Cmp z) (orders.Message d) e m n = absurd (never_command d 333 refl (sym e))
+same s (orders.Cmp z) (orders.Show t) e m n = absurd (omega arith)
+same s (orders.Cmp z) (orders.Explain y) e m n = absurd (omega arith)
+same s (orders.Cmp z) (orders.Archive b) e m n = absurd (never_task b.task 333 refl (sym e))
+same s (orders.Cmp z) (orders.Uniq v) e m n = absurd (omega arith)
+same s (orders.Cmp z) (orders.Filter k) e m n = absurd (omega arith)
+same s (orders.Cmp z) (orders.Cmp y) e m n = ap (λ (x : CmpOrder). orders.Cmp x) (cmp_one s.1 z y m.1 n.1)
+same s (orders.Cmp z) (orders.Pick k) e m n = absurd (omega arith)
+same s (orders.Cmp z) (orders.Only k) e m n = absurd (omega arith)
+same s (orders.Cmp z) (orders.Flow w) e m n = absurd (never_flow w 333 refl (sym e))
+same s (orders.Cmp z) (orders.Make g) e m n = absurd (omega arith)
 same s (orders.Pick k) (orders.Message d) e m n = absurd (never_command d 303 refl (sym e))
 same s (orders.Pick k) (orders.Show t) e m n = absurd (omega arith)
 same s (orders.Pick k) (orders.Explain y) e m n = absurd (omega arith)
 same s (orders.Pick k) (orders.Archive b) e m n = absurd (never_task b.task 303 refl (sym e))
 same s (orders.Pick k) (orders.Uniq v) e m n = absurd (omega arith)
 same s (orders.Pick k) (orders.Filter h) e m n = absurd (omega arith)
+same s (orders.Pick k) (orders.Cmp z) e m n = absurd (omega arith)
 same s (orders.Pick k) (orders.Pick l) e m n = ap (λ (x : Pick). orders.Pick x) (pick_one s.1 k l m.1 n.1)
 same s (orders.Pick k) (orders.Only l) e m n = absurd (listed s.1 k l m.1 n.1)
 same s (orders.Pick k) (orders.Flow w) e m n = absurd (never_flow w 303 refl (sym e))
@@ -496,6 +525,7 @@ same s (orders.Only k) (orders.Explain y) e m n = absurd (omega arith)
 same s (orders.Only k) (orders.Archive b) e m n = absurd (never_task b.task 303 refl (sym e))
 same s (orders.Only k) (orders.Uniq v) e m n = absurd (omega arith)
 same s (orders.Only k) (orders.Filter h) e m n = absurd (omega arith)
+same s (orders.Only k) (orders.Cmp z) e m n = absurd (omega arith)
 same s (orders.Only k) (orders.Pick l) e m n = absurd (listed s.1 l k n.1 m.1)
 same s (orders.Only k) (orders.Only l) e m n = only_one s.1 k l m.1 n.1
 same s (orders.Only k) (orders.Flow w) e m n = absurd (never_flow w 303 refl (sym e))
@@ -506,6 +536,7 @@ same s (orders.Flow v) (orders.Explain y) e m n = absurd (never_flow v 344 refl 
 same s (orders.Flow v) (orders.Archive b) e m n = absurd (stays b.task v (sym e))
 same s (orders.Flow v) (orders.Uniq u) e m n = absurd (never_flow v 320 refl e)
 same s (orders.Flow v) (orders.Filter h) e m n = absurd (never_flow v 321 refl e)
+same s (orders.Flow v) (orders.Cmp z) e m n = absurd (never_flow v 333 refl e)
 same s (orders.Flow v) (orders.Pick k) e m n = absurd (never_flow v 303 refl e)
 same s (orders.Flow v) (orders.Only k) e m n = absurd (never_flow v 303 refl e)
 same s (orders.Flow v) (orders.Flow w) e m n = ap (λ (x : Flow). orders.Flow x) (flow_one v w e)
@@ -516,6 +547,7 @@ same s (orders.Make f) (orders.Explain y) e m n = absurd (omega arith)
 same s (orders.Make f) (orders.Archive b) e m n = absurd (never_task b.task 311 refl (sym e))
 same s (orders.Make f) (orders.Uniq v) e m n = absurd (omega arith)
 same s (orders.Make f) (orders.Filter h) e m n = absurd (omega arith)
+same s (orders.Make f) (orders.Cmp z) e m n = absurd (omega arith)
 same s (orders.Make f) (orders.Pick k) e m n = absurd (omega arith)
 same s (orders.Make f) (orders.Only k) e m n = absurd (omega arith)
 same s (orders.Make f) (orders.Flow w) e m n = absurd (never_flow w 311 refl (sym e))
@@ -533,6 +565,7 @@ same_command (orders.Explain explain) command is = is
 same_command (orders.Archive archive) command is = is
 same_command (orders.Uniq uniq) command is = is
 same_command (orders.Filter filter) command is = is
+same_command (orders.Cmp cmp) command is = is
 same_command (orders.Pick pick) command is = is
 same_command (orders.Only only) command is = is
 same_command (orders.Flow flow) command is = is

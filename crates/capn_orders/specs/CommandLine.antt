@@ -61,6 +61,11 @@ HasLine command line = (app_of command ≡ line) × ((out-Command command).has_g
 -- the commands over messages that take limits
 abbrev pub limited : List Text
 limited = codes "show" ∷ codes "check" ∷ codes "explain" ∷ codes "list" ∷ codes "limits" ∷ codes "canonical"
+    ∷ codes "hash" ∷ codes "uniq" ∷ codes "filter" ∷ codes "cmp" ∷ []
+
+-- those of them whose message may be bare
+abbrev pub unframed : List Text
+unframed = codes "show" ∷ codes "check" ∷ codes "explain" ∷ codes "list" ∷ codes "limits" ∷ codes "canonical"
     ∷ codes "hash" ∷ codes "uniq" ∷ codes "filter" ∷ []
 
 -- each option, and the commands that take it: where an option is there twice, help says two things of it
@@ -71,10 +76,10 @@ options = (
       ∷ codes "uniq" ∷ codes "filter" ∷ [],
 )
     ∷ (form_rule, codes "canonical" ∷ [])
-    ∷ (form_rule, codes "pick" ∷ [])
+    ∷ (form_rule, codes "cmp" ∷ codes "pick" ∷ [])
     ∷ (form_rule, codes "make" ∷ [])
-    ∷ (words_rule, limited)
-    ∷ (words_rule, codes "pick" ∷ [])
+    ∷ (words_rule, unframed)
+    ∷ (words_rule, codes "cmp" ∷ codes "pick" ∷ [])
     ∷ (words_rule, codes "unpack" ∷ [])
     ∷ (budget_rule, limited)
     ∷ (depth_rule, limited)
@@ -103,7 +108,8 @@ options = (
 -- the commands
 abbrev pub commands : List Text
 commands = codes "show" ∷ codes "check" ∷ codes "explain" ∷ codes "list" ∷ codes "limits" ∷ codes "canonical"
-    ∷ codes "hash" ∷ codes "uniq" ∷ codes "filter" ∷ codes "pick" ∷ codes "pack" ∷ codes "unpack" ∷ codes "make" ∷ []
+    ∷ codes "hash" ∷ codes "uniq" ∷ codes "filter" ∷ codes "cmp" ∷ codes "pick" ∷ codes "pack" ∷ codes "unpack"
+    ∷ codes "make" ∷ []
 
 -- a line with those of some options more that the command of this name takes
 abbrev pub with_options : Text → App → List (Rule × List Text) → App

@@ -8,6 +8,7 @@ use Rattle.capn_walk.specs.Limits.{Bounds}
 use Rattle.capn_commands.specs.declared.command.Command.{Command}
 use Rattle.capn_commands.specs.declared.command.Command.TheVariants as commands
 use Rattle.capn_archive.specs.declared.filter_order.FilterOrder.{FilterOrder}
+use Rattle.capn_cmp.specs.declared.cmp_order.CmpOrder.{CmpOrder}
 use Rattle.capn_commands.specs.declared.plan.MessageText.{MessageText}
 use Rattle.capn_commands.specs.declared.plan.MessageText.TheVariants as pieces
 use Rattle.capn_commands.specs.Plan.{form_of}
@@ -46,6 +47,10 @@ UniqIs rows uniq = FormIs rows uniq.form × LimitsAre rows uniq.limits
 abbrev pub FilterIs : List Row → FilterOrder → Type 0
 FilterIs rows filter = FormIs rows filter.form × LimitsAre rows filter.limits
     × FlagIs rows (codes "keep-going") filter.keep_going × FlagIs rows (codes "canonical") filter.canonical
+
+-- the options of `cmp` have these values; it takes no bare input
+abbrev pub CmpIs : List Row → CmpOrder → Type 0
+CmpIs rows cmp = FormIs rows (form_of cmp.form) × LimitsAre rows cmp.limits
 
 -- the usual limits, with this number of words of a message
 abbrev pub usual_with : ℕ → Bounds
@@ -185,6 +190,7 @@ MeansOrder (Some s) (orders.Explain explain) = (s.0 ≡ codes "explain") × Expl
 MeansOrder (Some s) (orders.Archive archive) = IsTask s.0 s.1 archive.task × AreOptions s.1 archive
 MeansOrder (Some s) (orders.Uniq uniq) = (s.0 ≡ codes "uniq") × UniqIs s.1 uniq
 MeansOrder (Some s) (orders.Filter filter) = (s.0 ≡ codes "filter") × FilterIs s.1 filter
+MeansOrder (Some s) (orders.Cmp cmp) = (s.0 ≡ codes "cmp") × CmpIs s.1 cmp
 MeansOrder (Some s) (orders.Pick pick) = (s.0 ≡ codes "pick") × PickIs s.1 pick
 MeansOrder (Some s) (orders.Only only) = (s.0 ≡ codes "pick") × OnlyIs s.1 only
 MeansOrder (Some s) (orders.Flow flow) = IsFlow s.0 s.1 flow

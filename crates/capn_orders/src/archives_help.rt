@@ -145,6 +145,33 @@ With 1 and 3 one line on standard error says why, or with `--keep-going` two;
 the manual page explains them under DIAGNOSTICS.",
 };
 
+/// `cmp`.
+pub const CMP: Page = Page {
+    first: "To find out whether two messages have the same value, and where they differ:
+  cat one two | capn cmp",
+    usage: "capn cmp [OPTIONS] < INPUT",
+    about: "Finds whether all messages have the value of the first one",
+    more: "Values are the same if their canonical bytes are equal. If a message differs,
+three lines say which, and the first lines in which the texts of the first value
+and of its own differ, as `show --ways` writes them:
+  message N at A differs from message 1
+  < LINE
+  > LINE
+Nothing is read after that. A message with a capability has no canonical bytes
+and is refused. Each message is judged as soon as it is complete, and the input
+may have any length.
+
+Exit status:
+  0  All messages have the same value
+  1  A message differs, and the three lines were written; or a message was
+     refused, or there are fewer than two, and nothing was written
+  2  The command line is wrong
+  3  Reading or writing failed, the input is longer than 2^64 - 1 bytes, or
+     memory ran out
+With 3, and with 1 if no message differs, one line on standard error says why;
+the manual page explains it under DIAGNOSTICS.",
+};
+
 /// `pick`.
 pub const PICK: Page = Page {
     first: "To take messages out of an archive by their numbers:

@@ -5,11 +5,13 @@ ghost use Rattle.std.specs.Prelude.{IfErr, IfOk, IfSome, IsSome, Some};
 ghost use Rattle.clap.specs.Words.{Text, fault_of, found_of, kind_of, rows_of, subcommand_of, takes};
 ghost use Rattle.capn_orders.specs.Usage.{error_of, IsReason, Orders};
 ghost use Rattle.capn_archive.specs.declared.filter_order.FilterOrder.{FilterOrder};
+ghost use Rattle.capn_cmp.specs.declared.cmp_order.CmpOrder.{CmpOrder};
 ghost use Rattle.capn_archive.specs.declared.task.ArchiveOrder.{ArchiveOrder};
 ghost use Rattle.capn_archive.specs.declared.uniq_order.UniqOrder.{UniqOrder};
 ghost use Rattle.capn_serve.specs.declared.pick.Pick.{Pick};
 ghost use Rattle.capn_orders.specs.CommandLine.{program_line};
-ghost use Rattle.capn_orders.specs.Meaning.{AreOptions, FilterIs, ListIs, MakeIs, MeansOrder, OnlyIs, PickIs, UniqIs};
+ghost use Rattle.capn_orders.specs.Meaning.{AreOptions, CmpIs, FilterIs, ListIs, MakeIs, MeansOrder, OnlyIs, PickIs};
+ghost use Rattle.capn_orders.specs.Meaning.{UniqIs};
 ghost use Rattle.capn_orders.specs.declared.order.Make.{Make};
 ghost use Rattle.capn_orders.specs.declared.order.Only.{Only};
 ghost use Rattle.capn_orders.specs.declared.order.Order.{Order};
@@ -24,6 +26,7 @@ use crate::show_options::show_of;
 use crate::subcommands::program_command;
 use crate::usage::Usage;
 use capn_archive::{ArchiveOrder, FilterOrder, Task, UniqOrder};
+use capn_cmp::CmpOrder;
 use capn_commands::{Command, MessageText};
 use capn_serve::Pick;
 use capn_words::MOST_MESSAGE_WORDS;
@@ -85,6 +88,17 @@ fn filter_of(matches: &ArgMatches) -> Option<FilterOrder>
         limits: limits_of(matches)?,
         keep_going: flag_of(matches, "keep-going")?,
         canonical: flag_of(matches, "canonical")?,
+    })
+}
+
+/// The run of `cmp` that has these options, if they mean one.
+fn cmp_of(matches: &ArgMatches) -> Option<CmpOrder>
+    ensures are { IfSome result (CmpIs (rows_of (found_of matches.now))) }
+    ensures served { (cmp : CmpOrder) → CmpIs (rows_of (found_of matches.now)) cmp → IsSome result }
+{
+    Some(CmpOrder {
+        form: stream_form_of(matches)?,
+        limits: limits_of(matches)?,
     })
 }
 
@@ -248,6 +262,7 @@ fn named_order<'a>(name: &str, matches: &ArgMatches<'a>) -> Option<Order<'a>>
         "canonical" => canonical_of(matches),
         "uniq" => Some(Order::Uniq(uniq_of(matches)?)),
         "filter" => Some(Order::Filter(filter_of(matches)?)),
+        "cmp" => Some(Order::Cmp(cmp_of(matches)?)),
         "pick" => pick_order(matches),
         "pack" => pack_of(matches),
         "unpack" => unpack_of(matches),

@@ -29,19 +29,19 @@ pub const PROGRAM: Page = Page {
   capn show < message
   capn check --budget 100000 --depth 20 < message",
     usage: "capn <COMMAND> [OPTIONS] < INPUT",
-    about: "Shows, checks, lists, canonicalises, hashes, packs and unpacks messages, tells
-which limits they need, and explains why one is refused. No message can make it
-read forever: following a pointer costs words of a budget, and the depth of
-objects has a limit.",
+    about: "Shows, checks, lists, canonicalises, hashes, compares, packs and unpacks
+messages, tells which limits they need, and explains why one is refused. No
+message can make it read forever: following a pointer costs words of a budget,
+and the depth of objects has a limit.",
     more: "Input is standard input, and output is standard output.
 `capn <COMMAND> --help` says what it is for, what it takes and what it writes.
 
 Exit status:
   0  Done
-  1  The input was refused, or a message in it was
+  1  The input or a message in it was refused, or `cmp` found that one differs
   2  The command line is wrong
   3  Reading or writing failed, the input is longer than the command takes, or
      memory ran out
-With 1 and 3 one line on standard error says why; the manual page explains it
-under DIAGNOSTICS.",
+With 1 and 3 one line on standard error says why, but not that one differs; the
+manual page explains it under DIAGNOSTICS.",
 };

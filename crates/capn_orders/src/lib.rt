@@ -45,6 +45,7 @@ pub use way::numbers_of;
 // What the signatures above name.
 pub use capn_archive::{ArchiveOrder, FilterOrder, Task, UniqOrder};
 pub use capn_canon::{Form, Limits, Tariff};
+pub use capn_cmp::CmpOrder;
 pub use capn_commands::Command;
 pub use capn_report::Explain;
 pub use capn_serve::{Pick, Range, StreamForm};

@@ -34,6 +34,14 @@ fn said_of_pick(matches: &ArgMatches) -> &'static str {
     }
 }
 
+/// The message for options of `cmp` that mean nothing: what its `--form` takes, or else what `--tariff` takes.
+fn said_of_cmp(matches: &ArgMatches) -> &'static str {
+    match stream_form_of(matches) {
+        Some(_) => option_mistakes::NO_SUCH_TARIFF,
+        None => option_mistakes::NO_FRAMED_FORM,
+    }
+}
+
 /// The message for options of `show` that mean nothing, whose form and limits are fine: what `--at` takes, or else what
 /// JSON goes without.
 fn said_of_show(matches: &ArgMatches) -> &'static str {
@@ -51,12 +59,15 @@ fn said_of_show(matches: &ArgMatches) -> &'static str {
     }
 }
 
-/// The message for options of this command that mean nothing: for `pick`, that of its own; for `unpack`, which two
-/// don't go together; for the others, that on `--form`, or else on `--tariff`, or else on `--at` and `--json` of
-/// `show`, on `--number` of `explain`, and on `--keep-going` of `canonical`.
+/// The message for options of this command that mean nothing: for `pick` and `cmp`, one of their own; for `unpack`,
+/// which two don't go together; for the others, that on `--form`, or else on `--tariff`, or else on `--at` and `--json`
+/// of `show`, on `--number` of `explain`, and on `--keep-going` of `canonical`.
 fn said_of(name: &str, matches: &ArgMatches) -> &'static str {
     if name == "pick" {
         return said_of_pick(matches);
+    }
+    if name == "cmp" {
+        return said_of_cmp(matches);
     }
     if name == "unpack" {
         return option_mistakes::WITHOUT_MESSAGE_WORDS;

@@ -24,7 +24,7 @@ pub const NO_LIST: &str = "--only takes ascending numbers and ranges, as 3,7,9-1
 /// The message for `--only` together with `--from` or `--to`.
 pub const WITHOUT_FROM_AND_TO: &str = "--only goes without --from and --to";
 
-/// The message for a value that `--form` of `pick` does not take.
+/// The message for a value that `--form` of `pick` and `cmp` does not take.
 pub const NO_FRAMED_FORM: &str = "--form takes stream or packed";
 
 /// The message for `--message-words` together with `--streaming`.

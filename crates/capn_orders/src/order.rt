@@ -2,6 +2,7 @@
 
 use capn_archive::{ArchiveOrder, FilterOrder, UniqOrder};
 use capn_canon::Form;
+use capn_cmp::CmpOrder;
 use capn_commands::Command;
 use capn_report::Explain;
 use capn_serve::{Pick, StreamForm};
@@ -71,6 +72,8 @@ pub enum Order<'a> {
     Uniq(UniqOrder),
     /// Writes the messages of an archive that are accepted, or that are canonical, as they stand.
     Filter(FilterOrder),
+    /// Finds whether all messages of a stream have the value of the first one.
+    Cmp(CmpOrder),
     /// Writes the messages of a stream from one number to another, as they stand.
     Pick(Pick),
     /// Writes the messages of a stream that are in a list, as they stand.

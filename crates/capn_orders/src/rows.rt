@@ -51,10 +51,11 @@ const LIMITED: &[&str] = &[
     "hash",
     "uniq",
     "filter",
+    "cmp",
 ];
 
-/// The commands, in the order in which help lists them.
-pub const COMMANDS: [&str; 13] = [
+/// Those of them whose message may be bare.
+const UNFRAMED: &[&str] = &[
     "show",
     "check",
     "explain",
@@ -64,6 +65,20 @@ pub const COMMANDS: [&str; 13] = [
     "hash",
     "uniq",
     "filter",
+];
+
+/// The commands, in the order in which help lists them.
+pub const COMMANDS: [&str; 14] = [
+    "show",
+    "check",
+    "explain",
+    "list",
+    "limits",
+    "canonical",
+    "hash",
+    "uniq",
+    "filter",
+    "cmp",
     "pick",
     "pack",
     "unpack",
@@ -81,6 +96,7 @@ pub(crate) fn page_of(name: &str) -> Page {
         "canonical" => archives_help::CANONICAL,
         "uniq" => archives_help::UNIQ,
         "filter" => archives_help::FILTER,
+        "cmp" => archives_help::CMP,
         "pick" => archives_help::PICK,
         "pack" => bytes_help::PACK,
         "unpack" => bytes_help::UNPACK,
@@ -117,7 +133,7 @@ like canonical bytes",
         help: "How the input holds its messages: `stream`, each
 after its segment table; or `packed`, the same,
 packed",
-        commands: &["pick"],
+        commands: &["cmp", "pick"],
     },
     OptionRow {
         name: "form",
@@ -134,14 +150,14 @@ bytes",
         help: "The most words of a message, from 1 to 268435456;
 this doesn't bound a bare input, whose most is
 268435457 words",
-        commands: LIMITED,
+        commands: UNFRAMED,
     },
     OptionRow {
         name: "message-words",
         taken: WORDS,
         help: "The most words of a message, from 1 to
 268435456",
-        commands: &["pick"],
+        commands: &["cmp", "pick"],
     },
     OptionRow {
         name: "message-words",

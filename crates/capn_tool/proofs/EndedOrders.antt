@@ -1,13 +1,19 @@
 -- An order that was carried out, from its run and the end of that.
-use Rattle.std.proofs.Common.{ℕ, List, Bool, Option, Result}
+use Rattle.std.proofs.Common.{ℕ, List, Bool, Option, Result, refl}
 use Rattle.clap.specs.Words.{Text, subcommand_of}
 use Rattle.capn_endings.specs.Ending.{WritesEnding, status_of_ending}
 use Rattle.capn_orders.specs.CommandLine.{program_line}
 use Rattle.capn_tool.specs.Course.{Course, course}
 use Rattle.capn_tool.specs.Flushed.{EndsRun, RunOver}
 use Rattle.capn_orders.specs.Meaning.{MeansOrder}
-use Rattle.capn_tool.specs.Program.{EndsRunOrder}
+use Rattle.capn_tool.specs.Program.{EndsCmp, EndsRunOrder}
 use Rattle.capn_orders.specs.declared.order.Order.{Order}
+use Rattle.capn_orders.specs.declared.order.Order.TheVariants as orders
+use Rattle.capn_cmp.specs.CmpRun.{Compared}
+use Rattle.capn_cmp.specs.declared.cmp_order.CmpOrder.{CmpOrder}
+use Rattle.capn_cmp.specs.declared.cmp_run.Comparison.{Comparison}
+use Rattle.capn_cmp.specs.declared.fault.CmpFault.{CmpFault}
+use Rattle.capn_tool.specs.CmpEnd.{EndsFound, done_of}
 
 pub ended : {O F : Type 0} (name : O → Order) (io : F) (Runs : O → RunOver F) (text : F → List ℕ) (exit : F → ℕ)
     {words : List Text} {order : O} {a b c m d : Option (List ℕ)} {unread failed is_failed : Bool}
@@ -33,3 +39,27 @@ ended name io Runs text exit {words} {order} {a} {b} {c} {m} {d} {unread} {faile
       told = end.told;
       is = end.is;
     }
+
+-- the same of a comparison
+pub ended_found : {words : List Text} {order : CmpOrder} {a b c m d : Option (List ℕ)}
+    {unread failed is_failed : Bool} {found : Result Comparison CmpFault} {errors : Course} {status : ℕ}
+    → MeansOrder (subcommand_of program_line words) (orders.Cmp order)
+    → Compared order a b c m unread failed found
+    → EndsFound found failed (course m d is_failed) errors status
+    → EndsCmp words (course a b unread) (course c d is_failed) errors status
+ended_found {words} {order} {a} {b} {c} {m} {d} {unread} {failed} {is_failed} {found} means ran end = record {
+  order = order;
+  found = found;
+  outcome = end.outcome;
+  means = means;
+  run = record {
+    run = done_of found;
+    written = m;
+    failed = failed;
+    ran = (ran, refl);
+    kept = end.kept;
+    flushed = end.flushed;
+  };
+  told = end.told;
+  is = end.is;
+}

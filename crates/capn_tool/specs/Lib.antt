@@ -6,4 +6,5 @@ pub mod Laws
 pub mod Course
 pub mod Flushed
 pub mod Unordered
+pub mod CmpEnd
 pub mod Program

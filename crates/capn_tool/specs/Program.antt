@@ -8,12 +8,18 @@ use Rattle.capn_archive.specs.ArchiveRun.{Archived}
 use Rattle.capn_archive.specs.FilterRun.{Filtered}
 use Rattle.capn_archive.specs.UniqRun.{Deduplicated}
 use Rattle.capn_archive.specs.declared.fault.ArchiveFault.TheVariants as archive_faults
+use Rattle.capn_cmp.specs.FaultText.{cmp_text}
+use Rattle.capn_cmp.specs.declared.cmp_order.CmpOrder.{CmpOrder}
+use Rattle.capn_cmp.specs.declared.cmp_run.Comparison.{Comparison}
+use Rattle.capn_cmp.specs.declared.fault.CmpFault.{CmpFault}
+use Rattle.capn_endings.specs.Ending.{WritesEnding}
 use Rattle.capn_serve.specs.PickRun.{Picks}
 use Rattle.capn_serve.specs.declared.fault.RunFault.TheVariants as run_faults
 use Rattle.capn_report.specs.ExplainRun.{Explained}
 use Rattle.capn_flow.specs.declared.fault.FlowFault.TheVariants as flow_faults
 use Rattle.capn_make.specs.declared.fault.MakeFault.TheVariants as make_faults
 use Rattle.capn_orders.specs.CommandLine.{program_line}
+use Rattle.capn_tool.specs.CmpEnd.{Finds, cmp_status, io}
 use Rattle.capn_tool.specs.Course.{Course}
 use Rattle.capn_tool.specs.ExitStatus.{archive_status, flow_status, make_status, pick_status}
 use Rattle.capn_tool.specs.FaultText.{WritesArchiveEnding, WritesFlowEnding, WritesMakeEnding, WritesPickEnding}
@@ -70,6 +76,17 @@ EndsUniq = EndsRunOrder (λ uniq. orders.Uniq uniq) archive_faults.Io Deduplicat
 abbrev pub EndsFilter : List Text → Course → Course → Course → ℕ → Type 0
 EndsFilter = EndsRunOrder (λ filter. orders.Filter filter) archive_faults.Io Filtered WritesArchiveEnding archive_status
 
+-- The words order that messages are compared. They were, from the input to the output, and something was found. What
+-- was written to the errors is how the run ended, and the status says what was found, too.
+pub record EndsCmp (words : List Text) (input output errors : Course) (status : ℕ) : Type 0 where
+  pub order : CmpOrder
+  pub found : Result Comparison CmpFault
+  pub outcome : Result (Unit {0}) CmpFault
+  pub means : MeansOrder (subcommand_of program_line words) (orders.Cmp order)
+  pub run : RunsFlushed io (Finds order found) input output outcome
+  pub told : WritesEnding cmp_text outcome errors.before errors.after errors.failed
+  pub is : status ≡ cmp_status found outcome
+
 -- the words order that messages are picked
 abbrev pub EndsPick : List Text → Course → Course → Course → ℕ → Type 0
 EndsPick =
@@ -99,7 +116,8 @@ Ends words input output errors status =
     ⊎ (EndsArchive words input output errors status
     ⊎ (EndsUniq words input output errors status
     ⊎ (EndsFilter words input output errors status
+    ⊎ (EndsCmp words input output errors status
     ⊎ (EndsPick words input output errors status
     ⊎ (EndsOnly words input output errors status
     ⊎ (EndsFlow words input output errors status
-    ⊎ (EndsMake words input output errors status ⊎ Unordered words input output errors status)))))))))
+    ⊎ (EndsMake words input output errors status ⊎ Unordered words input output errors status))))))))))

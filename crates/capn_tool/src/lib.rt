@@ -4,8 +4,9 @@
 //! [`program`] is all of it, from the words of the command line to the exit status, over any reader and writers.
 //! [`order_of`], of [`capn_orders`], reads the words. They order a command of [`capn_commands`]; that messages, or
 //! parts of them, are shown in a style, by [`show_parts`]; that a message is explained, by [`capn_report`]; a run over
-//! an archive, which is a stream of messages of any length, by [`capn_archive`] or [`capn_serve`]; that bytes are
-//! packed or unpacked while they come in, by [`capn_flow`]; or that messages are made from texts, by [`capn_make`].
+//! an archive, which is a stream of messages of any length, by [`capn_archive`] or [`capn_serve`]; that messages are
+//! compared, by [`capn_cmp`]; that bytes are packed or unpacked while they come in, by [`capn_flow`]; or that messages
+//! are made from texts, by [`capn_make`].
 //! [`end`] reports how such a run ended. [`command_of`] reads the words where they order a command of
 //! [`capn_commands`], and [`run`] carries it out.
 //!
@@ -15,6 +16,7 @@
 #![tactic(auto)]
 
 mod chosen_runs;
+mod cmp_end;
 pub mod laws;
 mod message_run;
 mod only_run;
@@ -41,6 +43,7 @@ pub use capn_archive::{
     ArchiveFault, ArchiveOrder, FilterOrder, Position, RunFault, Skipped, Task, UniqOrder,
 };
 pub use capn_canon::{Form, Limits, Refusal, Tariff};
+pub use capn_cmp::{CmpFault, CmpOrder, Comparison};
 pub use capn_flow::FlowFault;
 pub use capn_make::{MakeFault, Misfit};
 pub use capn_report::Explain;

@@ -6,12 +6,14 @@ ghost use Rattle.capn_tool.specs.Course.{course};
 ghost use Rattle.capn_tool.specs.Program.{Ends};
 
 use crate::chosen_runs::{flow_through, make_by};
+use crate::cmp_end::finish_found;
 use crate::message_run::carry_out;
 use crate::only_run::pick_only;
 use crate::part_run::show_parts;
 use crate::run_end::finish;
 use crate::unordered::end_unordered;
 use capn_archive::{ArchiveFault, RunFault, run_archive, run_filter, run_uniq};
+use capn_cmp::run_cmp;
 use capn_commands::{ToolFault, end};
 use capn_flow::FlowFault;
 use capn_make::MakeFault;
@@ -27,16 +29,17 @@ use std::io::{Read, Write};
 ///
 /// It does what the words order, from the reader to the writer: a command as [`capn_commands::run`] promises, parts of
 /// messages as [`show_parts`] shows them, what explains a message as [`run_explain`] says it, a run over an archive as
-/// [`run_archive`], [`run_uniq`] or [`run_filter`] does, one that picks messages as [`run_pick`] or [`pick_only`] does,
-/// packing or unpacking as [`pack_stream`] and [`unpack_stream`] do, or the messages of texts as [`capn_make::make`] or
-/// [`capn_make::make_texts`] does; and it flushes the writer. If the run is done and the flush fails, it ends as a
-/// failed output does; after any other run a failed flush changes nothing. The status is 0 if all is done, 1 if the
-/// input, or a message of it, is refused, and 3 if memory, the input or the output failed or the input is too long.
-/// With 1 and 3 one line on `errors` says why: `capn: ` and the text of the fault, which may have a second line where
-/// messages were skipped. A command line that orders nothing ends with 2, and `errors` says what is wrong with it, or
-/// `capn: out of memory` if there is no memory for that. Help and the version are written to the writer and end with 0,
-/// or with 3 if that fails.
-#[tactic(auto, using(crate::proofs::EndedOrders::ended))]
+/// [`run_archive`], [`run_uniq`] or [`run_filter`] does, a comparison as [`run_cmp`] does, one that picks messages as
+/// [`run_pick`] or [`pick_only`] does, packing or unpacking as [`pack_stream`] and [`unpack_stream`] do, or the
+/// messages of texts as [`capn_make::make`] or [`capn_make::make_texts`] does; and it flushes the writer. If the run is
+/// done and the flush fails, it ends as a failed output does; after any other run a failed flush changes nothing. The
+/// status is 0 if all is done, 1 if the input, or a message of it, is refused or a message differs, and 3 if memory,
+/// the input or the output failed or the input is too long. With 1 and 3, but not if a message differs, one line on
+/// `errors` says why: `capn: ` and the text of the fault, which may have a second line where messages were skipped. A
+/// command line that orders nothing ends with 2, and `errors` says what is wrong with it, or `capn: out of memory` if
+/// there is no memory for that. Help and the version are written to the writer and end with 0, or with 3 if that
+/// fails.
+#[tactic(auto, using(crate::proofs::EndedOrders::ended, crate::proofs::EndedOrders::ended_found))]
 pub fn program<'a, S: AsStr, R: Read, W: Write, E: Write>(
     alloc: Global,
     words: &'a [S],
@@ -78,6 +81,10 @@ pub fn program<'a, S: AsStr, R: Read, W: Write, E: Write>(
             Order::Filter(filter) => {
                 let let_through = run_filter(alloc, filter, reader, writer);
                 finish(let_through, ArchiveFault::Io, writer, errors)
+            }
+            Order::Cmp(cmp) => {
+                let found = run_cmp(alloc, cmp, reader, writer);
+                finish_found(found, writer, errors)
             }
             Order::Pick(pick) => {
                 let picked = run_pick(alloc, pick, reader, writer);

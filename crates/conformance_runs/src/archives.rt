@@ -3,12 +3,15 @@
 use crate::runs::{command_line, tool_told};
 use anyhow::{Result, anyhow};
 use capn_archive::{run_archive, run_filter, run_uniq};
+use capn_cmp::run_cmp;
 use capn_endings::end;
 use capn_flow::{FlowFault, pack_stream, unpack_stream};
 use capn_make::{MakeFault, make, make_texts};
 use capn_report::run_explain;
 use capn_serve::run_pick;
-use capn_tool::{ArchiveFault, Flow, Order, RunFault, order_of, pick_only, show_parts};
+use capn_tool::{
+    ArchiveFault, CmpFault, Comparison, Flow, Order, RunFault, order_of, pick_only, show_parts,
+};
 use capn_words::Watched;
 use conformance_cases::{Heap, bytes_at, cut_short, digits_of, form_at, push_told};
 use std::alloc::Global;
@@ -41,6 +44,23 @@ fn archive_told(
         push_told(&mut told, line)?;
     }
     Ok(told)
+}
+
+/// Returns the end of a run that compares: the status, what is written, and the line on standard error.
+fn found_told(
+    alloc: Global,
+    found: Result<Comparison, CmpFault>,
+    written: &[u8],
+) -> Result<String> {
+    let digits = digits_of(alloc, written)?;
+    match found {
+        Ok(Comparison::Same) => Ok(format!(in alloc; "status 0, {digits}")?),
+        Ok(Comparison::Different) => Ok(format!(in alloc; "status 1, {digits}")?),
+        Err(CmpFault::Run(fault)) => archive_told(alloc, Err(archive_fault_of(fault)), written),
+        Err(CmpFault::TooFew) => {
+            Ok(format!(in alloc; "status 1, {digits}, capn: fewer than two messages")?)
+        }
+    }
 }
 
 /// Returns the end of a run that packs or unpacks: the status, the bytes that are `written`, and the line on standard
@@ -90,6 +110,10 @@ pub(crate) fn archive_answer(alloc: Global, heap: &Heap, words: &[&str]) -> Resu
         Order::Filter(filter) => {
             let outcome = run_filter(heap, filter, &mut reader, &mut writer);
             archive_told(alloc, outcome, writer.into_inner().as_slice())
+        }
+        Order::Cmp(cmp) => {
+            let found = run_cmp(heap, cmp, &mut reader, &mut writer);
+            found_told(alloc, found, writer.into_inner().as_slice())
         }
         Order::Pick(pick) => {
             let outcome = match run_pick(heap, pick, &mut reader, &mut writer) {

@@ -4,6 +4,7 @@
 use crate::subject::MOST;
 use capn_archive::{ArchiveOrder, FilterOrder, Task, UniqOrder, run_archive, run_filter, run_uniq};
 use capn_canon::Form;
+use capn_cmp::{CmpOrder, Comparison, run_cmp};
 use capn_flow::{pack_stream, unpack_stream};
 use capn_serve::{Pick, StreamForm, run_pick};
 use capn_walk::Limits;
@@ -92,9 +93,18 @@ enum Order {
     Archive(Task),
     Uniq(bool),
     Filter(bool),
+    Cmp,
     Pick,
     Pack,
     Unpack,
+}
+
+/// Returns the form of a stream that an input is in this form.
+fn stream_form_of(form: Form) -> StreamForm {
+    match form {
+        Form::Packed => StreamForm::Packed,
+        Form::Stream | Form::Bare => StreamForm::Stream,
+    }
 }
 
 /// The demand of a run for memory, and its output: the number of growths, the most bytes of one, and the number of
@@ -140,12 +150,19 @@ fn taken(alloc: Global, order: Order, form: Form, row: &[u8], left: u64) -> Opti
             };
             run_filter(&heap, filter, &mut reader, &mut writer).is_ok()
         }
+        Order::Cmp => {
+            let cmp = CmpOrder {
+                form: stream_form_of(form),
+                limits,
+            };
+            matches!(
+                run_cmp(&heap, cmp, &mut reader, &mut writer),
+                Ok(Comparison::Same)
+            )
+        }
         Order::Pick => {
             let pick = Pick {
-                form: match form {
-                    Form::Packed => StreamForm::Packed,
-                    Form::Stream | Form::Bare => StreamForm::Stream,
-                },
+                form: stream_form_of(form),
                 limits,
                 from: 2,
                 to: u64::MAX,
@@ -232,6 +249,14 @@ fn the_frames_of_two_hundred_thousand_messages(rt: HostRuntime) -> Result<(), Fa
 #[test]
 fn two_hundred_thousand_canonical_messages(rt: HostRuntime) -> Result<(), Fail> {
     let is_right = writes(rt.alloc(), Order::Filter(true), 16 * 200_704)?;
+    assert!(rt; is_right);
+    Ok(())
+}
+
+/// Tests that of the messages that are compared the first one's canonical bytes alone are kept.
+#[test]
+fn two_hundred_thousand_messages_of_one_value(rt: HostRuntime) -> Result<(), Fail> {
+    let is_right = writes(rt.alloc(), Order::Cmp, 0)?;
     assert!(rt; is_right);
     Ok(())
 }

@@ -2,7 +2,7 @@
 
 use crate::orders::expect_usage;
 use capn_tool::{
-    ArchiveOrder, FilterOrder, Form, Limits, Only, Order, Pick, StreamForm, Tariff, Task,
+    ArchiveOrder, CmpOrder, FilterOrder, Form, Limits, Only, Order, Pick, StreamForm, Tariff, Task,
     UniqOrder, order_of,
 };
 use std::alloc::Global;
@@ -31,6 +31,15 @@ fn is_filter(alloc: Global, words: &[&str], want: FilterOrder) -> bool {
     let told = order_of(alloc, words);
     match &told {
         Ok(Order::Filter(filter)) => *filter == want,
+        _ => false,
+    }
+}
+
+/// Tests whether the words compare these messages.
+fn is_cmp(alloc: Global, words: &[&str], want: CmpOrder) -> bool {
+    let told = order_of(alloc, words);
+    match &told {
+        Ok(Order::Cmp(cmp)) => *cmp == want,
         _ => false,
     }
 }
@@ -169,6 +178,38 @@ fn messages_are_let_through(rt: HostRuntime) {
             flag,
         ];
         assert!(rt; is_filter(rt.alloc(), &words, want), "{words:?}");
+    }
+}
+
+#[test]
+fn messages_are_compared(rt: HostRuntime) {
+    let want = CmpOrder {
+        form: StreamForm::Stream,
+        limits: Limits::usual(),
+    };
+    assert!(rt; is_cmp(rt.alloc(), &["capn", "cmp"], want));
+    let limits = Limits::new(7, 5, 3).unwrap_or(Limits::usual());
+    let want = CmpOrder {
+        form: StreamForm::Packed,
+        limits: limits.with_tariff(Tariff::Plain),
+    };
+    let words = [
+        "capn",
+        "cmp",
+        "--form=packed",
+        "--message-words=7",
+        "--budget=5",
+        "--depth=3",
+        "--tariff=plain",
+    ];
+    assert!(rt; is_cmp(rt.alloc(), &words, want), "{words:?}");
+    for option in [
+        "--form=bare",
+        "--form=flat",
+        "--tariff=cheap",
+        "--keep-going",
+    ] {
+        expect_usage(&rt, rt.alloc(), &["capn", "cmp", option], 2);
     }
 }
 

@@ -127,6 +127,19 @@ fn the_reader_of_what_is_shown_fails_after_each_byte(rt: HostRuntime) {
     }
 }
 
+/// A comparison, whose first message is the null one, and whose second differs.
+const CMP: [&str; 2] = ["capn", "cmp"];
+
+#[test]
+fn the_reader_of_a_comparison_fails_after_each_byte(rt: HostRuntime) {
+    expect_all_that_came(&rt, rt.alloc(), &CMP, &ARCHIVE[56..]);
+}
+
+#[test]
+fn the_writer_of_a_difference_fails_after_each_byte(rt: HostRuntime) {
+    expect_what_has_room(&rt, rt.alloc(), &CMP, &ARCHIVE[56..]);
+}
+
 /// The packed text of the archive.
 fn packed(alloc: Global) -> Ending {
     let input = Input::whole(&ARCHIVE, usize::MAX);

@@ -152,6 +152,7 @@ fn exactly_one_message_is_taken(rt: HostRuntime) {
         "limits",
         "uniq",
         "filter",
+        "cmp",
         "pick",
         "explain",
     ] {

@@ -19,5 +19,7 @@ returns-in_default-clause-served c order means =
       | inr (inr (inr (inr (inr (inr (inr (inr (inr (inr (inl hash)))))))))) ↦ c.in_default.not-hash hash
       | inr (inr (inr (inr (inr (inr (inr (inr (inr (inr (inr (inl explain))))))))))) ↦
           c.in_default.not-explain explain
-      | inr (inr (inr (inr (inr (inr (inr (inr (inr (inr (inr (inr filter))))))))))) ↦ c.in_default.not-filter filter
+      | inr (inr (inr (inr (inr (inr (inr (inr (inr (inr (inr (inr (inl filter)))))))))))) ↦
+          c.in_default.not-filter filter
+      | inr (inr (inr (inr (inr (inr (inr (inr (inr (inr (inr (inr (inr cmp)))))))))))) ↦ c.in_default.not-cmp cmp
     ])

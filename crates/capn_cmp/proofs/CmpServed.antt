@@ -1,0 +1,91 @@
+-- A message that was compared, as one that the service serves.
+use Rattle.std.proofs.Common.{◌≡◌, ◌≢◌, inl, inr, ℕ, List, [], Bool, true, false, Result, Ok, Err, refl, ap, subst}
+use Rattle.std.proofs.Common.{sym, ◌∙◌}
+use Rattle.capn_walk.specs.Limits.{Bounds}
+use Rattle.capn_canon.specs.Denotes.{AnswersMessage}
+use Rattle.capn_serve.specs.declared.position.Position.{Position}
+use Rattle.capn_serve.specs.declared.fault.ServeFault.{ServeFault}
+use Rattle.capn_serve.specs.declared.fault.ServeFault.TheVariants as faults
+use Rattle.capn_serve.specs.Outgoing.{Outgoing, AddsBytes}
+use Rattle.capn_serve.specs.Service.{DoesService}
+use Rattle.capn_serve.proofs.shared.Adding.{added_none}
+use Rattle.capn_cmp.specs.CmpMessages.{CmpState, Compares, IsReport, TriesToCompare, refuses, serves}
+
+abbrev Ending : Type 0
+Ending = Result (Unit {0}) ServeFault
+
+abbrev done : Ending
+done = Ok tt
+
+abbrev stopped : ServeFault → Ending
+stopped fault = Err fault
+
+-- a state of these parts
+abbrev pub state : Bounds → List ℕ → Bool → CmpState
+state limits first differs = record { limits = limits; first = first; differs = differs }
+
+module _ (s : CmpState) (at : Position) (bytes : List ℕ) where
+  module _ (a : Outgoing) (failed : Bool) (fine : failed ≡ false) where
+    -- it writes nothing
+    silent : (t : CmpState) → Compares s at bytes [] t → TriesToCompare s at bytes a a failed done t
+    silent t is = ([], is, added_none a, fine, λ h. h)
+
+    -- it is the first
+    pub keeps : at.index ≡ 0 → (first : List ℕ) → first ≡ bytes
+        → TriesToCompare s at bytes a a failed done (state s.limits first s.differs)
+    keeps zero first same =
+        silent (state s.limits first s.differs)
+        (inl (zero, refl, ap (λ (x : List ℕ). state s.limits x s.differs) same))
+
+    -- it agrees with the first
+    pub agrees : at.index ≢ 0 → bytes ≡ s.first → TriesToCompare s at bytes a a failed done s
+    agrees later same = silent s (inr (inl (later, same, refl, refl)))
+
+    -- memory was refused before it wrote anything
+    pub no_memory : (t : CmpState) (fault : ServeFault) → fault ≡ faults.Memory
+        → TriesToCompare s at bytes a a failed (stopped fault) t
+    no_memory t fault is =
+        subst (λ (e : ServeFault). TriesToCompare s at bytes a a failed (stopped e) t) (sym is)
+        (inl (added_none a), fine)
+
+  -- it differs, and the report on it was added, or a beginning of that
+  pub differs_with : at.index ≢ 0 → bytes ≢ s.first → (text : List ℕ) → IsReport at s.first bytes text
+      → (a b : Outgoing) (failed : Bool) (r : Ending) → AddsBytes text a b failed r
+      → TriesToCompare s at bytes a b failed r (state s.limits s.first true)
+  differs_with later other text report a b failed (Ok u) (adds, short, fine) =
+      (text, inr (inr (later, other, report, refl)), adds, fine, λ h. short)
+  differs_with later other text report a b failed (Err faults.Memory) (none, short, fine) = (inl none, fine)
+  differs_with later other text report a b failed (Err faults.Io) ((count, breaks), broken) =
+      ((text, state s.limits s.first true, count, inr (inr (later, other, report, refl)), breaks), broken)
+  differs_with later other text report a b failed (Err (faults.Refused r)) none = absurd none
+
+-- it was served
+pub tried_does : (s : CmpState) (at : Position) (frame : List ℕ) (message : List (List ℕ)) (bytes : List ℕ) (price : ℕ)
+    → AnswersMessage message s.limits bytes price → (a b : Outgoing) (failed : Bool) (r : Ending) (t : CmpState)
+    → TriesToCompare s at bytes a b failed r t → DoesService serves refuses s at frame message a b failed r t
+tried_does s at frame message bytes price is a b failed (Ok u) t (text, compares, adds, fine, short) =
+    ((text, (bytes, (price, is), compares), adds, fine), short)
+tried_does s at frame message bytes price is a b failed (Err faults.Memory) t (inl none, fine) = (inl none, fine)
+tried_does s at frame message bytes price is a b failed (Err faults.Memory) t
+    (inr (text, u, count, compares, adds), fine) = (inr (text, u, count, (bytes, (price, is), compares), adds), fine)
+tried_does s at frame message bytes price is a b failed (Err faults.Io) t ((text, u, count, compares, breaks), broken) =
+    ((text, u, count, (bytes, (price, is), compares), breaks), broken)
+tried_does s at frame message bytes price is a b failed (Err (faults.Refused r)) t none = absurd none
+
+-- ---- by the fields of a state
+
+module _ (limits : Bounds) (first : List ℕ) (differs : Bool) (s : CmpState) (same : state limits first differs ≡ s)
+    (at : Position) (later : at.index ≢ 0) (bytes own : List ℕ) (is : own ≡ first) where
+  pub agrees_with : own ≡ bytes → (a : Outgoing) (failed : Bool) → failed ≡ false
+      → TriesToCompare s at bytes a a failed done s
+  agrees_with alike a failed fine =
+      agrees s at bytes a failed fine later (sym alike ∙ is ∙ ap (λ (q : CmpState). q.first) same)
+
+  pub differs_from : own ≢ bytes → (other : List ℕ) → other ≡ first → (text : List ℕ) → IsReport at other bytes text
+      → (sent : List ℕ) → sent ≡ text → (a b : Outgoing) (failed : Bool) (r : Ending) → AddsBytes sent a b failed r
+      → TriesToCompare s at bytes a b failed r (state limits first true)
+  differs_from differ other there text report sent told a b failed r adds =
+      subst (λ (q : CmpState). TriesToCompare q at bytes a b failed r (state limits first true)) same
+      (differs_with (state limits first differs) at bytes later (λ e. differ (is ∙ sym e)) text
+      (subst (λ (x : List ℕ). IsReport at x bytes text) there report) a b failed r
+      (subst (λ (x : List ℕ). AddsBytes x a b failed r) told adds))

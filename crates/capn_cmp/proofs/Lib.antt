@@ -1,0 +1,8 @@
+pub mod Lines
+pub mod Beginnings
+pub mod Reports
+pub mod CmpServed
+pub mod CmpRuns
+pub mod OneComparison
+pub mod AllSame
+pub mod WrittenReports

@@ -1,0 +1,47 @@
+-- What holds of the definitions alone. (Own.)
+use Rattle.std.specs.Prelude.{◌≡◌, ◌≢◌, ◌↔◌, ℕ, ◌≤◌, List, [], ◌∷◌, length, Result, Ok, ⊤}
+use Rattle.capn_words.specs.Message.{total}
+use Rattle.capn_stream.specs.Frames.{Frames}
+use Rattle.capn_canon.specs.declared.form.Form.TheVariants as forms
+use Rattle.capn_serve.specs.Fold.{Part, frames_of}
+use Rattle.capn_serve.specs.FormRun.{AreMessages, most_stream}
+use Rattle.capn_serve.specs.declared.fault.RunFault.{RunFault}
+use Rattle.capn_serve.specs.declared.service.Run.{Run}
+use Rattle.capn_cmp.specs.CmpMessages.{CmpState, IsForm}
+use Rattle.capn_cmp.specs.CmpRun.{cmp_fold, first_run, form_of, outcome}
+use Rattle.capn_cmp.specs.declared.cmp_order.CmpOrder.{CmpOrder}
+use Rattle.capn_cmp.specs.declared.cmp_run.Comparison.TheVariants as comparisons
+
+-- a comparison writes one text of an input, and ends in one way
+abbrev pub OneCmp : Type 0
+OneCmp = (order : CmpOrder) (input t u : List ℕ) (r s : Result (Unit {0}) RunFault) (y z : Run CmpState)
+    → AreMessages (cmp_fold order) (first_run order) (form_of order.form) input t r y
+    → AreMessages (cmp_fold order) (first_run order) (form_of order.form) input u s z
+    → (t ≡ u) × (outcome r y ≡ outcome s z)
+
+-- something is written exactly where one differs
+abbrev pub WritesExactly : Type 0
+WritesExactly = (order : CmpOrder) (input text : List ℕ) (r : Result (Unit {0}) RunFault) (y : Run CmpState)
+    → AreMessages (cmp_fold order) (first_run order) (form_of order.form) input text r y
+    → (outcome r y ≡ Ok comparisons.Different) ↔ (text ≢ [])
+
+-- each of these is the frame of a message that is accepted and has these canonical bytes, and nothing is written of it
+abbrev pub AllHave : CmpOrder → List ℕ → List Part → Type 0
+AllHave order bytes [] = ⊤
+AllHave order bytes (p ∷ ps) = Frames p.frame p.message × (total p.message ≤ order.limits.message_words)
+    × IsForm p.message order.limits bytes × (p.text ≡ []) × AllHave order bytes ps
+
+-- a stream is two messages at least, and all have the same canonical bytes
+pub record IsOfOneValue (order : CmpOrder) (stream : List ℕ) : Type 0 where
+  pub parts : List Part
+  pub bytes : List ℕ
+  pub each : AllHave order bytes parts
+  pub is : stream ≡ frames_of parts
+  pub many : 2 ≤ length parts
+
+-- a comparison of a stream finds that all are the same exactly where it is so
+abbrev pub SameExactly : Type 0
+SameExactly = (order : CmpOrder) (stream text : List ℕ) (r : Result (Unit {0}) RunFault) (y : Run CmpState)
+    → length stream ≤ most_stream
+    → AreMessages (cmp_fold order) (first_run order) forms.Stream stream text r y
+    → (outcome r y ≡ Ok comparisons.Same) ↔ IsOfOneValue order stream

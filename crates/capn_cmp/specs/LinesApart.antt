@@ -1,0 +1,29 @@
+-- The first lines in which two texts differ. (Own.)
+use Rattle.std.specs.Prelude.{◌≡◌, ◌≢◌, ℕ, List, [], ◌∷◌, ◌++◌, ⊤}
+
+-- no line ends within these bytes
+abbrev pub IsUnbroken : List ℕ → Type 0
+IsUnbroken [] = ⊤
+IsUnbroken (c ∷ cs) = (c ≢ 10) × IsUnbroken cs
+
+-- each of these is a line, without its newline
+abbrev pub AreLines : List (List ℕ) → Type 0
+AreLines [] = ⊤
+AreLines (line ∷ lines) = IsUnbroken line × AreLines lines
+
+-- these lines, each with its newline, joined
+abbrev pub joined : List (List ℕ) → List ℕ
+joined [] = []
+joined (line ∷ lines) = line ++ 10 ∷ joined lines
+
+-- two texts begin with the same lines; then each has a whole line, and these two differ
+pub record AreApart (text other first second : List ℕ) : Type 0 where
+  pub lines : List (List ℕ)
+  pub each : AreLines lines
+  pub more : List ℕ
+  pub left : List ℕ
+  pub text_is : text ≡ joined lines ++ (first ++ 10 ∷ more)
+  pub other_is : other ≡ joined lines ++ (second ++ 10 ∷ left)
+  pub first_line : IsUnbroken first
+  pub second_line : IsUnbroken second
+  pub differ : first ≢ second

@@ -1,0 +1,13 @@
+//! The options of `cmp`.
+
+use capn_serve::StreamForm;
+use capn_walk::Limits;
+
+/// The order to compare the messages of a stream with the first one.
+#[derive(Clone, Copy, Debug, PartialEq, Eq)]
+pub struct CmpOrder {
+    /// The form in which the input holds the messages.
+    pub form: StreamForm,
+    /// The limits of each message.
+    pub limits: Limits,
+}

@@ -1,0 +1,127 @@
+//! The service of `cmp`.
+
+ghost use Rattle.std.specs.Prelude.{◌≡◌, false};
+ghost use Rattle.capn_words.specs.Watched.{inner_of, has_failed};
+ghost use Rattle.capn_serve.specs.Outgoing.{outgoing};
+ghost use Rattle.capn_cmp.specs.CmpMessages as spec;
+ghost use Rattle.capn_cmp.specs.CmpMessages.{TriesToCompare};
+
+use crate::report::find_report;
+use capn_canon::{Refusal, canonical_of, own_canonical};
+use capn_serve::{Position, ServeFault, Service, add_bytes};
+use capn_walk::Limits;
+use capn_words::{Space, Watched};
+use std::alloc::Allocator;
+use std::io::Write;
+use std::marker::Model;
+
+/// The service that compares messages with the first one.
+///
+/// A message that is refused by its walk, or for a capability, ends the run. The first message's canonical bytes are
+/// kept. One that has others differs: it writes where it is, and the first lines in which the texts of both values
+/// differ, and no more is served. Any other message writes nothing.
+#[derive(Drop)]
+pub struct CmpService<A: Allocator> {
+    limits: Limits,
+    first: Vec<u8, A>,
+    differs: bool,
+}
+
+impl<A: Allocator> Model for CmpService<A> {
+    ghost use Rattle.capn_cmp.specs.CmpMessages.{CmpState};
+
+    ghost Value = { CmpState };
+
+    ghost view = { λ s. record { limits = s.limits; first = s.first.items; differs = s.differs } };
+}
+
+impl<B: Allocator> CmpService<B> {
+    /// A service that has served nothing. It takes no memory.
+    pub(crate) fn new(alloc: B, limits: Limits) -> CmpService<B>
+        ensures { result ≡ spec.first_state limits }
+    {
+        CmpService {
+            limits,
+            first: Vec::new(alloc),
+            differs: false,
+        }
+    }
+
+    /// Returns `true` if a message differed from the first one.
+    pub(crate) fn differs(&self) -> bool
+        ensures { result ≡ self.now.differs }
+    {
+        self.differs
+    }
+
+    /// Serves a message with these canonical bytes.
+    #[tactic(auto, using(
+        crate::proofs::CmpServed::keeps,
+        crate::proofs::CmpServed::agrees,
+        crate::proofs::CmpServed::no_memory,
+        crate::proofs::CmpServed::differs_with
+    ))]
+    fn compare<W: Write, A: Allocator + Copy>(
+        &mut self,
+        alloc: A,
+        at: Position,
+        canonical: &[u8],
+        text: &mut Vec<u8, A>,
+        writer: &mut Watched<W>,
+    ) -> Result<(), ServeFault>
+        requires { has_failed writer.old ≡ false }
+        ensures { TriesToCompare self.old at canonical.now
+            (outgoing (W.contents (inner_of writer.old)) text.old.items)
+            (outgoing (W.contents (inner_of writer.new)) text.new.items) (has_failed writer.new) result self.new }
+    {
+        if at.index == 0 {
+            self.first.clear();
+            return match self.first.extend_from_slice(canonical) {
+                Ok(()) => Ok(()),
+                Err(_) => Err(ServeFault::Memory),
+            };
+        }
+        if self.first.as_slice() == canonical {
+            return Ok(());
+        }
+        let report = find_report(alloc, at, self.limits, &self.first, canonical)?;
+        self.differs = true;
+        add_bytes(&report, text, writer)
+    }
+}
+
+impl<B: Allocator> Service for CmpService<B> {
+    ghost use Rattle.capn_cmp.specs.CmpMessages as spec;
+
+    ghost serves = { spec.serves };
+
+    ghost refuses = { spec.refuses };
+
+    ghost done = { spec.done };
+
+    #[inline(always)]
+    fn is_done(&self, _at: Position) -> bool {
+        self.differs()
+    }
+
+    fn serve<S: Space, W: Write, A: Allocator + Copy>(
+        &mut self,
+        alloc: A,
+        at: Position,
+        _frame: &[u8],
+        message: &S,
+        text: &mut Vec<u8, A>,
+        writer: &mut Watched<W>,
+    ) -> Result<(), ServeFault> {
+        let limits = self.limits;
+        if let Some(own) = own_canonical(message, limits) {
+            return self.compare(alloc, at, own.bytes, text, writer);
+        }
+        let _budget = limits.budget();
+        match canonical_of(alloc, message, limits) {
+            Ok(canonical) => self.compare(alloc, at, &canonical.bytes, text, writer),
+            Err(Refusal::Memory) => Err(ServeFault::Memory),
+            Err(refusal) => Err(ServeFault::Refused(refusal)),
+        }
+    }
+}

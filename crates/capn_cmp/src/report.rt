@@ -1,0 +1,99 @@
+//! The report on a message that differs.
+
+ghost use Rattle.std.specs.Prelude.{◌≡◌, ◌++◌, IfErr, IfOk, IfSome, OnOk};
+ghost use Rattle.capn_serve.specs.declared.fault.ServeFault.TheVariants as faults;
+ghost use Rattle.capn_cmp.specs.CmpMessages.{IsReport, report};
+ghost use Rattle.capn_cmp.specs.ShownText.{IsShownFrom};
+
+use crate::beginning::begin_text;
+use crate::lines_apart::lines_apart;
+use capn_serve::{Position, ServeFault};
+use capn_walk::Limits;
+use std::alloc::Allocator;
+
+/// Appends a part to a text.
+fn put_part<A: Allocator>(text: &mut Vec<u8, A>, part: &[u8]) -> Result<(), ServeFault>
+    ensures put { OnOk result (text.new.items ≡ text.old.items ++ part.now) }
+    ensures only { IfErr result (λ e. e ≡ faults.Memory) }
+{
+    match text.extend_from_slice(part) {
+        Ok(()) => Ok(()),
+        Err(_) => Err(ServeFault::Memory),
+    }
+}
+
+/// The report on the message at this position: these lines, of the first message and of it, are the first that differ.
+#[tactic(auto, using(crate::proofs::Reports::in_parts))]
+fn report_of<A: Allocator + Copy>(
+    alloc: A,
+    at: Position,
+    line: &[u8],
+    other: &[u8],
+) -> Result<Vec<u8, A>, ServeFault>
+    ensures found { IfOk result (λ text. text.items ≡ report at line.now other.now) }
+    ensures only { IfErr result (λ e. e ≡ faults.Memory) }
+{
+    let number = u128::from(at.index) + 1;
+    let offset = at.offset;
+    let Ok(head) = format!(in alloc; "message {number} at {offset} differs from message 1\n< ")
+    else {
+        return Err(ServeFault::Memory);
+    };
+    let mut text = Vec::new(alloc);
+    put_part(&mut text, head.as_bytes())?;
+    put_part(&mut text, line)?;
+    put_part(&mut text, b"\n> ")?;
+    put_part(&mut text, other)?;
+    put_part(&mut text, b"\n")?;
+    Ok(text)
+}
+
+/// The report on the message at this position, if these beginnings of both texts have the first lines in which the
+/// texts differ: that of the first message's canonical bytes, and that of its own.
+fn report_by<A: Allocator + Copy>(
+    alloc: A,
+    at: Position,
+    first: &[u8],
+    bytes: &[u8],
+    text: &[u8],
+    other: &[u8],
+) -> Result<Option<Vec<u8, A>>, ServeFault>
+    requires shown { IsShownFrom first.now text.now }
+    requires also { IsShownFrom bytes.now other.now }
+    ensures found { IfOk result (λ found. IfSome found (λ report. IsReport at first.now bytes.now report.items)) }
+    ensures only { IfErr result (λ e. e ≡ faults.Memory) }
+{
+    match lines_apart(text, other) {
+        Some((line, other_line)) => {
+            let report = report_of(alloc, at, line, other_line)?;
+            Ok(Some(report))
+        }
+        None => Ok(None),
+    }
+}
+
+/// The report on the message at this position, whose canonical bytes differ from the first message's.
+///
+/// Of both texts a beginning is made, and twice as much again, until both have the first lines in which they differ.
+/// It holds both, each at most twice as long as the text up to the end of these lines, or 65,536 bytes.
+pub(crate) fn find_report<A: Allocator + Copy>(
+    alloc: A,
+    at: Position,
+    limits: Limits,
+    first: &[u8],
+    bytes: &[u8],
+) -> Result<Vec<u8, A>, ServeFault>
+    ensures found { IfOk result (λ text. IsReport at first.now bytes.now text.items) }
+    ensures only { IfErr result (λ e. e ≡ faults.Memory) }
+{
+    for power in 16..48_u32 {
+        let room = 1_usize << power;
+        let text = begin_text(alloc, limits, first, room)?;
+        let other = begin_text(alloc, limits, bytes, room)?;
+        match report_by(alloc, at, first, bytes, &text, &other)? {
+            Some(report) => return Ok(report),
+            None => {}
+        }
+    }
+    Err(ServeFault::Memory)
+}
