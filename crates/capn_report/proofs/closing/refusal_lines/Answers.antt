@@ -1,0 +1,4 @@
+use Rattle.std.proofs.Common.{ℕ, List, ◌++◌, codes, ap, sym, ◌∙◌}
+use Rattle.capn_report.specs.FaultLines.{fault_lines}
+use Rattle.capn_report.proofs.Closings.{told_with, told_without}
+use Rattle.capn_report.proofs.closing.refusal_lines.Goals as goal
