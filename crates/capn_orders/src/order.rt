@@ -36,7 +36,7 @@ pub struct Show<'a> {
     pub way: Option<&'a str>,
 }
 
-/// Which messages are explained.
+/// The messages that are explained.
 #[derive(Clone, Copy, Debug, PartialEq, Eq)]
 pub enum Explanation {
     /// One: the first that is refused, or one by its number.

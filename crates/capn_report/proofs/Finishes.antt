@@ -224,11 +224,13 @@ module _ {X E : Type 0} (f : Fold X) (x : X) (finish : Finish X) (answer : Answe
         Appends-trans c m d text last before wrote,
       ))
 
-  memory_exact : (a c d : Option (List ℕ)) → IfSome a (AnswersAs f x finish answer form c d (answered (answer.of faults.Memory)))
+  memory_exact : (a c d : Option (List ℕ))
+      → IfSome a (AnswersAs f x finish answer form c d (answered (answer.of faults.Memory)))
   memory_exact None c d = tt
   memory_exact (Some input) c d = inl refl
 
-  failed_exact : (a c d : Option (List ℕ)) → IfSome a (AnswersAs f x finish answer form c d (answered (answer.of faults.Io)))
+  failed_exact : (a c d : Option (List ℕ))
+      → IfSome a (AnswersAs f x finish answer form c d (answered (answer.of faults.Io)))
   failed_exact None c d = tt
   failed_exact (Some input) c d = inr (inl refl)
 

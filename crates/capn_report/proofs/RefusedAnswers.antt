@@ -1,19 +1,20 @@
 -- What a run answers that explains every refused message. (For `run_explain_refused`.)
-use Rattle.std.proofs.Common.{◌≡◌, inl, inr, ℕ, List, ◌++◌, codes, Option, None, Some, Result, Ok, Err, refl, ap}
-use Rattle.capn_canon.specs.declared.refusal.Refusal.{Refusal}
+use Rattle.std.proofs.Common.{◌≡◌, inl, inr, ℕ, List, Bool, true, Option, None, Some, Result, Ok, Err, refl, ap, subst}
 use Rattle.capn_serve.specs.Fold.{Leaves}
 use Rattle.capn_serve.specs.WhatCame.{Came}
 use Rattle.capn_serve.specs.declared.fault.RunFault.{RunFault}
 use Rattle.capn_serve.specs.declared.fault.RunFault.TheVariants as run_faults
-use Rattle.capn_serve.specs.declared.position.Position.{Position}
 use Rattle.capn_serve.specs.declared.service.Run.{Run}
 use Rattle.capn_serve.specs.declared.skipped.SkippedSoFar.{SkippedSoFar}
-use Rattle.capn_report.specs.RefusedReports.{RefusedReporting}
-use Rattle.capn_report.specs.RefusedRun.{answer, answer_by, ending_by, refused_fold}
+use Rattle.capn_report.specs.RefusedReports.{RefusedReporting, each_of}
+use Rattle.capn_report.specs.RefusedRun.{answer_by, ending_by, refused_answer, refused_finish}
+use Rattle.capn_report.specs.RefusedRun.{refused_fold}
 use Rattle.capn_report.specs.Reports.{First}
+use Rattle.capn_report.specs.declared.explain.Explain.{Explain}
 use Rattle.capn_report.specs.declared.explain_refused.ExplainRefused.{ExplainRefused}
 use Rattle.capn_report.specs.declared.fault.ReportFault.{ReportFault}
 use Rattle.capn_report.specs.declared.fault.ReportFault.TheVariants as faults
+use Rattle.capn_report.specs.inner.Closing.{PutsFault, told_by}
 use Rattle.capn_report.proofs.Closings.{Ending, rest_not_io, stopped}
 use Rattle.capn_report.proofs.Finishes.{IsFaithful, answered}
 
@@ -59,11 +60,11 @@ io_is_not_memory is = absurd (cc)
 module _ (order : ExplainRefused) where
   -- no message ends the run by its refusal, so that the state is that after the messages
   left : (z y : Run RefusedReporting) (e : RunFault) → Leaves (refused_fold order) z e y
-      → answer.by z (stopped e) ≡ answer.by y (stopped e)
-  left z y e (inl same) = ap (λ (w : Run RefusedReporting). answer.by w (stopped e)) same
+      → refused_answer.by z (stopped e) ≡ refused_answer.by y (stopped e)
+  left z y e (inl same) = ap (λ (w : Run RefusedReporting). refused_answer.by w (stopped e)) same
   left z y e (inr (frame, message, r, none, is)) = absurd none
 
-  pub answer_faithful : IsFaithful (refused_fold order) answer
+  pub answer_faithful : IsFaithful (refused_fold order) refused_answer
   answer_faithful = record {
     io_by = λ y. io_by y.service.skipped y.at.index;
     memory_by = λ y. memory_by y.service.skipped y.at.index;
@@ -78,3 +79,11 @@ pub ending_not_io : (skipped : Option SkippedSoFar) (first : Option First)
     → ending_by skipped first ≡ Err run_faults.Io → ⊥
 ending_not_io None first is = rest_not_io None first is
 ending_not_io (Some s) first is = absurd (cc)
+
+-- what was written of a fault by the order for one message is what is told of it
+pub by_order : (order : ExplainRefused) (each : Explain) → each ≡ each_of order → (came : Came) (e : RunFault)
+    (old new : Option (List ℕ)) (before after : Bool) (r : Ending)
+    → PutsFault (λ at r. told_by true each at r came) e old new before after r
+    → PutsFault (λ at r. (refused_finish order).told at r came) e old new before after r
+by_order order each is came e old new before after r put =
+    subst (λ (x : Explain). PutsFault (λ at r. told_by true x at r came) e old new before after r) is put

@@ -26,7 +26,8 @@ abbrev pub state : Explain → Option SkippedSoFar → Option First → RefusedR
 state order skipped first = record { order = order; skipped = skipped; first = first }
 
 -- a message that is accepted writes nothing
-pub tells_none : (s t : RefusedReporting) (order : Explain) (skipped : Option SkippedSoFar) (before first : Option First)
+pub tells_none : (s t : RefusedReporting) (order : Explain) (skipped : Option SkippedSoFar)
+    (before first : Option First)
     → state order skipped before ≡ s → (at : Position) (message : List (List ℕ)) (old : List ℕ)
     → IsAccepted message order.limits → IsFirst order.form at message order.limits first
     → t ≡ state s.order skipped first → Puts (serves s at [] message) old old (Ok tt) t

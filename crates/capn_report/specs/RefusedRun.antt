@@ -74,15 +74,15 @@ answer_by (Some skipped) messages (Ok u) = Err (faults.Skipped (skipped_of skipp
 answer_by skipped messages (Err fault) = Err (fault_after skipped messages fault)
 
 -- that answer by the state after the messages
-abbrev pub answer : Answer (Run RefusedReporting) ReportFault
-answer = record { of = λ e. faults.Ended e; by = λ y r. answer_by y.service.skipped y.at.index r }
+abbrev pub refused_answer : Answer (Run RefusedReporting) ReportFault
+refused_answer = record { of = λ e. faults.Ended e; by = λ y r. answer_by y.service.skipped y.at.index r }
 
 -- a run, over a reader (from a to b) and a writer (from c to d)
 abbrev pub ExplainedRefused : ExplainRefused → Option (List ℕ) → Option (List ℕ) → Option (List ℕ) → Option (List ℕ)
     → Bool → Bool → Result (Unit {0}) ReportFault → Type 0
 ExplainedRefused order a b c d reader_failed writer_failed r =
-    Answered (refused_fold order) (first_run order) (refused_finish order) answer order.form a b c d reader_failed
-    writer_failed r
+    Answered (refused_fold order) (first_run order) (refused_finish order) refused_answer order.form a b c d
+    reader_failed writer_failed r
 
 -- ---- the end without a refused message, and after one
 

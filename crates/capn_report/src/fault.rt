@@ -10,7 +10,7 @@ use capn_serve::{Position, RunFault, Skipped, say_skipped};
 use capn_words::Watched;
 use std::io::Write;
 
-/// Why a run that explains every message that is refused does not end as done.
+/// A fault that ends a run which explains every message that is refused.
 #[derive(Clone, Copy, Debug, PartialEq, Eq)]
 pub enum ReportFault {
     /// The run over the messages ended so, and no message was refused by its walk before; or memory, the reader or the

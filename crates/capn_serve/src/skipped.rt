@@ -15,20 +15,20 @@ use std::io::Write;
 /// The messages that were skipped so far.
 #[derive(Clone, Copy, Debug, PartialEq, Eq)]
 pub struct SkippedSoFar {
-    /// How many.
+    /// Their number.
     pub count: u64,
-    /// Where the first of them is.
+    /// The position of the first.
     pub first: Position,
 }
 
 /// The messages that were skipped in a run.
 #[derive(Clone, Copy, Debug, PartialEq, Eq)]
 pub struct Skipped {
-    /// How many messages were skipped.
+    /// Their number.
     pub refused: u64,
-    /// How many messages there were in all, or before the fault that ended the run.
+    /// The number of all messages, or of those before the fault that ended the run.
     pub messages: u64,
-    /// Where the first of those skipped is.
+    /// The position of the first that was skipped.
     pub first: Position,
 }
 

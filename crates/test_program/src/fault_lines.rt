@@ -132,11 +132,7 @@ fn a_run_that_explains_every_refused_message_ends_with_its_line(rt: HostRuntime)
             "capn: out of memory\n",
         ),
         (
-            Err(ReportFault::RefusedAfterSkipped(
-                SKIPPED,
-                LAST,
-                Refusal::Trailing(u64::MAX),
-            )),
+            Err(ReportFault::RefusedAfterSkipped(SKIPPED, LAST, Refusal::Trailing(u64::MAX))),
             1,
             TWO_LINES,
         ),

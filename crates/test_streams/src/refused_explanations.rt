@@ -143,8 +143,7 @@ group: byte 6 of the packed input, tag 10: needs 2 bytes, 1 came
     Ok(())
 }
 
-/// A bare input is one message: it is counted as the others if its walk refuses it, and a length that is no whole number
-/// of words ends the run.
+/// A bare input is one message: it is counted as the others if its walk refuses it, and a wrong length ends the run.
 #[test]
 fn explains_a_bare_message(rt: HostRuntime) -> Result<(), Fail> {
     let start = Position {
@@ -169,7 +168,7 @@ fn explains_a_bare_message(rt: HostRuntime) -> Result<(), Fail> {
     Ok(())
 }
 
-/// What a piece decided is written before more is read: also if that fails.
+/// The lines of a piece are written before more is read, also if that fails.
 #[test]
 fn writes_before_it_reads_again(rt: HostRuntime) -> Result<(), Fail> {
     let input = Once {
