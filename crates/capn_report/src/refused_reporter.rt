@@ -1,9 +1,9 @@
 //! The service that explains each message that is refused.
 
-ghost use Rattle.std.specs.Prelude.{◌≡◌};
+ghost use Rattle.std.specs.Prelude.{◌≡◌, []};
 ghost use Rattle.capn_walk.specs.Accepted.{IsWalkRefused};
 ghost use Rattle.capn_report.specs.RefusedReports as spec;
-ghost use Rattle.capn_report.specs.RefusedReports.{PutsToldApart, serves};
+ghost use Rattle.capn_report.specs.RefusedReports.{PutsToldApart};
 ghost use Rattle.capn_report.specs.Reports.{Puts, lines_first};
 
 use crate::account::Account;
@@ -114,7 +114,7 @@ impl<B: Allocator + Copy> RefusedReporter<B> {
         message: &S,
         text: &mut Vec<u8, A>,
     ) -> Result<(), ServeFault>
-        ensures { Puts (serves self.old at [] (S.message message.now)) text.old.items text.new.items result self.new }
+        ensures { Puts (spec.serves self.old at [] (S.message message.now)) text.old.items text.new.items result self.new }
     {
         match survey_depth(alloc, message, self.order.limits) {
             Ok(surveyed) => {
