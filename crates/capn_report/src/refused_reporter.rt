@@ -114,7 +114,8 @@ impl<B: Allocator + Copy> RefusedReporter<B> {
         message: &S,
         text: &mut Vec<u8, A>,
     ) -> Result<(), ServeFault>
-        ensures { Puts (spec.serves self.old at [] (S.message message.now)) text.old.items text.new.items result self.new }
+        ensures { Puts (spec.serves self.old at [] (S.message message.now)) text.old.items text.new.items result
+            self.new }
     {
         match survey_depth(alloc, message, self.order.limits) {
             Ok(surveyed) => {
