@@ -74,7 +74,7 @@ _capn() {
         'make --form') words='stream packed bare' ;;
         'show '*) words='--form --message-words --budget --depth --tariff --at --text --json --offsets --ways --one --help' ;;
         'check '*) words='--form --message-words --budget --depth --tariff --one --help' ;;
-        'explain '*) words='--form --message-words --budget --depth --tariff --number --help' ;;
+        'explain '*) words='--form --message-words --budget --depth --tariff --number --keep-going --help' ;;
         'list '*) words='--form --message-words --budget --depth --tariff --keep-going --digest --help' ;;
         'limits '*) words='--form --message-words --budget --depth --tariff --keep-going --help' ;;
         'canonical '*) words='--form --message-words --budget --depth --tariff --framed --keep-going --help' ;;

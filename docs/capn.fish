@@ -42,6 +42,7 @@ complete -c capn -n '__fish_seen_subcommand_from explain' -l budget -x -d 'The m
 complete -c capn -n '__fish_seen_subcommand_from explain' -l depth -x -d 'The most objects one below the other, from 1 to 256'
 complete -c capn -n '__fish_seen_subcommand_from explain' -l tariff -x -a 'strict plain' -d 'What reading a struct or list costs beside its words'
 complete -c capn -n '__fish_seen_subcommand_from explain' -l number -x -d 'The number of the message to explain, from 1'
+complete -c capn -n '__fish_seen_subcommand_from explain' -l keep-going -d 'Explain every message that is refused, and write an empty line after each'
 complete -c capn -n '__fish_seen_subcommand_from explain' -l help -d 'Print help'
 complete -c capn -n '__fish_seen_subcommand_from list' -l form -x -a 'stream packed bare' -d 'How the input holds its messages'
 complete -c capn -n '__fish_seen_subcommand_from list' -l message-words -x -d 'The most words of a message, from 1 to 268435456'

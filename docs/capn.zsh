@@ -60,6 +60,7 @@ _capn() {
                 '--depth=[The most objects one below the other, from 1 to 256]:depth:()' \
                 '--tariff=[What reading a struct or list costs beside its words]:tariff:(strict plain)' \
                 '--number=[The number of the message to explain, from 1]:number:()' \
+                '--keep-going[Explain every message that is refused, and write an empty line after each]' \
                 '--help[Print help]' ;;
         list)
             _arguments \

@@ -264,20 +264,29 @@ def fault_lines(fault, message_words, rest, group):
     return out
 
 
+def walked(message, form, limits):
+    """The walk of a message, and the lines that explain why that is refused, if it is; but for its place."""
+    offset, _frame, segments = message
+    walk = Explanation(segments, limits, offset, 0 if form == "bare" else len(segments) // 2 + 1)
+    lines = [segments_line(segments)]
+    if walk.refused:
+        lines.append(f"refused: {walk.refused}\n")
+        lines += walk.slot_lines() if segments[0] else []
+    return walk, lines
+
+
 def explain(data, form="stream", message_words=8388608, wanted=None, **limits):
     """What `explain` writes, with the number that it has or None, the line on standard error, and its exit status. The
     limits are those of the walk."""
     found, fault = model.messages(data, form, message_words)
-    for index, (offset, frame, segments) in enumerate(found, 1):
+    for index, message in enumerate(found, 1):
         if wanted not in (None, index):
             continue
-        table = 0 if form == "bare" else len(segments) // 2 + 1
-        walk = Explanation(segments, limits, offset, table)
-        head = [f"message: {index} at {offset}\n", segments_line(segments)]
+        offset, _frame, segments = message
+        walk, lines = walked(message, form, limits)
+        head = [f"message: {index} at {offset}\n", *lines]
         if walk.refused:
-            head.append(f"refused: {walk.refused}\n")
-            named = walk.slot_lines() if segments[0] else []
-            return written(head + named), model.line_of((walk.refused, index, offset)), 1
+            return written(head), model.line_of((walk.refused, index, offset)), 1
         if wanted or fault is None and len(found) == 1:
             return written(head + accepted_lines(walk, segments)), "", 0
     if fault is not None:
@@ -286,8 +295,26 @@ def explain(data, form="stream", message_words=8388608, wanted=None, **limits):
     return written([f"{len(found)} messages{'' if wanted else ', none refused'}\n"]), "", 0
 
 
-def run_explain(data, number=None, **options):
-    return explain(data, wanted=number, **options)
+def explain_refused(data, form="stream", message_words=8388608, **limits):
+    """The same of every message that is refused, with an empty line after each."""
+    found, fault = model.messages(data, form, message_words)
+    out, passed = [], []
+    for index, message in enumerate(found, 1):
+        walk, lines = walked(message, form, limits)
+        if walk.refused:
+            out += [f"message: {index} at {message[0]}\n", *lines, "\n"]
+            passed.append((index, message[0]))
+    line = model.passed_line(passed, len(found))
+    if fault is not None:
+        out += [*fault_lines(fault, message_words, *came(data, form, fault[2])), "\n"]
+        return written(out), line + model.line_of(fault), 1
+    if passed:
+        return written(out), line, 1
+    return explain(data, form, message_words, **limits)
+
+
+def run_explain(data, number=None, keep_going=False, **options):
+    return explain_refused(data, **options) if keep_going else explain(data, wanted=number, **options)
 
 
 def written(lines):

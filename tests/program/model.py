@@ -584,6 +584,15 @@ def line_of(fault):
     return f"capn: message {index} at {offset}: {text}\n"
 
 
+def passed_line(passed, count):
+    """The line on standard error of messages that were passed over, by their numbers and offsets, of this many in all;
+    none if there are none."""
+    if not passed:
+        return ""
+    index, offset = passed[0]
+    return f"capn: {len(passed)} of {count} messages refused, the first is {index} at {offset}\n"
+
+
 def digest(value):
     return hashlib.sha256(canonical(value)).hexdigest()
 
@@ -647,10 +656,7 @@ def run(task, data, form="stream", message_words=8388608, keep_going=False, with
         for name, figure in [("message-words", words), ("budget", walk.paid), ("depth", walk.height)]:
             if not greatest[name][1] or figure > greatest[name][0]:
                 greatest[name] = (figure, index)
-    line = ""
-    if passed:
-        index, offset = passed[0]
-        line = f"capn: {len(passed)} of {len(found)} messages refused, the first is {index} at {offset}\n"
+    line = passed_line(passed, len(found))
     if fault is not None:
         return b"".join(out), line + line_of(fault), 1
     if task == "limits":

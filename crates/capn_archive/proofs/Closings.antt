@@ -10,12 +10,12 @@ use Rattle.capn_canon.specs.declared.refusal.Refusal.TheVariants as refusals
 use Rattle.capn_serve.specs.declared.position.Position.{Position}
 use Rattle.capn_serve.specs.declared.fault.RunFault.{RunFault}
 use Rattle.capn_serve.specs.declared.fault.RunFault.TheVariants as run_faults
-use Rattle.capn_archive.specs.declared.fault.Skipped.{Skipped}
+use Rattle.capn_serve.specs.declared.skipped.Skipped.{Skipped}
 use Rattle.capn_archive.specs.declared.fault.ArchiveFault.{ArchiveFault}
 use Rattle.capn_archive.specs.declared.fault.ArchiveFault.TheVariants as faults
-use Rattle.capn_archive.specs.declared.tally.SkippedSoFar.{SkippedSoFar}
+use Rattle.capn_serve.specs.declared.skipped.SkippedSoFar.{SkippedSoFar}
 use Rattle.capn_archive.specs.Finish.{after_skipped, fault_after, outcome_unless, refused_after}
-use Rattle.capn_archive.specs.Finish.{skipped_of}
+use Rattle.capn_serve.specs.Skipped.{skipped_of}
 use Rattle.capn_archive.specs.inner.Closing.{PutsClosing}
 use Rattle.capn_archive.specs.ArchiveRun.{closing_by}
 use Rattle.capn_archive.specs.UniqRun as uniqs

@@ -7,9 +7,9 @@ use Rattle.capn_serve.specs.Service.{DoesService}
 use Rattle.capn_serve.proofs.shared.Adding.{added_none, does_add}
 use Rattle.capn_archive.specs.declared.filter_order.FilterOrder.{FilterOrder}
 use Rattle.capn_archive.specs.declared.filter_service.FilterService.{FilterService}
-use Rattle.capn_archive.specs.declared.tally.SkippedSoFar.{SkippedSoFar}
+use Rattle.capn_serve.specs.declared.skipped.SkippedSoFar.{SkippedSoFar}
 use Rattle.capn_archive.specs.FilterMessages.{IsHeldBack, IsUncanonical, Passes, refuses, serves}
-use Rattle.capn_archive.specs.Tally.{one_more}
+use Rattle.capn_serve.specs.Skipped.{one_more}
 
 abbrev Ending : Type 0
 Ending = Result (Unit {0}) ServeFault

@@ -8,7 +8,7 @@ use Rattle.capn_serve.specs.declared.position.Position.{Position}
 use Rattle.capn_serve.specs.Fold.{Fold}
 use Rattle.capn_archive.specs.declared.fault.ArchiveFault.{ArchiveFault}
 use Rattle.capn_archive.specs.declared.fault.ArchiveFault.TheVariants as faults
-use Rattle.capn_archive.specs.declared.tally.SkippedSoFar.{SkippedSoFar}
+use Rattle.capn_serve.specs.declared.skipped.SkippedSoFar.{SkippedSoFar}
 use Rattle.capn_archive.specs.declared.task.ArchiveOrder.{ArchiveOrder}
 use Rattle.capn_archive.specs.declared.task.Task.{Task}
 use Rattle.capn_archive.specs.declared.task.Task.TheVariants as tasks

@@ -11,9 +11,9 @@ use Rattle.capn_serve.specs.Outgoing.{Outgoing, Adds}
 use Rattle.capn_serve.specs.Service.{DoesService}
 use Rattle.capn_serve.proofs.shared.Adding.{added_none}
 use Rattle.capn_archive.specs.CanonicalFrame.{AddsText}
-use Rattle.capn_archive.specs.declared.tally.SkippedSoFar.{SkippedSoFar}
+use Rattle.capn_serve.specs.declared.skipped.SkippedSoFar.{SkippedSoFar}
 use Rattle.capn_archive.specs.declared.uniq_order.UniqOrder.{UniqOrder}
-use Rattle.capn_archive.specs.Tally.{one_more}
+use Rattle.capn_serve.specs.Skipped.{one_more}
 use Rattle.capn_archive.specs.Digest.{IsDigest, IsUndigested}
 use Rattle.capn_archive.specs.UniqMessages.{UniqState, IsSkipped, Deduplicates, and_one, has, one_served}
 use Rattle.capn_archive.specs.UniqMessages.{refuses, serves, kept_text, TriesToDeduplicate}

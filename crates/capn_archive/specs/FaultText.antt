@@ -1,14 +1,14 @@
 -- The text of a fault that ends a run over an archive, and its exit status. (Own.)
 use Rattle.std.specs.Prelude.{ℕ, ◌≡◌, List, ◌++◌, codes, refl}
-use Rattle.std.specs.Fmt.{decimal, digits}
+use Rattle.std.specs.Fmt.{digits}
 use Rattle.capn_endings.specs.Ending.{out_of_memory}
 use Rattle.capn_stream.specs.declared.fault.FrameFault.TheVariants as frame_faults
 use Rattle.capn_canon.specs.Display.{refusal_text}
 use Rattle.capn_canon.specs.declared.refusal.Refusal.{Refusal}
 use Rattle.capn_canon.specs.declared.refusal.Refusal.TheVariants as refusals
 use Rattle.capn_serve.specs.FaultText.{place_text}
+use Rattle.capn_serve.specs.Skipped.{text_of_skipped}
 use Rattle.capn_serve.specs.declared.position.Position.{Position}
-use Rattle.capn_archive.specs.declared.fault.Skipped.{Skipped}
 use Rattle.capn_archive.specs.declared.fault.ArchiveFault.{ArchiveFault}
 use Rattle.capn_archive.specs.declared.fault.ArchiveFault.TheVariants as faults
 
@@ -19,12 +19,6 @@ text_of_refused at refusal = codes "message " ++ (place_text at ++ (codes ": " +
 -- the message at a position is not canonical
 abbrev pub text_of_uncanonical : Position → List ℕ
 text_of_uncanonical at = codes "message " ++ (place_text at ++ codes ": not canonical")
-
--- how many messages were skipped, of how many, and the first of them
-abbrev pub text_of_skipped : Skipped → List ℕ
-text_of_skipped skipped =
-    decimal skipped.refused ++ (codes " of " ++ (decimal skipped.messages
-    ++ (codes " messages refused, the first is " ++ place_text skipped.first)))
 
 -- why a run over an archive did not end as done
 abbrev pub archive_text : ArchiveFault → List ℕ

@@ -9,7 +9,7 @@ use Rattle.capn_serve.specs.declared.position.Position.{Position}
 use Rattle.capn_archive.specs.declared.filter_order.FilterOrder.{FilterOrder}
 use Rattle.capn_archive.specs.declared.filter_service.FilterService.{FilterService}
 use Rattle.capn_archive.specs.declared.task.Task.TheVariants as tasks
-use Rattle.capn_archive.specs.Tally.{one_more}
+use Rattle.capn_serve.specs.Skipped.{one_more}
 use Rattle.capn_archive.specs.Tasks.{IsRefusedBy}
 
 -- a message is accepted, and where only canonical ones are let through it is one: its only segment is the canonical

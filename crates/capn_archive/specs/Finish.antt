@@ -10,16 +10,12 @@ use Rattle.capn_canon.specs.declared.refusal.Refusal.TheVariants as refusals
 use Rattle.capn_serve.specs.declared.fault.RunFault.{RunFault}
 use Rattle.capn_serve.specs.declared.fault.RunFault.TheVariants as run_faults
 use Rattle.capn_serve.specs.declared.position.Position.{Position}
-use Rattle.capn_archive.specs.declared.fault.Skipped.{Skipped}
 use Rattle.capn_archive.specs.declared.fault.ArchiveFault.{ArchiveFault}
 use Rattle.capn_archive.specs.declared.fault.ArchiveFault.TheVariants as faults
-use Rattle.capn_archive.specs.declared.tally.SkippedSoFar.{SkippedSoFar}
+use Rattle.capn_serve.specs.Skipped.{skipped_of}
+use Rattle.capn_serve.specs.declared.skipped.SkippedSoFar.{SkippedSoFar}
 use Rattle.capn_serve.specs.Fold.{Fold}
 use Rattle.capn_serve.specs.FormRun.{AreMessages, HasWritten, IsNeededSoFar, IsReadSoFar, KeepsUp, MayNeedMemory}
-
--- the messages skipped so far, of this many
-abbrev pub skipped_of : SkippedSoFar → ℕ → Skipped
-skipped_of s messages = record { refused = s.count; messages = messages; first = s.first }
 
 -- how a run ends that has served all of its input: done, or with the numbers of the messages that it skipped
 abbrev pub outcome_by : Option SkippedSoFar → ℕ → Result (Unit {0}) ArchiveFault

@@ -1,19 +1,14 @@
 -- What a run keeps of the messages that it has served. (Own.)
-use Rattle.std.specs.Prelude.{ℕ, ◌+◌, ◌-◌, ◌^◌, min, nat_lt, if◌then◌else◌, Option, Some, None}
+use Rattle.std.specs.Prelude.{ℕ, nat_lt, if◌then◌else◌, Option, Some, None}
+use Rattle.capn_serve.specs.Skipped.{one_more}
 use Rattle.capn_serve.specs.declared.position.Position.{Position}
 use Rattle.capn_archive.specs.declared.tally.Greatest.{Greatest}
-use Rattle.capn_archive.specs.declared.tally.SkippedSoFar.{SkippedSoFar}
 use Rattle.capn_archive.specs.declared.tally.Tally.{Tally}
 
 -- the greater of what was greatest so far and an amount of the message of this index; the earlier of two that are equal
 abbrev pub greater : Option Greatest → ℕ → ℕ → Greatest
 greater None amount index = record { amount = amount; index = index }
 greater (Some g) amount index = if nat_lt g.amount amount then record { amount = amount; index = index } else g
-
--- one more message is skipped, of which the first is kept; no count passes 2^64 - 1
-abbrev pub one_more : Option SkippedSoFar → Position → SkippedSoFar
-one_more None at = record { count = 1; first = at }
-one_more (Some s) at = record { count = min (s.count + 1) (2 ^ 64 - 1); first = s.first }
 
 -- a message with these words, this price and this depth is counted
 abbrev pub counted : Tally → ℕ → ℕ → ℕ → ℕ → Tally

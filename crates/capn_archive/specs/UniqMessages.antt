@@ -9,10 +9,10 @@ use Rattle.capn_serve.specs.declared.position.Position.{Position}
 use Rattle.capn_serve.specs.declared.fault.ServeFault.{ServeFault}
 use Rattle.capn_serve.specs.declared.fault.ServeFault.TheVariants as faults
 use Rattle.capn_serve.specs.Outgoing.{Outgoing, Adds, AddsBeginning, BreaksWithin}
-use Rattle.capn_archive.specs.declared.tally.SkippedSoFar.{SkippedSoFar}
+use Rattle.capn_serve.specs.declared.skipped.SkippedSoFar.{SkippedSoFar}
 use Rattle.capn_archive.specs.declared.uniq_order.UniqOrder.{UniqOrder}
 use Rattle.capn_archive.specs.Digest.{IsDigest, IsUndigested}
-use Rattle.capn_archive.specs.Tally.{one_more}
+use Rattle.capn_serve.specs.Skipped.{one_more}
 
 -- what `uniq` has kept: its order, the digests of the messages that it has kept, how many it has served, and those
 -- that it has skipped

@@ -7,26 +7,14 @@ ghost use Rattle.capn_archive.specs.inner.Closing.{PutsClosing};
 ghost use Rattle.capn_archive.specs.Finish as finish;
 
 use crate::archive_service::ArchiveService;
-use crate::fault::{ArchiveFault, Skipped};
+use crate::fault::ArchiveFault;
 use crate::limits_report::{Needs, limits_text};
-use crate::tally::SkippedSoFar;
 use crate::task::{ArchiveOrder, Task};
 use capn_canon::Refusal;
-use capn_serve::{Position, Run, RunFault, write_all};
+use capn_serve::{Position, Run, RunFault, SkippedSoFar, skipped_of, write_all};
 use capn_words::Watched;
 use std::alloc::Allocator;
 use std::io::Write;
-
-/// The messages skipped so far, of this many.
-fn skipped_of(skipped: SkippedSoFar, messages: u64) -> Skipped
-    ensures { result ≡ finish.skipped_of skipped messages }
-{
-    Skipped {
-        refused: skipped.count,
-        messages,
-        first: skipped.first,
-    }
-}
 
 /// The fault of an input that is refused at a position, after this many messages: with those of them that were skipped,
 /// if any was.

@@ -2,24 +2,13 @@
 
 ghost use Rattle.capn_words.specs.Watched.{inner_of, has_failed};
 ghost use Rattle.capn_endings.specs.Line.{Says, way};
-ghost use Rattle.capn_archive.specs.FaultText.{text_of_refused, text_of_skipped, text_of_uncanonical};
+ghost use Rattle.capn_archive.specs.FaultText.{text_of_refused, text_of_uncanonical};
 
 use capn_canon::Refusal;
 use capn_endings::{Ending, Line};
-use capn_serve::{Position, say_place, say_refusal};
+use capn_serve::{Position, Skipped, say_place, say_refusal, say_skipped};
 use capn_words::Watched;
 use std::io::Write;
-
-/// The messages that were skipped in a run.
-#[derive(Clone, Copy, Debug, PartialEq, Eq)]
-pub struct Skipped {
-    /// How many messages were skipped.
-    pub refused: u64,
-    /// How many messages there were in all, or before the fault that ended the run.
-    pub messages: u64,
-    /// Where the first of those skipped is.
-    pub first: Position,
-}
 
 /// Why a run over an archive does not end as done.
 #[derive(Clone, Copy, Debug, PartialEq, Eq)]
@@ -61,18 +50,6 @@ fn say_uncanonical<E: Write>(at: &Position, line: &mut Line, errors: &mut Watche
     line.put(b"message ", errors);
     say_place(at, line, errors);
     line.put(b": not canonical", errors);
-}
-
-/// Says how many messages were skipped, of how many, and where the first of them is.
-fn say_skipped<E: Write>(skipped: &Skipped, line: &mut Line, errors: &mut Watched<E>)
-    ensures { Says (text_of_skipped skipped.now)
-        (way line.old (E.contents (inner_of errors.old)) (has_failed errors.old))
-        (way line.new (E.contents (inner_of errors.new)) (has_failed errors.new)) }
-{
-    line.put_number(skipped.refused, errors);
-    line.put_named(b" of ", skipped.messages, errors);
-    line.put(b" messages refused, the first is ", errors);
-    say_place(&skipped.first, line, errors);
 }
 
 impl Ending for ArchiveFault {

@@ -5,9 +5,8 @@ ghost use Rattle.capn_archive.specs.FilterMessages.{first_state};
 ghost use Rattle.capn_archive.specs.inner.FilterVerdict.{IsVerdict};
 
 use crate::filter_order::FilterOrder;
-use crate::tally::{SkippedSoFar, one_more};
 use capn_canon::{Refusal, measure, survey};
-use capn_serve::{Position, ServeFault, Service, add_bytes};
+use capn_serve::{Position, ServeFault, Service, SkippedSoFar, add_bytes, one_more};
 use capn_walk::Limits;
 use capn_words::{Space, Watched};
 use std::alloc::Allocator;

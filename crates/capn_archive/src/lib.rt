@@ -32,9 +32,9 @@ mod uniq_service;
 pub use archive_run::run_archive;
 pub use archive_service::ArchiveService;
 pub use capn_serve::{
-    Position, Run, RunFault, ServeFault, Service, run_bare, run_packed, run_stream,
+    Position, Run, RunFault, ServeFault, Service, Skipped, run_bare, run_packed, run_stream,
 };
-pub use fault::{ArchiveFault, Skipped};
+pub use fault::ArchiveFault;
 pub use filter_order::FilterOrder;
 pub use filter_run::run_filter;
 pub use filter_service::FilterService;

@@ -3,7 +3,7 @@
 ghost use Rattle.std.specs.Prelude.{◌≡◌};
 ghost use Rattle.capn_archive.specs.Tally as spec;
 
-use capn_serve::Position;
+use capn_serve::{Position, SkippedSoFar, one_more};
 
 /// The greatest amount of a message so far.
 #[derive(Clone, Copy, Debug, PartialEq, Eq)]
@@ -12,15 +12,6 @@ pub struct Greatest {
     pub amount: u32,
     /// How many messages are before the first that has it.
     pub index: u64,
-}
-
-/// The messages that were skipped so far.
-#[derive(Clone, Copy, Debug, PartialEq, Eq)]
-pub struct SkippedSoFar {
-    /// How many.
-    pub count: u64,
-    /// Where the first of them is.
-    pub first: Position,
 }
 
 /// What a run keeps of the messages that it has served.
@@ -50,22 +41,6 @@ fn greater(so_far: Option<Greatest>, amount: u32, index: u64) -> Greatest
             }
         }
         None => Greatest { amount, index },
-    }
-}
-
-/// One more message that is skipped.
-pub(crate) fn one_more(so_far: Option<SkippedSoFar>, at: Position) -> SkippedSoFar
-    ensures { result ≡ spec.one_more so_far at }
-{
-    match so_far {
-        Some(skipped) => SkippedSoFar {
-            count: skipped.count.saturating_add(1),
-            first: skipped.first,
-        },
-        None => SkippedSoFar {
-            count: 1,
-            first: at,
-        },
     }
 }
 

@@ -8,9 +8,8 @@ ghost use Rattle.capn_archive.specs.UniqMessages.{InsertsDigest, TriesToDeduplic
 ghost use Rattle.capn_serve.specs.Outgoing.{outgoing};
 
 use crate::digest::digest_of;
-use crate::tally::{SkippedSoFar, one_more};
 use crate::uniq_order::UniqOrder;
-use capn_serve::{Position, ServeFault, Service, add_bytes};
+use capn_serve::{Position, ServeFault, Service, SkippedSoFar, add_bytes, one_more};
 use capn_words::{Space, Watched};
 use std::alloc::Allocator;
 use std::collections::BTreeSet;

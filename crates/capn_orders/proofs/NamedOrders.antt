@@ -5,7 +5,7 @@ use Rattle.clap.specs.Words.{Row, Text, first_of}
 use Rattle.capn_walk.specs.Limits.{Bounds}
 use Rattle.capn_canon.specs.declared.form.Form.{Form}
 use Rattle.capn_orders.specs.OptionValues.{FlagIs, FormIs, IsUsual, LimitsAre, UnpackedIs}
-use Rattle.capn_orders.specs.Meaning.{AreOptions, ExplainIs, IsTask, MeansOrder, OnlyIs, PickIs, MarksAre, StyleIs}
+use Rattle.capn_orders.specs.Meaning.{AreOptions, ExplanationIs, IsTask, MeansOrder, OnlyIs, PickIs, MarksAre, StyleIs}
 use Rattle.capn_orders.specs.Meaning.{WayIs, is_plain}
 use Rattle.capn_commands.specs.declared.command.Command.TheVariants as commands
 use Rattle.capn_commands.specs.declared.plan.MessageText.TheVariants as pieces
@@ -14,9 +14,9 @@ use Rattle.capn_archive.specs.declared.task.Task.{Task}
 use Rattle.capn_archive.specs.declared.task.Task.TheVariants as tasks
 use Rattle.capn_show.specs.declared.style.Style.{Style}
 use Rattle.capn_show.specs.declared.style.Style.TheVariants as styles
-use Rattle.capn_report.specs.declared.explain.Explain.{Explain}
 use Rattle.capn_orders.specs.Way.{way_of}
 use Rattle.capn_serve.specs.declared.pick.Pick.{Pick}
+use Rattle.capn_orders.specs.declared.order.Explanation.{Explanation}
 use Rattle.capn_orders.specs.declared.order.Flow.TheVariants as flows
 use Rattle.capn_orders.specs.declared.order.Only.{Only}
 use Rattle.capn_orders.specs.declared.order.Order.{Order}
@@ -381,7 +381,7 @@ pick_means rows o m = go o m (told (codes "pick", rows) o m)
     go (orders.Make f) m e = absurd (omega arith)
 
 pub explain_means : (rows : List Row) (o : Order) → MeansOrder (Some (codes "explain", rows)) o
-    → (x : Explain) × ExplainIs rows x
+    → (x : Explanation) × ExplanationIs rows x
 explain_means rows o m = go o m (told (codes "explain", rows) o m)
   where
     task : (t : Task) → 344 ≡ tell_task t → ⊥
@@ -390,7 +390,8 @@ explain_means rows o m = go o m (told (codes "explain", rows) o m)
     task tasks.Limits e = omega arith
     task tasks.Canonical e = omega arith
 
-    go : (o : Order) → MeansOrder (Some (codes "explain", rows)) o → 344 ≡ tell_of o → (x : Explain) × ExplainIs rows x
+    go : (o : Order) → MeansOrder (Some (codes "explain", rows)) o → 344 ≡ tell_of o
+        → (x : Explanation) × ExplanationIs rows x
     go (orders.Message c) m e = absurd (never_command c 344 refl (sym e))
     go (orders.Show s) m e = absurd (omega arith)
     go (orders.Explain x) m e = (x, m.1)

@@ -7,12 +7,13 @@ use Rattle.capn_show.specs.declared.style.Style.TheVariants as styles
 use Rattle.capn_walk.specs.Limits.{Bounds}
 use Rattle.capn_canon.specs.declared.form.Form.{Form}
 use Rattle.capn_canon.specs.declared.form.Form.TheVariants as forms
-use Rattle.capn_orders.specs.Meaning.{Means, AreOptions, AreSame, ExplainIs, HasNoFlag, IsFlow, IsNumbered, IsSameWay}
+use Rattle.capn_orders.specs.Meaning.{Means, AreOptions, AreSame, HasNoFlag, IsFlow, IsNumbered, IsSameWay}
 use Rattle.capn_orders.specs.Meaning.{IsTask, MakeIs, MeansOneOrder, MeansOrder, OnlyIs, PickIs, ShowIs, StyleIs}
-use Rattle.capn_orders.specs.Meaning.{CmpIs, FilterIs, UniqIs, WayIs, MarksAre, is_plain, usual_with}
+use Rattle.capn_orders.specs.Meaning.{CmpIs, ExplainIs, ExplanationIs, FilterIs, RefusedIs, UniqIs, WayIs, MarksAre}
+use Rattle.capn_orders.specs.Meaning.{is_plain, usual_with}
 use Rattle.capn_commands.specs.Plan.{form_of}
 use Rattle.capn_commands.specs.declared.plan.MessageText.TheVariants as pieces
-use Rattle.capn_orders.proofs.OneMeaning.{flag_one, form_one, limits_one, means_one, number_one}
+use Rattle.capn_orders.proofs.OneMeaning.{flag_one, form_one, limits_one, means_one, not_both, number_one}
 use Rattle.capn_commands.specs.declared.command.Command.{Command}
 use Rattle.capn_commands.specs.declared.command.Command.TheVariants as commands
 use Rattle.capn_archive.specs.declared.task.ArchiveOrder.{ArchiveOrder}
@@ -22,10 +23,13 @@ use Rattle.capn_archive.specs.declared.filter_order.FilterOrder.{FilterOrder}
 use Rattle.capn_cmp.specs.declared.cmp_order.CmpOrder.{CmpOrder}
 use Rattle.capn_archive.specs.declared.uniq_order.UniqOrder.{UniqOrder}
 use Rattle.capn_report.specs.declared.explain.Explain.{Explain}
+use Rattle.capn_report.specs.declared.explain_refused.ExplainRefused.{ExplainRefused}
 use Rattle.capn_serve.specs.declared.pick.Pick.{Pick}
 use Rattle.capn_serve.specs.declared.pick.StreamForm.{StreamForm}
 use Rattle.capn_serve.specs.declared.pick.StreamForm.TheVariants as stream_forms
 use Rattle.capn_orders.specs.MessageNumber.{number_of}
+use Rattle.capn_orders.specs.declared.order.Explanation.{Explanation}
+use Rattle.capn_orders.specs.declared.order.Explanation.TheVariants as explanations
 use Rattle.capn_orders.specs.declared.order.Flow.{Flow}
 use Rattle.capn_orders.specs.declared.order.Flow.TheVariants as flows
 use Rattle.capn_orders.specs.declared.order.Make.{Make}
@@ -350,6 +354,23 @@ explain_one rows x y (f, l, n) (g, m, k) =
     explain_same x y (form_one x.form y.form (sym f ∙ g)) (limits_one rows x.limits y.limits l m)
     (number_given rows x.number y.number n k)
 
+refused_one : (rows : List Row) (x y : ExplainRefused) → RefusedIs rows x → RefusedIs rows y → x ≡ y
+refused_one rows x y (f, l, none) (g, m, also) =
+    let form : x.form ≡ y.form = form_one x.form y.form (sym f ∙ g) in
+    let limits : x.limits ≡ y.limits = limits_one rows x.limits y.limits l m in
+    λ i. record { form = form i; limits = limits i }
+
+-- one message or every one that is refused is explained, by `--keep-going`
+explanation_one : (rows : List Row) (x y : Explanation) → ExplanationIs rows x → ExplanationIs rows y → x ≡ y
+explanation_one rows (explanations.One x) (explanations.One y) is also =
+    ap (λ (v : Explain). explanations.One v) (explain_one rows x y is.0 also.0)
+explanation_one rows (explanations.One x) (explanations.Refused y) is also =
+    absurd (not_both rows (codes "keep-going") is.1 also.1)
+explanation_one rows (explanations.Refused x) (explanations.One y) is also =
+    absurd (not_both rows (codes "keep-going") also.1 is.1)
+explanation_one rows (explanations.Refused x) (explanations.Refused y) is also =
+    ap (λ (v : ExplainRefused). explanations.Refused v) (refused_one rows x y is.0 also.0)
+
 -- ---- two orders of two kinds
 
 -- words without `--at` and any flag order no part, no other style and no marks
@@ -453,7 +474,7 @@ same s (orders.Show r) (orders.Make g) e m n = absurd (omega arith)
 same s (orders.Explain x) (orders.Message d) e m n = absurd (never_command d 344 refl (sym e))
 same s (orders.Explain x) (orders.Show t) e m n = absurd (omega arith)
 same s (orders.Explain x) (orders.Explain y) e m n =
-    ap (λ (v : Explain). orders.Explain v) (explain_one s.1 x y m.1 n.1)
+    ap (λ (v : Explanation). orders.Explain v) (explanation_one s.1 x y m.1 n.1)
 same s (orders.Explain x) (orders.Archive b) e m n = absurd (never_task b.task 344 refl (sym e))
 same s (orders.Explain x) (orders.Uniq v) e m n = absurd (omega arith)
 same s (orders.Explain x) (orders.Filter h) e m n = absurd (omega arith)

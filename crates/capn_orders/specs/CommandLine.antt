@@ -94,6 +94,7 @@ options = (
     ∷ (flag_rule (codes "framed"), codes "canonical" ∷ [])
     ∷ (flag_rule (codes "keep-going"), codes "list" ∷ codes "limits" ∷ codes "uniq" ∷ codes "filter" ∷ [])
     ∷ (flag_rule (codes "keep-going"), codes "canonical" ∷ [])
+    ∷ (flag_rule (codes "keep-going"), codes "explain" ∷ [])
     ∷ (flag_rule (codes "digest"), codes "list" ∷ [])
     ∷ (flag_rule (codes "count"), codes "uniq" ∷ [])
     ∷ (flag_rule (codes "canonical"), codes "filter" ∷ [])

@@ -20,11 +20,14 @@ use Rattle.capn_show.specs.declared.style.Style.{Style}
 use Rattle.capn_show.specs.declared.style.Style.TheVariants as styles
 use Rattle.capn_serve.specs.declared.pick.Pick.{Pick}
 use Rattle.capn_report.specs.declared.explain.Explain.{Explain}
+use Rattle.capn_report.specs.declared.explain_refused.ExplainRefused.{ExplainRefused}
 use Rattle.capn_orders.specs.CommandLine.{most_number}
 use Rattle.capn_orders.specs.OptionValues.{FlagIs, FormIs, IsUsual, LimitsAre, NumberIn, UnpackedIs}
 use Rattle.capn_orders.specs.MessageNumber.{number_of}
 use Rattle.capn_orders.specs.RangeList.{ranges_in}
 use Rattle.capn_orders.specs.Way.{way_of}
+use Rattle.capn_orders.specs.declared.order.Explanation.{Explanation}
+use Rattle.capn_orders.specs.declared.order.Explanation.TheVariants as explanations
 use Rattle.capn_orders.specs.declared.order.Flow.{Flow}
 use Rattle.capn_orders.specs.declared.order.Flow.TheVariants as flows
 use Rattle.capn_orders.specs.declared.order.Make.{Make}
@@ -94,6 +97,16 @@ IsNumbered rows (Some n) = (text : Text) × (first_of (codes "number") rows ≡ 
 -- the options of `explain` have these values
 abbrev pub ExplainIs : List Row → Explain → Type 0
 ExplainIs rows explain = FormIs rows explain.form × LimitsAre rows explain.limits × IsNumbered rows explain.number
+
+-- the options of `explain` that explains every message that is refused have these values, and `--number` is not given
+abbrev pub RefusedIs : List Row → ExplainRefused → Type 0
+RefusedIs rows refused =
+    FormIs rows refused.form × LimitsAre rows refused.limits × (first_of (codes "number") rows ≡ None)
+
+-- with `--keep-going` every message that is refused is explained, and without it one
+abbrev pub ExplanationIs : List Row → Explanation → Type 0
+ExplanationIs rows (explanations.One explain) = ExplainIs rows explain × FlagIs rows (codes "keep-going") false
+ExplanationIs rows (explanations.Refused refused) = RefusedIs rows refused × FlagIs rows (codes "keep-going") true
 
 -- the options of `make` have these values
 abbrev pub MakeIs : List Row → Make → Type 0
@@ -186,7 +199,7 @@ abbrev pub MeansOrder : Option (Text × List Row) → Order → Type 0
 MeansOrder None order = ⊥
 MeansOrder (Some s) (orders.Message command) = Means (Some s) command × HasNoFlag s.1 command
 MeansOrder (Some s) (orders.Show show) = (s.0 ≡ codes "show") × ShowIs s.1 show
-MeansOrder (Some s) (orders.Explain explain) = (s.0 ≡ codes "explain") × ExplainIs s.1 explain
+MeansOrder (Some s) (orders.Explain explain) = (s.0 ≡ codes "explain") × ExplanationIs s.1 explain
 MeansOrder (Some s) (orders.Archive archive) = IsTask s.0 s.1 archive.task × AreOptions s.1 archive
 MeansOrder (Some s) (orders.Uniq uniq) = (s.0 ≡ codes "uniq") × UniqIs s.1 uniq
 MeansOrder (Some s) (orders.Filter filter) = (s.0 ≡ codes "filter") × FilterIs s.1 filter

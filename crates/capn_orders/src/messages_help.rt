@@ -73,7 +73,9 @@ under DIAGNOSTICS.",
 pub const EXPLAIN: Page = Page {
     first: "To learn why a message is refused, or why it isn't canonical:
   capn explain < messages
-  capn explain --number 3 < messages",
+  capn explain --number 3 < messages
+To explain every message that is refused:
+  capn explain --keep-going < messages",
     usage: "capn explain [OPTIONS] < INPUT",
     about: "Explains the first message that is refused, down to the byte",
     more: "The lines `KEY: TEXT` say which message it is, where it begins and why it is
@@ -90,17 +92,22 @@ line is `N messages, none refused`.
 With `--number` that message is explained, refused or accepted. If one before it
 keeps the input from being read so far, that one is; if there are fewer
 messages, the line is `N messages`.
-Nothing is looked at after the message that is explained. The input may have any
-length.
+With `--keep-going` every message that is refused is explained as soon as it is
+complete, with an empty line after it. One whose frame or packing is refused is
+explained last: the run can't go on behind it. If no message is refused, what is
+written is the same as without `--keep-going`.
+Else nothing is looked at after the message that is explained. The input may
+have any length.
 
 Exit status:
   0  Done: the message that is explained is accepted, or there is none
-  1  The message that is explained is refused
+  1  The message that is explained is refused, or with `--keep-going` any
+     message was
   2  The command line is wrong
   3  Reading or writing failed, the input is longer than 2^64 - 1 bytes, or
      memory ran out
-With 1 and 3 one line on standard error says why; the manual page explains it
-under DIAGNOSTICS.",
+With 1 and 3 one line on standard error says why, or with `--keep-going` two;
+the manual page explains them under DIAGNOSTICS.",
 };
 
 /// `hash`.

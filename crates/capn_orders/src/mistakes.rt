@@ -6,6 +6,7 @@ ghost use Rattle.clap.specs.declared.error.ErrorKind.TheVariants as kinds;
 ghost use Rattle.capn_orders.specs.Usage.{error_of};
 
 use crate::input_options::{form_of, limits_of};
+use crate::message_number::message_number;
 use crate::option_mistakes;
 use crate::option_values::{flag_of, stream_form_of, text_in};
 use crate::range_list::is_range_list;
@@ -59,9 +60,21 @@ fn said_of_show(matches: &ArgMatches) -> &'static str {
     }
 }
 
+/// The message for options of `explain` that mean nothing, whose form and limits are fine: what `--number` takes, or
+/// else what `--keep-going` goes without.
+fn said_of_explain(matches: &ArgMatches) -> &'static str {
+    match text_in(matches, "number") {
+        Some(text) => match message_number(text) {
+            Some(_) => option_mistakes::WITHOUT_NUMBER,
+            None => option_mistakes::NO_NUMBER,
+        },
+        None => option_mistakes::NO_NUMBER,
+    }
+}
+
 /// The message for options of this command that mean nothing: for `pick` and `cmp`, one of their own; for `unpack`,
 /// which two don't go together; for the others, that on `--form`, or else on `--tariff`, or else on `--at` and `--json`
-/// of `show`, on `--number` of `explain`, and on `--keep-going` of `canonical`.
+/// of `show`, on `--number` and `--keep-going` of `explain`, and on `--keep-going` of `canonical`.
 fn said_of(name: &str, matches: &ArgMatches) -> &'static str {
     if name == "pick" {
         return said_of_pick(matches);
@@ -80,7 +93,7 @@ fn said_of(name: &str, matches: &ArgMatches) -> &'static str {
     }
     match name {
         "show" => said_of_show(matches),
-        "explain" => option_mistakes::NO_NUMBER,
+        "explain" => said_of_explain(matches),
         _ => option_mistakes::ONLY_FRAMED,
     }
 }

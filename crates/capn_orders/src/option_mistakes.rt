@@ -18,6 +18,9 @@ pub const WITHOUT_WAYS: &str = "--json goes without --ways";
 /// The message for a value that `--number` does not take.
 pub const NO_NUMBER: &str = "--number takes 1 to 2^64 - 1, without a sign or leading zeros";
 
+/// The message for `--keep-going` together with `--number`.
+pub const WITHOUT_NUMBER: &str = "--keep-going goes without --number";
+
 /// The message for a value that `--only` does not take.
 pub const NO_LIST: &str = "--only takes ascending numbers and ranges, as 3,7,9-12";
 

@@ -4,7 +4,7 @@ use capn_archive::{ArchiveOrder, FilterOrder, UniqOrder};
 use capn_canon::Form;
 use capn_cmp::CmpOrder;
 use capn_commands::Command;
-use capn_report::Explain;
+use capn_report::{Explain, ExplainRefused};
 use capn_serve::{Pick, StreamForm};
 use capn_show::Style;
 use capn_walk::Limits;
@@ -37,6 +37,15 @@ pub struct Show<'a> {
     pub way: Option<&'a str>,
 }
 
+/// The messages that are explained.
+#[derive(Clone, Copy, Debug, PartialEq, Eq)]
+pub enum Explanation {
+    /// One: the first that is refused, or one by its number.
+    One(Explain),
+    /// Every one that is refused.
+    Refused(ExplainRefused),
+}
+
 /// Which messages of a stream are written as they stand: those of a list.
 #[derive(Clone, Copy, Debug, PartialEq, Eq)]
 pub struct Only<'a> {
@@ -64,8 +73,8 @@ pub enum Order<'a> {
     Message(Command),
     /// Shows each message of an input, which may have any length, in a style, or what is at a way from its root.
     Show(Show<'a>),
-    /// Explains one message of an input, which may have any length: the first that is refused, or one by its number.
-    Explain(Explain),
+    /// Explains one message of an input, which may have any length, or every one that is refused.
+    Explain(Explanation),
     /// A run over an archive, which may have any length.
     Archive(ArchiveOrder),
     /// Writes the messages of an archive without duplicates, or counts them.

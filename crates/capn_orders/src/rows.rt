@@ -106,7 +106,7 @@ pub(crate) fn page_of(name: &str) -> Page {
 }
 
 /// The options. Help lists those of a command in this order.
-pub const OPTIONS: [OptionRow; 29] = [
+pub const OPTIONS: [OptionRow; 30] = [
     OptionRow {
         name: "form",
         taken: FORM,
@@ -257,6 +257,13 @@ the next one",
         help: "With `--framed`: pass over a message that is refused,
 and go on with the next one",
         commands: &["canonical"],
+    },
+    OptionRow {
+        name: "keep-going",
+        taken: Taken::Flag,
+        help: "Explain every message that is refused, and write an
+empty line after each; it goes without `--number`",
+        commands: &["explain"],
     },
     OptionRow {
         name: "digest",

@@ -1,6 +1,6 @@
 -- The text after the loop over the messages. (For `run_explain` and `write_refusal`.)
-use Rattle.std.proofs.Common.{◌≡◌, ◌≢◌, ◌↔◌, ◌⊎◌, inl, inr, ℕ, List, [], Bool, true, false, Option, None}
-use Rattle.std.proofs.Common.{Some, OnOk, IsErrOf, IsErrAnd, IsOkUnless, length, arith}
+use Rattle.std.proofs.Common.{◌≡◌, ◌≢◌, ◌↔◌, ◌⊎◌, inl, inr, ℕ, List, [], ◌++◌, Bool, true, false, Option, None}
+use Rattle.std.proofs.Common.{Some, OnOk, IsErrOf, IsErrAnd, IsOkUnless, codes, length, arith}
 use Rattle.std.proofs.Common.{Result, Ok, Err, refl, ap, sym, subst, ◌∙◌}
 use Rattle.std.specs.Io.KnownBytes.{Appends}
 use Rattle.capn_words.specs.Watched.{HasBegun}
@@ -9,10 +9,12 @@ use Rattle.capn_canon.specs.declared.refusal.Refusal.{Refusal}
 use Rattle.capn_serve.specs.declared.fault.RunFault.{RunFault}
 use Rattle.capn_serve.specs.declared.fault.RunFault.TheVariants as faults
 use Rattle.capn_serve.specs.declared.position.Position.{Position}
-use Rattle.capn_report.specs.ExplainRun.{ending_by, rest_ending}
+use Rattle.capn_serve.specs.WhatCame.{Came}
+use Rattle.capn_report.specs.ExplainRun.{ending_by, rest_ending, told_at}
 use Rattle.capn_report.specs.FaultLines.{fault_lines}
 use Rattle.capn_report.specs.Reports.{First}
-use Rattle.capn_report.specs.inner.Closing.{IsFineIfTold, PutsClosing}
+use Rattle.capn_report.specs.inner.Closing.{IsFineIfTold, PutsClosing, told_by}
+use Rattle.capn_report.specs.declared.explain.Explain.{Explain}
 use Rattle.capn_report.specs.declared.outcome.Outcome.{Outcome}
 use Rattle.capn_report.specs.declared.outcome.Outcome.TheVariants as outcomes
 
@@ -50,14 +52,30 @@ closing_refused text old new before after (Ok u) fault told is same fine some = 
 closing_refused text old new before after (Err e) fault told is same fine some = (some, inl (told ∙ is, same, fine))
 
 -- the lines of a fault are not empty
-pub fault_some : (limits : Bounds) (at : Position) (r : Refusal) (rest group : List ℕ)
+fault_some : (limits : Bounds) (at : Position) (r : Refusal) (rest group : List ℕ)
     → fault_lines limits at r rest group ≢ []
 fault_some limits at r rest group = λ h. absurd (omega (arith, ap length h))
+
+-- by whether messages are explained apart
+pub told_without : (apart : Bool) (order : Explain) (at : Position) (r : Refusal) (came : Came) → apart ≡ false
+    → told_by apart order at r came ≡ told_at order at r came
+told_without false order at r came is = refl
+told_without true order at r came is = absurd (cc)
+
+pub told_with : (apart : Bool) (order : Explain) (at : Position) (r : Refusal) (came : Came) → apart ≡ true
+    → told_by apart order at r came ≡ told_at order at r came ++ codes "\n"
+told_with false order at r came is = absurd (cc)
+told_with true order at r came is = refl
+
+pub told_some : (apart : Bool) (order : Explain) (at : Position) (r : Refusal) (came : Came)
+    → told_by apart order at r came ≢ []
+told_some false order at r came = fault_some order.limits at r came.rest came.group
+told_some true order at r came = λ h. absurd (omega (arith, ap length h))
 
 -- ---- how a run ends
 
 -- what has been explained does not end it for the reader and the writer
-rest_not_io : (number : Option ℕ) (first : Option First) → rest_ending number first ≡ Err faults.Io → ⊥
+pub rest_not_io : (number : Option ℕ) (first : Option First) → rest_ending number first ≡ Err faults.Io → ⊥
 rest_not_io (Some number) first is = absurd (cc)
 rest_not_io None (Some (Ok text)) is = absurd (cc)
 rest_not_io None (Some (Err memory)) is = absurd (cc)
@@ -71,9 +89,6 @@ ending_not_io outcomes.Accepted number first is = absurd (cc)
 
 pub io_is_not_memory : ended (Err faults.Io) ≡ Err faults.Memory → ⊥
 io_is_not_memory is = absurd (cc)
-
-pub memory_is_not_io : ended (Err faults.Memory) ≡ Err faults.Io → ⊥
-memory_is_not_io is = absurd (cc)
 
 pub not_true : (failed : Bool) → (failed ≡ true → ⊥) → failed ≡ false
 not_true false none = refl

@@ -4,3 +4,5 @@ pub mod Finishes
 pub mod Reporters
 pub mod Zeros
 pub mod AtLeast
+pub mod RefusedReporters
+pub mod RefusedAnswers

@@ -1,5 +1,5 @@
--- A run over an input that explains one of its messages: the text of its input, its end, and the text that was written
--- whatever it answers. (Own.)
+-- A run over an input that explains messages: the text of its input, its end, and the text that was written whatever it
+-- answers. (Own.)
 use Rattle.std.specs.Prelude.{◌≡◌, ◌≢◌, ◌⊎◌, ◌↔◌, ℕ, List, [], ◌++◌, Bool, true, Option, IfSome, Result, Ok, Err}
 use Rattle.std.specs.Prelude.{IfErr}
 use Rattle.std.specs.Io.KnownBytes.{Consumes, Appends}
@@ -28,6 +28,16 @@ pub record Finish (X : Type 0) : Type 0 where
   pub ending : X → Result (Unit {0}) RunFault
   pub told : Position → Refusal → Came → List ℕ
 
+-- the answer of a run, by how it ends and the state after its messages; and a fault, as the answer of a run that has
+-- nothing more to tell
+pub record Answer (X E : Type 0) : Type 0 where
+  pub of : RunFault → E
+  pub by : X → Result (Unit {0}) RunFault → Result (Unit {0}) E
+
+-- the end of a run is its answer, as it stands
+abbrev pub plain : {X : Type 0} → Answer X RunFault
+plain = record { of = λ e. e; by = λ y r. r }
+
 -- the part that had come of the message whose refusal ended the messages of an input, in the state after them; if they
 -- ended as done, anything
 abbrev pub TellsEnd : {X : Type 0} → Fold X → X → Form → List ℕ → Result (Unit {0}) RunFault → Came → X → Type 0
@@ -43,20 +53,6 @@ module _ {X : Type 0} (f : Fold X) (x : X) (finish : Finish X) where
   abbrev pub last_ending : Result (Unit {0}) RunFault → X → Result (Unit {0}) RunFault
   last_ending (Ok u) y = finish.ending y
   last_ending (Err fault) y = Err fault
-
-  -- the whole text of an input, and how a run over it ends
-  abbrev pub IsWholeText : Form → List ℕ → List ℕ → Result (Unit {0}) RunFault → Type 0
-  IsWholeText form input text ending =
-      (messages : List ℕ) × (served : Result (Unit {0}) RunFault) × (y : X) × (came : Came)
-      × AreMessages f x form input messages served y × TellsEnd f x form input served came y
-      × (text ≡ messages ++ last_text served y came) × (ending ≡ last_ending served y)
-
-  -- a run has written the text of its input and ended as that does; or memory was refused, or the reader or the writer
-  -- failed
-  abbrev pub EndsAs : Form → Option (List ℕ) → Option (List ℕ) → Result (Unit {0}) RunFault → List ℕ → Type 0
-  EndsAs form old new r input =
-      (r ≡ Err faults.Memory)
-      ⊎ ((r ≡ Err faults.Io) ⊎ ((text : List ℕ) × IsWholeText form input text r × Appends old new text))
 
   -- the messages of an input were served, and a beginning of their text and of what is written after them was written;
   -- how they end, the state after them, and what had come is not known of an input that is not known
@@ -86,11 +82,33 @@ module _ {X : Type 0} (f : Fold X) (x : X) (finish : Finish X) where
     pub needed : IsNeededSoFar f x form bytes
     pub written : HasWritten f x form bytes c d ⊎ HasBegunClosing form a c d
 
+module _ {X E : Type 0} (f : Fold X) (x : X) (finish : Finish X) (answer : Answer X E) where
+  -- the whole text of an input, and what a run over it answers
+  abbrev pub IsWholeText : Form → List ℕ → List ℕ → Result (Unit {0}) E → Type 0
+  IsWholeText form input text ending =
+      (messages : List ℕ) × (served : Result (Unit {0}) RunFault) × (y : X) × (came : Came)
+      × AreMessages f x form input messages served y × TellsEnd f x form input served came y
+      × (text ≡ messages ++ last_text f x finish served y came)
+      × (ending ≡ answer.by y (last_ending f x finish served y))
+
+  -- a run has written the text of its input and answered as that does; or memory was refused, or the reader or the
+  -- writer failed
+  abbrev pub AnswersAs : Form → Option (List ℕ) → Option (List ℕ) → Result (Unit {0}) E → List ℕ → Type 0
+  AnswersAs form old new r input =
+      (r ≡ Err (answer.of faults.Memory))
+      ⊎ ((r ≡ Err (answer.of faults.Io)) ⊎ ((text : List ℕ) × IsWholeText form input text r × Appends old new text))
+
   -- a run, over a reader (from a to b) and a writer (from c to d)
-  pub record Finished (form : Form) (a b c d : Option (List ℕ)) (reader_failed writer_failed : Bool)
-      (r : Result (Unit {0}) RunFault) : Type 0 where
-    pub exact : IfSome a (EndsAs form c d r)
-    pub io : (r ≡ Err faults.Io) ↔ ((reader_failed ≡ true) ⊎ (writer_failed ≡ true))
-    pub begun : Begins form a b c d
+  pub record Answered (form : Form) (a b c d : Option (List ℕ)) (reader_failed writer_failed : Bool)
+      (r : Result (Unit {0}) E) : Type 0 where
+    pub exact : IfSome a (AnswersAs form c d r)
+    pub io : (r ≡ Err (answer.of faults.Io)) ↔ ((reader_failed ≡ true) ⊎ (writer_failed ≡ true))
+    pub begun : Begins f x finish form a b c d
     pub heard : reader_failed ≡ true → KeepsUp f x form a b c d
-    pub memory : r ≡ Err faults.Memory → MayNeedMemory form a b ⊎ (HasClosing form a ⊎ EndsForMemory form a)
+    pub memory : r ≡ Err (answer.of faults.Memory)
+        → MayNeedMemory form a b ⊎ (HasClosing f x finish form a ⊎ EndsForMemory f x finish form a)
+
+-- a run whose end is its answer
+abbrev pub Finished : {X : Type 0} → Fold X → X → Finish X → Form → Option (List ℕ) → Option (List ℕ)
+    → Option (List ℕ) → Option (List ℕ) → Bool → Bool → Result (Unit {0}) RunFault → Type 0
+Finished f x finish = Answered f x finish plain

@@ -5,3 +5,6 @@ pub mod WhatCame
 pub mod FaultLines
 pub mod Finish
 pub mod ExplainRun
+pub mod RefusedReports
+pub mod RefusedRun
+pub mod FaultText

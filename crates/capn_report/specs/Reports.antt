@@ -128,7 +128,7 @@ PutsAccount order at message old new (Err fault) = (fault ≡ faults.Memory) × 
 
 -- one of the texts that may be written was appended, and this is the state that it leads to; or memory was refused, and
 -- the text is as it was
-abbrev pub Puts : (List ℕ → Reporting → Type 0) → List ℕ → List ℕ → Result (Unit {0}) ServeFault → Reporting → Type 0
+abbrev pub Puts : {S : Type 0} → (List ℕ → S → Type 0) → List ℕ → List ℕ → Result (Unit {0}) ServeFault → S → Type 0
 Puts tells old new (Ok u) t = (text : List ℕ) × tells text t × (new ≡ old ++ text)
 Puts tells old new (Err fault) t = (fault ≡ faults.Memory) × (new ≡ old)
 

@@ -1,12 +1,12 @@
 //! The text after the loop over the messages, and the end of a run.
 
-ghost use Rattle.std.specs.Prelude.{◌≡◌, false, IfOk, IfErr, Some, string_bytes};
+ghost use Rattle.std.specs.Prelude.{◌≡◌, ◌++◌, codes, false, IfOk, IfErr, Some, string_bytes};
 ghost use Rattle.capn_words.specs.Watched.{inner_of, has_failed};
 ghost use Rattle.capn_serve.specs.declared.fault.RunFault.TheVariants as faults;
 ghost use Rattle.capn_report.specs.Accounts.{account_text};
 ghost use Rattle.capn_report.specs.ExplainRun as spec;
 ghost use Rattle.capn_report.specs.Reports.{lines_first};
-ghost use Rattle.capn_report.specs.inner.Closing.{AreLines, IsFineIfTold, PutsClosing, PutsFault};
+ghost use Rattle.capn_report.specs.inner.Closing.{AreLines, IsFineIfTold, PutsClosing, PutsFault, told_by};
 
 use crate::account::Account;
 use crate::explain::Explain;
@@ -21,7 +21,7 @@ use std::alloc::Allocator;
 use std::io::Write;
 
 /// Returns the end of a run that explained nothing.
-fn rest_ending<A: Allocator>(
+pub(crate) fn rest_ending<A: Allocator>(
     number: Option<u64>,
     first: &Option<Result<Account<A>, Memory>>,
 ) -> Result<(), RunFault>
@@ -77,7 +77,7 @@ fn only_lines<B: Allocator, A: Allocator>(
 }
 
 /// Writes the text of a run of `count` messages that explained nothing.
-fn rest_lines<B: Allocator, A: Allocator>(
+pub(crate) fn rest_lines<B: Allocator, A: Allocator>(
     alloc: A,
     number: Option<u64>,
     first: &Option<Result<Account<B>, Memory>>,
@@ -131,39 +131,76 @@ pub(crate) fn write_closing<W: Write, B: Allocator, A: Allocator + Copy>(
     }
 }
 
-/// Writes the lines of a refusal that ended the loop over the messages, by the part of the message that had come.
+/// Returns `lines` with an empty line behind them.
+fn with_empty_line<A: Allocator>(mut lines: String<A>) -> Result<String<A>, RunFault>
+    ensures found { IfOk result (λ more. string_bytes more ≡ string_bytes lines ++ codes "\n") }
+    ensures only { IfErr result (λ e. e ≡ faults.Memory) }
+{
+    match lines.push_str("\n") {
+        Ok(()) => Ok(lines),
+        Err(_) => Err(RunFault::Memory),
+    }
+}
+
+/// Returns the lines of a refusal that ended the loop over the messages, by the part of the message that had come; with
+/// an empty line behind them if messages are explained `apart`.
+fn refusal_lines<B: Allocator + Copy, A: Allocator>(
+    alloc: A,
+    order: &Explain,
+    at: Position,
+    refusal: &Refusal,
+    begun: &Begun<B>,
+    apart: bool,
+) -> Result<String<A>, RunFault>
+    ensures found { IfOk result (λ lines.
+        string_bytes lines ≡ told_by apart order.now at refusal.now begun.now) }
+    ensures only { IfErr result (λ e. e ≡ faults.Memory) }
+{
+    let rest = begun.message();
+    let group = begun.group();
+    let lines = fault_lines(alloc, order.limits, at, refusal, rest, group)?;
+    if apart {
+        return with_empty_line(lines);
+    }
+    Ok(lines)
+}
+
+/// Writes the lines of a refusal that ended the loop over the messages.
 fn write_refusal<W: Write, B: Allocator + Copy, A: Allocator + Copy>(
     alloc: A,
     order: &Explain,
     at: Position,
     refusal: &Refusal,
     begun: &Begun<B>,
+    apart: bool,
     writer: &mut Watched<W>,
 ) -> Result<(), RunFault>
     requires { has_failed writer.old ≡ false }
-    ensures { PutsClosing (spec.told_at order.now at refusal.now begun.now) (W.contents (inner_of writer.old))
+    ensures { PutsClosing (told_by apart order.now at refusal.now begun.now) (W.contents (inner_of writer.old))
         (W.contents (inner_of writer.new)) (has_failed writer.old) (has_failed writer.new) result }
 {
-    let rest = begun.message();
-    let group = begun.group();
-    let lines = fault_lines(alloc, order.limits, at, refusal, rest, group)?;
+    let lines = refusal_lines(alloc, order, at, refusal, begun, apart)?;
     write_all(writer, lines.as_bytes())
 }
 
-/// Writes the lines of the `fault` that ended the loop over the messages.
+/// Writes the lines of the `fault` that ended the loop over the messages, and an empty line if messages are explained
+/// `apart`.
 pub(crate) fn write_fault<W: Write, B: Allocator + Copy, A: Allocator + Copy>(
     alloc: A,
     order: &Explain,
     fault: RunFault,
     begun: &Begun<B>,
+    apart: bool,
     writer: &mut Watched<W>,
 ) -> Result<(), RunFault>
     requires { IsFineIfTold fault (has_failed writer.old) }
-    ensures { PutsFault (λ at r. spec.told_at order.now at r begun.now) fault (W.contents (inner_of writer.old))
+    ensures { PutsFault (λ at r. told_by apart order.now at r begun.now) fault (W.contents (inner_of writer.old))
         (W.contents (inner_of writer.new)) (has_failed writer.old) (has_failed writer.new) result }
 {
     match fault {
         RunFault::Memory | RunFault::Io | RunFault::InputTooLong => Ok(()),
-        RunFault::Refused(at, refusal) => write_refusal(alloc, order, at, &refusal, begun, writer),
+        RunFault::Refused(at, refusal) => {
+            write_refusal(alloc, order, at, &refusal, begun, apart, writer)
+        }
     }
 }

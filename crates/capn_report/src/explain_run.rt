@@ -79,7 +79,7 @@ pub fn run_explain<R: Read, W: Write, A: Allocator + Copy>(
             Ok(()) => ending_of(&run),
             Err(fault) => Err(fault),
         },
-        Err(stopped) => match write_fault(alloc, &order, stopped, &begun, writer) {
+        Err(stopped) => match write_fault(alloc, &order, stopped, &begun, false, writer) {
             Ok(()) => Err(stopped),
             Err(fault) => Err(fault),
         },

@@ -1,21 +1,31 @@
-//! The text of the program about one message of an input.
+//! The text of the program about one message of an input, or about each that is refused.
 //!
 //! [`run_explain`] carries an order out, an [`Explain`]: by its service, the [`Reporter`], it finds the message that is
-//! explained, a refused one or the one of a number, and writes the lines that explain it. The loop over the messages is
-//! that of [`capn_serve`].
+//! explained, a refused one or the one of a number, and writes the lines that explain it. [`run_explain_refused`]
+//! carries out an [`ExplainRefused`] by a [`RefusedReporter`]: it explains every message that is refused. The loop over
+//! the messages is that of [`capn_serve`].
 #![tactic(auto)]
 
 mod account;
 mod closing;
 mod explain;
+mod explain_refused;
 mod explain_run;
+mod fault;
 mod fault_lines;
 mod outcome;
+mod refused_closing;
+mod refused_reporter;
+mod refused_run;
 mod reporter;
 mod what_came;
 
 pub use account::Account;
 pub use explain::Explain;
+pub use explain_refused::ExplainRefused;
 pub use explain_run::run_explain;
+pub use fault::ReportFault;
 pub use outcome::Outcome;
+pub use refused_reporter::RefusedReporter;
+pub use refused_run::run_explain_refused;
 pub use reporter::Reporter;

@@ -52,7 +52,7 @@ fn is_before(at: Position, number: Option<u64>) -> bool
 }
 
 /// Returns the lines that explain `message`, whose walk `stopped`.
-fn told_of<S: Space, A: Allocator + Copy>(
+pub(crate) fn told_of<S: Space, A: Allocator + Copy>(
     alloc: A,
     order: &Explain,
     at: Position,
@@ -81,7 +81,7 @@ fn told_of<S: Space, A: Allocator + Copy>(
 }
 
 /// Appends `bytes` to `text`, or nothing if memory is refused.
-fn put_bytes<A: Allocator>(text: &mut Vec<u8, A>, bytes: &[u8]) -> Result<(), ServeFault>
+pub(crate) fn put_bytes<A: Allocator>(text: &mut Vec<u8, A>, bytes: &[u8]) -> Result<(), ServeFault>
     ensures { PutsText bytes.now text.old.items text.new.items result }
 {
     match text.extend_from_slice(bytes) {
@@ -135,7 +135,7 @@ fn put_accepted<S: Space, A: Allocator + Copy>(
 }
 
 /// Returns the account of an accepted `message` that is kept, if it is the first.
-fn first_of<S: Space, A: Allocator + Copy>(
+pub(crate) fn first_of<S: Space, A: Allocator + Copy>(
     alloc: A,
     order: &Explain,
     at: Position,

@@ -12,6 +12,7 @@ pub mod PickRun
 pub mod FormRun
 pub mod WhatCame
 pub mod FaultText
+pub mod Skipped
 pub mod Table
 pub mod Laws
 pub mod inner

@@ -5,6 +5,8 @@ use Rattle.capn_serve.specs.FaultText as served
 use Rattle.capn_serve.specs.declared.fault.RunFault.{RunFault}
 use Rattle.capn_archive.specs.FaultText as archived
 use Rattle.capn_archive.specs.declared.fault.ArchiveFault.{ArchiveFault}
+use Rattle.capn_report.specs.FaultText as reported
+use Rattle.capn_report.specs.declared.fault.ReportFault.{ReportFault}
 use Rattle.capn_make.specs.FaultText as made
 use Rattle.capn_make.specs.declared.fault.MakeFault.{MakeFault}
 use Rattle.capn_flow.specs.FaultText as flowing
@@ -17,6 +19,10 @@ archive_status = status_of_ending archived.status_of
 -- after one that picks messages
 abbrev pub pick_status : Result (Unit {0}) RunFault → ℕ
 pick_status = status_of_ending served.status_of
+
+-- after one that explains every message that is refused
+abbrev pub report_status : Result (Unit {0}) ReportFault → ℕ
+report_status = status_of_ending reported.status_of
 
 -- after one over texts
 abbrev pub make_status : Result (Unit {0}) MakeFault → ℕ

@@ -7,6 +7,8 @@ use Rattle.capn_serve.specs.declared.fault.RunFault.{RunFault}
 use Rattle.capn_archive.specs.FaultText.{archive_text}
 use Rattle.capn_archive.specs.declared.fault.ArchiveFault.{ArchiveFault}
 use Rattle.capn_archive.specs.declared.fault.ArchiveFault.TheVariants as faults
+use Rattle.capn_report.specs.FaultText as reported
+use Rattle.capn_report.specs.declared.fault.ReportFault.{ReportFault}
 use Rattle.capn_make.specs.FaultText as made
 use Rattle.capn_make.specs.declared.fault.MakeFault.{MakeFault}
 use Rattle.capn_flow.specs.FaultText as flowing
@@ -27,6 +29,10 @@ WritesArchiveEnding = WritesEnding archive_text
 -- that of a run that picks messages was written
 abbrev pub WritesPickEnding : Result (Unit {0}) RunFault → Option (List ℕ) → Option (List ℕ) → Bool → Type 0
 WritesPickEnding = WritesEnding served.fault_text
+
+-- that of a run that explains every message that is refused was written
+abbrev pub WritesReportEnding : Result (Unit {0}) ReportFault → Option (List ℕ) → Option (List ℕ) → Bool → Type 0
+WritesReportEnding = WritesEnding reported.report_text
 
 -- that of a run over texts was written
 abbrev pub WritesMakeEnding : Result (Unit {0}) MakeFault → Option (List ℕ) → Option (List ℕ) → Bool → Type 0

@@ -16,18 +16,22 @@ use Rattle.capn_endings.specs.Ending.{WritesEnding}
 use Rattle.capn_serve.specs.PickRun.{Picks}
 use Rattle.capn_serve.specs.declared.fault.RunFault.TheVariants as run_faults
 use Rattle.capn_report.specs.ExplainRun.{Explained}
+use Rattle.capn_report.specs.RefusedRun.{ExplainedRefused}
+use Rattle.capn_report.specs.declared.fault.ReportFault.TheVariants as report_faults
 use Rattle.capn_flow.specs.declared.fault.FlowFault.TheVariants as flow_faults
 use Rattle.capn_make.specs.declared.fault.MakeFault.TheVariants as make_faults
 use Rattle.capn_orders.specs.CommandLine.{program_line}
 use Rattle.capn_tool.specs.CmpEnd.{Finds, cmp_status, io}
 use Rattle.capn_tool.specs.Course.{Course}
-use Rattle.capn_tool.specs.ExitStatus.{archive_status, flow_status, make_status, pick_status}
+use Rattle.capn_tool.specs.ExitStatus.{archive_status, flow_status, make_status, pick_status, report_status}
 use Rattle.capn_tool.specs.FaultText.{WritesArchiveEnding, WritesFlowEnding, WritesMakeEnding, WritesPickEnding}
+use Rattle.capn_tool.specs.FaultText.{WritesReportEnding}
 use Rattle.capn_tool.specs.Flushed.{CarriesOut, Flowed, MadeBy, RunOver, RunsFlushed}
 use Rattle.capn_orders.specs.Meaning.{MeansOrder}
 use Rattle.capn_tool.specs.OnlyRun.{OnlyPicked}
 use Rattle.capn_tool.specs.PartRun.{PartsShown}
 use Rattle.capn_tool.specs.Unordered.{Unordered}
+use Rattle.capn_orders.specs.declared.order.Explanation.TheVariants as explanations
 use Rattle.capn_orders.specs.declared.order.Order.{Order}
 use Rattle.capn_orders.specs.declared.order.Order.TheVariants as orders
 
@@ -61,7 +65,15 @@ EndsShow = EndsRunOrder (λ show. orders.Show show) faults.Io PartsShown Reports
 
 -- the words order that a message is explained
 abbrev pub EndsExplain : List Text → Course → Course → Course → ℕ → Type 0
-EndsExplain = EndsRunOrder (λ explain. orders.Explain explain) run_faults.Io Explained WritesPickEnding pick_status
+EndsExplain =
+    EndsRunOrder (λ explain. orders.Explain (explanations.One explain)) run_faults.Io Explained WritesPickEnding
+    pick_status
+
+-- the words order that every message that is refused is explained
+abbrev pub EndsExplainRefused : List Text → Course → Course → Course → ℕ → Type 0
+EndsExplainRefused =
+    EndsRunOrder (λ refused. orders.Explain (explanations.Refused refused)) (report_faults.Ended run_faults.Io)
+    ExplainedRefused WritesReportEnding report_status
 
 -- the words order a run over an archive
 abbrev pub EndsArchive : List Text → Course → Course → Course → ℕ → Type 0
@@ -113,6 +125,7 @@ Ends words input output errors status =
     EndsMessage words input output errors status
     ⊎ (EndsShow words input output errors status
     ⊎ (EndsExplain words input output errors status
+    ⊎ (EndsExplainRefused words input output errors status
     ⊎ (EndsArchive words input output errors status
     ⊎ (EndsUniq words input output errors status
     ⊎ (EndsFilter words input output errors status

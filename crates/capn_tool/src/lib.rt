@@ -3,10 +3,10 @@
 //!
 //! [`program`] is all of it, from the words of the command line to the exit status, over any reader and writers.
 //! [`order_of`], of [`capn_orders`], reads the words. They order a command of [`capn_commands`]; that messages, or
-//! parts of them, are shown in a style, by [`show_parts`]; that a message is explained, by [`capn_report`]; a run over
-//! an archive, which is a stream of messages of any length, by [`capn_archive`] or [`capn_serve`]; that messages are
-//! compared, by [`capn_cmp`]; that bytes are packed or unpacked while they come in, by [`capn_flow`]; or that messages
-//! are made from texts, by [`capn_make`].
+//! parts of them, are shown in a style, by [`show_parts`]; that a message is explained, or each that is refused, by
+//! [`capn_report`]; a run over an archive, which is a stream of messages of any length, by [`capn_archive`] or
+//! [`capn_serve`]; that messages are compared, by [`capn_cmp`]; that bytes are packed or unpacked while they come in, by
+//! [`capn_flow`]; or that messages are made from texts, by [`capn_make`].
 //! [`end`] reports how such a run ended. [`command_of`] reads the words where they order a command of
 //! [`capn_commands`], and [`run`] carries it out.
 //!
@@ -32,7 +32,7 @@ pub use program_run::program;
 
 // The command line: the words, and the order that they give.
 pub use capn_orders::{
-    Flow, Make, Only, Order, Show, Usage, command_of, order_of, program_command,
+    Explanation, Flow, Make, Only, Order, Show, Usage, command_of, order_of, program_command,
 };
 
 // The commands over messages and bytes, their run and how it ends.
@@ -46,7 +46,7 @@ pub use capn_canon::{Form, Limits, Refusal, Tariff};
 pub use capn_cmp::{CmpFault, CmpOrder, Comparison};
 pub use capn_flow::FlowFault;
 pub use capn_make::{MakeFault, Misfit};
-pub use capn_report::Explain;
+pub use capn_report::{Explain, ExplainRefused, ReportFault};
 pub use capn_serve::{Pick, StreamForm};
 pub use capn_show::Style;
 pub use capn_value::Memory;

@@ -17,8 +17,8 @@ use capn_cmp::run_cmp;
 use capn_commands::{ToolFault, end};
 use capn_flow::FlowFault;
 use capn_make::MakeFault;
-use capn_orders::{Order, order_of};
-use capn_report::run_explain;
+use capn_orders::{Explanation, Order, order_of};
+use capn_report::{ReportFault, run_explain, run_explain_refused};
 use capn_serve::run_pick;
 use capn_words::Watched;
 use std::alloc::Global;
@@ -28,17 +28,17 @@ use std::io::{Read, Write};
 /// The whole program, from the words of the command line, the first of them its name, to the exit status.
 ///
 /// It does what the words order, from the reader to the writer: a command as [`capn_commands::run`] promises, parts of
-/// messages as [`show_parts`] shows them, what explains a message as [`run_explain`] says it, a run over an archive as
-/// [`run_archive`], [`run_uniq`] or [`run_filter`] does, a comparison as [`run_cmp`] does, one that picks messages as
-/// [`run_pick`] or [`pick_only`] does, packing or unpacking as [`pack_stream`] and [`unpack_stream`] do, or the
-/// messages of texts as [`capn_make::make`] or [`capn_make::make_texts`] does; and it flushes the writer. If the run is
-/// done and the flush fails, it ends as a failed output does; after any other run a failed flush changes nothing. The
-/// status is 0 if all is done, 1 if the input, or a message of it, is refused or a message differs, and 3 if memory,
-/// the input or the output failed or the input is too long. With 1 and 3, but not if a message differs, one line on
-/// `errors` says why: `capn: ` and the text of the fault, which may have a second line where messages were skipped. A
-/// command line that orders nothing ends with 2, and `errors` says what is wrong with it, or `capn: out of memory` if
-/// there is no memory for that. Help and the version are written to the writer and end with 0, or with 3 if that
-/// fails.
+/// messages as [`show_parts`] shows them, what explains a message, or each that is refused, as [`run_explain`] or
+/// [`run_explain_refused`] says it, a run over an archive as [`run_archive`], [`run_uniq`] or [`run_filter`] does, a
+/// comparison as [`run_cmp`] does, one that picks messages as [`run_pick`] or [`pick_only`] does, packing or unpacking
+/// as [`pack_stream`] and [`unpack_stream`] do, or the messages of texts as [`capn_make::make`] or
+/// [`capn_make::make_texts`] does; and it flushes the writer. If the run is done and the flush fails, it ends as a
+/// failed output does; after any other run a failed flush changes nothing. The status is 0 if all is done, 1 if the
+/// input, or a message of it, is refused or a message differs, and 3 if memory, the input or the output failed or the
+/// input is too long. With 1 and 3, but not if a message differs, one line on `errors` says why: `capn: ` and the text
+/// of the fault, which may have a second line where messages were skipped. A command line that orders nothing ends with
+/// 2, and `errors` says what is wrong with it, or `capn: out of memory` if there is no memory for that. Help and the
+/// version are written to the writer and end with 0, or with 3 if that fails.
 #[tactic(auto, using(crate::proofs::EndedOrders::ended, crate::proofs::EndedOrders::ended_found))]
 pub fn program<'a, S: AsStr, R: Read, W: Write, E: Write>(
     alloc: Global,
@@ -66,10 +66,16 @@ pub fn program<'a, S: AsStr, R: Read, W: Write, E: Write>(
                 let shown = show_parts(alloc, &show, reader, writer);
                 finish(shown, ToolFault::Io, writer, errors)
             }
-            Order::Explain(explain) => {
-                let explained = run_explain(alloc, explain, reader, writer);
-                finish(explained, RunFault::Io, writer, errors)
-            }
+            Order::Explain(explanation) => match explanation {
+                Explanation::One(explain) => {
+                    let explained = run_explain(alloc, explain, reader, writer);
+                    finish(explained, RunFault::Io, writer, errors)
+                }
+                Explanation::Refused(refused) => {
+                    let explained = run_explain_refused(alloc, refused, reader, writer);
+                    finish(explained, ReportFault::Ended(RunFault::Io), writer, errors)
+                }
+            },
             Order::Archive(archive) => {
                 let archived = run_archive(alloc, archive, reader, writer);
                 finish(archived, ArchiveFault::Io, writer, errors)

@@ -4,13 +4,14 @@ use crate::runs::{command_line, tool_told};
 use anyhow::{Result, anyhow};
 use capn_archive::{run_archive, run_filter, run_uniq};
 use capn_cmp::run_cmp;
-use capn_endings::end;
+use capn_endings::{Ending, end};
 use capn_flow::{FlowFault, pack_stream, unpack_stream};
 use capn_make::{MakeFault, make, make_texts};
-use capn_report::run_explain;
+use capn_report::{ReportFault, run_explain, run_explain_refused};
 use capn_serve::run_pick;
 use capn_tool::{
-    ArchiveFault, CmpFault, Comparison, Flow, Order, RunFault, order_of, pick_only, show_parts,
+    ArchiveFault, CmpFault, Comparison, Explanation, Flow, Order, RunFault, order_of, pick_only,
+    show_parts,
 };
 use capn_words::Watched;
 use conformance_cases::{Heap, bytes_at, cut_short, digits_of, form_at, push_told};
@@ -26,24 +27,37 @@ fn archive_fault_of(fault: RunFault) -> ArchiveFault {
     }
 }
 
-/// The status of a run over an archive, what is written, and the line or both lines on standard error.
-fn archive_told(
-    alloc: Global,
-    outcome: Result<(), ArchiveFault>,
-    written: &[u8],
-) -> Result<String> {
+/// Returns the status of a run, the bytes that are `written`, and the line or both lines on standard error.
+fn run_told<F: Ending>(alloc: Global, outcome: &Result<(), F>, written: &[u8]) -> Result<String> {
     let mut errors = Watched::new(Vec::new(alloc));
-    let status = end(&outcome, &mut errors);
+    let status = end(outcome, &mut errors);
     let digits = digits_of(alloc, written)?;
-    if let Err(ArchiveFault::Memory) = outcome {
-        return cut_short(alloc, written);
-    }
     let mut told = format!(in alloc; "status {status}, {digits}")?;
     let errors = errors.into_inner();
     for line in str::from_utf8(errors.as_slice())?.lines() {
         push_told(&mut told, line)?;
     }
     Ok(told)
+}
+
+/// Returns how a run over an archive ended, and the bytes that are `written`.
+fn archive_told(
+    alloc: Global,
+    outcome: Result<(), ArchiveFault>,
+    written: &[u8],
+) -> Result<String> {
+    if let Err(ArchiveFault::Memory) = outcome {
+        return cut_short(alloc, written);
+    }
+    run_told(alloc, &outcome, written)
+}
+
+/// Returns how a run ended that explains every message that is refused, and the bytes that are `written`.
+fn report_told(alloc: Global, outcome: Result<(), ReportFault>, written: &[u8]) -> Result<String> {
+    if let Err(ReportFault::Ended(RunFault::Memory)) = outcome {
+        return cut_short(alloc, written);
+    }
+    run_told(alloc, &outcome, written)
 }
 
 /// Returns the end of a run that compares: the status, what is written, and the line on standard error.
@@ -92,12 +106,16 @@ pub(crate) fn archive_answer(alloc: Global, heap: &Heap, words: &[&str]) -> Resu
             let outcome = show_parts(heap, &show, &mut reader, &mut writer);
             tool_told(alloc, heap, outcome, writer.into_inner().as_slice())
         }
-        Order::Explain(explain) => {
+        Order::Explain(Explanation::One(explain)) => {
             let outcome = match run_explain(heap, explain, &mut reader, &mut writer) {
                 Ok(()) => Ok(()),
                 Err(fault) => Err(archive_fault_of(fault)),
             };
             archive_told(alloc, outcome, writer.into_inner().as_slice())
+        }
+        Order::Explain(Explanation::Refused(refused)) => {
+            let outcome = run_explain_refused(heap, refused, &mut reader, &mut writer);
+            report_told(alloc, outcome, writer.into_inner().as_slice())
         }
         Order::Archive(archive) => {
             let outcome = run_archive(heap, archive, &mut reader, &mut writer);

@@ -3,7 +3,7 @@
 use crate::broken::Short;
 use capn_endings::{Line, end};
 use capn_tool::{
-    ArchiveFault, FlowFault, MakeFault, Position, Refusal, RunFault, Skipped, Watched,
+    ArchiveFault, FlowFault, MakeFault, Position, Refusal, ReportFault, RunFault, Skipped, Watched,
 };
 use std::io::{self, Write};
 use std::process::Abort;
@@ -107,6 +107,34 @@ fn a_run_over_an_archive_ends_with_its_line(rt: HostRuntime) {
             Err(ArchiveFault::NotCanonical(LAST)),
             1,
             "capn: message 18446744073709551616 at 18446744073709551615: not canonical\n",
+        ),
+    ] {
+        let mut errors = Watched::new(Vec::new(rt.alloc()));
+        assert!(rt; end(&outcome, &mut errors) == status, "{line}");
+        assert!(rt; errors.into_inner().as_slice() == line.as_bytes(), "{line}");
+    }
+}
+
+#[test]
+fn a_run_that_explains_every_refused_message_ends_with_its_line(rt: HostRuntime) {
+    let picked = RunFault::Refused(LAST, Refusal::Capability(u32::MAX));
+    for (outcome, status, line) in [
+        (Ok(()), 0, ""),
+        (Err(ReportFault::Skipped(SKIPPED)), 1, SKIPPED_LINE),
+        (
+            Err(ReportFault::Ended(picked)),
+            1,
+            "capn: message 18446744073709551616 at 18446744073709551615: capability 4294967295\n",
+        ),
+        (
+            Err(ReportFault::Ended(RunFault::Memory)),
+            3,
+            "capn: out of memory\n",
+        ),
+        (
+            Err(ReportFault::RefusedAfterSkipped(SKIPPED, LAST, Refusal::Trailing(u64::MAX))),
+            1,
+            TWO_LINES,
         ),
     ] {
         let mut errors = Watched::new(Vec::new(rt.alloc()));

@@ -1,7 +1,8 @@
 //! Orders of command lines.
 
 use capn_tool::{
-    Command, Explain, Flow, Form, Limits, Make, MessageText, Order, Style, Tariff, order_of,
+    Command, Explain, ExplainRefused, Explanation, Flow, Form, Limits, Make, MessageText, Order,
+    Style, Tariff, order_of,
 };
 use std::alloc::Global;
 use std::process::Abort;
@@ -47,7 +48,16 @@ fn is_marked(alloc: Global, words: &[&str], style: Style, offsets: bool, ways: b
 fn is_explained(alloc: Global, words: &[&str], want: Explain) -> bool {
     let told = order_of(alloc, words);
     match &told {
-        Ok(Order::Explain(explain)) => *explain == want,
+        Ok(Order::Explain(Explanation::One(explain))) => *explain == want,
+        _ => false,
+    }
+}
+
+/// Tests whether the words explain every message that is refused.
+fn is_each_explained(alloc: Global, words: &[&str], want: ExplainRefused) -> bool {
+    let told = order_of(alloc, words);
+    match &told {
+        Ok(Order::Explain(Explanation::Refused(refused))) => *refused == want,
         _ => false,
     }
 }
@@ -284,6 +294,25 @@ fn a_message_is_explained(rt: HostRuntime) {
     assert!(rt; is_explained(rt.alloc(), &words, want), "{words:?}");
 }
 
+/// With `--keep-going` every message that is refused is explained.
+#[test]
+fn every_refused_message_is_explained(rt: HostRuntime) {
+    let want = ExplainRefused {
+        form: Form::Packed,
+        limits: Limits::usual().with_tariff(Tariff::Plain),
+    };
+    let words = [
+        "capn",
+        "explain",
+        "--keep-going",
+        "--form=packed",
+        "--tariff=plain",
+    ];
+    assert!(rt; is_each_explained(rt.alloc(), &words, want), "{words:?}");
+    let words = ["capn", "explain", "--number=1", "--keep-going"];
+    expect_usage(&rt, rt.alloc(), &words, 2);
+}
+
 /// Numbers of messages are written in plain digits.
 #[test]
 fn a_message_is_explained_by_its_number(rt: HostRuntime) {
@@ -318,18 +347,36 @@ fn a_message_is_explained_by_its_number(rt: HostRuntime) {
     }
 }
 
+/// Tests whether the first line of the mistake of these words is this one.
+fn is_mistaken(alloc: Global, words: &[&str], line: &str) -> bool {
+    match order_of(alloc, words) {
+        Ok(_) => false,
+        Err(usage) => match usage.text(alloc) {
+            Ok(text) => text.as_str().starts_with(line),
+            Err(_) => false,
+        },
+    }
+}
+
 #[test]
 fn flags_that_go_together_are_named(rt: HostRuntime) {
-    let words = ["capn", "canonical", "--keep-going"];
-    let text = match order_of(rt.alloc(), &words) {
-        Ok(_) => None,
-        Err(usage) => usage.text(rt.alloc()).ok(),
-    };
-    let text = text.expect(&rt, "a mistake");
-    assert!(rt;
-        text.as_str()
-            .starts_with("error: --keep-going needs --framed\n")
-    );
+    let number = "error: --number takes 1 to 2^64 - 1, without a sign or leading zeros\n";
+    for (words, line) in [
+        (
+            &["capn", "canonical", "--keep-going"][..],
+            "error: --keep-going needs --framed\n",
+        ),
+        (
+            &["capn", "explain", "--keep-going", "--number=3"][..],
+            "error: --keep-going goes without --number\n",
+        ),
+        (
+            &["capn", "explain", "--keep-going", "--number=0"][..],
+            number,
+        ),
+    ] {
+        assert!(rt; is_mistaken(rt.alloc(), words, line), "{words:?}");
+    }
 }
 
 #[test]

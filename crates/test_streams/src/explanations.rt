@@ -12,9 +12,9 @@ use test_allocator::Refusing;
 
 /// A reader that gives its bytes with the first call, and fails with the next one.
 #[derive(Drop)]
-struct Once<'a> {
-    bytes: &'a [u8],
-    is_over: bool,
+pub(crate) struct Once<'a> {
+    pub bytes: &'a [u8],
+    pub is_over: bool,
 }
 
 impl Read for Once<'_> {
@@ -75,7 +75,7 @@ fn out_of_range(index: u64, offset: u64) -> RunFault {
 
 /// Four frames of 16 bytes: a null root; a root that is a struct of one word past the end of its segment; a null root;
 /// and the same struct again.
-const FRAMES: [u8; 64] = [
+pub(crate) const FRAMES: [u8; 64] = [
     0, 0, 0, 0, 1, 0, 0, 0, 0, 0, 0, 0, 0, 0, 0, 0, 0, 0, 0, 0, 1, 0, 0, 0, 0, 0, 0, 0, 1, 0, 0, 0,
     0, 0, 0, 0, 1, 0, 0, 0, 0, 0, 0, 0, 0, 0, 0, 0, 0, 0, 0, 0, 1, 0, 0, 0, 0, 0, 0, 0, 1, 0, 0, 0,
 ];
@@ -86,7 +86,7 @@ const TWO_SEGMENTS: [u8; 24] = [
 ];
 
 /// The lines of the second frame.
-const SECOND: &str = "message: 2 at 16
+pub(crate) const SECOND: &str = "message: 2 at 16
 segments: 1 of 1 words
 refused: Range at 0:0, paid 0, visits 1
 way: root
@@ -95,7 +95,7 @@ content: words 1 to 2 of segment 0, which has 1
 ";
 
 /// The lines of the fourth frame.
-const FOURTH: &str = "message: 4 at 48
+pub(crate) const FOURTH: &str = "message: 4 at 48
 segments: 1 of 1 words
 refused: Range at 0:0, paid 0, visits 1
 way: root
@@ -104,7 +104,7 @@ content: words 1 to 2 of segment 0, which has 1
 ";
 
 /// The lines of the first frame.
-const FIRST: &str = "message: 1 at 0
+pub(crate) const FIRST: &str = "message: 1 at 0
 segments: 1 of 1 words
 accepted: paid 0 visits 1 depth 0
 canonical: yes

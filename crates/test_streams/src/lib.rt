@@ -12,3 +12,5 @@ mod flows;
 mod picks;
 #[cfg(test)]
 mod places;
+#[cfg(test)]
+mod refused_explanations;

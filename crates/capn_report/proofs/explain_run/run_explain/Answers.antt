@@ -3,9 +3,11 @@ use Rattle.capn_words.specs.Watched.{inner_of, has_failed}
 use Rattle.capn_serve.specs.declared.fault.RunFault.TheVariants as faults
 use Rattle.capn_serve.specs.declared.service.Run.{Run}
 use Rattle.capn_report.specs.ExplainRun.{Explained, ending, explain_finish, explain_fold, first_run}
+use Rattle.capn_report.specs.Finish.{plain}
 use Rattle.capn_report.specs.Reports.{Reporting}
 use Rattle.capn_report.proofs.Closings.{Ending, done_fine, ending_not_io, fine_if_told}
 use Rattle.capn_report.proofs.Finishes.{finished_closed, finished_told, finished_unclosed, finished_untold}
+use Rattle.capn_report.proofs.Finishes.{plain_faithful}
 use Rattle.capn_report.proofs.explain_run.run_explain.Goals as goal
 
 not_io : (run : Run Reporting) → ending run ≡ Err faults.Io → ⊥
@@ -27,7 +29,8 @@ returns-in-Ok-write_closing g c =
     (g.R.Read.remaining (inner_of c.serve_messages.new.reader)) (g.W.Write.contents (inner_of c.args.writer.now))
     (g.W.Write.contents (inner_of c.write_closing.new.writer)) (has_failed c.serve_messages.new.reader)
     (has_failed c.write_closing.new.writer) r) (sym c.ending_of.ensures)
-    (finished_closed (explain_fold c.args.order) (first_run c.args.order) (explain_finish c.args.order)
+    (finished_closed (explain_fold c.args.order) (first_run c.args.order) (explain_finish c.args.order) plain
+    (plain_faithful (explain_fold c.args.order))
     c.args.order.form (g.R.Read.remaining (inner_of c.args.reader.now))
     (g.R.Read.remaining (inner_of c.serve_messages.new.reader)) (g.W.Write.contents (inner_of c.args.writer.now))
     (g.W.Write.contents (inner_of c.serve_messages.new.writer)) (has_failed c.serve_messages.new.reader)
@@ -37,7 +40,8 @@ returns-in-Ok-write_closing g c =
 
 pub returns-in-Ok : goal.returns-in-Ok
 returns-in-Ok g c =
-    finished_unclosed (explain_fold c.args.order) (first_run c.args.order) (explain_finish c.args.order)
+    finished_unclosed (explain_fold c.args.order) (first_run c.args.order) (explain_finish c.args.order) plain
+    (plain_faithful (explain_fold c.args.order))
     c.args.order.form (g.R.Read.remaining (inner_of c.args.reader.now))
     (g.R.Read.remaining (inner_of c.serve_messages.new.reader)) (g.W.Write.contents (inner_of c.args.writer.now))
     (g.W.Write.contents (inner_of c.serve_messages.new.writer)) (has_failed c.serve_messages.new.reader)
@@ -48,7 +52,8 @@ returns-in-Ok g c =
 
 pub returns-in-Ok-write_fault : goal.returns-in-Ok-write_fault
 returns-in-Ok-write_fault g c =
-    finished_told (explain_fold c.args.order) (first_run c.args.order) (explain_finish c.args.order)
+    finished_told (explain_fold c.args.order) (first_run c.args.order) (explain_finish c.args.order) plain
+    (plain_faithful (explain_fold c.args.order))
     c.args.order.form (g.R.Read.remaining (inner_of c.args.reader.now))
     (g.R.Read.remaining (inner_of c.serve_messages.new.reader)) (g.W.Write.contents (inner_of c.args.writer.now))
     (g.W.Write.contents (inner_of c.serve_messages.new.writer)) (has_failed c.serve_messages.new.reader)
@@ -59,7 +64,8 @@ returns-in-Ok-write_fault g c =
 
 pub returns : goal.returns
 returns g c =
-    finished_untold (explain_fold c.args.order) (first_run c.args.order) (explain_finish c.args.order)
+    finished_untold (explain_fold c.args.order) (first_run c.args.order) (explain_finish c.args.order) plain
+    (plain_faithful (explain_fold c.args.order))
     c.args.order.form (g.R.Read.remaining (inner_of c.args.reader.now))
     (g.R.Read.remaining (inner_of c.serve_messages.new.reader)) (g.W.Write.contents (inner_of c.args.writer.now))
     (g.W.Write.contents (inner_of c.serve_messages.new.writer)) (has_failed c.serve_messages.new.reader)

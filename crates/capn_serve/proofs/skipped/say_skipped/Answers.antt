@@ -1,5 +1,5 @@
 use Rattle.capn_endings.proofs.shared.Said.{both}
-use Rattle.capn_archive.proofs.fault.say_skipped.Goals as goal
+use Rattle.capn_serve.proofs.skipped.say_skipped.Goals as goal
 
 pub returns : goal.returns
 returns g c =
