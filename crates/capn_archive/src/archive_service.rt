@@ -31,9 +31,9 @@ use std::io::Write;
 /// its length.
 #[derive(Clone, Copy, Debug, PartialEq, Eq)]
 pub struct ArchiveService {
-    /// What is done with each message.
+    /// The work that is done with each message.
     pub order: ArchiveOrder,
-    /// What was kept of the messages before.
+    /// The tally of the messages before.
     pub tally: Tally,
 }
 

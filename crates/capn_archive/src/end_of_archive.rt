@@ -68,7 +68,7 @@ pub(crate) fn fault_after(
     }
 }
 
-/// How a run ends that has served all of its input, this number of messages, and has skipped these.
+/// Returns the outcome of a run that served all of its input, `messages` of them, and skipped those of `skipped`.
 pub(crate) fn outcome(skipped: Option<SkippedSoFar>, messages: u64) -> Result<(), ArchiveFault>
     ensures { result ≡ finish.outcome_by skipped messages }
 {
@@ -78,7 +78,7 @@ pub(crate) fn outcome(skipped: Option<SkippedSoFar>, messages: u64) -> Result<()
     }
 }
 
-/// What the messages of a run need.
+/// Returns the limits that the messages of `run` need.
 fn needs_of(order: &ArchiveOrder, run: &Run<ArchiveService>) -> Needs
     ensures { result ≡ spec.needs_of order.now run.now }
 {

@@ -2,15 +2,15 @@
 
 use capn_canon::{Form, Limits};
 
-/// What a run does that lets through the messages that are accepted, as they stand.
+/// The order of a run that lets through the messages that are accepted, as they stand.
 #[derive(Clone, Copy, Debug, PartialEq, Eq)]
 pub struct FilterOrder {
-    /// How the input holds the messages.
+    /// The encoding of the input.
     pub form: Form,
     /// The limits of each message.
     pub limits: Limits,
-    /// Whether a message that is held back is skipped, and the next one served.
+    /// True if a message that is held back is skipped, and the next one served.
     pub keep_going: bool,
-    /// Whether of the messages that are accepted only those are let through that are canonical.
+    /// True if only accepted messages that are canonical are let through.
     pub canonical: bool,
 }

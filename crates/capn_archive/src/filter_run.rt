@@ -22,7 +22,7 @@ fn first_run(order: FilterOrder) -> Run<FilterService>
     Run::new(FilterService::new(order))
 }
 
-/// How a run ends whose messages no fault ended: by one that is not canonical, or with its input.
+/// Returns the outcome of `run` where no fault ended it: by a message that is not canonical, or with its input.
 fn outcome_of(run: &Run<FilterService>) -> Result<(), ArchiveFault>
     ensures { result ≡ finish.outcome_unless run.now.service.ended run.now.service.skipped run.now.at.index }
 {

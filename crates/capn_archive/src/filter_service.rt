@@ -21,15 +21,15 @@ use std::io::Write;
 /// skipped, and takes no memory.
 #[derive(Clone, Copy, Debug, PartialEq, Eq)]
 pub struct FilterService {
-    /// What it does.
+    /// The order that it carries out.
     pub order: FilterOrder,
     /// The messages that it has skipped, if any was.
     pub skipped: Option<SkippedSoFar>,
-    /// Where the message is that ended the run, if one did that is not canonical.
+    /// The position of the message that ended the run, if one did that is not canonical.
     pub ended: Option<Position>,
 }
 
-/// What is found of a message.
+/// The verdict on a message.
 #[derive(Clone, Copy)]
 pub(crate) enum Verdict {
     /// It is let through.
@@ -40,7 +40,7 @@ pub(crate) enum Verdict {
     Refused(Refusal),
 }
 
-/// Whether a message is canonical, found as for `list`: no canonical bytes are made.
+/// Judges if `message` is canonical, as `list` finds it: no canonical bytes are made.
 fn judge_canonical<S: Space, A: Allocator + Copy>(alloc: A, limits: Limits, message: &S) -> Verdict
     ensures { IsVerdict true (S.message message.now) limits result }
 {
@@ -55,7 +55,7 @@ fn judge_canonical<S: Space, A: Allocator + Copy>(alloc: A, limits: Limits, mess
     }
 }
 
-/// Whether a message is let through, or why it is held back. It takes no memory.
+/// Judges if `message` is let through, or why it is held back. It takes no memory.
 fn judge<S: Space, A: Allocator + Copy>(alloc: A, order: &FilterOrder, message: &S) -> Verdict
     ensures { IsVerdict order.now.canonical (S.message message.now) order.now.limits result }
 {

@@ -10,17 +10,16 @@ use capn_walk::Limits;
 use capn_words::Space;
 use std::alloc::Allocator;
 
-/// What is found of a message that is accepted.
+/// The numbers of a message that is accepted.
 #[derive(Clone, Copy, Debug, PartialEq, Eq)]
 pub struct Findings {
-    /// What its walk pays and visits, its first capability, and whether it is canonical.
+    /// The cost and visits of its walk, its first capability, and whether it is canonical.
     pub checked: SurveyedBare,
     /// The least depth under which it is accepted, or 0 if its root is null.
     pub depth: u32,
 }
 
-/// What is found of a message that is accepted within limits; or why it is refused, by its walk alone. It takes no
-/// memory.
+/// Returns the numbers of a message that is accepted within limits, or the refusal of its walk. It takes no memory.
 pub(crate) fn findings_of<S: Space, A: Allocator + Copy>(
     alloc: A,
     space: &S,

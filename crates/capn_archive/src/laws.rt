@@ -9,7 +9,7 @@ pub fn one_text()
     ensures filter { OneFilter }
 {}
 
-/// What a filter writes of a stream are frames of messages that are accepted, or of canonical ones, so that `list` with
+/// States that a filter writes only frames of messages that are accepted, or of canonical ones, so that `list` with
 /// the same limits takes them all.
 pub fn let_through()
     ensures accepted { FiltersAccepted }

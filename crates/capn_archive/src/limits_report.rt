@@ -13,9 +13,9 @@ use std::fmt;
 /// The limits that the messages of an archive need.
 #[derive(Clone, Copy, Debug, PartialEq, Eq)]
 pub struct Needs {
-    /// How many messages there are.
+    /// The number of messages.
     pub messages: u64,
-    /// What was kept of them.
+    /// The tally of them.
     pub tally: Tally,
     /// The tariff by which they were priced.
     pub tariff: Tariff,
@@ -60,7 +60,7 @@ impl fmt::Display for TariffOption {
     }
 }
 
-/// How many messages there are, and the greatest words, price and depth of one.
+/// Writes the number of messages, and the greatest words, price and depth of one.
 impl fmt::Display for Needs {
     ghost use Rattle.std.specs.Prelude.{Some};
     ghost use Rattle.capn_archive.specs.Lines.{needs_text};

@@ -42,7 +42,7 @@ impl Line {
         }
     }
 
-    /// What is written of it.
+    /// Returns the bytes of the line.
     pub(crate) fn as_bytes(&self) -> &[u8]
         ensures { result.now ≡ self.now }
     {

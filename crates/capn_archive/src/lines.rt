@@ -39,7 +39,7 @@ fn digests_line(head: &MessageHead, findings: &Findings, digest: Option<[u8; 32]
     line
 }
 
-/// Where a message is, and how large.
+/// The position and the size of a message.
 fn head_text(head: &MessageHead) -> Line
     ensures { result ≡ spec.head_text head.now }
 {

@@ -6,20 +6,20 @@ ghost use Rattle.capn_archive.specs.Findings as spec;
 use capn_serve::Position;
 use capn_words::{Space, total_words};
 
-/// Where a message is, and how large.
+/// The position and the size of a message.
 #[derive(Clone, Copy, Debug, PartialEq, Eq)]
 pub struct MessageHead {
-    /// Where it is.
+    /// Its position.
     pub at: Position,
-    /// How many bytes its frame has: the table, the padding and the contents.
+    /// The number of bytes of its frame: the table, the padding and the contents.
     pub bytes: u64,
-    /// How many segments it has.
+    /// The number of its segments.
     pub segments: u32,
-    /// How many words its segments have in all.
+    /// The number of words of its segments in all.
     pub words: u32,
 }
 
-/// Where a message with its frame is, and how large.
+/// Returns the position `at` of a message with its size, from its `frame` and its segments.
 pub(crate) fn head_of<S: Space>(at: Position, frame: &[u8], message: &S) -> MessageHead
     ensures { result ≡ spec.head_of at frame.now (S.message message.now) }
 {

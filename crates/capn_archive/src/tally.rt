@@ -10,11 +10,11 @@ use capn_serve::{Position, SkippedSoFar, one_more};
 pub struct Greatest {
     /// The amount.
     pub amount: u32,
-    /// How many messages are before the first that has it.
+    /// The number of messages before the first that has it.
     pub index: u64,
 }
 
-/// What a run keeps of the messages that it has served.
+/// The sums and maxima of the messages that a run has served.
 #[derive(Clone, Copy, Debug, PartialEq, Eq)]
 pub struct Tally {
     /// The messages that were skipped, if any was.

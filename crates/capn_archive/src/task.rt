@@ -2,7 +2,7 @@
 
 use capn_canon::{Form, Limits};
 
-/// What is done with the messages of an archive.
+/// The work that is done with the messages of an archive.
 #[derive(Clone, Copy, Debug, PartialEq, Eq)]
 pub enum Task {
     /// Writes a line for each message: where it is, how large, what it costs, and whether it is canonical.
@@ -15,15 +15,15 @@ pub enum Task {
     Canonical,
 }
 
-/// What a run does with an archive.
+/// The order of a run over an archive.
 #[derive(Clone, Copy, Debug, PartialEq, Eq)]
 pub struct ArchiveOrder {
-    /// What is done with each message.
+    /// The work that is done with each message.
     pub task: Task,
-    /// How the input holds the messages.
+    /// The encoding of the input.
     pub form: Form,
     /// The limits of each message.
     pub limits: Limits,
-    /// Whether a message that is refused is skipped, and the next one served.
+    /// True if a message that is refused is skipped, and the next one served.
     pub keep_going: bool,
 }

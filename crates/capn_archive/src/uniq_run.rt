@@ -53,7 +53,7 @@ fn write_count<W: Write, A: Allocator + Copy>(
     write_all(writer, line.as_bytes())
 }
 
-/// How a run ends that has served all of its input.
+/// Returns the outcome of `run`, which has served all of its input.
 fn outcome_of<A: Allocator>(run: &Run<UniqService<A>>) -> Result<(), ArchiveFault>
     ensures { result ≡ finish.outcome_by run.now.service.skipped run.now.at.index }
 {

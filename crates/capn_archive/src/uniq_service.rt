@@ -85,21 +85,21 @@ impl<B: Allocator> UniqService<B> {
         }
     }
 
-    /// What it does.
+    /// The order that it carries out.
     pub(crate) fn order(&self) -> UniqOrder
         ensures { result ≡ self.now.order }
     {
         self.order
     }
 
-    /// How many messages it has kept.
+    /// Returns the number of messages that it has kept.
     pub(crate) fn kept(&self) -> usize
         ensures { result ≡ length self.now.digests.keys }
     {
         self.digests.len()
     }
 
-    /// How many messages it has served, without those that it has skipped.
+    /// Returns the number of messages that it has served, without those that it has skipped.
     pub(crate) fn served(&self) -> u64
         ensures { result ≡ self.now.served }
     {

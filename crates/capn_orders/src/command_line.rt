@@ -51,7 +51,7 @@ fn archive_of(task: Task, matches: &ArgMatches) -> Option<ArchiveOrder>
     })
 }
 
-/// What `list` orders with these options, if they mean something: with `--digest` the lines have digests.
+/// Returns the order of `list` with these options, if they mean one: with `--digest` the lines have digests.
 fn list_of<'a>(matches: &ArgMatches<'a>) -> Option<Order<'a>>
     ensures means { IfSome result (MeansOrder (Some (codes "list", rows_of (found_of matches.now)))) }
     ensures served { (order : Order) → MeansOrder (Some (codes "list", rows_of (found_of matches.now))) order
@@ -160,8 +160,8 @@ fn only_of<'a>(matches: &ArgMatches<'a>) -> Option<Only<'a>>
     })
 }
 
-/// What `pick` orders with these options, if they mean something: with `--only` the messages of a list, and else those
-/// from one number to another.
+/// Returns the order of `pick` with these options, if they mean one: with `--only` the messages of a list, and else
+/// those from one number to another.
 fn pick_order<'a>(matches: &ArgMatches<'a>) -> Option<Order<'a>>
     ensures means { IfSome result (MeansOrder (Some (codes "pick", rows_of (found_of matches.now)))) }
     ensures served { (order : Order) → MeansOrder (Some (codes "pick", rows_of (found_of matches.now))) order
@@ -173,7 +173,7 @@ fn pick_order<'a>(matches: &ArgMatches<'a>) -> Option<Order<'a>>
     }
 }
 
-/// What `canonical` orders with these options, if they mean something: with `--framed` a run over an archive, and
+/// Returns the order of `canonical` with these options, if they mean one: with `--framed` a run over an archive, and
 /// without it and `--keep-going` the command over one message.
 fn canonical_of<'a>(matches: &ArgMatches<'a>) -> Option<Order<'a>>
     ensures means { IfSome result (MeansOrder (Some (codes "canonical", rows_of (found_of matches.now)))) }
@@ -191,7 +191,7 @@ fn canonical_of<'a>(matches: &ArgMatches<'a>) -> Option<Order<'a>>
     Some(Order::Message(Command::Canonical(form, limits)))
 }
 
-/// What `pack` orders with these options, if they mean something: with `--streaming` it packs while bytes come in.
+/// Returns the order of `pack` with these options, if they mean one: with `--streaming` it packs while bytes come in.
 fn pack_of<'a>(matches: &ArgMatches<'a>) -> Option<Order<'a>>
     ensures means { IfSome result (MeansOrder (Some (codes "pack", rows_of (found_of matches.now)))) }
     ensures served { (order : Order) → MeansOrder (Some (codes "pack", rows_of (found_of matches.now))) order
@@ -203,8 +203,8 @@ fn pack_of<'a>(matches: &ArgMatches<'a>) -> Option<Order<'a>>
     Some(Order::Message(Command::Pack))
 }
 
-/// What `unpack` orders with these options, if they mean something: with `--streaming`, and without `--message-words`,
-/// it unpacks while bytes come in.
+/// Returns the order of `unpack` with these options, if they mean one: with `--streaming`, and without
+/// `--message-words`, it unpacks while bytes come in.
 fn unpack_of<'a>(matches: &ArgMatches<'a>) -> Option<Order<'a>>
     ensures means { IfSome result (MeansOrder (Some (codes "unpack", rows_of (found_of matches.now)))) }
     ensures served { (order : Order) → MeansOrder (Some (codes "unpack", rows_of (found_of matches.now))) order
@@ -219,7 +219,7 @@ fn unpack_of<'a>(matches: &ArgMatches<'a>) -> Option<Order<'a>>
     None
 }
 
-/// What `check` orders with these options, if they mean something: with `--one` the input is exactly one message.
+/// Returns the order of `check` with these options, if they mean one: with `--one` the input is exactly one message.
 fn check_of<'a>(matches: &ArgMatches<'a>) -> Option<Order<'a>>
     ensures means { IfSome result (MeansOrder (Some (codes "check", rows_of (found_of matches.now)))) }
     ensures served { (order : Order) → MeansOrder (Some (codes "check", rows_of (found_of matches.now))) order
@@ -233,7 +233,7 @@ fn check_of<'a>(matches: &ArgMatches<'a>) -> Option<Order<'a>>
     Some(Order::Message(Command::Check(form, limits)))
 }
 
-/// What `hash` orders with these options, if they mean something: with `--one` the input is exactly one message.
+/// Returns the order of `hash` with these options, if they mean one: with `--one` the input is exactly one message.
 fn hash_of<'a>(matches: &ArgMatches<'a>) -> Option<Order<'a>>
     ensures means { IfSome result (MeansOrder (Some (codes "hash", rows_of (found_of matches.now)))) }
     ensures served { (order : Order) → MeansOrder (Some (codes "hash", rows_of (found_of matches.now))) order
@@ -247,7 +247,7 @@ fn hash_of<'a>(matches: &ArgMatches<'a>) -> Option<Order<'a>>
     Some(Order::Message(Command::Hash(form, limits)))
 }
 
-/// What the subcommand of this name orders with these options, if they mean something.
+/// Returns the order of the subcommand called `name` with these options, if they mean one.
 fn named_order<'a>(name: &str, matches: &ArgMatches<'a>) -> Option<Order<'a>>
     ensures means { IfSome result (MeansOrder (Some (name.now, rows_of (found_of matches.now)))) }
     ensures served { (order : Order) → MeansOrder (Some (name.now, rows_of (found_of matches.now))) order
@@ -272,7 +272,7 @@ fn named_order<'a>(name: &str, matches: &ArgMatches<'a>) -> Option<Order<'a>>
     }
 }
 
-/// What the words order, the first of them being the program's name: the subcommand's work, with the form, the limits,
+/// Parses the words of a command line, the first being the program's name: the subcommand with the form, the limits,
 /// the tariff and the flags that its options have, given or usual. A request for help or for the version, a word, an
 /// option or a value that is not known, a number out of its range, a form or a tariff that the command does not take,
 /// a value of `--at` that is no way, one of `--number` that is no number of a message, one of `--only` that is no list,
@@ -282,12 +282,12 @@ fn named_order<'a>(name: &str, matches: &ArgMatches<'a>) -> Option<Order<'a>>
 pub fn order_of<'a, S: AsStr>(alloc: Global, words: &'a [S]) -> Result<Order<'a>, Usage>
     // An order that is given is what the words mean.
     ensures means { IfOk result (MeansOrder (subcommand_of program_line (map S.text words.now))) }
-    // Where the words are taken and mean an order, that order is given, unless memory is refused.
+    // If the words are taken and mean an order, that order is returned, unless memory is refused.
     ensures only { takes program_line (map S.text words.now) ≡ true → (order : Order)
         → MeansOrder (subcommand_of program_line (map S.text words.now)) order → Orders order result }
-    // Where one is given no step of the parser fails.
+    // If one is returned no step of the parser fails.
     ensures passes { IfOk result (λ _. fault_of program_line (map S.text words.now) ≡ []) }
-    // Where none is given, the kind of the answer is a reason why the words order nothing.
+    // If none is returned, the kind of the error is a reason why the words order nothing.
     ensures reason { IfErr result (λ usage. IsReason (map S.text words.now) (kind_of (error_of usage))) }
 {
     let tool = program_command(alloc)?;

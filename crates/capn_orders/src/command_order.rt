@@ -23,11 +23,11 @@ pub fn command_of<'a, S: AsStr>(alloc: Global, words: &'a [S]) -> Result<Command
     // A command that is given is what the words mean.
     ensures means { IfOk result (λ command.
         MeansOrder (subcommand_of program_line (map S.text words.now)) (orders.Message command)) }
-    // Where the words are taken and mean a command, that very command is given, unless memory is refused.
+    // If the words are taken and mean a command, that very command is returned, unless memory is refused.
     ensures only { takes program_line (map S.text words.now) ≡ true → (command : Command)
         → MeansOrder (subcommand_of program_line (map S.text words.now)) (orders.Message command)
         → Names command result }
-    // Where none is given, the kind of the answer is a reason why the words name no command.
+    // If none is returned, the kind of the error is a reason why the words name no command.
     ensures reason { IfErr result (λ usage. IsNoCommand (map S.text words.now) (kind_of (error_of usage))) }
 {
     match order_of(alloc, words)? {

@@ -1,15 +1,15 @@
 //! The version, and the page of help for the program.
 
-/// What help says of the program, or of one command.
+/// The help of the program, or of one command.
 #[derive(Clone, Copy)]
 pub struct Page {
-    /// What one would do with it, and examples.
+    /// Its use, and examples.
     pub first: &'static str,
     /// The command line that it takes.
     pub usage: &'static str,
-    /// What it does, in one line for a command.
+    /// Its work, in one line for a command.
     pub about: &'static str,
-    /// What it takes and writes, and its exit statuses.
+    /// Its input, its output, and its exit statuses.
     pub more: &'static str,
 }
 

@@ -42,7 +42,7 @@ pub use subcommands::program_command;
 pub use usage::Usage;
 pub use way::numbers_of;
 
-// What the signatures above name.
+// Types of the signatures above.
 pub use capn_archive::{ArchiveOrder, FilterOrder, Task, UniqOrder};
 pub use capn_canon::{Form, Limits, Tariff};
 pub use capn_cmp::CmpOrder;

@@ -106,7 +106,7 @@ fn mistake_of<'a>(matches: &'a ArgMatches) -> (&'a str, &'static str) {
     }
 }
 
-/// What is answered where the options of a command mean nothing.
+/// Returns the usage fault of options that mean nothing together.
 pub(crate) fn meaningless(alloc: Global, matches: &ArgMatches) -> Usage
     ensures { (kind_of (error_of result) ≡ kinds.OutOfMemory) ⊎ (kind_of (error_of result) ≡ kinds.InvalidValue) }
 {
@@ -117,7 +117,7 @@ pub(crate) fn meaningless(alloc: Global, matches: &ArgMatches) -> Usage
     }
 }
 
-/// What is answered where the words order something, but none of the six commands over messages and bytes.
+/// Returns the usage fault of words that order something, but none of the six commands over messages and bytes.
 pub(crate) fn no_command(alloc: Global) -> Usage
     ensures { (kind_of (error_of result) ≡ kinds.OutOfMemory) ⊎ (kind_of (error_of result) ≡ kinds.InvalidSubcommand) }
 {

@@ -1,9 +1,9 @@
 //! What is said of options that mean nothing.
 
-/// What is said of a value that `--tariff` does not take.
+/// The message of a value that `--tariff` does not take.
 pub const NO_SUCH_TARIFF: &str = "--tariff takes strict or plain";
 
-/// What is said of a value that `--form` does not take.
+/// The message of a value that `--form` does not take.
 pub const NO_SUCH_FORM: &str = "--form takes stream, packed or bare";
 
 /// The message for a value that `--at` does not take.

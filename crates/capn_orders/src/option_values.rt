@@ -15,7 +15,7 @@ use capn_walk::Limits;
 use clap::ArgMatches;
 use clap::parser::ValueSource;
 
-/// Whether the flag of this name is given.
+/// Returns whether the flag `id` is given.
 pub(crate) fn flag_of(matches: &ArgMatches, id: &str) -> Option<bool>
     ensures read { IfSome result (λ given. FlagIs (rows_of (found_of matches.now)) id.now given) }
     ensures served { (given : Bool) → FlagIs (rows_of (found_of matches.now)) id.now given → IsSome result }
@@ -32,14 +32,14 @@ pub(crate) fn text_in<'a>(matches: &ArgMatches<'a>, id: &str) -> Option<&'a str>
     matches.get_str(id)
 }
 
-/// Where the value of an option comes from.
+/// Returns the source of the value of the option `id`.
 fn origin_of(matches: &ArgMatches, id: &str) -> Option<ValueSource>
     ensures { result ≡ source_of (rows_of (found_of matches.now)) id.now }
 {
     matches.value_source(id)
 }
 
-/// Whether an option is not given, and has its usual value.
+/// Tells if the option `id` is not given, and has its usual value.
 pub(crate) fn is_usual(matches: &ArgMatches, id: &str) -> bool
     ensures { IsTrue result ↔ IsUsual (rows_of (found_of matches.now)) id.now }
 {

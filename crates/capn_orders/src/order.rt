@@ -9,7 +9,7 @@ use capn_serve::{Pick, StreamForm};
 use capn_show::Style;
 use capn_walk::Limits;
 
-/// Which way bytes flow. Those that came are written before more are read.
+/// Pack or unpack. Output is written before more input is read.
 #[derive(Clone, Copy, Debug, PartialEq, Eq)]
 pub enum Flow {
     /// They are packed.
@@ -18,20 +18,20 @@ pub enum Flow {
     Unpack,
 }
 
-/// What of each message is shown, and how: all of it, or what is at a way from its root.
+/// The order of `show`: all of each message, or the value at a way from its root, in a style.
 #[derive(Clone, Copy, Debug, PartialEq, Eq)]
 pub struct Show<'a> {
-    /// How the input holds its messages.
+    /// The encoding of the input.
     pub form: Form,
     /// The limits of a message.
     pub limits: Limits,
-    /// How the text is written.
+    /// The style of the text.
     pub style: Style,
-    /// Whether before each line stands the byte of what it is about.
+    /// True if each line begins with the offset of the byte that it is about.
     pub offsets: bool,
-    /// Whether before each line, after its byte, stands the way to what it is about.
+    /// True if each line begins, after that offset, with the way to the slot that it is about.
     pub ways: bool,
-    /// Whether all of the input is exactly one message.
+    /// True if all of the input is exactly one message.
     pub one: bool,
     /// The way: numbers parted by dots. Without one, all of the message is shown.
     pub way: Option<&'a str>,
@@ -46,10 +46,10 @@ pub enum Explanation {
     Refused(ExplainRefused),
 }
 
-/// Which messages of a stream are written as they stand: those of a list.
+/// The order to write the messages of a list as they stand.
 #[derive(Clone, Copy, Debug, PartialEq, Eq)]
 pub struct Only<'a> {
-    /// How the input holds the messages.
+    /// The encoding of the input.
     pub form: StreamForm,
     /// The limits of a message, of which its number of words alone counts.
     pub limits: Limits,
@@ -57,16 +57,16 @@ pub struct Only<'a> {
     pub list: &'a str,
 }
 
-/// What is made of the texts of an input.
+/// The order to make messages of the texts of an input.
 #[derive(Clone, Copy, Debug, PartialEq, Eq)]
 pub struct Make {
-    /// How the messages are written.
+    /// The encoding of the messages.
     pub form: Form,
-    /// Whether a list of bytes may stand between quotes.
+    /// True if a list of bytes may stand between quotes.
     pub quoted: bool,
 }
 
-/// What a run of the program does with its input.
+/// The order that a run of the program carries out.
 #[derive(Clone, Copy, Debug, PartialEq, Eq)]
 pub enum Order<'a> {
     /// A command over messages or bytes, whose input has a greatest length.

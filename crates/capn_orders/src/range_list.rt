@@ -9,7 +9,7 @@ use crate::way::with_digit;
 use capn_serve::Range;
 use std::alloc::{AllocError, Allocator};
 
-/// What has been read of a range.
+/// The part of a range that has been read.
 #[derive(Clone, Copy, Debug, PartialEq, Eq)]
 pub struct Begun {
     /// The last number before it, or 0 if it is the first range.
@@ -44,7 +44,7 @@ fn range_of(begun: Begun) -> Option<Range>
     None
 }
 
-/// What has been read of a range with its hyphen, if that comes after its first number.
+/// Adds the hyphen to `begun`, if that comes after its first number.
 fn with_hyphen(begun: Begun) -> Option<Begun>
     ensures is { result ≡ spec.with_hyphen begun.last begun.first begun.digits }
     ensures same { IfSome result (λ next. next.last ≡ begun.last) }
@@ -62,7 +62,7 @@ fn with_hyphen(begun: Begun) -> Option<Begun>
     }
 }
 
-/// What has been read of a range with one more character, if that is its hyphen or a digit, and not a leading zero.
+/// Adds the character `c` to `begun`, if that is its hyphen or a digit, and not a leading zero.
 fn longer(begun: Begun, c: u8) -> Option<Begun>
     ensures is { result ≡ spec.longer begun c }
     ensures same { IfSome result (λ next. next.last ≡ begun.last) }
@@ -81,7 +81,7 @@ fn longer(begun: Begun, c: u8) -> Option<Begun>
     })
 }
 
-/// Whether a text is a list: numbers and ranges, from 1 to 2^64 - 1, in ascending order, parted by single commas.
+/// Tells if `text` is a list: numbers and ranges, from 1 to 2^64 - 1, in ascending order, parted by single commas.
 pub(crate) fn is_range_list(text: &str) -> bool
     ensures { result ≡ is_some (spec.ranges_in text.now) }
 {

@@ -5,7 +5,7 @@ use crate::{archives_help, bytes_help, messages_help};
 use capn_value::{MOST_COST, MOST_HEIGHT};
 use capn_words::MOST_MESSAGE_WORDS;
 
-/// What an option takes.
+/// The value that an option takes.
 #[derive(Clone, Copy)]
 pub enum Taken {
     /// No value: it is given or not.
@@ -26,18 +26,18 @@ pub enum Taken {
 pub struct OptionRow {
     /// The name that stands after `--`.
     pub name: &'static str,
-    /// What it takes.
+    /// The value that it takes.
     pub taken: Taken,
-    /// What help says of it.
+    /// Its text in the help.
     pub help: &'static str,
     /// The commands that take it.
     pub commands: &'static [&'static str],
 }
 
-/// What `--form` takes.
+/// The value of `--form`.
 const FORM: Taken = Taken::Usual("FORM", "stream");
 
-/// What `--message-words` takes.
+/// The value of `--message-words`.
 const WORDS: Taken = Taken::Number("8388608", 1, MOST_MESSAGE_WORDS as i64);
 
 /// The commands over messages that take limits.

@@ -42,7 +42,7 @@ fn style_of(matches: &ArgMatches) -> Option<Style>
     Some(style_for(text, json))
 }
 
-/// Whether a text in a style has lines, before which marks can stand.
+/// Tells if `style` writes lines, before which offsets and ways can stand.
 pub(crate) fn has_lines(style: Style) -> bool
     ensures { result ≡ meaning.has_lines style }
 {
@@ -52,7 +52,7 @@ pub(crate) fn has_lines(style: Style) -> bool
     }
 }
 
-/// Whether `--offsets` is given, and whether `--ways` is, if the style goes with them.
+/// Returns whether `--offsets` and `--ways` are given, if `style` goes with them.
 fn marks_of(matches: &ArgMatches, style: Style) -> Option<(bool, bool)>
     ensures read { IfSome result (λ marks. MarksAre (rows_of (found_of matches.now)) style marks.0 marks.1) }
     ensures served { (offsets ways : Bool) → MarksAre (rows_of (found_of matches.now)) style offsets ways
@@ -66,7 +66,7 @@ fn marks_of(matches: &ArgMatches, style: Style) -> Option<(bool, bool)>
     None
 }
 
-/// Whether a style and marks are those of a plain `show`.
+/// Tells if a style, `offsets` and `ways` are those of a plain `show`.
 fn is_plain(style: Style, offsets: bool, ways: bool) -> bool
     ensures { result ≡ meaning.is_plain style offsets ways }
 {
@@ -76,7 +76,7 @@ fn is_plain(style: Style, offsets: bool, ways: bool) -> bool
     }
 }
 
-/// What `show` orders without `--at`, in a style with marks: all of each message, or of exactly one.
+/// Returns the order of `show` without `--at`, in `style`: all of each message, or of exactly one.
 fn whole_order<'a>(
     form: Form,
     limits: Limits,
@@ -107,7 +107,7 @@ fn whole_order<'a>(
     }
 }
 
-/// What `show` orders with these options, if they mean something: with `--at`, whose value is a way, that parts of
+/// Returns the order of `show` with these options, if they mean one: with `--at`, whose value is a way, that parts of
 /// messages are shown; with `--text`, `--json` or both that messages or parts are shown in another style; and with
 /// `--offsets` or `--ways`, but not in JSON, that marks stand before the lines. With `--one` the input is exactly one
 /// message.

@@ -42,7 +42,7 @@ pub(crate) fn mistake(
     error
 }
 
-/// Whether the command of this name takes the option of a row.
+/// Tells if the command called `name` takes the option of `row`.
 fn is_taken(name: &str, row: &OptionRow) -> bool
     ensures { result ≡ is_taken name.now row.now }
 {

@@ -11,7 +11,7 @@ use std::alloc::{AllocError, Allocator};
 /// Why a command line orders nothing: a request for help or for the version, a mistake, or no memory.
 #[derive(Drop)]
 pub struct Usage {
-    /// What the parser of the command line says of them.
+    /// The error of the parser of the command line.
     pub error: clap::Error,
 }
 
@@ -30,21 +30,21 @@ impl Usage {
         }
     }
 
-    /// Whether nothing is wrong with the words, and memory was refused.
+    /// Tells if nothing is wrong with the words, and memory was refused.
     pub fn is_memory(&self) -> bool
         ensures { IsTrue result ↔ NeedsMemory self.now }
     {
         matches!(self.error.kind(), ErrorKind::OutOfMemory)
     }
 
-    /// Whether help is asked for.
+    /// Tells if help is asked for.
     pub fn is_help(&self) -> bool
         ensures { IsTrue result ↔ WishesHelp self.now }
     {
         matches!(self.error.kind(), ErrorKind::DisplayHelp)
     }
 
-    /// Whether the version is asked for.
+    /// Tells if the version is asked for.
     pub fn is_version(&self) -> bool
         ensures { IsTrue result ↔ WishesVersion self.now }
     {

@@ -17,7 +17,7 @@ pub(crate) fn with_digit(begun: Option<u64>, c: u8) -> Option<u64>
     tens.checked_add(u64::from(c - b'0'))
 }
 
-/// Whether a text is a way: numbers below 2^64 parted by single dots.
+/// Tells if `text` is a way: numbers below 2^64 parted by single dots.
 pub(crate) fn is_way(text: &str) -> bool
     ensures { result ≡ is_some (spec.way_of text.now) }
 {
