@@ -1,10 +1,9 @@
 -- A message that a reporter of every refused message serves. (For `put_apart`, `report` and `serve`.)
-use Rattle.std.proofs.Common.{◌≡◌, ℕ, List, [], ◌++◌, codes, Option, None, Some, Result, Ok, Err, refl, ap, sym, subst}
-use Rattle.std.proofs.Common.{◌∙◌, append-nil, inl, inr}
+use Rattle.std.proofs.Common.{◌≡◌, ℕ, List, [], ◌++◌, codes, Option, Result, Ok, Err, refl, ap, sym, subst}
+use Rattle.std.proofs.Common.{◌∙◌, append-nil, inr}
 use Rattle.capn_walk.specs.Accepted.{IsAccepted}
 use Rattle.capn_walk.specs.declared.walk_answer.Stopped.{Stopped}
 use Rattle.capn_serve.specs.Service.{PutsMessage}
-use Rattle.capn_serve.specs.Skipped.{one_more}
 use Rattle.capn_serve.specs.declared.fault.ServeFault.{ServeFault}
 use Rattle.capn_serve.specs.declared.fault.ServeFault.TheVariants as faults
 use Rattle.capn_serve.specs.declared.position.Position.{Position}
@@ -26,25 +25,22 @@ abbrev pub state : Explain → Option SkippedSoFar → Option First → RefusedR
 state order skipped first = record { order = order; skipped = skipped; first = first }
 
 -- a message that is accepted writes nothing
-pub tells_none : (s t : RefusedReporting) (order : Explain) (skipped : Option SkippedSoFar)
-    (before first : Option First)
-    → state order skipped before ≡ s → (at : Position) (message : List (List ℕ)) (old : List ℕ)
-    → IsAccepted message order.limits → IsFirst order.form at message order.limits first
-    → t ≡ state s.order skipped first → Puts (serves s at [] message) old old (Ok tt) t
-tells_none s t order skipped before first view at message old accepted is same =
-    subst (λ (r : RefusedReporting). t ≡ state r.order skipped first
-    → Puts (serves r at [] message) old old (Ok tt) t) view
-    (λ (h : t ≡ state order skipped first). ([], inr (first, accepted, is, refl, h), sym (append-nil old))) same
-
--- one that is refused is explained, and counted
-pub tells_one : (s t : RefusedReporting) (order : Explain) (skipped : Option SkippedSoFar) (before : Option First)
-    → state order skipped before ≡ s → (at : Position) (message : List (List ℕ)) (old new : List ℕ)
-    → PutsToldApart order at message old new (Ok tt) → t ≡ state s.order (Some (one_more skipped at)) None
-    → Puts (serves s at [] message) old new (Ok tt) t
-tells_one s t order skipped before view at message old new (text, told, put) same =
-    subst (λ (r : RefusedReporting). t ≡ state r.order (Some (one_more skipped at)) None
-    → Puts (serves r at [] message) old new (Ok tt) t) view
-    (λ (h : t ≡ state order (Some (one_more skipped at)) None). (text, inl (told, h), put)) same
+pub tells_none : (s t : RefusedReporting) (order : Explain) (skipped kept : Option SkippedSoFar)
+    (before first : Option First) → state order skipped before ≡ s → (at : Position) (message : List (List ℕ))
+    (old : List ℕ) → IsAccepted message order.limits → IsFirst order.form at message order.limits first
+    → kept ≡ s.skipped → t ≡ state s.order kept first → Puts (serves s at [] message) old old (Ok tt) t
+tells_none s t order skipped kept before first view at message old accepted is one same =
+    let by : order ≡ s.order = ap (λ (r : RefusedReporting). r.order) view in (
+      [],
+      inr (
+        first,
+        subst (λ (o : Explain). IsAccepted message o.limits) by accepted,
+        subst (λ (o : Explain). IsFirst o.form at message o.limits first) by is,
+        refl,
+        same ∙ ap (λ (k : Option SkippedSoFar). state s.order k first) one,
+      ),
+      sym (append-nil old),
+    )
 
 -- what it appended is what the message writes
 pub puts_message : (s t : RefusedReporting) (at : Position) (frame : List ℕ) (message : List (List ℕ))
