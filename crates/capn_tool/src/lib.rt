@@ -5,10 +5,9 @@
 //! [`order_of`], of [`capn_orders`], reads the words. They order a command of [`capn_commands`]; that messages, or
 //! parts of them, are shown in a style, by [`show_parts`]; that a message is explained, or each that is refused, by
 //! [`capn_report`]; a run over an archive, which is a stream of messages of any length, by [`capn_archive`] or
-//! [`capn_serve`]; that messages are compared, by [`capn_cmp`]; that bytes are packed or unpacked while they come in, by
-//! [`capn_flow`]; or that messages are made from texts, by [`capn_make`].
-//! [`end`] reports how such a run ended. [`command_of`] reads the words where they order a command of
-//! [`capn_commands`], and [`run`] carries it out.
+//! [`capn_serve`]; that messages are compared, by [`capn_cmp`]; that bytes are packed or unpacked while they come in,
+//! by [`capn_flow`]; or that messages are made from texts, by [`capn_make`]. [`end`] reports how such a run ended.
+//! [`command_of`] reads the words where they order a command of [`capn_commands`], and [`run`] carries it out.
 //!
 //! ```text
 //! let order = order_of(alloc, &["capn", "list", "--keep-going"])?;
