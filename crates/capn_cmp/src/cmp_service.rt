@@ -55,7 +55,7 @@ impl<B: Allocator> CmpService<B> {
     }
 
     /// Serves a message with these canonical bytes.
-    #[tactic(auto, using(crate::proofs::CmpServed::keeps, crate::proofs::CmpServed::agrees, crate::proofs::CmpServed::no_memory, crate::proofs::CmpServed::differs_with))]
+    #[tactic(auto, using(crate::proofs::CmpServed::keeps, crate::proofs::CmpServed::no_memory))]
     fn compare<W: Write, A: Allocator + Copy>(
         &mut self,
         alloc: A,
