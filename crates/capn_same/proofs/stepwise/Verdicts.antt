@@ -8,6 +8,8 @@ use Rattle.capn_value.specs.Same.{Same, SameSlots, SameRows}
 use Rattle.capn_target.specs.declared.target.Shape.{Shape}
 use Rattle.capn_target.specs.declared.target.Shape.TheVariants as shapes
 use Rattle.capn_target.specs.Shapes.{IsPlain}
+use Rattle.capn_target.specs.Target.{words_for}
+use Rattle.capn_layout.specs.Weight.{weight}
 use Rattle.capn_walk.specs.ValueAt.{IsInside, words_from}
 use Rattle.capn_layout.specs.FirstBits.{element_bits, first_bits}
 use Rattle.capn_same.specs.inner.Held.{AreIn, AreRowsIn, HasContent}
@@ -53,3 +55,21 @@ module _ (m k : List (List ℕ)) (at beside : Place) (depth : ℕ) (r : Bool) wh
       let q = subst (λ (i : ℕ). IsTrue r ↔ (first_bits i (words_from m at.segment at.word)
       ≡ first_bits i (words_from k beside.segment beside.word))) eb o in
       ((λ t. s.0 (q.0 t)), (λ z. q.1 (s.1 z))))
+
+-- the words of a list of numbers are no more than it weighs
+pub bits-weigh : (m : List (List ℕ)) (x : Shape) (width : Width) (n bits depth : ℕ) (at : Place) (v : Tree)
+    → x ≡ shapes.Many width n → (width ≡ Link → ⊥) → bits ≡ element_bits width * n → HasContent m x at depth
+    → IsInside m x at.segment at.word v → words_for bits ≤ weight v
+bits-weigh m x width n bits depth at v e ne eb c h =
+    let d = subst (λ (s : Shape). HasContent m s at depth) e c in
+    let i = subst (λ (s : Shape). IsInside m s at.segment at.word v) e h in
+    subst (λ (b : ℕ). words_for b ≤ weight v) (sym eb)
+    (list-weighs m width n at.segment at.word v (is-plain m width n depth at ne d) i)
+
+-- what is said of rows at two places is said of those at the same places
+pub rows-there : (m k : List (List ℕ)) (p q s t : Place) (n a b c d : ℕ) (r : Bool) → p ≡ s → q ≡ t
+    → ((bs cs : Bodies) → AreRowsIn m p n a b bs → AreRowsIn k q n c d cs → IsTrue r ↔ SameRows bs cs)
+    → (bs cs : Bodies) → AreRowsIn m s n a b bs → AreRowsIn k t n c d cs → IsTrue r ↔ SameRows bs cs
+rows-there m k p q s t n a b c d r e f h bs cs x y =
+    h bs cs (subst (λ (o : Place). AreRowsIn m o n a b bs) (sym e) x)
+    (subst (λ (o : Place). AreRowsIn k o n c d cs) (sym f) y)

@@ -11,7 +11,8 @@ use Rattle.capn_same.proofs.stepwise.RowsApart.{words_at, is-row_in, has-row_in,
 use Rattle.capn_same.proofs.stepwise.RowsApart.{rows-so_far, rows-count}
 use Rattle.capn_same.proofs.stepwise.Kinds.{shape_count}
 use Rattle.capn_same.proofs.stepwise.Contents.{no, zeros-at, has-content, lengths-apart, list-weighs, is-plain}
-use Rattle.capn_same.proofs.stepwise.Verdicts.{says-links, says-rows, says-bits}
+use Rattle.capn_words.specs.declared.pointer.Width.TheVariants.{Link}
+use Rattle.capn_same.proofs.stepwise.Verdicts.{says-links, says-rows, says-bits, bits-weigh, rows-there}
 use Rattle.capn_same.proofs.objects.+sameness.Goals as goal
 
 -- ---- a slot
@@ -25,7 +26,14 @@ is_same_slot-target_of-requires-clause-found g t c =
     found c.args.a.now c.args.at c.requires.one.value c.requires.one.is.at
 
 pub is_same_slot-is_same_content-requires : goal.is_same_slot-is_same_content-requires
-is_same_slot-is_same_content-requires g t c κs within = (omega arith, ?)
+is_same_slot-is_same_content-requires g t c κs within =
+    let x = c.in-Content in
+    let y = c.in-Content-other in
+    let one = has-content c.args.a.now c.args.at c.args.depth x.segment x.start x.pads x.shape c.requires.one
+    (c.target_of.ensures.found ∙ ap Ok x.is) in
+    let two = has-content c.args.b.now c.args.beside c.args.depth y.elsewhere y.begin y.pads y.form c.requires.two
+    (c.target_of-other.ensures.found ∙ ap Ok y.is) in
+    (omega arith, (within.0, (within.1.0, (within.1.1.0, (within.1.1.1, (one, two))))))
 
 pub is_same_slot-returns-in-Content-other-clause-same : goal.is_same_slot-returns-in-Content-other-clause-same
 is_same_slot-returns-in-Content-other-clause-same g t c v w h j =
@@ -33,7 +41,7 @@ is_same_slot-returns-in-Content-other-clause-same g t c v w h j =
     let y = c.in-Content-other in
     c.is_same_content.ensures.same v w
     (inside-of c.args.a.now c.args.at x.segment x.start x.pads x.shape (c.target_of.ensures.found ∙ ap Ok x.is) v h.at)
-    (inside-of c.args.b.now c.args.beside y.segment y.start y.pads y.shape
+    (inside-of c.args.b.now c.args.beside y.elsewhere y.begin y.pads y.form
     (c.target_of-other.ensures.found ∙ ap Ok y.is) w j.at)
 
 pub is_same_slot-returns-in-Content-other-clause-first : goal.is_same_slot-returns-in-Content-other-clause-first
@@ -49,7 +57,7 @@ pub is_same_slot-returns-in-Content-other-clause-second : goal.is_same_slot-retu
 is_same_slot-returns-in-Content-other-clause-second g t c w j =
     let y = c.in-Content-other in
     let r = c.is_same_content.ensures.second w
-    (inside-of c.args.b.now c.args.beside y.segment y.start y.pads y.shape
+    (inside-of c.args.b.now c.args.beside y.elsewhere y.begin y.pads y.form
     (c.target_of-other.ensures.found ∙ ap Ok y.is) w j.at) in
     let o = c.target_of-other.ensures.reads in
     omega arith
@@ -73,12 +81,32 @@ pub is_same_content-returns-in-Link-clause-same : goal.is_same_content-returns-i
 is_same_content-returns-in-Link-clause-same g t c v w h j =
     let a = c.args in
     let one = c.in-Many.is ∙ ap (λ x. shapes.Many x c.in-Many.count) c.in-Link.is in
-    let two = ? in
+    let two = c.in-Many-form.is ∙ ap (λ x. shapes.Many x c.in-Many-form.number) (sym c.if-width-size.false ∙ c.in-Link.is)
+    ∙ ap (shapes.Many Link) (sym c.if-count-number.false) in
     says-links a.a.now a.b.now a.at a.beside a.depth c.are_same_slots.result a.shape a.form c.in-Many.count one two
     c.are_same_slots.ensures.same c.requires.one c.requires.two v w h j
 
 pub is_same_content-returns-in_default-width : goal.is_same_content-returns-in_default-width
-is_same_content-returns-in_default-width g t c = ?
+is_same_content-returns-in_default-width g t c =
+    let a = c.args in
+    let n = c.in-Many.count in
+    let w = c.in-Many.width in
+    let ne = c.in_default-width.not-Link in
+    let two = c.in-Many-form.is ∙ ap (λ x. shapes.Many x c.in-Many-form.number) (sym c.if-width-size.false)
+    ∙ ap (shapes.Many w) (sym c.if-count-number.false) in
+    let eb = ap (λ (x : ℕ). x * n) c.bits_of.ensures in
+    record {
+      same = λ v x h j. says-bits a.a.now a.b.now a.at a.beside a.depth c.are_same_bits.result a.shape a.form w n
+          (c.bits_of.result * n) c.in-Many.is two ne eb c.are_same_bits.ensures.same c.requires.one c.requires.two v x h j;
+      first = λ v h.
+          let r = c.are_same_bits.ensures.first in
+          let k = bits-weigh a.a.now a.shape w n (c.bits_of.result * n) a.depth a.at v c.in-Many.is ne eb c.requires.one h in
+          omega arith;
+      second = λ x j.
+          let r = c.are_same_bits.ensures.second in
+          let k = bits-weigh a.b.now a.form w n (c.bits_of.result * n) a.depth a.beside x two ne eb c.requires.two j in
+          omega arith;
+    }
 
 pub is_same_content-returns-else-count-number-2-clause-same :
     goal.is_same_content-returns-else-count-number-2-clause-same
@@ -86,12 +114,27 @@ is_same_content-returns-else-count-number-2-clause-same g t c v w h j =
     let a = c.args in
     says-rows a.a.now a.b.now a.at a.beside a.depth c.are_same_rows.result a.shape a.form c.in-Rows.count
     c.in-Rows.words c.in-Rows.slots c.in-Rows.span c.in-Rows-form.own c.in-Rows-form.below c.in-Rows-form.span
-    c.in-Rows.is ? ? c.requires.one c.requires.two v w h j
+    c.in-Rows.is
+    (c.in-Rows-form.is ∙ ap (λ (x : ℕ). shapes.Rows x c.in-Rows-form.own c.in-Rows-form.below c.in-Rows-form.span)
+    (sym c.if-count-number-2.false))
+    (rows-there a.a.now a.b.now _ _ _ _ c.in-Rows.count c.in-Rows.words c.in-Rows.slots c.in-Rows-form.own
+    c.in-Rows-form.below c.are_same_rows.result c.behind.ensures c.behind-in-Rows-form.ensures
+    c.are_same_rows.ensures.same)
+    c.requires.one c.requires.two v w h j
 
 -- ---- slots
 
 pub are_same_slots-is_same_slot-requires : goal.are_same_slots-is_same_slot-requires
-are_same_slots-is_same_slot-requires g t c κs within = (omega arith, ?)
+are_same_slots-is_same_slot-requires g t c κs within =
+    let a = c.args in
+    let i = c.loop-i.i in
+    let lt = c.loop-i-test.true in
+    let m = c.min-shared.ensures in
+    let one = has-value a.a.now a.one.start a.one.count c.behind-at.result i a.depth c.requires.one (omega arith)
+    c.behind-at.ensures in
+    let two = has-value a.b.now a.two.start a.two.count c.behind-beside.result i a.depth c.requires.two (omega arith)
+    c.behind-beside.ensures in
+    (omega arith, (within.0, (within.1.0, (within.1.1.0, (within.1.1.1, (one, two))))))
 
 pub are_same_slots-returns-then-not-is_same_slot-clause-same :
     goal.are_same_slots-returns-then-not-is_same_slot-clause-same
@@ -202,7 +245,15 @@ are_same_slots-returns-clause-same g t c ss ts h j =
 -- ---- rows
 
 pub are_same_rows-is_same_row-requires : goal.are_same_rows-is_same_row-requires
-are_same_rows-is_same_row-requires g t c κs within = (omega arith, ?)
+are_same_rows-is_same_row-requires g t c κs within =
+    let a = c.args in
+    let i = c.loop-row._row in
+    let lt = c.loop-row-test.true in
+    let one = has-row_in a.a.now a.one.start a.count a.one.words a.one.slots c.place.result c.loop-row.next i a.depth
+    c.requires.one lt c.loop-row.invariant.next c.place.ensures in
+    let two = has-row_in a.b.now a.two.start a.count a.two.words a.two.slots c.place-in-loop-row.result
+    c.loop-row.beyond i a.depth c.requires.two lt c.loop-row.invariant.beyond c.place-in-loop-row.ensures in
+    (omega arith, (within.0, (within.1.0, (within.1.1.0, (within.1.1.1, (one, two))))))
 
 pub are_same_rows-returns-then-not-is_same_row-clause-same :
     goal.are_same_rows-returns-then-not-is_same_row-clause-same
