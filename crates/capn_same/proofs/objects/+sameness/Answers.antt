@@ -1,4 +1,4 @@
-use Rattle.std.proofs.Common.{◌≡◌, ℕ, ◌+◌, ◌-◌, ◌*◌, ◌≤◌, Ok, IsTrue, ◌↔◌, refl, ap, sym, subst, ◌∙◌, arith}
+use Rattle.std.proofs.Common.{rules, ◌≡◌, ℕ, ◌+◌, ◌-◌, ◌*◌, ◌≤◌, Ok, IsTrue, ◌↔◌, refl, ap, sym, subst, ◌∙◌, arith}
 use Rattle.std.proofs.lemmas.Bool.{iff_false}
 use Rattle.capn_value.specs.Tree.{Trees, Bodies, tree_at}
 use Rattle.capn_target.specs.declared.target.Shape.{Shape}
@@ -80,8 +80,9 @@ is_same_content-returns-then-count-number-2-clause-same g t c v w h j =
 pub is_same_content-returns-in-Link-clause-same : goal.is_same_content-returns-in-Link-clause-same
 is_same_content-returns-in-Link-clause-same g t c v w h j =
     let a = c.args in
+    let wide : c.in-Many.width ≡ c.in-Many-form.size = search rules in
     let one = c.in-Many.is ∙ ap (λ x. shapes.Many x c.in-Many.count) c.in-Link.is in
-    let two = c.in-Many-form.is ∙ ap (λ x. shapes.Many x c.in-Many-form.number) (sym c.if-width-size.false ∙ c.in-Link.is)
+    let two = c.in-Many-form.is ∙ ap (λ x. shapes.Many x c.in-Many-form.number) (sym wide ∙ c.in-Link.is)
     ∙ ap (shapes.Many Link) (sym c.if-count-number.false) in
     says-links a.a.now a.b.now a.at a.beside a.depth c.are_same_slots.result a.shape a.form c.in-Many.count one two
     c.are_same_slots.ensures.same c.requires.one c.requires.two v w h j
@@ -92,7 +93,8 @@ is_same_content-returns-in_default-width g t c =
     let n = c.in-Many.count in
     let w = c.in-Many.width in
     let ne = c.in_default-width.not-Link in
-    let two = c.in-Many-form.is ∙ ap (λ x. shapes.Many x c.in-Many-form.number) (sym c.if-width-size.false)
+    let wide : c.in-Many.width ≡ c.in-Many-form.size = search rules in
+    let two = c.in-Many-form.is ∙ ap (λ x. shapes.Many x c.in-Many-form.number) (sym wide)
     ∙ ap (shapes.Many w) (sym c.if-count-number.false) in
     let eb = ap (λ (x : ℕ). x * n) c.bits_of.ensures in
     record {
