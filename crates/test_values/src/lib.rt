@@ -26,6 +26,8 @@ mod marked_texts;
 #[cfg(test)]
 mod measures;
 #[cfg(test)]
+mod same_messages;
+#[cfg(test)]
 mod steps;
 #[cfg(test)]
 mod targets;
