@@ -1,5 +1,5 @@
 -- Whether two messages have the same value. (Own: the order in which they are judged.)
-use Rattle.std.specs.Prelude.{◌≡◌, ◌≢◌, ◌↔◌, ℕ, List, None, Bool, IsTrue}
+use Rattle.std.specs.Prelude.{◌≡◌, ◌≢◌, ◌↔◌, ℕ, List, None, Bool, IsTrue, Result, IfOk, IfErr}
 use Rattle.capn_value.specs.Tree.{Tree}
 use Rattle.capn_value.specs.FirstCap.{first_cap}
 use Rattle.capn_value.specs.Same.{Same}
@@ -7,7 +7,7 @@ use Rattle.capn_walk.specs.Accepted.{IsValueOf}
 use Rattle.capn_walk.specs.Limits.{Bounds}
 use Rattle.capn_layout.specs.Layout.{canon}
 use Rattle.capn_canon.specs.CanonicalLength.{HasBytes}
-use Rattle.capn_canon.specs.Refusal.{IsRefusedMessage}
+use Rattle.capn_canon.specs.Refusal.{IsRefusedMessage, IsPaidWithin}
 use Rattle.capn_canon.specs.declared.refusal.Refusal.{Refusal}
 use Rattle.capn_canon.specs.declared.refusal.Refusal.TheVariants as refusals
 use Rattle.capn_canon.specs.declared.same_refusal.SameRefusal.{SameRefusal}
@@ -37,3 +37,9 @@ IsRefusedOn a b limits Second e = HasBytes a limits × IsUnfit b limits e
 -- what two messages are not compared for
 abbrev pub IsNotCompared : List (List ℕ) → List (List ℕ) → Bounds → SameRefusal → Type 0
 IsNotCompared a b limits e = IsRefusedOn a b limits e.side e.refusal
+
+-- a call says whether two messages are the same, or why they are not compared, and no walk pays beyond its budget
+pub record IsSameTold (a b : List (List ℕ)) (limits : Bounds) (r : Result Bool SameRefusal) : Type 0 where
+  pub found : IfOk r (λ yes. SaysSame a b limits yes)
+  pub refused : IfErr r (λ e. IsNotCompared a b limits e)
+  pub bounded : IfErr r (λ e. IsPaidWithin limits.budget e.refusal)

@@ -91,7 +91,7 @@ pub use message_refusal::{IntoRefusal, MessageRefusal};
 pub use message_survey::survey;
 pub use one_segment::{OwnCanonical, own_canonical};
 pub use refusal::Refusal;
-pub use same_messages::same_messages;
+pub use same_messages::{same_messages, same_messages_counted};
 pub use same_refusal::{SameRefusal, Side};
 pub use survey_input::survey_bytes;
 pub use surveyed_bare::{MeasuredBare, SurveyedBare};

@@ -1,13 +1,12 @@
 //! Whether two messages have the same value.
 
-ghost use Rattle.std.specs.Prelude.{◌≡◌, ◌↔◌, ◌+◌, ◌*◌, ◌≤◌, IsOk, IfOk, IfErr, IsTrue};
+ghost use Rattle.std.specs.Prelude.{◌≡◌, ◌↔◌, ◌+◌, ◌*◌, ◌<◌, ◌≤◌, IsOk, IfOk, IfErr, IsTrue};
 ghost use Rattle.capn_value.specs.Tree.{Tree as Value};
 ghost use Rattle.capn_walk.specs.Accepted.{IsValueOf};
 ghost use Rattle.capn_layout.specs.Layout.{canon};
 ghost use Rattle.capn_canon.specs.CanonicalLength.{HasBytes};
 ghost use Rattle.capn_canon.specs.Refusal.{IsPaidWithin};
-ghost use Rattle.capn_canon.specs.SameMessages.{SaysSame, IsNotCompared};
-ghost use Rattle.capn_canon.specs.declared.same_refusal.Side.TheVariants as sides;
+ghost use Rattle.capn_canon.specs.SameMessages.{SaysSame, IsUnfit, IsNotCompared, IsSameTold};
 
 use crate::refusal::Refusal;
 use crate::same_refusal::{SameRefusal, Side};
@@ -19,13 +18,18 @@ use capn_words::Space;
 use std::marker::Brand;
 use std::sync::ledger::{Blank, Ledger};
 
-/// Surveys a message for a comparison.
+/// Surveys the message `space` within `limits`; a refusal is that of this `side`.
 fn survey_side<S: Space, L: Ledger>(
     space: &CountedSpace<'_, S, L>,
     side: Side,
     limits: Limits,
     reads: &mut Reads<L>,
-) -> Result<(), SameRefusal> {
+) -> Result<(), SameRefusal>
+    ensures found { IfOk result (λ _. HasBytes space.now limits) }
+    ensures refused { IfErr result (λ e. (e.side ≡ side) × IsUnfit space.now limits e.refusal) }
+    ensures bounded { IfErr result (λ e. IsPaidWithin limits.budget e.refusal) }
+    ensures work { reads.new ≤ reads.old + 14 * (limits.budget + 1) + 1 }
+{
     match survey_value(space, limits, reads) {
         Ok(_) => Ok(()),
         Err(refusal) => Err(SameRefusal {
@@ -35,44 +39,169 @@ fn survey_side<S: Space, L: Ledger>(
     }
 }
 
-/// Compares.
+/// Surveys the message `b`, and compares its value with that of `a`, which was surveyed.
+fn same_beside<S: Space, T: Space, L: Ledger, M: Ledger>(
+    a: &CountedSpace<'_, S, L>,
+    b: &CountedSpace<'_, T, M>,
+    limits: Limits,
+    first: &mut Reads<L>,
+    second: &mut Reads<M>,
+) -> Result<bool, SameRefusal>
+    requires { HasBytes a.now limits }
+    ensures told { IsSameTold a.now b.now limits result }
+    ensures first { first.new ≤ first.old + 20 * limits.budget + 11 }
+    ensures second { second.new + 3 ≤ second.old + 34 * (limits.budget + 1) }
+{
+    a.bounds();
+    b.bounds();
+    let _budget = limits.budget();
+    let depth = limits.depth();
+    survey_side(b, Side::Second, limits, second)?;
+    Ok(surveyed_same_counted(a, b, depth, first, second))
+}
+
+/// Does what [`same_beside`] does. If `b` has one segment, it is read as its words alone, which is faster.
+fn same_by_segments<S: Space, T: Space, L: Ledger, M: Ledger>(
+    a: &CountedSpace<'_, S, L>,
+    b: &CountedSpace<'_, T, M>,
+    limits: Limits,
+    first: &mut Reads<L>,
+    second: &mut Reads<M>,
+) -> Result<bool, SameRefusal>
+    requires { HasBytes a.now limits }
+    ensures told { IsSameTold a.now b.now limits result }
+    ensures first { first.new ≤ first.old + 20 * limits.budget + 11 }
+    ensures second { second.new ≤ second.old + 34 * (limits.budget + 1) }
+{
+    match b.only_segment(second) {
+        Some(only) => same_beside(a, &only.space(), limits, first, second),
+        None => same_beside(a, b, limits, first, second),
+    }
+}
+
+/// Surveys the message `a` and then `b`, and compares their values.
 fn same_of<S: Space, T: Space, L: Ledger, M: Ledger>(
     a: &CountedSpace<'_, S, L>,
     b: &CountedSpace<'_, T, M>,
     limits: Limits,
     first: &mut Reads<L>,
     second: &mut Reads<M>,
-) -> Result<bool, SameRefusal> {
-    let depth = limits.depth();
+) -> Result<bool, SameRefusal>
+    ensures told { IsSameTold a.now b.now limits result }
+    ensures first { first.new + 3 ≤ first.old + 34 * (limits.budget + 1) }
+    ensures second { second.new ≤ second.old + 34 * (limits.budget + 1) }
+{
     survey_side(a, Side::First, limits, first)?;
-    survey_side(b, Side::Second, limits, second)?;
-    Ok(surveyed_same_counted(a, b, depth, first, second))
+    same_by_segments(a, b, limits, first, second)
 }
 
-/// Compares.
+/// Returns what [`same_messages`] does of the messages `a` and `b` within `limits`, by calls that count in `first` and
+/// `second`, as for [`canonical_length_counted`](crate::canonical_length_counted). With the reads it counts the turns
+/// of its loops.
+///
+/// It reads each message and turns at most as often as `canonical_length_counted` may for the whole budget, whatever
+/// the messages say. It takes no memory but the stack.
+pub fn same_messages_counted<S: Space, T: Space, L: Ledger, M: Ledger>(
+    a: &CountedSpace<'_, S, L>,
+    b: &CountedSpace<'_, T, M>,
+    limits: Limits,
+    first: &mut Reads<L>,
+    second: &mut Reads<M>,
+) -> Result<bool, SameRefusal>
+    // There is an answer if and only if both messages denote values without capabilities within the limits:
+    ensures answered { IsOk result ↔ (HasBytes a.now limits × HasBytes b.now limits) }
+    // whether these are the same, up to trailing zero words and trailing null slots of structs, rows too.
+    ensures found { IfOk result (λ yes. SaysSame a.now b.now limits yes) }
+    // That is exactly where their canonical bytes are equal.
+    ensures equal { IfOk result (λ yes. (v w : Value) → IsValueOf a.now limits v → IsValueOf b.now limits w
+        → IsTrue yes ↔ (canon v ≡ canon w)) }
+    // The meaning of each refusal: that of the first message, or of the second where the first isn't refused.
+    ensures refused { IfErr result (λ e. IsNotCompared a.now b.now limits e) }
+    // No walk pays beyond its budget.
+    ensures bounded { IfErr result (λ e. IsPaidWithin limits.budget e.refusal) }
+    // The budget bounds the reads of each message and the turns, whatever the messages say and whatever is answered.
+    ensures first { first.new ≤ first.old + 34 * (limits.budget + 1) }
+    ensures second { second.new ≤ second.old + 34 * (limits.budget + 1) }
+{
+    a.bounds();
+    b.bounds();
+    let _budget = limits.budget();
+    let _depth = limits.depth();
+    same_by_first(a, b, limits, first, second)
+}
+
+/// Compares the values of `a` and `b`. If `a` has one segment, it is read as its words alone, which is faster.
+fn same_by_first<S: Space, T: Space, L: Ledger, M: Ledger>(
+    a: &CountedSpace<'_, S, L>,
+    b: &CountedSpace<'_, T, M>,
+    limits: Limits,
+    first: &mut Reads<L>,
+    second: &mut Reads<M>,
+) -> Result<bool, SameRefusal>
+    ensures told { IsSameTold a.now b.now limits result }
+    ensures first { first.new ≤ first.old + 34 * (limits.budget + 1) }
+    ensures second { second.new ≤ second.old + 34 * (limits.budget + 1) }
+{
+    match a.only_segment(first) {
+        Some(only) => same_of(&only.space(), b, limits, first, second),
+        None => same_of(a, b, limits, first, second),
+    }
+}
+
+/// Returns `true` if the messages `a` and `b` have the same value within `limits`, up to trailing zero words and
+/// trailing null slots of structs: if and only if their canonical bytes are equal.
+///
+/// Both are walked, `a` first, and the first that is not accepted or has capabilities is refused, by `Walk` or
+/// `Capability`, with its side; `b` isn't looked at if `a` is refused. No other refusal comes. Their values are then
+/// read in step, up to the first difference. No canonical bytes are made, and no memory is taken but the stack. (Own.)
 pub fn same_messages<A: Space, B: Space>(
     a: &A,
     b: &B,
     limits: Limits,
-) -> Result<bool, SameRefusal> {
-    with_ledgers::<A, B, Brand, Brand>(a, b, limits, Blank::new(1), Blank::new(1))
+) -> Result<bool, SameRefusal>
+    // There is an answer if and only if both messages denote values without capabilities within the limits:
+    ensures answered { IsOk result ↔ (HasBytes (A.message a.now) limits × HasBytes (B.message b.now) limits) }
+    // whether these are the same, up to trailing zero words and trailing null slots of structs, rows too.
+    ensures found { IfOk result (λ yes. SaysSame (A.message a.now) (B.message b.now) limits yes) }
+    // That is exactly where their canonical bytes are equal.
+    ensures equal { IfOk result (λ yes. (v w : Value) → IsValueOf (A.message a.now) limits v
+        → IsValueOf (B.message b.now) limits w → IsTrue yes ↔ (canon v ≡ canon w)) }
+    // The meaning of each refusal: that of the first message, or of the second where the first isn't refused.
+    ensures refused { IfErr result (λ e. IsNotCompared (A.message a.now) (B.message b.now) limits e) }
+    // No walk pays beyond its budget.
+    ensures bounded { IfErr result (λ e. IsPaidWithin limits.budget e.refusal) }
+{
+    same_with_ledgers::<A, B, Brand, Brand>(a, b, limits, Blank::new(1), Blank::new(1))
 }
 
-fn with_ledgers<A: Space, B: Space, L: Ledger, M: Ledger>(
+/// Does what [`same_messages`] does, with counts in the new ledgers `one` and `two`.
+fn same_with_ledgers<A: Space, B: Space, L: Ledger, M: Ledger>(
     a: &A,
     b: &B,
     limits: Limits,
     one: Blank,
     two: Blank,
 ) -> Result<bool, SameRefusal>
-    requires name { one.name ≡ L.name }
-    requires parts { one.parts ≡ L.parts }
-    requires some { 0 < one.parts }
-    requires name2 { two.name ≡ M.name }
-    requires parts2 { two.parts ≡ M.parts }
-    requires some2 { 0 < two.parts }
+    requires one_name { one.name ≡ L.name }
+    requires one_parts { one.parts ≡ L.parts }
+    requires one_some { 0 < one.parts }
+    requires two_name { two.name ≡ M.name }
+    requires two_parts { two.parts ≡ M.parts }
+    requires two_some { 0 < two.parts }
+    ensures answered { IsOk result ↔ (HasBytes (A.message a.now) limits × HasBytes (B.message b.now) limits) }
+    ensures found { IfOk result (λ yes. SaysSame (A.message a.now) (B.message b.now) limits yes) }
+    ensures equal { IfOk result (λ yes. (v w : Value) → IsValueOf (A.message a.now) limits v
+        → IsValueOf (B.message b.now) limits w → IsTrue yes ↔ (canon v ≡ canon w)) }
+    ensures refused { IfErr result (λ e. IsNotCompared (A.message a.now) (B.message b.now) limits e) }
+    ensures bounded { IfErr result (λ e. IsPaidWithin limits.budget e.refusal) }
 {
-    let (first, mut ra) = count_reads::<A, L>(a, one);
-    let (second, mut rb) = count_reads::<B, M>(b, two);
-    same_of(&first, &second, limits, &mut ra, &mut rb)
+    let (first, mut first_reads) = count_reads::<A, L>(a, one);
+    let (second, mut second_reads) = count_reads::<B, M>(b, two);
+    same_messages_counted(
+        &first,
+        &second,
+        limits,
+        &mut first_reads,
+        &mut second_reads,
+    )
 }

@@ -6,3 +6,4 @@ pub mod Kinds
 pub mod Slots
 pub mod RowsApart
 pub mod Contents
+pub mod Verdicts

@@ -1,6 +1,6 @@
 -- What the content of a slot holds, and what is said of it. (For `objects.rt`.)
-use Rattle.std.proofs.Common.{◌≡◌, ◌≢◌, ◌↔◌, ℕ, suc, ◌+◌, ◌-◌, ◌*◌, ◌<◌, ◌≤◌, ◌^◌, ◌==◌, max, Bool, true, false, IsTrue}
-use Rattle.std.proofs.Common.{List, length, take, Ok, refl, ap, sym, subst, ◌∙◌, arith, length-drop}
+use Rattle.std.proofs.Common.{◌≡◌, ◌≢◌, ◌↔◌, ℕ, suc, ◌+◌, ◌-◌, ◌*◌, ◌<◌, ◌≤◌, ◌^◌, ◌%◌, ◌==◌, max, Bool, true, false, IsTrue}
+use Rattle.std.proofs.Common.{List, length, take, Ok, refl, ap, ap₂, sym, subst, ◌∙◌, arith, length-drop}
 use Rattle.std.proofs.lemmas.Bool.{false≢true, eqb-true, eq-eqb}
 use Rattle.std.proofs.lemmas.List.{get_or-drop}
 use Rattle.capn_words.specs.Message.{IsMessage, segment_at}
@@ -26,6 +26,7 @@ use Rattle.capn_layout.specs.Weight.{weight, weights, weights_in_rows}
 use Rattle.capn_layout.proofs.shared.Shaped.{null-of, cap-at, inside-of, as-node, as-links, as-rows}
 use Rattle.capn_layout.proofs.shared.FirstBits.{plain-words}
 use Rattle.capn_layout.proofs.shared.Counted.{rows-words}
+use Rattle.capn_same.specs.inner.Runs.{AreZeros}
 use Rattle.capn_same.specs.inner.Held.{HasValue, AreIn, HasValues, IsRow, HasRow, AreRowsIn, HasRows, HasContent}
 use Rattle.capn_same.proofs.stepwise.Kinds.{target_mark, shape_mark, shape_count, at-mark, inside-mark, inside-count}
 use Rattle.capn_same.proofs.stepwise.Kinds.{same-mark, same-count}
@@ -35,6 +36,22 @@ use Rattle.capn_same.proofs.stepwise.Slots.{slots-each}
 -- what is not so is answered by no
 pub no : {P : Type 0} → (P → ⊥) → IsTrue false ↔ P
 no n = ((λ e. absurd (false≢true e)), (λ h. absurd (n h)))
+
+-- zeros at a place that is another
+pub zeros-at : (m : List (List ℕ)) (p q : Place) (n : ℕ) (r : Bool) → p ≡ q
+    → (IsTrue r ↔ AreZeros (segment_at m p.segment) p.word n) → IsTrue r ↔ AreZeros (segment_at m q.segment) q.word n
+zeros-at m p q n r e h = subst (λ (x : Place). IsTrue r ↔ AreZeros (segment_at m x.segment) x.word n) e h
+
+-- the test of what is left of two words
+pub last-test : (x y mask w v k : ℕ) → x ≡ w → y ≡ v → mask ≡ 2 ^ k
+    → IsTrue (x % mask == y % mask) ↔ (w % 2 ^ k ≡ v % 2 ^ k)
+last-test x y mask w v k ex ey em =
+    let left = ap₂ (λ (a b : ℕ). a % b) ex em in
+    let right = ap₂ (λ (a b : ℕ). a % b) ey em in
+    (
+      (λ t. sym left ∙ eqb-true (x % mask) (y % mask) t ∙ right),
+      (λ e. eq-eqb (x % mask) (y % mask) (left ∙ e ∙ sym right)),
+    )
 
 pub both-nil : (v w : Tree) → v ≡ nil → w ≡ nil → IsTrue true ↔ Same v w
 both-nil v w e f =

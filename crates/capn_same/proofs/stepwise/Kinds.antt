@@ -1,5 +1,5 @@
 -- Values of two kinds are not the same, nor are lists of two lengths. (For `is_same_slot` and `is_same_content`.)
-use Rattle.std.proofs.Common.{◌≡◌, ℕ, suc, ◌+◌, ◌<◌, ◌≤◌, List, length, Ok, refl, ap, ap₂, sym, ◌∙◌, arith}
+use Rattle.std.proofs.Common.{◌≡◌, ℕ, suc, ◌+◌, ◌<◌, ◌≤◌, ◌==◌, cond, List, length, Ok, refl, ap, ap₂, sym, ◌∙◌, arith}
 use Rattle.capn_words.specs.declared.space.Place.{Place}
 use Rattle.capn_words.specs.declared.pointer.Width.{Width}
 use Rattle.capn_words.specs.declared.pointer.Width.TheVariants.{W0, W1, W8, W16, W32, W64, Link, Rows}
@@ -27,15 +27,10 @@ width_mark W64 = 7
 width_mark Link = 8
 width_mark Rows = 9
 
-width_of : ℕ → Width
-width_of 2 = W0
-width_of 3 = W1
-width_of 4 = W8
-width_of 5 = W16
-width_of 6 = W32
-width_of 7 = W64
-width_of 8 = Link
-width_of _ = Rows
+abbrev width_of : ℕ → Width
+width_of n =
+    cond (n == 2) W0 (cond (n == 3) W1 (cond (n == 4) W8 (cond (n == 5) W16 (cond (n == 6) W32 (cond (n == 7) W64
+    (cond (n == 8) Link Rows))))))
 
 width-back : (w : Width) → width_of (width_mark w) ≡ w
 width-back W0 = refl

@@ -1,5 +1,5 @@
 -- Slots are the same slot by slot, and null past the end of the others. (For `are_same_slots`.)
-use Rattle.std.proofs.Common.{◌≡◌, ◌↔◌, ◌⊎◌, inl, inr, ℕ, zero, suc, ◌+◌, ◌*◌, ◌<◌, ◌≤◌, max, min, List, slice_index}
+use Rattle.std.proofs.Common.{◌≡◌, ◌↔◌, ◌⊎◌, inl, inr, ℕ, zero, suc, ◌+◌, ◌-◌, ◌*◌, ◌<◌, ◌≤◌, max, min, List, slice_index}
 use Rattle.std.proofs.Common.{refl, ap, sym, subst, ◌∙◌, arith}
 use Rattle.std.proofs.lemmas.Bool.{cases_lt}
 use Rattle.capn_words.specs.Message.{segment_at}
@@ -12,7 +12,9 @@ use Rattle.capn_layout.specs.LayoutSteps.{past}
 use Rattle.capn_layout.specs.Weight.{weight, weights}
 use Rattle.capn_layout.proofs.shared.Shaped.{null-of}
 use Rattle.capn_layout.proofs.shared.Nulls.{zero-target, other-than-nil}
+use Rattle.capn_layout.specs.MessageSlots.{HasSlot}
 use Rattle.capn_same.specs.inner.Runs.{AreZeros}
+use Rattle.capn_same.specs.inner.Held.{HasValue, AreIn, HasValues}
 
 module _ (m : List (List ℕ)) where
   -- the value in a slot
@@ -117,3 +119,75 @@ slots-each no_trees (tree t ts) e = absurd (omega arith)
 slots-each (tree s ss) no_trees e = absurd (omega arith)
 slots-each (tree s ss) (tree t ts) e =
     let r = slots-each ss ts (omega arith) in ((λ h. (h.0, r.0 h.1)), (λ h. (h.0, r.1 h.1)))
+
+-- the step to the next slot
+pub same-next : (ss ts : Trees) (k j : ℕ) → j ≡ k + 1 → k < count ss → k < count ts
+    → SameSlots (past k ss) (past k ts) ↔ (Same (tree_at ss k) (tree_at ts k) × SameSlots (past j ss) (past j ts))
+same-next ss ts k j e l r =
+    let z : suc k ≡ j = omega arith in
+    subst (λ (x : ℕ). SameSlots (past k ss) (past k ts)
+    ↔ (Same (tree_at ss k) (tree_at ts k) × SameSlots (past x ss) (past x ts))) z (same-step ss ts k l r)
+
+pub weights-next : (ts : Trees) (k j : ℕ) → j ≡ k + 1 → k < count ts
+    → weights (past k ts) ≡ weight (tree_at ts k) + weights (past j ts)
+weights-next ts k j e lt =
+    let z : suc k ≡ j = omega arith in
+    subst (λ (x : ℕ). weights (past k ts) ≡ weight (tree_at ts k) + weights (past x ts)) z (weights-past ts k lt)
+
+module _ (m : List (List ℕ)) (start : Place) (n : ℕ) where
+  -- a slot of these, and its value
+  pub has-slot : (p : Place) (i : ℕ) (ts : Trees) → AreIn m start n ts → i < n
+      → p ≡ record { segment = start.segment; word = start.word + i } → HasSlot m p.segment p.word (tree_at ts i)
+  has-slot p i ts h lt e =
+      let w = h.content.within in
+      let k = h.number in
+      subst (λ (x : Place). HasSlot m x.segment x.word (tree_at ts i)) (sym e)
+      (record {
+        message = h.message;
+        exists = h.content.exists;
+        place = omega arith;
+        at = slot-at m start.segment start.word ts i h.are (omega arith);
+      })
+
+  pub has-value : (p : Place) (i depth : ℕ) → HasValues m start n depth → i < n
+      → p ≡ record { segment = start.segment; word = start.word + i } → HasValue m p depth
+  has-value p i depth h lt e =
+      let k = h.are.number in
+      let l = h.low in
+      let o = low-at h.values i (omega arith) in
+      record { value = tree_at h.values i; is = has-slot p i h.values h.are lt e; low = omega arith }
+
+  -- the slots past the first i are null exactly where their words are zero
+  pub rest-null : (i : ℕ) (ts : Trees) → AreIn m start n ts → i ≤ n
+      → AllNull (past i ts) ↔ AreZeros (segment_at m start.segment) (start.word + i) (n - i)
+  rest-null i ts h le =
+      let k = h.number in
+      let c = count-past ts i (omega arith) in
+      let e : count (past i ts) ≡ n - i = omega arith in
+      let a = slots-past m start.segment start.word ts i h.are in
+      subst (λ (x : ℕ). AllNull (past i ts) ↔ AreZeros (segment_at m start.segment) (start.word + i) x) e
+      (zeros-of_null m start.segment (start.word + i) (past i ts) a,
+      null-of_zeros m start.segment (start.word + i) (past i ts) a)
+
+-- where the slots that both have are the same, all are if what either has more is null
+module _ (m k : List (List ℕ)) (start beside : Place) (n l s i : ℕ) (ss ts : Trees) (h : AreIn m start n ss)
+    (g : AreIn k beside l ts) (es : s ≡ min n l) (ei : i ≡ s)
+    (so : SameSlots ss ts ↔ SameSlots (past i ss) (past i ts)) where
+  so-far : SameSlots ss ts ↔ (AllNull (past s ss) × AllNull (past s ts))
+  so-far =
+      let a = h.number in
+      let b = g.number in
+      let e = same-end ss ts s (omega arith) in
+      let o = subst (λ (x : ℕ). SameSlots ss ts ↔ SameSlots (past x ss) (past x ts)) ei so in
+      ((λ q. e.0 (o.0 q)), (λ q. o.1 (e.1 q)))
+
+  pub left-zero : SameSlots ss ts → AreZeros (segment_at m start.segment) (start.word + s) (n - s)
+  left-zero q = (rest-null m start n s ss h (omega arith)).0 (so-far.0 q).0
+
+  pub right-zero : SameSlots ss ts → AreZeros (segment_at k beside.segment) (beside.word + s) (l - s)
+  right-zero q = (rest-null k beside l s ts g (omega arith)).0 (so-far.0 q).1
+
+  pub both-zero : AreZeros (segment_at m start.segment) (start.word + s) (n - s)
+      → AreZeros (segment_at k beside.segment) (beside.word + s) (l - s) → SameSlots ss ts
+  both-zero a b =
+      so-far.1 ((rest-null m start n s ss h (omega arith)).1 a, (rest-null k beside l s ts g (omega arith)).1 b)
