@@ -108,5 +108,5 @@ pub compared : (a b : List (List ℕ)) (limits : Bounds) (r : Result Bool SameRe
     → IfOk r (λ yes. SaysSame a b limits yes) → IfErr r (λ e. IsNotCompared a b limits e)
     → IsOk r ↔ (HasBytes a limits × HasBytes b limits)
 compared a b limits (Ok yes) s u =
-    ((λ o. ((s.one, s.first, s.first_free), (s.two, s.second, s.second_free))), (λ h. tt))
-compared a b limits (Err e) s u = ((λ o. absurd o), (λ h. neither a b limits e.side e.refusal u h.0 h.1))
+    ((λ o. ((s.one, s.first, s.first_free), (s.two, s.second, s.second_free))), (λ h. refl))
+compared a b limits (Err e) s u = ((λ o. absurd cc), (λ h. absurd (neither a b limits e.side e.refusal u h.0 h.1)))
