@@ -154,11 +154,7 @@ fn same_by_first<S: Space, T: Space, L: Ledger, M: Ledger>(
 /// Both are walked, `a` first, and the first that is not accepted or has capabilities is refused, by `Walk` or
 /// `Capability`, with its side; `b` isn't looked at if `a` is refused. No other refusal comes. Their values are then
 /// read in step, up to the first difference. No canonical bytes are made, and no memory is taken but the stack. (Own.)
-pub fn same_messages<A: Space, B: Space>(
-    a: &A,
-    b: &B,
-    limits: Limits,
-) -> Result<bool, SameRefusal>
+pub fn same_messages<A: Space, B: Space>(a: &A, b: &B, limits: Limits) -> Result<bool, SameRefusal>
     // There is an answer if and only if both messages denote values without capabilities within the limits:
     ensures answered { IsOk result ↔ (HasBytes (A.message a.now) limits × HasBytes (B.message b.now) limits) }
     // whether these are the same, up to trailing zero words and trailing null slots of structs, rows too.
@@ -197,11 +193,5 @@ fn same_with_ledgers<A: Space, B: Space, L: Ledger, M: Ledger>(
 {
     let (first, mut first_reads) = count_reads::<A, L>(a, one);
     let (second, mut second_reads) = count_reads::<B, M>(b, two);
-    same_messages_counted(
-        &first,
-        &second,
-        limits,
-        &mut first_reads,
-        &mut second_reads,
-    )
+    same_messages_counted(&first, &second, limits, &mut first_reads, &mut second_reads)
 }

@@ -1,5 +1,6 @@
 -- Comparisons of two messages, by the survey of each. (For `same_messages.rt`.)
-use Rattle.std.proofs.Common.{◌≡◌, ◌↔◌, ◌≢◌, ◌^◌, ◌≤◌, ◌+◌, ◌*◌, ℕ, List, Bool, IsTrue, Result, Ok, Err, IfOk, IfErr, IsOk, None, Some}
+use Rattle.std.proofs.Common.{◌≡◌, ◌↔◌, ◌≢◌, ◌^◌, ◌≤◌, ◌+◌, ◌*◌, ℕ, List, Bool, IsTrue, Result, Ok, Err, IfOk, IfErr}
+use Rattle.std.proofs.Common.{IsOk, None, Some}
 use Rattle.std.proofs.Common.{ap, sym, subst, ◌∙◌, arith, refl}
 use Rattle.capn_words.specs.Message.{IsMessage}
 use Rattle.capn_value.specs.Tree.{Tree}

@@ -1,5 +1,6 @@
 -- What the content of a slot holds, and what is said of it. (For `objects.rt`.)
-use Rattle.std.proofs.Common.{◌≡◌, ◌≢◌, ◌↔◌, ℕ, suc, ◌+◌, ◌-◌, ◌*◌, ◌<◌, ◌≤◌, ◌^◌, ◌%◌, ◌==◌, max, Bool, true, false, IsTrue}
+use Rattle.std.proofs.Common.{◌≡◌, ◌≢◌, ◌↔◌, ℕ, suc, ◌+◌, ◌-◌, ◌*◌, ◌<◌, ◌≤◌, ◌^◌, ◌%◌, ◌==◌, max, Bool, true, false}
+use Rattle.std.proofs.Common.{IsTrue}
 use Rattle.std.proofs.Common.{List, length, take, Ok, refl, ap, ap₂, sym, subst, ◌∙◌, arith, length-drop}
 use Rattle.std.proofs.lemmas.Bool.{false≢true, eqb-true, eq-eqb}
 use Rattle.std.proofs.lemmas.List.{get_or-drop}
@@ -47,8 +48,7 @@ pub last-test : (x y mask w v k : ℕ) → x ≡ w → y ≡ v → mask ≡ 2 ^ 
     → IsTrue (x % mask == y % mask) ↔ (w % 2 ^ k ≡ v % 2 ^ k)
 last-test x y mask w v k ex ey em =
     let left = ap₂ (λ (a b : ℕ). a % b) ex em in
-    let right = ap₂ (λ (a b : ℕ). a % b) ey em in
-    (
+    let right = ap₂ (λ (a b : ℕ). a % b) ey em in (
       (λ t. sym left ∙ eqb-true (x % mask) (y % mask) t ∙ right),
       (λ e. eq-eqb (x % mask) (y % mask) (left ∙ e ∙ sym right)),
     )

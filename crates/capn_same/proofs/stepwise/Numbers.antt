@@ -1,5 +1,6 @@
 -- Lists of numbers of one width and length are equal exactly where their bits are. (For `is_same_content`.)
-use Rattle.std.proofs.Common.{◌≡◌, ◌↔◌, ◌⊎◌, inl, inr, ℕ, zero, suc, ◌+◌, ◌*◌, ◌/◌, ◌%◌, ◌<◌, ◌≤◌, ◌^◌, List, [], ◌++◌, length, take}
+use Rattle.std.proofs.Common.{◌≡◌, ◌↔◌, ◌⊎◌, inl, inr, ℕ, zero, suc, ◌+◌, ◌*◌, ◌/◌, ◌%◌, ◌<◌, ◌≤◌, ◌^◌, List, [], ◌++◌}
+use Rattle.std.proofs.Common.{length, take}
 use Rattle.std.proofs.Common.{slice_index, refl, ap, ap₂, sym, subst, ◌∙◌, arith}
 use Rattle.std.proofs.Math.Nat.{mod-lt}
 use Rattle.std.proofs.lemmas.Bool.{cases_lt}
@@ -26,7 +27,8 @@ below : (each width : ℕ) (ws xs : List ℕ) → 0 < 2 ^ width → AreElements 
 below each width ws xs p h i = by (cases_lt i (length xs))
   where
     by : (i < length xs) ⊎ (length xs ≤ i) → slice_index xs i < 2 ^ width
-    by (inl lt) = let m = mod-lt (slice_index ws (i / each) / (2 ^ width) ^ (i % each)) p in let e = h i lt in omega arith
+    by (inl lt) =
+        let m = mod-lt (slice_index ws (i / each) / (2 ^ width) ^ (i % each)) p in let e = h i lt in omega arith
     by (inr le) = let e = get_or_past xs i 0 le in omega arith
 
 -- what is packed to equal words is equal

@@ -1,5 +1,6 @@
 -- Slots are the same slot by slot, and null past the end of the others. (For `are_same_slots`.)
-use Rattle.std.proofs.Common.{◌≡◌, ◌↔◌, ◌⊎◌, inl, inr, ℕ, zero, suc, ◌+◌, ◌-◌, ◌*◌, ◌<◌, ◌≤◌, max, min, List, slice_index}
+use Rattle.std.proofs.Common.{◌≡◌, ◌↔◌, ◌⊎◌, inl, inr, ℕ, zero, suc, ◌+◌, ◌-◌, ◌*◌, ◌<◌, ◌≤◌, max, min, List}
+use Rattle.std.proofs.Common.{slice_index}
 use Rattle.std.proofs.Common.{refl, ap, sym, subst, ◌∙◌, arith}
 use Rattle.std.proofs.lemmas.Bool.{cases_lt}
 use Rattle.capn_words.specs.Message.{segment_at}
@@ -79,7 +80,8 @@ weights-past (tree t ts) (suc k) lt = weights-past ts k (omega arith)
 
 -- the slots past the first k, by the first of them and the others
 pub same-step : (ss ts : Trees) (k : ℕ) → k < count ss → k < count ts
-    → SameSlots (past k ss) (past k ts) ↔ (Same (tree_at ss k) (tree_at ts k) × SameSlots (past (suc k) ss) (past (suc k) ts))
+    → SameSlots (past k ss) (past k ts)
+    ↔ (Same (tree_at ss k) (tree_at ts k) × SameSlots (past (suc k) ss) (past (suc k) ts))
 same-step no_trees ts k l r = absurd (omega arith)
 same-step (tree s ss) no_trees k l r = absurd (omega arith)
 same-step (tree s ss) (tree t ts) zero l r = ((λ h. h), (λ h. h))
@@ -165,9 +167,10 @@ module _ (m : List (List ℕ)) (start : Place) (n : ℕ) where
       let c = count-past ts i (omega arith) in
       let e : count (past i ts) ≡ n - i = omega arith in
       let a = slots-past m start.segment start.word ts i h.are in
-      subst (λ (x : ℕ). AllNull (past i ts) ↔ AreZeros (segment_at m start.segment) (start.word + i) x) e
-      (zeros-of_null m start.segment (start.word + i) (past i ts) a,
-      null-of_zeros m start.segment (start.word + i) (past i ts) a)
+      subst (λ (x : ℕ). AllNull (past i ts) ↔ AreZeros (segment_at m start.segment) (start.word + i) x) e (
+        zeros-of_null m start.segment (start.word + i) (past i ts) a,
+        null-of_zeros m start.segment (start.word + i) (past i ts) a,
+      )
 
 -- where the slots that both have are the same, all are if what either has more is null
 module _ (m k : List (List ℕ)) (start beside : Place) (n l s i : ℕ) (ss ts : Trees) (h : AreIn m start n ss)

@@ -19,8 +19,7 @@ pub returns-then-rest-eq0-clause-same : goal.returns-then-rest-eq0-clause-same
 returns-then-rest-eq0-clause-same g c =
     let a = c.args in
     let here = c.requires.here.within in
-    let there = c.requires.there.within in
-    (
+    let there = c.requires.there.within in (
       (λ t. bits-of_equal (segment_at a.a.now a.at.segment) (segment_at a.b.now a.beside.segment) a.at.word
           a.beside.word a.bits (omega arith) (omega arith) c.if-rest-eq0.true
           (c.are_equal.ensures.same.0 c.if-not-are_equal.false)),
@@ -34,8 +33,7 @@ returns-clause-same g c =
     let there = c.requires.there.within in
     let x = c.word.ensures.word ∙ ap (word_at a.a.now) c.behind.ensures in
     let y = c.word-2.ensures.word ∙ ap (word_at a.b.now) c.behind-2.ensures in
-    let test = last-test _ _ _ _ _ (a.bits % 64) x y (shifted-one (a.bits % 64) (omega arith)) in
-    (
+    let test = last-test _ _ _ _ _ (a.bits % 64) x y (shifted-one (a.bits % 64) (omega arith)) in (
       (λ t. bits-of_both (segment_at a.a.now a.at.segment) (segment_at a.b.now a.beside.segment) a.at.word
           a.beside.word a.bits (omega arith) (omega arith) c.if-rest-eq0.false
           (c.are_equal.ensures.same.0 c.if-not-are_equal.false) (test.0 t)),

@@ -192,8 +192,7 @@ are_same_slots-returns-clause-same g t c ss ts h j =
     let ge = c.loop-i-test.false in
     let le = c.loop-i.auto.i-end in
     let left = (zeros-at a.a.now _ _ _ _ c.behind.ensures c.are_zero.ensures.same).0 c.if-not-are_zero.false in
-    let right = zeros-at a.b.now _ _ _ _ c.behind-2.ensures c.are_zero-2.ensures.same in
-    (
+    let right = zeros-at a.b.now _ _ _ _ c.behind-2.ensures c.are_zero-2.ensures.same in (
       (λ o. both-zero a.a.now a.b.now a.one.start a.two.start a.one.count a.two.count c.min-shared.result i ss ts h j
           c.min-shared.ensures (omega arith) (c.loop-i.invariant.same ss ts h j) left (right.0 o)),
       (λ q. right.1 (right-zero a.a.now a.b.now a.one.start a.two.start a.one.count a.two.count c.min-shared.result i

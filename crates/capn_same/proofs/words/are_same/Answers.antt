@@ -25,8 +25,7 @@ pub returns-clause-same : goal.returns-clause-same
 returns-clause-same g c ws vs own en other ek =
     let a = c.args in
     let left = (zeros-at a.a.now _ _ _ _ c.behind.ensures c.are_zero.ensures.same).0 c.if-not-are_zero.false in
-    let right = zeros-at a.b.now _ _ _ _ c.behind-2.ensures c.are_zero-2.ensures.same in
-    (
+    let right = zeros-at a.b.now _ _ _ _ c.behind-2.ensures c.are_zero-2.ensures.same in (
       (λ t. same-of_parts (segment_at a.a.now a.one.start.segment) (segment_at a.b.now a.two.start.segment) ws vs
           a.one.start.word a.two.start.word a.one.count a.two.count c.min-shared.result own other en ek
           c.min-shared.ensures (c.are_equal.ensures.same.0 c.if-not-are_equal.false) left (right.0 t)),
