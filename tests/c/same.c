@@ -1,7 +1,7 @@
-/* The comparison of two messages: by hand, and of pairs of the bytes that end lines of standard input, in hexadecimal,
- * in each form and under some limits; bare and in a stream, each is compared with each. What capn_same answers, reports and says of which is what follows
- * from capn_canonical of the one and of the other; it asks for memory as often as capn_check of what it looks at, and
- * each of these growths is refused in turn. */
+/* The comparison of two messages: by hand, and of pairs of the bytes that end lines of standard input, in
+ * hexadecimal, in each form and under some limits; bare and in a stream, each is compared with each. What capn_same
+ * answers, reports and says of which is what follows from capn_canonical of the one and of the other; it asks for
+ * memory as often as capn_check of what it looks at, and each of these growths is refused in turn. */
 #define TEST "same"
 #include "refusing.h"
 #include "wanted.h"
