@@ -5,7 +5,7 @@ ghost use Rattle.capn_words.specs.Message.{IsMessage, IsPlace};
 ghost use Rattle.capn_target.specs.Target as spec;
 ghost use Rattle.capn_target.specs.declared.target.Target.{Target as Targets};
 
-use capn_target::counted::{CountedSpace, Reads, resolve};
+use capn_target::counted::{CountedSpace, Reads, near, pointer_at, resolve, segment_length};
 use capn_walk::{Shape, Target};
 use capn_words::{Place, Pointer, Space, Width, split};
 use std::sync::ledger::Ledger;
@@ -50,7 +50,14 @@ pub fn target_at<S: Space, L: Ledger>(
             width,
             count,
         } => match width {
-            Width::Rows => followed(space, at, reads),
+            Width::Rows => {
+                let pointer = Pointer::Many {
+                    offset,
+                    width,
+                    count,
+                };
+                content_of(space, at.segment, at.word, 0, pointer, reads)
+            }
             _ => Target::Content {
                 segment: at.segment,
                 start: start_of(at.word, offset),
@@ -58,8 +65,57 @@ pub fn target_at<S: Space, L: Ledger>(
                 pads: 0,
             },
         },
+        Pointer::Far {
+            double: false,
+            word,
+            segment,
+        } => {
+            let target = behind_pad(space.again(), segment, word, reads);
+            target
+        }
         _ => followed(space, at, reads),
     }
+}
+
+/// Returns the content that the struct or list `pointer` at `word` of `segment` names: the word is the slot itself, or a
+/// pad of one word. It is known to name some, so that it does is not tested: a refusal can't come.
+#[inline(always)]
+fn content_of<S: Space, L: Ledger>(
+    space: &CountedSpace<'_, S, L>,
+    segment: u32,
+    word: u32,
+    pads: u8,
+    pointer: Pointer,
+    reads: &mut Reads<L>,
+) -> Target
+    requires found { (t : Targets) × (spec.near space.now segment word pads pointer ≡ Ok t) }
+    ensures found { spec.near space.now segment word pads pointer ≡ Ok result }
+    ensures reads { reads.new ≤ reads.old + 2 }
+{
+    let size = segment_length(space, segment, reads);
+    match near(space, segment, size, word, pads, pointer, reads) {
+        Ok(target) => target,
+        Err(_) => unreachable!(),
+    }
+}
+
+/// Returns the target of a far pointer by the landing pad of one word at `word` of `segment`, which is known to have
+/// one.
+#[inline(never)]
+fn behind_pad<S: Space, L: Ledger>(
+    space: CountedSpace<'_, S, L>,
+    segment: u32,
+    word: u32,
+    reads: &mut Reads<L>,
+) -> Target
+    requires found { (t : Targets) × (spec.landing space segment word 1
+        (spec.near space segment word 1 (spec.pointer_in space segment word)) ≡ Ok t) }
+    ensures found { spec.landing space.entry segment word 1
+        (spec.near space.entry segment word 1 (spec.pointer_in space.entry segment word)) ≡ Ok result }
+    ensures reads { reads.new ≤ reads.old + 3 }
+{
+    let pointer = pointer_at(&space, segment, word, reads);
+    content_of(&space, segment, word, 1, pointer, reads)
 }
 
 /// Returns the target of the pointer at `at`, with all tests. A call has its answer in a place of its own: then only

@@ -5,7 +5,7 @@ use Rattle.std.specs.Bool.{⊤}
 use Rattle.std.proofs.lemmas.Bool.Decides.{nat_tests}
 use Rattle.capn_words.specs.Message.{segment_at}
 use Rattle.capn_words.specs.declared.space.Place.{Place}
-use Rattle.capn_words.specs.declared.pointer.Pointer.TheVariants.{Nil, Node, Many}
+use Rattle.capn_words.specs.declared.pointer.Pointer.TheVariants.{Nil, Node, Many, Far}
 use Rattle.capn_words.specs.declared.pointer.Width.{Width}
 use Rattle.capn_words.specs.declared.pointer.Width.TheVariants.{W0, W1, W8, W16, W32, W64, Link, Rows}
 use Rattle.capn_target.specs.declared.target.Target.{Target}
@@ -15,6 +15,7 @@ use Rattle.capn_target.specs.declared.target.Shape.TheVariants as shapes
 use Rattle.capn_target.specs.declared.target.Fault.{Fault}
 use Rattle.capn_target.specs.declared.target.Fault.TheVariants as faults
 use Rattle.capn_target.specs.Target.{content_words, moved, within, struct_from, list_from, pointer_in}
+use Rattle.capn_target.specs.Target.{landing, near}
 use Rattle.capn_target.specs.Target.{named, target}
 
 abbrev pub IsComposite : Width → Type 0
@@ -65,7 +66,38 @@ module _ (m : List (List ℕ)) where
   list-found (Ok start) s pads Link n t p e = plain-found s start pads n (content_words Link n) Link t e
   list-found (Ok start) s pads Rows n t p e = absurd (p tt)
 
+  -- a pad that is known to lead to a target lies inside its segment
+  pub landing-found : (s w n : ℕ) (found : Result Target Fault) (t : Target) → landing m s w n found ≡ Ok t
+      → (w + n ≤ length (segment_at m s)) × (landing m s w n found ≡ found)
+  landing-found s w n found t e = by_segment (nat_lt s (length m)) refl e
+    where
+      inside : Result Target Fault
+      inside = if nat_lt (length (segment_at m s)) (w + n) then Err faults.PadRange else found
+
+      by_range : (b : Bool) → nat_lt (length (segment_at m s)) (w + n) ≡ b
+          → (if b then Err faults.PadRange else found) ≡ Ok t → (w + n ≤ length (segment_at m s)) × (inside ≡ found)
+      by_range true q f = absurd (cc)
+      by_range false q f =
+          (grind (arith, nat_tests), ap (λ (b : Bool). if b then Err faults.PadRange else found) q)
+
+      by_segment : (b : Bool) → nat_lt s (length m) ≡ b → (if b then inside else Err faults.NoSegment) ≡ Ok t
+          → (w + n ≤ length (segment_at m s)) × (landing m s w n found ≡ found)
+      by_segment true q f =
+          let r = by_range (nat_lt (length (segment_at m s)) (w + n)) refl f in
+          (r.0, ap (λ (b : Bool). if b then inside else Err faults.NoSegment) q ∙ r.1)
+      by_segment false q f = absurd (cc)
+
   module _ (at : Place) (t : Target) (e : target m at ≡ Ok t) where
+    pub near-rows : (o : ℤ) (width : Width) (n : ℕ) → pointer_in m at.segment at.word ≡ Many o width n
+        → target m at ≡ near m at.segment at.word 0 (Many o width n)
+    unfolding target
+    near-rows o width n q = ap (named m at.segment at.word) q
+
+    pub behind-one : (w s : ℕ) → pointer_in m at.segment at.word ≡ Far false w s
+        → target m at ≡ landing m s w 1 (near m s w 1 (pointer_in m s w))
+    unfolding target
+    behind-one w s q = ap (named m at.segment at.word) q
+
     pub near-null : pointer_in m at.segment at.word ≡ Nil → target m at ≡ Ok targets.Nil
     unfolding target
     near-null q = ap (named m at.segment at.word) q
