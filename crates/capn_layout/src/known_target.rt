@@ -1,11 +1,12 @@
 //! The target of a pointer already tested.
 
 ghost use Rattle.std.specs.Prelude.{◌≡◌, ℕ, ◌+◌, ◌^◌, ◌<◌, ◌≤◌, Ok, length};
-ghost use Rattle.capn_words.specs.Message.{IsMessage, IsPlace};
+ghost use Rattle.capn_words.specs.Message.{segment_at, IsMessage, IsPlace};
+ghost use Rattle.capn_words.specs.declared.pointer.Width.TheVariants.{Rows};
 ghost use Rattle.capn_target.specs.Target as spec;
 ghost use Rattle.capn_target.specs.declared.target.Target.{Target as Targets};
 
-use capn_target::counted::{CountedSpace, Reads, near, pointer_at, resolve, segment_length};
+use capn_target::counted::{CountedSpace, Reads, pointer_at, resolve};
 use capn_walk::{Shape, Target};
 use capn_words::{Place, Pointer, Space, Width, split};
 use std::sync::ledger::Ledger;
@@ -78,7 +79,7 @@ pub fn target_at<S: Space, L: Ledger>(
 }
 
 /// Returns the content that the struct or list `pointer` at `word` of `segment` names: the word is the slot itself, or a
-/// pad of one word. It is known to name some, so that it does is not tested: a refusal can't come.
+/// pad of one word. It is known to name some, so nothing is tested again.
 #[inline(always)]
 fn content_of<S: Space, L: Ledger>(
     space: &CountedSpace<'_, S, L>,
@@ -88,14 +89,72 @@ fn content_of<S: Space, L: Ledger>(
     pointer: Pointer,
     reads: &mut Reads<L>,
 ) -> Target
+    requires message { IsMessage space.now }
+    requires place { word < length (segment_at space.now segment) }
     requires found { (t : Targets) × (spec.near space.now segment word pads pointer ≡ Ok t) }
     ensures found { spec.near space.now segment word pads pointer ≡ Ok result }
-    ensures reads { reads.new ≤ reads.old + 2 }
+    ensures reads { reads.new ≤ reads.old + 1 }
 {
-    let size = segment_length(space, segment, reads);
-    match near(space, segment, size, word, pads, pointer, reads) {
-        Ok(target) => target,
-        Err(_) => unreachable!(),
+    match pointer {
+        Pointer::Node {
+            offset,
+            words,
+            slots,
+        } => Target::Content {
+            segment,
+            start: start_of(word, offset),
+            shape: Shape::Node { words, slots },
+            pads,
+        },
+        Pointer::Many {
+            offset,
+            width,
+            count,
+        } => match width {
+            Width::Rows => rows_of(space, segment, start_of(word, offset), pads, count, reads),
+            _ => Target::Content {
+                segment,
+                start: start_of(word, offset),
+                shape: Shape::Many { width, count },
+                pads,
+            },
+        },
+        _ => unreachable!(),
+    }
+}
+
+/// Returns the composite list of `span` words after its tag, which is at word `start` of `segment`. It is known to be
+/// one, so nothing is tested again.
+#[tactic(auto, using(std::proofs::lemmas::Grind::common_steps))]
+#[inline(always)]
+fn rows_of<S: Space, L: Ledger>(
+    space: &CountedSpace<'_, S, L>,
+    segment: u32,
+    start: u32,
+    pads: u8,
+    span: u32,
+    reads: &mut Reads<L>,
+) -> Target
+    requires found { (t : Targets) × (spec.list space.now segment start pads Rows span ≡ Ok t) }
+    ensures found { spec.list space.now segment start pads Rows span ≡ Ok result }
+    ensures reads { reads.new ≡ reads.old + 1 }
+{
+    let at = Place {
+        segment,
+        word: start,
+    };
+    let tag = space.word(at, reads);
+    let shape = Shape::Rows {
+        count: (tag >> 2 & 0x3fff_ffff) as u32,
+        words: (tag >> 32 & 0xffff) as u16,
+        slots: (tag >> 48 & 0xffff) as u16,
+        span,
+    };
+    Target::Content {
+        segment,
+        start,
+        shape,
+        pads,
     }
 }
 
@@ -108,11 +167,12 @@ fn behind_pad<S: Space, L: Ledger>(
     word: u32,
     reads: &mut Reads<L>,
 ) -> Target
+    requires message { IsMessage space }
     requires found { (t : Targets) × (spec.landing space segment word 1
         (spec.near space segment word 1 (spec.pointer_in space segment word)) ≡ Ok t) }
     ensures found { spec.landing space.entry segment word 1
         (spec.near space.entry segment word 1 (spec.pointer_in space.entry segment word)) ≡ Ok result }
-    ensures reads { reads.new ≤ reads.old + 3 }
+    ensures reads { reads.new ≤ reads.old + 2 }
 {
     let pointer = pointer_at(&space, segment, word, reads);
     content_of(&space, segment, word, 1, pointer, reads)
