@@ -28,6 +28,7 @@ pub fn words_before<S: Space, A: Allocator>(alloc: A, space: &S) -> Result<Vec<u
 }
 
 /// Returns the byte of a message's first word.
+#[inline(always)]
 fn first_byte(marks: &Marks) -> u128
     ensures is { result ≡ spec.first_byte marks.now }
     ensures small { result < 2 ^ 65 }
@@ -37,6 +38,7 @@ fn first_byte(marks: &Marks) -> u128
 
 /// Returns the byte of the word at `at`, or of a segment's end; `before` has the words before each segment.
 #[tactic(auto, using(crate::proofs::Before::within))]
+#[inline(always)]
 pub fn byte_of<S: Space>(space: &S, marks: &Marks, before: &[u32], at: Place) -> u128
     requires message { IsMessage (S.message space.now) }
     requires counts { CountsBefore (S.message space.now) before.now }
