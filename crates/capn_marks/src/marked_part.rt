@@ -81,9 +81,7 @@ fn mark_part<S: Space, W: Write, A: Allocator + Copy>(
     let Ok(before) = words_before(alloc, space) else {
         return Err(Broken::Memory);
     };
-    mark_counted(
-        alloc, text, writer, space, &before, marks, numbers, depth,
-    )
+    mark_counted(alloc, text, writer, space, &before, marks, numbers, depth)
 }
 
 /// Appends the text of the value at the way of `numbers` from the root to `text`, with the words `before` each segment.

@@ -7,4 +7,3 @@ use Rattle.capn_marks.proofs.marked_part.mark_part.Goals as goal
 pub returns-in_default-clause-cut : goal.returns-in_default-clause-cut
 returns-in_default-clause-cut g c v i = unbegun (outgoing g.W.Write.contents c.args.writer.now c.args.text.now.items)
     _ broken.Memory refl
-
