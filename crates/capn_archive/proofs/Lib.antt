@@ -4,6 +4,7 @@ pub mod LineParts
 pub mod Closings
 pub mod ToldAlone
 pub mod Finishes
+mod KeptKeys
 pub mod UniqServed
 pub mod OneArchive
 pub mod OneUniq

@@ -2,7 +2,6 @@
 use Rattle.std.proofs.Common.{◌≡◌, inl, inr, ℕ, List, [], Bool, true, false, Option, Some, Result, Ok, Err, refl}
 use Rattle.std.proofs.Common.{IsErrAnd}
 use Rattle.std.proofs.Common.{ap, sym, subst, ◌∙◌}
-use Rattle.std.specs.BTreeSet.{BTreeSet}
 use Rattle.capn_canon.specs.declared.refusal.Refusal.{Refusal}
 use Rattle.capn_serve.specs.declared.fault.ServeFault.{ServeFault}
 use Rattle.capn_serve.specs.declared.fault.ServeFault.TheVariants as faults
@@ -15,19 +14,19 @@ use Rattle.capn_archive.specs.declared.tally.SkippedSoFar.{SkippedSoFar}
 use Rattle.capn_archive.specs.declared.uniq_order.UniqOrder.{UniqOrder}
 use Rattle.capn_archive.specs.Tally.{one_more}
 use Rattle.capn_archive.specs.Digest.{IsDigest, IsUndigested}
-use Rattle.capn_archive.specs.UniqMessages.{UniqState, IsSkipped, Deduplicates, and_one, has, one_served}
+use Rattle.capn_archive.specs.UniqMessages.{Digests, UniqState, IsSkipped, Deduplicates, and_one, has, one_served}
 use Rattle.capn_archive.specs.UniqMessages.{refuses, serves, kept_text, TriesToDeduplicate}
 
 -- a state of these parts
-abbrev pub state : UniqOrder → BTreeSet (List ℕ) → ℕ → Option SkippedSoFar → UniqState
+abbrev pub state : UniqOrder → Digests → ℕ → Option SkippedSoFar → UniqState
 state order digests served skipped =
     record { order = order; digests = digests; served = served; skipped = skipped }
 
-module _ (order : UniqOrder) (digests : BTreeSet (List ℕ)) (served : ℕ) (skipped : Option SkippedSoFar) where
+module _ (order : UniqOrder) (digests : Digests) (served : ℕ) (skipped : Option SkippedSoFar) where
   -- a message whose digest was inserted is served
   pub deduplicates : (s : UniqState) → state order digests served skipped ≡ s → (frame digest : List ℕ)
       (message : List (List ℕ)) → IsDigest message order.limits digest → (is_duplicate : Bool)
-      → is_duplicate ≡ has digests digest → (inserted : BTreeSet (List ℕ)) → inserted ≡ and_one digests digest
+      → is_duplicate ≡ has digests digest → (inserted : Digests) → inserted ≡ and_one digests digest
       → (more : ℕ) → more ≡ one_served served
       → Deduplicates s frame message (kept_text order.count is_duplicate frame) (state order inserted more skipped)
   deduplicates s same frame digest message is is_duplicate double inserted note more one =
@@ -36,7 +35,7 @@ module _ (order : UniqOrder) (digests : BTreeSet (List ℕ)) (served : ℕ) (ski
         digest,
         is,
         ap (λ (b : Bool). kept_text order.count b frame) double,
-        ap (λ (n : BTreeSet (List ℕ)). state order n more skipped) note
+        ap (λ (n : Digests). state order n more skipped) note
             ∙ ap (λ (m : ℕ). state order (and_one digests digest) m skipped) one,
       )
 

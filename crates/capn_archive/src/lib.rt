@@ -18,6 +18,7 @@ mod filter_order;
 mod filter_run;
 mod filter_service;
 mod findings;
+mod kept_digests;
 pub mod laws;
 mod limits_report;
 mod line;

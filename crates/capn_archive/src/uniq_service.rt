@@ -1,6 +1,7 @@
 //! The service of `uniq`.
 
-ghost use Rattle.std.specs.Prelude.{◌≡◌, length, false};
+ghost use Rattle.std.specs.Prelude.{◌≡◌, false};
+ghost use Rattle.std.specs.FinSet as set;
 ghost use Rattle.capn_words.specs.Watched.{inner_of, has_failed};
 ghost use Rattle.capn_archive.specs.CanonicalFrame.{AddsText};
 ghost use Rattle.capn_archive.specs.UniqMessages as spec;
@@ -8,12 +9,12 @@ ghost use Rattle.capn_archive.specs.UniqMessages.{InsertsDigest, TriesToDeduplic
 ghost use Rattle.capn_serve.specs.Outgoing.{outgoing};
 
 use crate::digest::digest_of;
+use crate::kept_digests::Digests;
 use crate::tally::{SkippedSoFar, one_more};
 use crate::uniq_order::UniqOrder;
 use capn_serve::{Position, ServeFault, Service, add_bytes};
 use capn_words::{Space, Watched};
 use std::alloc::Allocator;
-use std::collections::BTreeSet;
 use std::io::Write;
 use std::marker::Model;
 
@@ -21,13 +22,11 @@ use std::marker::Model;
 /// message before had, by their SHA-256.
 ///
 /// A message that is refused by its walk, or for a capability, ends the run, or, if the order says to keep going, is
-/// skipped: it writes nothing and is no duplicate of another. Of a run it holds the digest of each message kept, in
-/// a tree of blocks that are at least half full: about 50 bytes each if they come in no order, at most 72 if they
-/// ascend.
+/// skipped: it writes nothing and is no duplicate of another. Of a run it holds the digest of each message kept.
 #[derive(Drop)]
 pub struct UniqService<A: Allocator> {
     order: UniqOrder,
-    digests: BTreeSet<[u8; 32], A>,
+    digests: Digests<A>,
     served: u64,
     skipped: Option<SkippedSoFar>,
 }
@@ -43,13 +42,13 @@ impl<A: Allocator> Model for UniqService<A> {
 
 /// Inserts a digest, and answers whether it was among those before.
 fn insert_digest<A: Allocator + Clone>(
-    digests: &mut BTreeSet<[u8; 32], A>,
+    digests: &mut Digests<A>,
     digest: [u8; 32],
 ) -> Result<bool, ServeFault>
     ensures { InsertsDigest digests.old digests.new digest result }
 {
     match digests.insert(digest) {
-        Ok(added) => Ok(!added),
+        Ok(found) => Ok(found),
         Err(_) => Err(ServeFault::Memory),
     }
 }
@@ -80,7 +79,7 @@ impl<B: Allocator> UniqService<B> {
     {
         UniqService {
             order,
-            digests: BTreeSet::new(alloc),
+            digests: Digests::new(alloc),
             served: 0,
             skipped: None,
         }
@@ -95,7 +94,7 @@ impl<B: Allocator> UniqService<B> {
 
     /// How many messages it has kept.
     pub(crate) fn kept(&self) -> usize
-        ensures { result ≡ length self.now.digests.keys }
+        ensures { result ≡ set.len self.now.digests }
     {
         self.digests.len()
     }
