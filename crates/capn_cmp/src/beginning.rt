@@ -23,7 +23,8 @@ const WAYS: Marks = Marks {
     table: 0,
 };
 
-/// A writer that keeps what it takes, and takes no more than there is room for.
+/// A writer that keeps what it takes, and takes no more than there is room for. Its memory is taken before it writes,
+/// so that a growth which is refused is never taken for the end of its room.
 #[derive(Drop)]
 struct Beginning<A: Allocator> {
     bytes: Vec<u8, A>,
@@ -46,11 +47,22 @@ impl<A: Allocator> Write for Beginning<A> {
     }
 }
 
-/// A writer with room for this number of bytes.
-fn new_writer<A: Allocator>(alloc: A, room: usize) -> Watched<Beginning<A>>
+/// Returns a list without bytes that has memory for `room` of them.
+fn with_room<A: Allocator>(alloc: A, room: usize) -> Result<Vec<u8, A>, ServeFault>
+    ensures found { IfOk result (λ bytes. bytes.items ≡ []) }
+    ensures only { IfErr result (λ e. e ≡ faults.Memory) }
+{
+    match Vec::with_capacity(alloc, room) {
+        Ok(bytes) => Ok(bytes),
+        Err(_) => Err(ServeFault::Memory),
+    }
+}
+
+/// Returns a writer into `bytes`, which is empty, that takes `room` bytes.
+fn new_writer<A: Allocator>(bytes: Vec<u8, A>, room: usize) -> Watched<Beginning<A>>
+    requires empty { bytes.items ≡ [] }
     ensures empty { (inner_of result).bytes.items ≡ [] }
 {
-    let bytes = Vec::new(alloc);
     Watched::new(Beginning { bytes, room })
 }
 
@@ -89,8 +101,9 @@ pub(crate) fn begin_text<A: Allocator + Copy>(
     let Ok(message) = Bare::new(canonical) else {
         return Err(ServeFault::Memory);
     };
+    let bytes = with_room(alloc, room)?;
     let mut text = Vec::new(alloc);
-    let mut writer = new_writer(alloc, room);
+    let mut writer = new_writer(bytes, room);
     match show_marked(alloc, &mut text, &mut writer, &message, limits, WAYS, &[]) {
         Ok(()) => match end_text(&mut text, &mut writer) {
             Ok(()) | Err(Broken::Io) => Ok(kept_by(writer)),

@@ -91,6 +91,44 @@ fn explains_as_without_it_if_none_is_refused(rt: HostRuntime) -> Result<(), Fail
     Ok(())
 }
 
+/// Two frames of two words: the first has a word that nothing points to, so that its message is not canonical, and the
+/// second is refused.
+const NOT_CANONICAL_THEN_REFUSED: [u8; 48] = [
+    0, 0, 0, 0, 2, 0, 0, 0, 0, 0, 0, 0, 0, 0, 0, 0, 7, 0, 0, 0, 0, 0, 0, 0, 0, 0, 0, 0, 2, 0, 0, 0,
+    16, 0, 0, 0, 1, 0, 0, 0, 5, 0, 0, 0, 0, 0, 0, 0,
+];
+
+/// What is told of an accepted message is dropped once another message begins, so that memory which was refused for it
+/// ends no run.
+#[test]
+fn explains_behind_a_message_that_is_not_canonical(rt: HostRuntime) -> Result<(), Fail> {
+    let lines = "message: 2 at 24
+segments: 1 of 2 words
+refused: Range at 0:0, paid 0, visits 1
+way: root
+slot: byte 32, segment 0 word 0: 1000000001000000: struct of 1 words and 0 slots, offset 4
+content: words 5 to 6 of segment 0, which has 2
+
+";
+    let skipped = Skipped {
+        refused: 1,
+        messages: 2,
+        first: Position {
+            index: 1,
+            offset: 24,
+        },
+    };
+    let ample = explained(rt.alloc(), Form::Stream, &NOT_CANONICAL_THEN_REFUSED);
+    assert!(rt; ample.ending == Err(ReportFault::Skipped(skipped)));
+    assert!(rt; ample.text.as_slice() == lines.as_bytes());
+    let heap = Refusing::nth(rt.alloc(), 1);
+    let input = NOT_CANONICAL_THEN_REFUSED.as_slice();
+    let refused = explained_by(rt.alloc(), &heap, Form::Stream, input);
+    assert!(rt; refused.ending == Err(ReportFault::Skipped(skipped)));
+    assert!(rt; refused.text.as_slice() == lines.as_bytes());
+    Ok(())
+}
+
 /// A frame that is cut is explained last, whether messages were refused before or not.
 #[test]
 fn explains_a_cut_frame_last(rt: HostRuntime) -> Result<(), Fail> {
