@@ -257,7 +257,7 @@ fn messages_are_shown_in_a_style(rt: HostRuntime) {
         &["capn", "check", "--json"][..],
         &["capn", "list", "--text"][..],
         &["capn", "list", "--number=1"][..],
-        &["capn", "explain", "--keep-going"][..],
+        &["capn", "explain", "--keep-going", "--number=2"][..],
         &["capn", "explain", "--number=1", "--number=2"][..],
         &["capn", "explain", "--form=flat"][..],
     ] {
