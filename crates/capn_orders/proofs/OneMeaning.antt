@@ -80,7 +80,7 @@ pub flag_one : (rows : List Row) (option : Text) (a b : Bool) → FlagIs rows op
 flag_one rows option a b x y = text_one a b (sym x ∙ y)
 
 -- a flag is not both
-not_both : (rows : List Row) (option : Text) → FlagIs rows option false → FlagIs rows option true → ⊥
+pub not_both : (rows : List Row) (option : Text) → FlagIs rows option false → FlagIs rows option true → ⊥
 not_both rows option x y = let bad : false ≡ true = flag_one rows option false true x y in absurd (cc)
 
 -- that of the name of the command that writes this of a message
