@@ -17,6 +17,7 @@ use Rattle.capn_show.specs.declared.style.Style.TheVariants as styles
 use Rattle.capn_orders.specs.Way.{way_of}
 use Rattle.capn_serve.specs.declared.pick.Pick.{Pick}
 use Rattle.capn_orders.specs.declared.order.Explanation.{Explanation}
+use Rattle.capn_orders.specs.declared.order.Explanation.TheVariants as explanations
 use Rattle.capn_orders.specs.declared.order.Flow.TheVariants as flows
 use Rattle.capn_orders.specs.declared.order.Only.{Only}
 use Rattle.capn_orders.specs.declared.order.Order.{Order}
@@ -379,6 +380,12 @@ pick_means rows o m = go o m (told (codes "pick", rows) o m)
     go (orders.Flow flows.Pack) m e = absurd (omega arith)
     go (orders.Flow flows.Unpack) m e = absurd (omega arith)
     go (orders.Make f) m e = absurd (omega arith)
+
+-- the options of `explain` have a value of `--keep-going`
+pub explained_flag : (rows : List Row) (x : Explanation) → ExplanationIs rows x
+    → (given : Bool) × FlagIs rows (codes "keep-going") given
+explained_flag rows (explanations.One x) is = (false, is.1)
+explained_flag rows (explanations.Refused x) is = (true, is.1)
 
 pub explain_means : (rows : List Row) (o : Order) → MeansOrder (Some (codes "explain", rows)) o
     → (x : Explanation) × ExplanationIs rows x
