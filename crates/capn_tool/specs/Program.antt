@@ -133,4 +133,4 @@ Ends words input output errors status =
     ⊎ (EndsPick words input output errors status
     ⊎ (EndsOnly words input output errors status
     ⊎ (EndsFlow words input output errors status
-    ⊎ (EndsMake words input output errors status ⊎ Unordered words input output errors status))))))))))
+    ⊎ (EndsMake words input output errors status ⊎ Unordered words input output errors status)))))))))))
