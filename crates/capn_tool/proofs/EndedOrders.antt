@@ -41,13 +41,13 @@ ended name io Runs text exit {words} {order} {a} {b} {c} {m} {d} {unread} {faile
     }
 
 -- the same of a comparison
-pub ended_found : {words : List Text} {order : CmpOrder} {a b c m d : Option (List ℕ)}
+pub ended_found : (order : CmpOrder) {words : List Text} {a b c m d : Option (List ℕ)}
     {unread failed is_failed : Bool} {found : Result Comparison CmpFault} {errors : Course} {status : ℕ}
     → MeansOrder (subcommand_of program_line words) (orders.Cmp order)
     → Compared order a b c m unread failed found
     → EndsFound found failed (course m d is_failed) errors status
     → EndsCmp words (course a b unread) (course c d is_failed) errors status
-ended_found {words} {order} {a} {b} {c} {m} {d} {unread} {failed} {is_failed} {found} means ran end = record {
+ended_found order {words} {a} {b} {c} {m} {d} {unread} {failed} {is_failed} {found} means ran end = record {
   order = order;
   found = found;
   outcome = end.outcome;
