@@ -98,8 +98,8 @@ const NOT_CANONICAL_THEN_REFUSED: [u8; 48] = [
     16, 0, 0, 0, 1, 0, 0, 0, 5, 0, 0, 0, 0, 0, 0, 0,
 ];
 
-/// What is told of an accepted message is dropped once another message begins, so that memory which was refused for it
-/// ends no run.
+/// The account of an accepted message is dropped once another message begins, so memory that was refused for it ends
+/// no run.
 #[test]
 fn explains_behind_a_message_that_is_not_canonical(rt: HostRuntime) -> Result<(), Fail> {
     let lines = "message: 2 at 24
