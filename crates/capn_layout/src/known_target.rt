@@ -1,11 +1,12 @@
 //! The target of a pointer already tested.
 
 ghost use Rattle.std.specs.Prelude.{◌≡◌, ℕ, ◌+◌, ◌^◌, ◌<◌, ◌≤◌, Ok, length};
-ghost use Rattle.capn_words.specs.Message.{IsMessage, IsPlace};
+ghost use Rattle.capn_words.specs.Message.{segment_at, IsMessage, IsPlace};
+ghost use Rattle.capn_words.specs.declared.pointer.Width.TheVariants.{Rows};
 ghost use Rattle.capn_target.specs.Target as spec;
 ghost use Rattle.capn_target.specs.declared.target.Target.{Target as Targets};
 
-use capn_target::counted::{CountedSpace, Reads, resolve};
+use capn_target::counted::{CountedSpace, Reads, pointer_at};
 use capn_walk::{Shape, Target};
 use capn_words::{Place, Pointer, Space, Width, split};
 use std::sync::ledger::Ledger;
@@ -31,7 +32,7 @@ pub fn target_at<S: Space, L: Ledger>(
     requires place { IsPlace space.now at }
     requires found { (t : Targets) × (spec.target space.now at ≡ Ok t) }
     ensures found { spec.target space.now at ≡ Ok result }
-    ensures reads { reads.new ≤ reads.old + 9 }
+    ensures reads { reads.new ≤ reads.old + 4 }
 {
     match split(space.word(at, reads)) {
         Pointer::Nil => Target::Nil,
@@ -50,7 +51,14 @@ pub fn target_at<S: Space, L: Ledger>(
             width,
             count,
         } => match width {
-            Width::Rows => followed(space, at, reads),
+            Width::Rows => {
+                let pointer = Pointer::Many {
+                    offset,
+                    width,
+                    count,
+                };
+                content_of(space, at.segment, at.word, 0, pointer, reads)
+            }
             _ => Target::Content {
                 segment: at.segment,
                 start: start_of(at.word, offset),
@@ -58,41 +66,190 @@ pub fn target_at<S: Space, L: Ledger>(
                 pads: 0,
             },
         },
-        _ => followed(space, at, reads),
+        Pointer::Far {
+            double: false,
+            word,
+            segment,
+        } => {
+            let target = behind_one(space.again(), segment, word, reads);
+            target
+        }
+        Pointer::Far {
+            double: true,
+            word,
+            segment,
+        } => {
+            let target = behind_two(space.again(), segment, word, reads);
+            target
+        }
+        Pointer::Cap(index) => Target::Cap(index),
+        Pointer::Reserved(_) => unreachable!(),
     }
 }
 
-/// Returns the target of the pointer at `at`, with all tests. A call has its answer in a place of its own: then only
-/// that one comes through memory, and the place lies on the stack no longer than here.
+/// Returns the content that the struct or list `pointer` at `word` of `segment` names: the word is the slot itself, or a
+/// pad of one word. It is known to name some, so nothing is tested again.
 #[inline(always)]
-fn followed<S: Space, L: Ledger>(
+fn content_of<S: Space, L: Ledger>(
     space: &CountedSpace<'_, S, L>,
-    at: Place,
+    segment: u32,
+    word: u32,
+    pads: u8,
+    pointer: Pointer,
     reads: &mut Reads<L>,
 ) -> Target
-    requires place { IsPlace space.now at }
-    requires found { (t : Targets) × (spec.target space.now at ≡ Ok t) }
-    ensures found { spec.target space.now at ≡ Ok result }
-    ensures reads { reads.new ≤ reads.old + 8 }
+    requires message { IsMessage space.now }
+    requires place { word < length (segment_at space.now segment) }
+    requires found { (t : Targets) × (spec.near space.now segment word pads pointer ≡ Ok t) }
+    ensures found { spec.near space.now segment word pads pointer ≡ Ok result }
+    ensures reads { reads.new ≤ reads.old + 1 }
 {
-    let target = resolved(space.again(), at, reads);
-    target
+    match pointer {
+        Pointer::Node {
+            offset,
+            words,
+            slots,
+        } => Target::Content {
+            segment,
+            start: start_of(word, offset),
+            shape: Shape::Node { words, slots },
+            pads,
+        },
+        Pointer::Many {
+            offset,
+            width,
+            count,
+        } => match width {
+            Width::Rows => rows_of(space, segment, start_of(word, offset), pads, count, reads),
+            _ => Target::Content {
+                segment,
+                start: start_of(word, offset),
+                shape: Shape::Many { width, count },
+                pads,
+            },
+        },
+        _ => unreachable!(),
+    }
 }
 
-/// Returns the target of the pointer at `at`, with all tests, as a call of its own.
-#[inline(never)]
-fn resolved<S: Space, L: Ledger>(
-    space: CountedSpace<'_, S, L>,
-    at: Place,
+/// Returns the composite list of `span` words after its tag, which is at word `start` of `segment`. It is known to be
+/// one, so nothing is tested again.
+#[tactic(auto, using(std::proofs::lemmas::Grind::common_steps))]
+#[inline(always)]
+fn rows_of<S: Space, L: Ledger>(
+    space: &CountedSpace<'_, S, L>,
+    segment: u32,
+    start: u32,
+    pads: u8,
+    span: u32,
     reads: &mut Reads<L>,
 ) -> Target
-    requires place { IsPlace space at }
-    requires found { (t : Targets) × (spec.target space at ≡ Ok t) }
-    ensures found { spec.target space.entry at ≡ Ok result }
-    ensures reads { reads.new ≤ reads.old + 8 }
+    requires found { (t : Targets) × (spec.list space.now segment start pads Rows span ≡ Ok t) }
+    ensures found { spec.list space.now segment start pads Rows span ≡ Ok result }
+    ensures reads { reads.new ≡ reads.old + 1 }
 {
-    match resolve(&space, at, reads) {
-        Ok(target) => target,
-        Err(_) => unreachable!(),
+    let at = Place {
+        segment,
+        word: start,
+    };
+    let tag = space.word(at, reads);
+    let shape = Shape::Rows {
+        count: (tag >> 2 & 0x3fff_ffff) as u32,
+        words: (tag >> 32 & 0xffff) as u16,
+        slots: (tag >> 48 & 0xffff) as u16,
+        span,
+    };
+    Target::Content {
+        segment,
+        start,
+        shape,
+        pads,
+    }
+}
+
+/// Returns the target of a far pointer by the landing pad of one word at `word` of `segment`, which is known to have
+/// one.
+#[inline(never)]
+fn behind_one<S: Space, L: Ledger>(
+    space: CountedSpace<'_, S, L>,
+    segment: u32,
+    word: u32,
+    reads: &mut Reads<L>,
+) -> Target
+    requires message { IsMessage space }
+    requires found { (t : Targets) × (spec.landing space segment word 1
+        (spec.near space segment word 1 (spec.pointer_in space segment word)) ≡ Ok t) }
+    ensures found { spec.landing space.entry segment word 1
+        (spec.near space.entry segment word 1 (spec.pointer_in space.entry segment word)) ≡ Ok result }
+    ensures reads { reads.new ≤ reads.old + 2 }
+{
+    let pointer = pointer_at(&space, segment, word, reads);
+    content_of(&space, segment, word, 1, pointer, reads)
+}
+
+/// Returns the target of a far pointer by the landing pad of two words at `word` of `segment`, which is known to have
+/// one.
+#[inline(never)]
+fn behind_two<S: Space, L: Ledger>(
+    space: CountedSpace<'_, S, L>,
+    segment: u32,
+    word: u32,
+    reads: &mut Reads<L>,
+) -> Target
+    requires found { (t : Targets) × (spec.landing space segment word 2
+        (spec.two_pads space (spec.pointer_in space segment word) (spec.pointer_in space segment (word + 1)))
+        ≡ Ok t) }
+    ensures found { spec.landing space.entry segment word 2
+        (spec.two_pads space.entry (spec.pointer_in space.entry segment word)
+        (spec.pointer_in space.entry segment (word + 1))) ≡ Ok result }
+    ensures reads { reads.new ≤ reads.old + 3 }
+{
+    let first = pointer_at(&space, segment, word, reads);
+    let second = pointer_at(&space, segment, word + 1, reads);
+    named_by_two(&space, first, second, reads)
+}
+
+/// Returns the content that two words of a landing pad name: `first` is a far pointer to where it starts, and `second`
+/// its form.
+#[inline(always)]
+fn named_by_two<S: Space, L: Ledger>(
+    space: &CountedSpace<'_, S, L>,
+    first: Pointer,
+    second: Pointer,
+    reads: &mut Reads<L>,
+) -> Target
+    requires found { (t : Targets) × (spec.two_pads space.now first second ≡ Ok t) }
+    ensures found { spec.two_pads space.now first second ≡ Ok result }
+    ensures reads { reads.new ≤ reads.old + 1 }
+{
+    let Pointer::Far {
+        double: _,
+        word: start,
+        segment,
+    } = first
+    else {
+        unreachable!()
+    };
+    let shape = match second {
+        Pointer::Node {
+            offset: _,
+            words,
+            slots,
+        } => Shape::Node { words, slots },
+        Pointer::Many {
+            offset: _,
+            width,
+            count,
+        } => match width {
+            Width::Rows => return rows_of(space, segment, start, 2, count, reads),
+            _ => Shape::Many { width, count },
+        },
+        _ => Shape::Node { words: 0, slots: 0 },
+    };
+    Target::Content {
+        segment,
+        start,
+        shape,
+        pads: 2,
     }
 }

@@ -1,11 +1,12 @@
--- The target of a near pointer that is known to have one. (For `target_at`.)
-use Rattle.std.proofs.Common.{◌≡◌, ℕ, ◌+◌, ◌≤◌, nat_lt, ℤ, Bool, true, false, List, length, Result, Ok, Err}
-use Rattle.std.proofs.Common.{refl, ap, sym, ◌∙◌, arith, if◌then◌else◌}
+-- The target of a pointer that is known to have one, near or behind a pad of one word. (For `known_target`.)
+use Rattle.std.proofs.Common.{◌≡◌, ℕ, ◌+◌, ◌<◌, ◌≤◌, nat_lt, ℤ, Bool, true, false, List, [], length}
+use Rattle.std.proofs.Common.{slice_index, Result, Ok, Err, refl, ap, sym, ◌∙◌, arith, if◌then◌else◌}
 use Rattle.std.specs.Bool.{⊤}
 use Rattle.std.proofs.lemmas.Bool.Decides.{nat_tests}
+use Rattle.std.proofs.Math.ListN.{get_or-eq_default}
 use Rattle.capn_words.specs.Message.{segment_at}
 use Rattle.capn_words.specs.declared.space.Place.{Place}
-use Rattle.capn_words.specs.declared.pointer.Pointer.TheVariants.{Nil, Node, Many}
+use Rattle.capn_words.specs.declared.pointer.Pointer.TheVariants.{Nil, Node, Many, Far, Cap, Reserved}
 use Rattle.capn_words.specs.declared.pointer.Width.{Width}
 use Rattle.capn_words.specs.declared.pointer.Width.TheVariants.{W0, W1, W8, W16, W32, W64, Link, Rows}
 use Rattle.capn_target.specs.declared.target.Target.{Target}
@@ -15,7 +16,7 @@ use Rattle.capn_target.specs.declared.target.Shape.TheVariants as shapes
 use Rattle.capn_target.specs.declared.target.Fault.{Fault}
 use Rattle.capn_target.specs.declared.target.Fault.TheVariants as faults
 use Rattle.capn_target.specs.Target.{content_words, moved, within, struct_from, list_from, pointer_in}
-use Rattle.capn_target.specs.Target.{named, target}
+use Rattle.capn_target.specs.Target.{list, tagged, landing, near, two_pads, named, target}
 
 abbrev pub IsComposite : Width → Type 0
 IsComposite Rows = ⊤
@@ -65,10 +66,100 @@ module _ (m : List (List ℕ)) where
   list-found (Ok start) s pads Link n t p e = plain-found s start pads n (content_words Link n) Link t e
   list-found (Ok start) s pads Rows n t p e = absurd (p tt)
 
+  -- the segment of a word that is there exists
+  pub has-segment : (s w : ℕ) → w < length (segment_at m s) → s < length m
+  has-segment s w h = below (nat_lt s (length m)) refl
+    where
+      below : (b : Bool) → nat_lt s (length m) ≡ b → s < length m
+      below true e = grind (arith, nat_tests)
+      below false e =
+          let past : length m ≤ s = grind (arith, nat_tests) in
+          let none : length (segment_at m s) ≡ 0 = ap length (get_or-eq_default m [] past) in
+          absurd (omega arith)
+
+  -- the struct that the pointer of a slot or of a pad is known to name
+  pub struct-near : (s w pads : ℕ) (o : ℤ) (a b : ℕ) (t : Target) → near m s w pads (Node o a b) ≡ Ok t
+      → Found s pads (shapes.Node a b) (moved w o) (near m s w pads (Node o a b))
+  struct-near s w pads o a b t e = struct-found (moved w o) s pads a b t e
+
+  -- the list of one width that it is known to name
+  pub plain-near : (s w pads : ℕ) (o : ℤ) (width : Width) (n : ℕ) (t : Target) → (IsComposite width → ⊥)
+      → near m s w pads (Many o width n) ≡ Ok t
+      → Found s pads (shapes.Many width n) (moved w o) (near m s w pads (Many o width n))
+  plain-near s w pads o width n t p e = list-found (moved w o) s pads width n t p e
+
+  -- a list that is known to be one of rows has its tag in range
+  tag-inside : (s start pads n : ℕ) (t : Target) → list m s start pads Rows n ≡ Ok t → start < length (segment_at m s)
+  tag-inside s start pads n t e = by_test (nat_lt (length (segment_at m s)) (start + (1 + n))) refl e
+    where
+      found : Result Target Fault
+      found = tagged m s start pads n (slice_index (segment_at m s) start)
+
+      by_test : (b : Bool) → nat_lt (length (segment_at m s)) (start + (1 + n)) ≡ b
+          → (if b then Err faults.Range else found) ≡ Ok t → start < length (segment_at m s)
+      by_test true q f = absurd (cc)
+      by_test false q f = grind (arith, nat_tests)
+
+  rows-from : (r : Result ℕ Fault) (s pads n : ℕ) (t : Target) → list_from m s r pads Rows n ≡ Ok t
+      → (start : ℕ) × (r ≡ Ok start) × (start < length (segment_at m s))
+  rows-from (Ok start) s pads n t e = (start, refl, tag-inside s start pads n t e)
+  rows-from (Err f) s pads n t e = absurd (cc)
+
+  -- the tag of the rows that it is known to name
+  pub rows-near : (s w pads : ℕ) (o : ℤ) (n : ℕ) (t : Target) → near m s w pads (Many o Rows n) ≡ Ok t
+      → (start : ℕ) × (moved w o ≡ Ok start) × (start < length (segment_at m s))
+  rows-near s w pads o n t e = rows-from (moved w o) s pads n t e
+
+  -- a pad that is known to lead to a target lies inside its segment
+  pub landing-found : (s w n : ℕ) (found : Result Target Fault) (t : Target) → landing m s w n found ≡ Ok t
+      → (w + n ≤ length (segment_at m s)) × (landing m s w n found ≡ found)
+  landing-found s w n found t e = by_segment (nat_lt s (length m)) refl e
+    where
+      inside : Result Target Fault
+      inside = if nat_lt (length (segment_at m s)) (w + n) then Err faults.PadRange else found
+
+      by_range : (b : Bool) → nat_lt (length (segment_at m s)) (w + n) ≡ b
+          → (if b then Err faults.PadRange else found) ≡ Ok t → (w + n ≤ length (segment_at m s)) × (inside ≡ found)
+      by_range true q f = absurd (cc)
+      by_range false q f =
+          (grind (arith, nat_tests), ap (λ (b : Bool). if b then Err faults.PadRange else found) q)
+
+      by_segment : (b : Bool) → nat_lt s (length m) ≡ b → (if b then inside else Err faults.NoSegment) ≡ Ok t
+          → (w + n ≤ length (segment_at m s)) × (landing m s w n found ≡ found)
+      by_segment true q f =
+          let r = by_range (nat_lt (length (segment_at m s)) (w + n)) refl f in
+          (r.0, ap (λ (b : Bool). if b then inside else Err faults.NoSegment) q ∙ r.1)
+      by_segment false q f = absurd (cc)
+
   module _ (at : Place) (t : Target) (e : target m at ≡ Ok t) where
+    pub near-any : (o : ℤ) (width : Width) (n : ℕ) → pointer_in m at.segment at.word ≡ Many o width n
+        → target m at ≡ near m at.segment at.word 0 (Many o width n)
+    unfolding target
+    near-any o width n q = ap (named m at.segment at.word) q
+
+    pub behind-one : (w s : ℕ) → pointer_in m at.segment at.word ≡ Far false w s
+        → target m at ≡ landing m s w 1 (near m s w 1 (pointer_in m s w))
+    unfolding target
+    behind-one w s q = ap (named m at.segment at.word) q
+
+    pub behind-two : (w s : ℕ) → pointer_in m at.segment at.word ≡ Far true w s
+        → target m at ≡ landing m s w 2 (two_pads m (pointer_in m s w) (pointer_in m s (w + 1)))
+    unfolding target
+    behind-two w s q = ap (named m at.segment at.word) q
+
     pub near-null : pointer_in m at.segment at.word ≡ Nil → target m at ≡ Ok targets.Nil
     unfolding target
     near-null q = ap (named m at.segment at.word) q
+
+    pub named-cap : (k : ℕ) → pointer_in m at.segment at.word ≡ Cap k → target m at ≡ Ok (targets.Cap k)
+    unfolding target
+    named-cap k q = ap (named m at.segment at.word) q
+
+    pub never-reserved : (n : ℕ) → pointer_in m at.segment at.word ≡ Reserved n → ⊥
+    unfolding target
+    never-reserved n q =
+        let f : target m at ≡ Err faults.Reserved = ap (named m at.segment at.word) q in
+        absurd cc
 
     pub near-struct : (o : ℤ) (a b : ℕ) → pointer_in m at.segment at.word ≡ Node o a b
         → Found at.segment 0 (shapes.Node a b) (moved at.word o) (target m at)
