@@ -4,6 +4,7 @@ pub mod ThreeWays
 pub mod WorkedWalks
 pub mod OwedSlots
 pub mod Near
+pub mod Pads
 pub mod NumbersFromBytes
 pub mod Room
 pub mod UnderWay

@@ -249,6 +249,7 @@ fn survey_in_room<S: Space, A: Allocator + Copy, L: Ledger, const DEEP: bool, co
                 let found = match visit_elsewhere(
                     space.again(),
                     at,
+                    word,
                     depth,
                     budget - paid,
                     base,

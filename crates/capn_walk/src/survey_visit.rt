@@ -1,7 +1,8 @@
 //! One visit of a slot, without its value.
 
-ghost use Rattle.std.specs.Prelude.{◌≡◌, ◌≢◌, ℕ, ◌≤◌, ◌+◌, ◌-◌, ◌∷◌, ◌↔◌, [], length, IsTrue, IfOk, IfErr, max};
-ghost use Rattle.capn_words.specs.Message.{segment_at, IsMessage, IsPlace};
+ghost use Rattle.std.specs.Prelude.{◌≡◌, ◌≢◌, ℕ, ◌≤◌, ◌+◌, ◌-◌, ◌∷◌, ◌↔◌, [], length, IsTrue, IfOk, IfErr, false, max};
+ghost use Rattle.capn_words.specs.Message.{segment_at, word_at, IsMessage, IsPlace};
+ghost use Rattle.capn_words.specs.declared.pointer.Pointer.TheVariants.{Far};
 ghost use Rattle.capn_value.specs.Cost.{most_cost};
 ghost use Rattle.capn_target.specs.Target as spec;
 ghost use Rattle.capn_walk.specs.Visits.{pays, visits};
@@ -13,9 +14,9 @@ ghost use Rattle.capn_target.specs.declared.target.Fault.TheVariants.{Memory};
 
 use crate::slots_left::SlotsLeft;
 use crate::step::{capability_of, price_within, slots_below};
-use capn_target::counted::{CountedSpace, Reads, near, resolve};
+use capn_target::counted::{CountedSpace, Reads, near, pointer_at, resolve, segment_length};
 use capn_target::{Fault, Target};
-use capn_words::{Place, Pointer, Space, Width};
+use capn_words::{Place, Pointer, Space, Width, split};
 use std::sync::ledger::Ledger;
 
 /// The findings of one visit: its price, the capability that it meets, and the slots below it.
@@ -84,11 +85,12 @@ pub fn visit_numbers<S: Space, L: Ledger>(
     }
 }
 
-/// Visits the slot at `at`, whatever its target, at most `depth` objects deep, with `left` words left to pay.
+/// Visits the slot at `at`, whose `word` may be any, at most `depth` objects deep, with `left` words left to pay.
 #[inline(never)]
 pub fn visit_elsewhere<S: Space, L: Ledger>(
     space: CountedSpace<'_, S, L>,
     at: Place,
+    word: u64,
     depth: u32,
     left: u32,
     base: u32,
@@ -96,12 +98,62 @@ pub fn visit_elsewhere<S: Space, L: Ledger>(
 ) -> Result<Visited, Fault>
     requires message { IsMessage space }
     requires place { IsPlace space at }
+    requires word { word ≡ word_at space at }
     requires left { left ≤ most_cost }
     ensures visits { Visits space.entry base depth left at result }
     ensures reads { reads.new ≤ reads.old + 8 }
 {
+    if let Pointer::Far {
+        double: false,
+        word,
+        segment,
+    } = split(word)
+    {
+        return visit_behind_pad(&space, at, segment, word, depth, left, base, reads);
+    }
     let found = resolve(&space, at, reads);
     visit_found(&space, at, found, depth, left, base)
+}
+
+/// Visits the slot at `at`, whose pointer is a far one to the landing pad of one word at `word` of `segment`, at most
+/// `depth` objects deep, with `left` words left to pay. A pad of a struct has an arm for itself, so that its target
+/// doesn't come through memory.
+#[inline(always)]
+fn visit_behind_pad<S: Space, L: Ledger>(
+    space: &CountedSpace<'_, S, L>,
+    at: Place,
+    segment: u32,
+    word: u32,
+    depth: u32,
+    left: u32,
+    base: u32,
+    reads: &mut Reads<L>,
+) -> Result<Visited, Fault>
+    requires message { IsMessage space.now }
+    requires place { IsPlace space.now at }
+    requires far { spec.pointer_in space.now at.segment at.word ≡ Far false word segment }
+    requires left { left ≤ most_cost }
+    ensures visits { Visits space.now base depth left at result }
+    ensures reads { reads.new ≤ reads.old + 4 }
+{
+    if segment >= space.segments(reads) {
+        return visit_found(space, at, Err(Fault::NoSegment), depth, left, base);
+    }
+    let size = segment_length(space, segment, reads);
+    if word >= size {
+        return visit_found(space, at, Err(Fault::PadRange), depth, left, base);
+    }
+    let pointer = pointer_at(space, segment, word, reads);
+    match pointer {
+        Pointer::Node { .. } => {
+            let found = near(space, segment, size, word, 1, pointer, reads);
+            visit_found(space, at, found, depth, left, base)
+        }
+        _ => {
+            let found = near(space, segment, size, word, 1, pointer, reads);
+            visit_found(space, at, found, depth, left, base)
+        }
+    }
 }
 
 /// Visits the slot at `at`, whose target `found` is known, at most `depth` objects deep, with `left` words left to pay.
