@@ -1,5 +1,5 @@
 -- The canonical bytes of the value of an accepted message are at most 8 for each word paid, and 8 more. (For
--- `survey_short`.)
+-- `survey_short` and `write_message`.)
 use Rattle.std.proofs.Common.{ℕ, ◌+◌, ◌*◌, ◌^◌, ◌≤◌, List, length, Result, IfOk, arith}
 use Rattle.std.proofs.lemmas.Result.{IfOk-weaker}
 use Rattle.capn_words.specs.Message.{IsMessage}
@@ -16,7 +16,7 @@ use Rattle.capn_layout.proofs.shared.Sound.{sound}
 use Rattle.capn_canon.specs.Layout.{canon}
 use Rattle.capn_canon.specs.declared.refusal.Refusal.{Refusal}
 
-short : (m : List (List ℕ)) (limits : Bounds) (v : Tree) → IsMessage m → limits.budget ≤ 2 ^ 28 → limits.depth ≤ 256
+pub short : (m : List (List ℕ)) (limits : Bounds) (v : Tree) → IsMessage m → limits.budget ≤ 2 ^ 28 → limits.depth ≤ 256
     → IsValueOf m limits v → length (canon v) ≤ 8 * (paid m limits + 1)
 short m limits v is small shallow h =
     let f = fits-root m (base limits.tariff) limits.budget limits.depth v small shallow h.accepted.within h.is in

@@ -58,13 +58,7 @@ fn fill_copied(
 }
 
 /// Writes the canonical bytes of bare words to `out`, in place.
-fn fill_bare(
-    alloc: Global,
-    bytes: &[u8],
-    limits: Limits,
-    out: &mut [u8],
-    report: &mut CapnReport,
-) -> u32
+fn fill_bare(bytes: &[u8], limits: Limits, out: &mut [u8], report: &mut CapnReport) -> u32
     ensures possible { (result ≤ 1) ⊎ (8 ≤ result) }
     ensures found { result ≤ 1 → (text : List ℕ) × Answers forms.Bare bytes.now limits text report.new.paid
         × Delivers text result report.new.length out.old out.new }
@@ -82,7 +76,7 @@ fn fill_bare(
         → IsCanonicalForm (take report.new.length out.new) limits v }
 {
     match Bare::new(bytes) {
-        Ok(message) => write_message(alloc, &message, limits, out, report),
+        Ok(message) => write_message(&message, limits, out, report),
         Err(fault) => refuse(Refusal::Bare(fault), report),
     }
 }
@@ -118,7 +112,7 @@ fn fill_frame(
         return fill_copied(alloc, Form::Stream, bytes, limits, out, report);
     };
     match read {
-        Ok(message) => write_message(alloc, &message, limits, out, report),
+        Ok(message) => write_message(&message, limits, out, report),
         Err(refusal) => refuse(refusal, report),
     }
 }
@@ -152,6 +146,6 @@ pub fn fill(
     match form {
         Form::Stream => fill_frame(alloc, bytes, limits, out, report),
         Form::Packed => fill_copied(alloc, form, bytes, limits, out, report),
-        Form::Bare => fill_bare(alloc, bytes, limits, out, report),
+        Form::Bare => fill_bare(bytes, limits, out, report),
     }
 }

@@ -54,7 +54,6 @@ fn held_length(
 
 /// Writes the canonical bytes of a message that is held in `segments` to `out`.
 fn fill_held(
-    alloc: Global,
     segments: &[&[[u8; 8]]],
     limits: Limits,
     out: &mut [u8],
@@ -78,7 +77,7 @@ fn fill_held(
         → IsCanonicalForm (take report.new.length out.new) limits v }
 {
     match held(segments, limits) {
-        Ok(message) => write_message(alloc, &message, limits, out, report),
+        Ok(message) => write_message(&message, limits, out, report),
         Err(refusal) => refuse(refusal, report),
     }
 }
@@ -133,7 +132,7 @@ pub extern "C" fn capn_canonical_segments(
             if out.is_empty() {
                 return held_length(alloc, segments, limits, report);
             }
-            fill_held(alloc, segments, limits, out, report)
+            fill_held(segments, limits, out, report)
         }
         Err(status) => status,
     }

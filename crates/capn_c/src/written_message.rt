@@ -14,41 +14,14 @@ ghost use Rattle.capn_canon.specs.declared.refusal.Refusal.{Refusal as Refusals}
 ghost use Rattle.capn_reports.specs.Calls.{Delivers};
 ghost use Rattle.capn_reports.specs.StatusCodes.{Reports, answered, is_status};
 
-use crate::held_message::survey_short;
 use capn_canon::{IntoRefusal, Refusal, canonical_into};
 use capn_reports::{CapnReport, DONE, NO_ROOM, answer_of, refuse};
 use capn_walk::Limits;
 use capn_words::Space;
-use std::alloc::Global;
-
-/// Reports that canonical bytes have no room: their number, and the words that the walk pays.
-fn report_no_room<S: Space>(
-    alloc: Global,
-    space: &S,
-    limits: Limits,
-    needed: usize,
-    report: &mut CapnReport,
-) -> u32
-    requires value { (v : Value) × IsValueOf (S.message space.now) limits v × (first_cap v ≡ None)
-        × (needed ≡ length (canon v)) }
-    ensures status { result ≡ 1 }
-    ensures told { report.new ≡ answered needed (price (S.message space.now) limits) 0 }
-    ensures bounded { IsBounded limits.budget report.new.paid report.new.visits }
-    ensures short { needed ≤ 8 * (report.new.paid + 1) }
-{
-    match survey_short(alloc, space, limits) {
-        Ok(surveyed) => {
-            *report = answer_of(needed as u64, surveyed.paid, 0);
-            NO_ROOM
-        }
-        Err(_) => unreachable!(),
-    }
-}
 
 /// Writes the canonical bytes of the message `space` at the start of `out`, if it has room for them, with the `report`;
 /// returns the status. It takes no memory.
 pub fn write_message<S: Space>(
-    alloc: Global,
     space: &S,
     limits: Limits,
     out: &mut [u8],
@@ -70,13 +43,20 @@ pub fn write_message<S: Space>(
     ensures canonical { result ≡ 0 → (v : Value) → IsValueOf (S.message space.now) limits v
         → IsCanonicalForm (take report.new.length out.new) limits v }
 {
+    // The clause on the length needs their promises.
+    let _segments = space.segments();
+    let _budget = limits.budget();
+    let _depth = limits.depth();
     match canonical_into(space, limits, out) {
         Ok(written) => {
             *report = answer_of(written.length as u64, written.paid, 0);
             DONE
         }
         Err(refusal) => match refusal {
-            IntoRefusal::NoRoom { needed } => report_no_room(alloc, space, limits, needed, report),
+            IntoRefusal::NoRoom { needed, paid } => {
+                *report = answer_of(needed as u64, paid, 0);
+                NO_ROOM
+            }
             IntoRefusal::Walk(stopped) => refuse(Refusal::Walk(stopped), report),
             IntoRefusal::Capability(index) => refuse(Refusal::Capability(index), report),
         },

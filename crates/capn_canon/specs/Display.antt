@@ -31,4 +31,4 @@ message_refusal_text (messages.Capability index) = codes "capability " ++ decima
 abbrev pub into_refusal_text : IntoRefusal → List ℕ
 into_refusal_text (intos.Walk stopped) = stopped_text stopped
 into_refusal_text (intos.Capability index) = codes "capability " ++ decimal index
-into_refusal_text (intos.NoRoom needed) = codes "no room for " ++ (decimal needed ++ codes " bytes")
+into_refusal_text (intos.NoRoom needed paid) = codes "no room for " ++ (decimal needed ++ codes " bytes")

@@ -1,5 +1,5 @@
 -- The reasons why a message has no canonical bytes, or they are not written into a buffer. (Own.)
-use Rattle.std.specs.Prelude.{◌≡◌, ℕ, List, Some, ⊤}
+use Rattle.std.specs.Prelude.{◌≡◌, ℕ, ◌≤◌, List, Some, ⊤}
 use Rattle.capn_value.specs.Tree.{Tree}
 use Rattle.capn_value.specs.FirstCap.{first_cap}
 use Rattle.capn_walk.specs.Accepted.{IsValueOf, IsWalkRefused, IsBounded}
@@ -22,4 +22,5 @@ IsMessagePaidWithin budget (messages.Capability k) = ⊤
 -- a refusal of a buffer reports as paid a number within a budget, and at most one visit more
 abbrev pub IsIntoPaidWithin : ℕ → IntoRefusal → Type 0
 IsIntoPaidWithin budget (intos.Walk s) = IsBounded budget s.paid s.visits
-IsIntoPaidWithin budget _ = ⊤
+IsIntoPaidWithin budget (intos.NoRoom n p) = p ≤ budget
+IsIntoPaidWithin budget (intos.Capability k) = ⊤

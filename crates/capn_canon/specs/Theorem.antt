@@ -4,7 +4,7 @@ use Rattle.std.specs.Prelude.{IfOk, MatchResult}
 use Rattle.capn_value.specs.Tree.{Tree}
 use Rattle.capn_value.specs.FirstCap.{first_cap}
 use Rattle.capn_value.specs.Same.{Same}
-use Rattle.capn_walk.specs.Accepted.{IsValueOf, IsWalkRefused}
+use Rattle.capn_walk.specs.Accepted.{IsValueOf, IsWalkRefused, paid}
 use Rattle.capn_walk.specs.Limits.{Bounds, AreLimits}
 use Rattle.capn_walk.specs.declared.walk_answer.Stopped.{Stopped}
 use Rattle.capn_canon.specs.declared.form.Form.{Form}
@@ -36,13 +36,14 @@ pub record WrittenInto (message : List (List ℕ)) (limits : Bounds) (old new : 
   pub written : new ≡ canon value ++ drop (length (canon value)) old
 
 -- Else it refuses with the first of these: the walk of the message stops; its value has a capability, of which the
--- first is named; its canonical bytes, whose length is given, have no room.
+-- first is named; its canonical bytes, whose length is given with the words that the walk pays, have no room.
 abbrev pub RefusedInto : List (List ℕ) → Bounds → ℕ → IntoRefusal → Type 0
 RefusedInto message limits room (intos.Walk s) = IsWalkRefused message limits s.fault s.place s.paid s.visits
 RefusedInto message limits room (intos.Capability k) =
     (v : Tree) × IsValueOf message limits v × (first_cap v ≡ Some k)
-RefusedInto message limits room (intos.NoRoom n) =
+RefusedInto message limits room (intos.NoRoom n p) =
     (v : Tree) × IsValueOf message limits v × (first_cap v ≡ None) × (n ≡ length (canon v)) × (room < n)
+    × (p ≡ paid message limits)
 
 -- ---- read to here for the theorem
 

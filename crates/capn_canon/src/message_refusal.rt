@@ -28,6 +28,8 @@ pub enum IntoRefusal {
     NoRoom {
         /// The length of the canonical bytes.
         needed: usize,
+        /// The words that the walk of the message pays.
+        paid: u32,
     },
 }
 
@@ -81,7 +83,7 @@ impl fmt::Display for IntoRefusal {
         match self {
             IntoRefusal::Walk(stopped) => write!(f, "{stopped}"),
             IntoRefusal::Capability(index) => write!(f, "capability {index}"),
-            IntoRefusal::NoRoom { needed } => write!(f, "no room for {needed} bytes"),
+            IntoRefusal::NoRoom { needed, paid: _ } => write!(f, "no room for {needed} bytes"),
         }
     }
 }

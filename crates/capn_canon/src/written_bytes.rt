@@ -34,7 +34,8 @@ fn write_message<S: Space, L: Ledger>(
     let depth = limits.depth();
     let surveyed = survey_value(space, limits, reads)?;
     if let Some(needed) = length_beyond(space, limits, surveyed.paid, out.len(), reads) {
-        return Err(IntoRefusal::NoRoom { needed });
+        let paid = surveyed.paid;
+        return Err(IntoRefusal::NoRoom { needed, paid });
     }
     let length = surveyed_layout_into_counted(space, depth, out, reads);
     Ok(CanonicalLength {
@@ -95,7 +96,7 @@ impl CountedWriter for IntoTask {
 ///
 /// The refusals are tested in this order, and after each `out` is as it was. The message is walked: `Walk` if it is not
 /// accepted. Its value is laid out: `Capability`, with the index of the first in preorder. `NoRoom`, with the length of
-/// the canonical bytes, if that is more than `out` has.
+/// the canonical bytes and the words that the walk pays, if `out` is shorter than that length.
 ///
 /// It takes no memory but the stack, whatever the depth. `8 * (paid + 1)` bytes are always enough, and so are `8 *
 /// (budget + 1)`; the bytes are counted before they are written only if there are fewer. (Own.)

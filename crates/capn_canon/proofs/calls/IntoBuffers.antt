@@ -42,7 +42,7 @@ pub no_bytes_into : (m : List (List ℕ)) (limits : Bounds) (room : ℕ) (e : In
 no_bytes_into m limits room (intos.Walk s) h v is free fits = no_bytes m limits (messages.Walk s) h (v, is, free)
 no_bytes_into m limits room (intos.Capability k) h v is free fits =
     no_bytes m limits (messages.Capability k) h (v, is, free)
-no_bytes_into m limits room (intos.NoRoom n) (w, also, f, e, l) v is free fits =
+no_bytes_into m limits room (intos.NoRoom n p) (w, also, f, e, l, c) v is free fits =
     let s = ap (λ (x : Tree). length (canon x)) (unique m w v root also.is is.is) in
     absurd (omega arith)
 

@@ -35,20 +35,22 @@ module _ (m : List (List ℕ)) (limits : Bounds) where
   one_into room (intos.Walk s) (intos.Walk t) h k = ap (λ (x : Stopped). intos.Walk x) (one_stop m limits s t h k)
   one_into room (intos.Walk s) (intos.Capability k) h (w, also, f) =
       absurd (accepted-not_refused m limits s also.accepted h)
-  one_into room (intos.Walk s) (intos.NoRoom n) h (w, also, f, l, o) =
+  one_into room (intos.Walk s) (intos.NoRoom n p) h (w, also, f, l, o, c) =
       absurd (accepted-not_refused m limits s also.accepted h)
   one_into room (intos.Capability j) (intos.Walk s) (v, is, e) k =
       absurd (accepted-not_refused m limits s is.accepted k)
   one_into room (intos.Capability j) (intos.Capability k) (v, is, e) (w, also, f) =
       ap (λ (x : ℕ). intos.Capability x) (one_cap j k v w is also e f)
-  one_into room (intos.Capability j) (intos.NoRoom n) (v, is, e) (w, also, f, l, o) = absurd (no_cap j v w is also e f)
-  one_into room (intos.NoRoom n) (intos.Walk s) (v, is, e, l, o) k =
+  one_into room (intos.Capability j) (intos.NoRoom n p) (v, is, e) (w, also, f, l, o, c) =
+      absurd (no_cap j v w is also e f)
+  one_into room (intos.NoRoom n p) (intos.Walk s) (v, is, e, l, o, c) k =
       absurd (accepted-not_refused m limits s is.accepted k)
-  one_into room (intos.NoRoom n) (intos.Capability k) (v, is, e, l, o) (w, also, f) =
+  one_into room (intos.NoRoom n p) (intos.Capability k) (v, is, e, l, o, c) (w, also, f) =
       absurd (no_cap k w v also is f e)
-  one_into room (intos.NoRoom n) (intos.NoRoom j) (v, is, e, l, o) (w, also, f, k, p) =
-      ap (λ (x : ℕ). intos.NoRoom x)
-      (l ∙ ap (λ (x : Tree). length (canon x)) (unique m v w root is.is also.is) ∙ sym k)
+  one_into room (intos.NoRoom n p) (intos.NoRoom j q) (v, is, e, l, o, c) (w, also, f, k, r, d) =
+      let same = l ∙ ap (λ (x : Tree). length (canon x)) (unique m v w root is.is also.is) ∙ sym k in
+      let paid_so = c ∙ sym d in
+      λ i. intos.NoRoom (same i) (paid_so i)
 
   -- and one answer, with one buffer after it
   one_written : (old p q : List ℕ) (c d : CanonicalLength) → WrittenInto m limits old p c

@@ -104,8 +104,9 @@ family_written = record {
   written = refl;
 }
 
-family_no_room : RefusedInto (family_words ∷ []) usual 55 (intos.NoRoom 56)
-family_no_room = (family, family_value, refl, sym family_length, omega arith)
+family_no_room : RefusedInto (family_words ∷ []) usual 55 (intos.NoRoom 56 10)
+unfolding words point word_bytes root_visits visits target pointer_of
+family_no_room = (family, family_value, refl, sym family_length, omega arith, refl)
 
 -- ---- an empty struct, a list of the bits 1, 0 and 1, and a list of two pointers: to an empty struct, and null
 

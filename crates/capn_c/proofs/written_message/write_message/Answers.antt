@@ -33,10 +33,10 @@ returns-in-NoRoom-clause-only g c v h n =
     c.in-Err.ensures.refused in
     let same : r.0 ≡ v = unique m r.0 v root r.1.is h.is in
     let long = ap (λ (x : Tree). length (canon x)) same in
-    let told = ap (λ (x : CapnReport). x.length) c.report_no_room.ensures.told in
+    let told = ap (λ (x : CapnReport). x.length) c.answer_of.ensures in
     record {
       length_is = told ∙ r.3 ∙ long;
-      either = inr (c.report_no_room.ensures.status, (omega (arith, r.3, r.4, long), c.in-Err.ensures.unchanged));
+      either = inr (refl, (omega (arith, r.3, r.4, long), c.in-Err.ensures.unchanged));
     }
 
 pub returns-in-Walk-clause-no_memory : goal.returns-in-Walk-clause-no_memory
