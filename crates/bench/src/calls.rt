@@ -1,7 +1,7 @@
 //! The measured calls, and the calls for their inputs.
 
 use anyhow::{Result, anyhow};
-use capn_canon::{Form, canonical_of, is_canonical};
+use capn_canon::{Form, canonical_of, is_canonical, same_messages};
 use capn_commands::{Command, run};
 use capn_pack::{pack, unpack};
 use capn_stream::{Framed, Framer, first};
@@ -174,4 +174,29 @@ pub(crate) fn checked(alloc: Global, stream: &[u8]) -> Result<Vec<u8>> {
 /// The SHA-256 of a message's canonical bytes.
 pub(crate) fn digest(alloc: Global, framed: &[u8]) -> Result<[u8; 32]> {
     Ok(Sha256::digest(canonical(alloc, framed)?.as_slice()))
+}
+
+/// The framed message with the first word of its root's content changed, if the root is a near pointer to the next
+/// word.
+pub(crate) fn changed(alloc: Global, framed: &[u8]) -> Result<Vec<u8>> {
+    let mut bytes = copied(alloc, framed)?;
+    match bytes.get_mut(16) {
+        Some(byte) => {
+            *byte ^= 1;
+            Ok(bytes)
+        }
+        None => Err(anyhow!("no root")),
+    }
+}
+
+/// 1 where two framed messages have the same value, else 0.
+pub(crate) fn compared(alloc: Global, one: &[u8], other: &[u8]) -> Result<u32> {
+    match same_messages(
+        &message(alloc, one)?,
+        &message(alloc, other)?,
+        Limits::usual(),
+    ) {
+        Ok(same) => Ok(u32::from(same)),
+        Err(_) => Err(anyhow!("not compared")),
+    }
 }

@@ -1,8 +1,8 @@
 //! The measured operations, and their inputs.
 
 use crate::calls::{
-    canonical, checked, copied, first_byte, indexed, longer, packed, paid, received, roomed,
-    segments_of, told, tree_of, unpacked, walked,
+    canonical, changed, checked, compared, copied, first_byte, indexed, longer, packed, paid,
+    received, roomed, segments_of, told, tree_of, unpacked, walked,
 };
 use anyhow::{Result, anyhow};
 use capn_value::{Tree, show};
@@ -41,6 +41,10 @@ pub(crate) enum Operation {
     Unpack,
     /// The program's run of `check` over a stream.
     Check,
+    /// The comparison of the message with itself, surveyed twice.
+    Same,
+    /// The comparison with a message that differs in the root's first word.
+    NotSame,
 }
 
 impl Operation {
@@ -80,13 +84,17 @@ impl Operation {
             Operation::Pack => "pack",
             Operation::Unpack => "unpack",
             Operation::Check => "check",
+            Operation::Same => "same",
+            Operation::NotSame => "not_same",
         }
     }
 
     /// The operation of that name.
     pub(crate) fn named(name: &str) -> Option<Operation> {
-        if name == Operation::Check.name() {
-            return Some(Operation::Check);
+        for operation in [Operation::Check, Operation::Same, Operation::NotSame] {
+            if name == operation.name() {
+                return Some(operation);
+            }
         }
         Operation::ALL
             .iter()
@@ -102,17 +110,20 @@ pub(crate) struct Input {
     bytes: Vec<u8>,
     /// The tree of the message.
     tree: Option<Tree>,
+    /// A second message, if the operation takes two; else nothing.
+    other: Vec<u8>,
     /// The bytes by which its cost is given: those of canonical bytes, else of the framed message or the stream.
     pub size: usize,
 }
 
 /// Bytes of which the cost is given by a size, or else by their own.
-fn of_bytes(bytes: Result<Vec<u8>>, size: Option<usize>) -> Result<Input> {
+fn of_bytes(alloc: Global, bytes: Result<Vec<u8>>, size: Option<usize>) -> Result<Input> {
     let bytes = bytes?;
     let size = size.unwrap_or(bytes.len());
     Ok(Input {
         bytes,
         tree: None,
+        other: Vec::new(alloc),
         size,
     })
 }
@@ -123,6 +134,19 @@ fn of_tree(alloc: Global, tree: Result<Tree>, size: usize) -> Result<Input> {
     Ok(Input {
         bytes: Vec::new(alloc),
         tree: Some(tree),
+        other: Vec::new(alloc),
+        size,
+    })
+}
+
+/// A message and another, of which the cost is given by the size of the first.
+fn of_two(other: Result<Vec<u8>>, bytes: Vec<u8>) -> Result<Input> {
+    let other = other?;
+    let size = bytes.len();
+    Ok(Input {
+        bytes,
+        tree: None,
+        other,
         size,
     })
 }
@@ -142,11 +166,12 @@ impl Input {
     pub(crate) fn new(alloc: Global, operation: Operation, framed: Vec<u8>) -> Result<Input> {
         let size = framed.len();
         match operation {
-            Operation::IsCanonical => of_bytes(canonical(alloc, &framed), None),
-            Operation::NotCanonical => of_bytes(longer(alloc, &framed), None),
-            Operation::Unpack => of_bytes(packed(alloc, &framed), Some(size)),
+            Operation::IsCanonical => of_bytes(alloc, canonical(alloc, &framed), None),
+            Operation::NotCanonical => of_bytes(alloc, longer(alloc, &framed), None),
+            Operation::Unpack => of_bytes(alloc, packed(alloc, &framed), Some(size)),
             Operation::Show => of_tree(alloc, tree_of(alloc, &framed), size),
-            _ => of_bytes(Ok(framed), Some(size)),
+            Operation::NotSame => of_two(changed(alloc, &framed), framed),
+            _ => of_bytes(alloc, Ok(framed), Some(size)),
         }
     }
 
@@ -181,6 +206,8 @@ impl Input {
             Operation::Pack => len_of(packed(alloc, bytes)),
             Operation::Unpack => len_of(unpacked(alloc, bytes)),
             Operation::Check => len_of(checked(alloc, bytes)),
+            Operation::Same => number_of(compared(alloc, bytes, bytes)),
+            Operation::NotSame => number_of(compared(alloc, bytes, self.other.as_slice())),
         }
     }
 }

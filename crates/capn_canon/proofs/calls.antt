@@ -7,4 +7,5 @@ pub mod Accounted
 pub mod Measured
 pub mod OnlySegment
 pub mod ReadInput
+pub mod Compared
 pub mod IntoBuffers

@@ -18,3 +18,4 @@ pub mod MessageRefusal
 pub use Rattle.capn_layout.specs.Layout
 pub use Rattle.capn_layout.specs.LayoutFault
 pub use Rattle.capn_layout.specs.Patch
+pub mod SameMessages

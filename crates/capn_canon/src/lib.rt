@@ -15,6 +15,8 @@
 //! - [`canonical_of_counted`], [`canonical_into_counted`] and [`canonical_length_counted`] do the same as the calls
 //!   without this word to a message whose reads are counted: the words that they pay bound how often all their passes
 //!   read it.
+//! - [`same_messages`] tests whether two messages have the same value, and so equal canonical bytes, and makes none.
+//!   [`same_messages_counted`] does so to two messages whose reads are counted.
 //! - [`own_canonical`] returns the bytes of a message if they are its canonical bytes already, so that nothing is
 //!   copied; [`measure`] reports the words that its walk pays, its visits, its depth, and whether it is canonical.
 //! - [`run_task`] reads bytes in a form as a message, and returns the answer of a [`MessageTask`] to it.
@@ -38,6 +40,11 @@
 //! refusal, and the buffer is as it was. No memory can run out. Its clauses `answered`, `written`, `refused` and
 //! `unchanged` say so, in the same file; [`laws::decision`] says that they leave one result.
 //!
+//! For any two messages and limits, `same_messages` succeeds if and only if both denote values without capabilities
+//! within the limits, and answers whether these are the same: exactly where their canonical bytes are equal. Else it
+//! names the refusal of the first, or of the second where the first has none. No memory can run out. Its clauses
+//! `answered`, `found`, `equal` and `refused` say so, in the definitions of `specs/SameMessages.antt`.
+//!
 //! A tree and a message are laid out by one writer, over what they have in common: slots with their values.
 //!
 //! `layout` takes memory for the bytes that it answers. If a growth is refused the answer is `Memory`.
@@ -54,6 +61,7 @@ mod bare_verdict;
 mod canonical;
 mod canonical_input;
 mod canonical_survey;
+mod comparison;
 mod counted_words;
 mod form;
 mod input;
@@ -68,6 +76,7 @@ mod one_segment;
 mod own_words_test;
 mod progress;
 mod refusal;
+mod same_refusal;
 mod survey_input;
 mod surveyed_bare;
 mod value_survey;
@@ -81,6 +90,7 @@ pub use canonical_input::canonicalise;
 pub use canonical_survey::{
     measure_canonical, measure_canonical_counted, survey_canonical, survey_canonical_counted,
 };
+pub use comparison::{same_messages, same_messages_counted};
 pub use form::Form;
 pub use input::{MessageTask, run_task};
 pub use length::{CanonicalLength, canonical_length, canonical_length_counted};
@@ -89,6 +99,7 @@ pub use message_refusal::{IntoRefusal, MessageRefusal};
 pub use message_survey::survey;
 pub use one_segment::{OwnCanonical, own_canonical};
 pub use refusal::Refusal;
+pub use same_refusal::{SameRefusal, Side};
 pub use survey_input::survey_bytes;
 pub use surveyed_bare::{MeasuredBare, SurveyedBare};
 pub use written_bytes::{canonical_into, canonical_into_counted};

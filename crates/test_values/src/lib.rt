@@ -4,6 +4,8 @@
 #![tactic(auto)]
 
 #[cfg(test)]
+mod comparisons;
+#[cfg(test)]
 mod counted_calls;
 #[cfg(test)]
 mod departure_lines;
@@ -25,6 +27,10 @@ mod making;
 mod marked_texts;
 #[cfg(test)]
 mod measures;
+#[cfg(test)]
+mod same_lists;
+#[cfg(test)]
+mod same_messages;
 #[cfg(test)]
 mod steps;
 #[cfg(test)]

@@ -1,6 +1,6 @@
 -- The bytes of a message that are written into a buffer, or the reason why none are. (For `length.rt` and
 -- `written_bytes.rt`.)
-use Rattle.std.proofs.Common.{◌≡◌, ◌↔◌, ℕ, ◌*◌, ◌+◌, ◌^◌, ◌≤◌, List, ◌++◌, length, take, drop, Some, None}
+use Rattle.std.proofs.Common.{◌≡◌, ◌↔◌, ℕ, ◌*◌, ◌+◌, ◌^◌, ◌≤◌, List, length, take, drop, Some, None}
 use Rattle.std.proofs.Common.{Result, Ok, Err, IsOk, IfOk, IfErr, IsErrAnd, refl, ap, sym, subst, ◌∙◌, arith}
 use Rattle.std.proofs.lemmas.Result.{IfOk-weaker}
 use Rattle.std.proofs.Math.Seq.{take-append_seam, drop-append_seam}

@@ -1,5 +1,5 @@
 -- The clauses of a call that writes into a buffer leave one result, and one buffer after it. (For `decision`.)
-use Rattle.std.proofs.Common.{◌≡◌, ℕ, List, ◌++◌, length, drop, Some, None, Result, Ok, Err, refl, ap, sym, ◌∙◌, arith}
+use Rattle.std.proofs.Common.{◌≡◌, ℕ, List, ◌++◌, length, drop, Some, None, Result, Ok, Err, ap, sym, ◌∙◌}
 use Rattle.capn_value.specs.Tree.{Tree}
 use Rattle.capn_value.specs.FirstCap.{first_cap}
 use Rattle.capn_walk.specs.Accepted.{root, IsValueOf}

@@ -1,4 +1,4 @@
-use Rattle.std.proofs.Common.{◌^◌, ◌<◌, length, ap, arith}
+use Rattle.std.proofs.Common.{length, ap, arith}
 use Rattle.std.proofs.lemmas.Option.{IfSome_then}
 use Rattle.capn_canon.proofs.calls.OnlySegment.{own_short}
 use Rattle.capn_canon.proofs.one_segment.own_canonical.Goals as goal

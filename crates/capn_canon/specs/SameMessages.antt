@@ -1,0 +1,44 @@
+-- Whether two messages have the same value. (Own: the order in which they are judged.)
+use Rattle.std.specs.Prelude.{◌≡◌, ◌≢◌, ◌↔◌, ℕ, List, None, Bool, IsTrue, Result, IfOk, IfErr}
+use Rattle.capn_value.specs.Tree.{Tree}
+use Rattle.capn_value.specs.FirstCap.{first_cap}
+use Rattle.capn_value.specs.Same.{Same}
+use Rattle.capn_walk.specs.Accepted.{IsValueOf}
+use Rattle.capn_walk.specs.Limits.{Bounds}
+use Rattle.capn_canon.specs.CanonicalLength.{HasBytes}
+use Rattle.capn_canon.specs.Refusal.{IsRefusedMessage, IsPaidWithin}
+use Rattle.capn_canon.specs.declared.refusal.Refusal.{Refusal}
+use Rattle.capn_canon.specs.declared.refusal.Refusal.TheVariants as refusals
+use Rattle.capn_canon.specs.declared.same_refusal.SameRefusal.{SameRefusal}
+use Rattle.capn_canon.specs.declared.same_refusal.Side.{Side}
+use Rattle.capn_canon.specs.declared.same_refusal.Side.TheVariants.{First, Second}
+
+-- both messages are accepted with values that have no capability, and the answer is true if and only if these are the
+-- same, up to trailing zero words and trailing null slots of structs
+pub record SaysSame (a b : List (List ℕ)) (limits : Bounds) (same : Bool) : Type 0 where
+  pub one : Tree
+  pub two : Tree
+  pub first : IsValueOf a limits one
+  pub second : IsValueOf b limits two
+  pub first_free : first_cap one ≡ None
+  pub second_free : first_cap two ≡ None
+  pub answer : IsTrue same ↔ Same one two
+
+-- the walk of a message stops, or it is accepted and its value has a capability
+abbrev pub IsUnfit : List (List ℕ) → Bounds → Refusal → Type 0
+IsUnfit message limits e = IsRefusedMessage message limits e × (e ≢ refusals.Memory)
+
+-- the first message is refused, or it isn't and the second is
+abbrev pub IsRefusedOn : List (List ℕ) → List (List ℕ) → Bounds → Side → Refusal → Type 0
+IsRefusedOn a b limits First e = IsUnfit a limits e
+IsRefusedOn a b limits Second e = HasBytes a limits × IsUnfit b limits e
+
+-- what two messages are not compared for
+abbrev pub IsNotCompared : List (List ℕ) → List (List ℕ) → Bounds → SameRefusal → Type 0
+IsNotCompared a b limits e = IsRefusedOn a b limits e.side e.refusal
+
+-- a call says whether two messages are the same, or why they are not compared, and no walk pays beyond its budget
+pub record IsSameTold (a b : List (List ℕ)) (limits : Bounds) (r : Result Bool SameRefusal) : Type 0 where
+  pub found : IfOk r (λ same. SaysSame a b limits same)
+  pub refused : IfErr r (λ e. IsNotCompared a b limits e)
+  pub bounded : IfErr r (λ e. IsPaidWithin limits.budget e.refusal)

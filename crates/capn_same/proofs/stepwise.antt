@@ -1,0 +1,9 @@
+-- The steps of a comparison.
+pub mod Words
+pub mod Bits
+pub mod Numbers
+pub mod Kinds
+pub mod Slots
+pub mod RowsApart
+pub mod Contents
+pub mod Verdicts

@@ -1,0 +1,301 @@
+-- What the content of a slot holds, and what is said of it. (For `objects.rt`.)
+use Rattle.std.proofs.Common.{◌≡◌, ◌↔◌, ℕ, ◌+◌, ◌-◌, ◌*◌, ◌<◌, ◌≤◌, ◌^◌, ◌%◌, ◌==◌, Bool, true, false}
+use Rattle.std.proofs.Common.{IsTrue}
+use Rattle.std.proofs.Common.{List, length, take, Ok, refl, ap, ap₂, sym, subst, ◌∙◌, arith, length-drop}
+use Rattle.std.proofs.lemmas.Bool.{false≢true, eqb-true, eq-eqb}
+use Rattle.std.proofs.lemmas.List.{get_or-drop}
+use Rattle.capn_words.specs.Message.{segment_at}
+use Rattle.capn_words.specs.declared.space.Place.{Place}
+use Rattle.capn_words.specs.declared.pointer.Width.{Width}
+use Rattle.capn_words.specs.declared.pointer.Width.TheVariants.{W0, W1, W8, W16, W32, W64, Link, Rows}
+use Rattle.capn_value.specs.Tree.{Tree, nil, node, voids, numbers, links, rows, cap}
+use Rattle.capn_value.specs.Tree.{row_words}
+use Rattle.capn_value.specs.Same.{Same, SameWords, SameSlots, SameRows}
+use Rattle.capn_value.specs.Cost.{height}
+use Rattle.capn_target.specs.declared.target.Target.{Target}
+use Rattle.capn_target.specs.declared.target.Target.TheVariants as targets
+use Rattle.capn_target.specs.declared.target.Shape.{Shape}
+use Rattle.capn_target.specs.declared.target.Shape.TheVariants as shapes
+use Rattle.capn_target.specs.Target.{target, words_for, content_words, list_width}
+use Rattle.capn_target.specs.Shapes.{IsContent, IsPlain, RowsFit}
+use Rattle.capn_target.proofs.shared.Inside.{inside}
+use Rattle.capn_target.proofs.shared.Present.{present}
+use Rattle.capn_walk.specs.ValueAt.{IsAt, IsInside, words_from}
+use Rattle.capn_layout.specs.FirstBits.{element_bits}
+use Rattle.capn_layout.specs.Weight.{weight, weights, weights_in_rows}
+use Rattle.capn_layout.proofs.shared.Shaped.{inside-of, as-node, as-links, as-rows}
+use Rattle.capn_layout.proofs.shared.FirstBits.{plain-words}
+use Rattle.capn_same.specs.inner.Runs.{AreZeros}
+use Rattle.capn_same.specs.inner.Held.{HasValue, AreIn, HasValues, IsRow, HasRow, AreRowsIn, HasRows, HasContent}
+use Rattle.capn_same.proofs.stepwise.Kinds.{target_mark, shape_mark, shape_count, at-mark, inside-mark, inside-count}
+use Rattle.capn_same.proofs.stepwise.Kinds.{same-mark, same-count}
+use Rattle.capn_same.proofs.stepwise.Numbers.{IsList}
+use Rattle.capn_same.proofs.stepwise.Slots.{slots-each}
+
+-- what is not so is answered by no
+pub no : {P : Type 0} → (P → ⊥) → IsTrue false ↔ P
+no n = ((λ e. absurd (false≢true e)), (λ h. absurd (n h)))
+
+-- zeros at a place that is another
+pub zeros-at : (m : List (List ℕ)) (p q : Place) (n : ℕ) (r : Bool) → p ≡ q
+    → (IsTrue r ↔ AreZeros (segment_at m p.segment) p.word n) → IsTrue r ↔ AreZeros (segment_at m q.segment) q.word n
+zeros-at m p q n r e h = subst (λ (x : Place). IsTrue r ↔ AreZeros (segment_at m x.segment) x.word n) e h
+
+-- the test of what is left of two words
+pub last-test : (x y mask w v k : ℕ) → x ≡ w → y ≡ v → mask ≡ 2 ^ k
+    → IsTrue (x % mask == y % mask) ↔ (w % 2 ^ k ≡ v % 2 ^ k)
+last-test x y mask w v k ex ey em =
+    let left = ap₂ (λ (a b : ℕ). a % b) ex em in
+    let right = ap₂ (λ (a b : ℕ). a % b) ey em in (
+      (λ t. sym left ∙ eqb-true (x % mask) (y % mask) t ∙ right),
+      (λ e. eq-eqb (x % mask) (y % mask) (left ∙ e ∙ sym right)),
+    )
+
+pub both-nil : (v w : Tree) → v ≡ nil → w ≡ nil → IsTrue true ↔ Same v w
+both-nil v w e f =
+    subst (λ (t : Tree). IsTrue true ↔ Same v t) (sym f)
+    (subst (λ (t : Tree). IsTrue true ↔ Same t nil) (sym e) ((λ h. tt), (λ h. refl)))
+
+pub both-cap : (j k : ℕ) (v w : Tree) → v ≡ cap j → w ≡ cap k → IsTrue (j == k) ↔ Same v w
+both-cap j k v w e f =
+    subst (λ (t : Tree). IsTrue (j == k) ↔ Same v t) (sym f)
+    (subst (λ (t : Tree). IsTrue (j == k) ↔ Same t (cap k)) (sym e) (eqb-true j k, eq-eqb j k))
+
+module _ (m k : List (List ℕ)) where
+  -- values of targets of two kinds
+  pub slots-apart : (at beside : Place) (t u : Target) (v w : Tree) → target m at ≡ Ok t → target k beside ≡ Ok u
+      → IsAt m at v → IsAt k beside w → (target_mark t ≡ target_mark u → ⊥) → IsTrue false ↔ Same v w
+  slots-apart at beside t u v w e f h g n =
+      no (λ s. n (at-mark m at t v e h ∙ same-mark v w s ∙ sym (at-mark k beside u w f g)))
+
+  -- values of content of two kinds, or of two lengths
+  pub contents-apart : (x y : Shape) (s w t u : ℕ) (v z : Tree) → IsInside m x s w v → IsInside k y t u z
+      → (shape_mark x ≡ shape_mark y → ⊥) → IsTrue false ↔ Same v z
+  contents-apart x y s w t u v z h g n =
+      no (λ e. n (inside-mark m x s w v h ∙ same-mark v z e ∙ sym (inside-mark k y t u z g)))
+
+  pub lengths-apart : (x y : Shape) (s w t u : ℕ) (v z : Tree) → IsInside m x s w v → IsInside k y t u z
+      → (shape_count x ≡ shape_count y → ⊥) → IsTrue false ↔ Same v z
+  lengths-apart x y s w t u v z h g n =
+      no (λ e. n (inside-count m x s w v h ∙ same-count v z e ∙ sym (inside-count k y t u z g)))
+
+  -- structs
+  pub same-node : (a b c d s w t u : ℕ) (v z : Tree) (h : IsInside m (shapes.Node a b) s w v)
+      (g : IsInside k (shapes.Node c d) t u z) (r : Bool)
+      → (IsTrue r ↔ (SameWords (as-node m a b s w v h).words (as-node k c d t u z g).words
+      × SameSlots (as-node m a b s w v h).slots (as-node k c d t u z g).slots)) → IsTrue r ↔ Same v z
+  same-node a b c d s w t u v z h g r q =
+      let x = as-node m a b s w v h in
+      let y = as-node k c d t u z g in
+      subst (λ (p : Tree). IsTrue r ↔ Same v p) (sym y.is)
+      (subst (λ (p : Tree). IsTrue r ↔ Same p (node y.words y.slots)) (sym x.is) q)
+
+  -- lists of pointers
+  pub same-links : (n s w t u : ℕ) (v z : Tree) (h : IsInside m (shapes.Many Link n) s w v)
+      (g : IsInside k (shapes.Many Link n) t u z) (r : Bool)
+      → (IsTrue r ↔ SameSlots (as-links m n s w v h).slots (as-links k n t u z g).slots) → IsTrue r ↔ Same v z
+  same-links n s w t u v z h g r q =
+      let x = as-links m n s w v h in
+      let y = as-links k n t u z g in
+      let e = slots-each x.slots y.slots (x.count ∙ sym y.count) in
+      subst (λ (p : Tree). IsTrue r ↔ Same v p) (sym y.is)
+      (subst (λ (p : Tree). IsTrue r ↔ Same p (links y.slots)) (sym x.is)
+      ((λ b. e.0 (q.0 b)), (λ o. q.1 (e.1 o))))
+
+  -- lists of structs
+  pub same-rows : (n a b p c d q s w t u : ℕ) (v z : Tree) (h : IsInside m (shapes.Rows n a b p) s w v)
+      (g : IsInside k (shapes.Rows n c d q) t u z) (r : Bool)
+      → (IsTrue r ↔ SameRows (as-rows m n a b p s w v h).bodies (as-rows k n c d q t u z g).bodies)
+      → IsTrue r ↔ Same v z
+  same-rows n a b p c d q s w t u v z h g r o =
+      let x = as-rows m n a b p s w v h in
+      let y = as-rows k n c d q t u z g in
+      subst (λ (i : Tree). IsTrue r ↔ Same v i) (sym y.is)
+      (subst (λ (i : Tree). IsTrue r ↔ Same i (rows y.bodies)) (sym x.is) o)
+
+plain-width : (width : Width) (n : ℕ) → (width ≡ Link → ⊥) → RowsFit (shapes.Many width n) → IsPlain width
+plain-width W0 n h r = tt
+plain-width W1 n h r = tt
+plain-width W8 n h r = tt
+plain-width W16 n h r = tt
+plain-width W32 n h r = tt
+plain-width W64 n h r = tt
+plain-width Link n h r = h refl
+plain-width Rows n h r = r
+
+pub few-bits : (width : Width) → element_bits width ≤ 64
+few-bits W0 = omega arith
+few-bits W1 = omega arith
+few-bits W8 = omega arith
+few-bits W16 = omega arith
+few-bits W32 = omega arith
+few-bits W64 = omega arith
+few-bits Link = omega arith
+few-bits Rows = omega arith
+
+pub bits-below : (width : Width) (n : ℕ) → n < 2 ^ 32 → element_bits width * n < 2 ^ 38
+bits-below W0 n h = omega arith
+bits-below W1 n h = omega arith
+bits-below W8 n h = omega arith
+bits-below W16 n h = omega arith
+bits-below W32 n h = omega arith
+bits-below W64 n h = omega arith
+bits-below Link n h = omega arith
+bits-below Rows n h = omega arith
+
+pub inside-deep : (m : List (List ℕ)) (shape : Shape) (s w : ℕ) (v : Tree) → IsInside m shape s w v → 1 ≤ height v
+inside-deep m shape s w (node ws ss) h = omega arith
+inside-deep m shape s w (voids n) h = omega arith
+inside-deep m shape s w (numbers a xs) h = omega arith
+inside-deep m shape s w (links ts) h = omega arith
+inside-deep m shape s w (rows bs) h = omega arith
+inside-deep m shape s w nil h = absurd h
+inside-deep m shape s w (cap k) h = absurd h
+
+module _ (m : List (List ℕ)) where
+  -- what a slot with a value has behind its pointer
+  pub has-content : (at : Place) (depth s start pads : ℕ) (shape : Shape) → HasValue m at depth
+      → target m at ≡ Ok (targets.Content s start shape pads)
+      → HasContent m shape (record { segment = s; word = start }) depth
+  has-content at depth s start pads shape r e =
+      let i = inside m at s start pads shape e in
+      record {
+        message = r.is.message;
+        content = record { exists = present m at s start pads shape r.is.place e; within = i.0 };
+        fits = i.1;
+        value = r.value;
+        is = inside-of m at s start pads shape e r.value r.is.at;
+        low = r.low;
+      }
+
+  pub deep : (shape : Shape) (at : Place) (depth : ℕ) → HasContent m shape at depth → 1 ≤ depth
+  deep shape at depth r =
+      let h = inside-deep m shape at.segment at.word r.value r.is in let l = r.low in omega arith
+
+  -- the row of a struct
+  pub is-row : (a b depth : ℕ) (at : Place) (v : Tree) → HasContent m (shapes.Node a b) at depth
+      → (h : IsInside m (shapes.Node a b) at.segment at.word v)
+      → IsRow m at a b (as-node m a b at.segment at.word v h).words (as-node m a b at.segment at.word v h).slots
+  is-row a b depth at v r h =
+      let x = as-node m a b at.segment at.word v h in
+      record {
+        message = r.message;
+        content = r.content;
+        long = x.number;
+        number = x.count;
+        own = ap (λ (n : ℕ). take n (words_from m at.segment at.word)) x.number ∙ x.own;
+        below = x.below;
+      }
+
+  pub has-row : (a b depth : ℕ) (at : Place) → HasContent m (shapes.Node a b) at depth → HasRow m at a b (depth - 1)
+  has-row a b depth at r =
+      let x = as-node m a b at.segment at.word r.value r.is in
+      let l = r.low in
+      let e = ap height x.is in
+      record { words = x.words; slots = x.slots; is = is-row a b depth at r.value r r.is; low = omega arith }
+
+  pub node-weighs : (a b s w : ℕ) (v : Tree) (h : IsInside m (shapes.Node a b) s w v)
+      → 2 * a + 12 * b + 20 * weights (as-node m a b s w v h).slots ≤ 20 * weight v
+  node-weighs a b s w v h =
+      let x = as-node m a b s w v h in
+      let e = ap weight x.is in let n = x.number in let c = x.count in omega arith
+
+  -- the slots of a list of pointers
+  pub are-in : (n depth : ℕ) (at : Place) (v : Tree) → HasContent m (shapes.Many Link n) at depth
+      → (h : IsInside m (shapes.Many Link n) at.segment at.word v)
+      → AreIn m at n (as-links m n at.segment at.word v h).slots
+  are-in n depth at v r h =
+      let x = as-links m n at.segment at.word v h in
+      record { message = r.message; content = r.content; number = x.count; are = x.below }
+
+  pub has-values : (n depth : ℕ) (at : Place) → HasContent m (shapes.Many Link n) at depth
+      → HasValues m at n (depth - 1)
+  has-values n depth at r =
+      let x = as-links m n at.segment at.word r.value r.is in
+      let l = r.low in
+      let e = ap height x.is in
+      record { values = x.slots; are = are-in n depth at r.value r r.is; low = omega arith }
+
+  pub links-weigh : (n s w : ℕ) (v : Tree) (h : IsInside m (shapes.Many Link n) s w v)
+      → 12 * n + 20 * weights (as-links m n s w v h).slots ≤ 20 * weight v
+  links-weigh n s w v h =
+      let x = as-links m n s w v h in let e = ap weight x.is in let c = x.count in omega arith
+
+  -- the rows of a list of structs
+  pub are-rows : (n a b span depth : ℕ) (at : Place) (v : Tree) → HasContent m (shapes.Rows n a b span) at depth
+      → (h : IsInside m (shapes.Rows n a b span) at.segment at.word v)
+      → AreRowsIn m (record { segment = at.segment; word = at.word + 1 }) n a b
+      (as-rows m n a b span at.segment at.word v h).bodies
+  are-rows n a b span depth at v r h =
+      let x = as-rows m n a b span at.segment at.word v h in
+      let w = r.content.within in
+      let f = r.fits in
+      record {
+        message = r.message;
+        content = record { exists = r.content.exists; within = omega arith };
+        number = x.count;
+        rows = x.below;
+      }
+
+  pub has-rows : (n a b span depth : ℕ) (at : Place) → HasContent m (shapes.Rows n a b span) at depth
+      → HasRows m (record { segment = at.segment; word = at.word + 1 }) n a b (depth - 1)
+  has-rows n a b span depth at r =
+      let x = as-rows m n a b span at.segment at.word r.value r.is in
+      let l = r.low in
+      let e = ap height x.is in
+      record { bodies = x.bodies; are = are-rows n a b span depth at r.value r r.is; low = omega arith }
+
+  pub rows-weigh : (n a b span s w : ℕ) (v : Tree) (h : IsInside m (shapes.Rows n a b span) s w v)
+      → n + 12 * row_words (as-rows m n a b span s w v h).bodies
+      + 20 * weights_in_rows (as-rows m n a b span s w v h).bodies ≤ 20 * weight v
+  rows-weigh n a b span s w v h =
+      let x = as-rows m n a b span s w v h in let e = ap weight x.is in let c = x.count in omega arith
+
+  -- the elements of a list of numbers
+  pub is-list : (width : Width) (n depth : ℕ) (at : Place) (v : Tree) → IsPlain width
+      → HasContent m (shapes.Many width n) at depth → IsInside m (shapes.Many width n) at.segment at.word v
+      → IsList m width n at.segment at.word v
+  is-list width n depth at v plain r h =
+      let w = r.content.within in
+      let k = plain-words width n plain in
+      let d = length-drop at.word (segment_at m at.segment) in
+      record {
+        each = λ i. let e = get_or-drop at.word (segment_at m at.segment) i 0 in
+            let b = r.message.each at.segment (at.word + i) in omega arith;
+        room = omega arith;
+        is = h;
+      }
+
+  pub is-plain : (width : Width) (n depth : ℕ) (at : Place) → (width ≡ Link → ⊥)
+      → HasContent m (shapes.Many width n) at depth → IsPlain width
+  is-plain width n depth at ne r = plain-width width n ne r.fits
+
+  pub list-content : (width : Width) (n depth : ℕ) (at : Place) → IsPlain width
+      → HasContent m (shapes.Many width n) at depth → IsContent m at (words_for (element_bits width * n))
+  list-content width n depth at plain r =
+      let w = r.content.within in
+      let k = plain-words width n plain in
+      record { exists = r.content.exists; within = omega arith }
+
+  pub list-weighs : (width : Width) (n s w : ℕ) (v : Tree) → IsPlain width → IsInside m (shapes.Many width n) s w v
+      → words_for (element_bits width * n) ≤ weight v
+  list-weighs width n s w nil plain h = absurd h
+  list-weighs width n s w (cap k) plain h = absurd h
+  list-weighs width n s w (node ws ss) plain h = let f = h.0 in absurd (cc)
+  list-weighs width n s w (links ts) plain h =
+      let f = h.0 in let e : width ≡ Link = cc in absurd (subst IsPlain e plain)
+  list-weighs width n s w (rows bs) plain h = let f = h.3 in absurd (cc)
+  list-weighs width n s w (voids k) plain h =
+      let e : width ≡ W0 = cc in
+      let p = plain-words width n plain in
+      let c = ap (λ (x : Width). content_words x n) e in
+      omega arith
+  list-weighs width n s w (numbers a xs) plain h =
+      let f = h.0 in
+      let e : width ≡ list_width a = cc in
+      let l : n ≡ length xs = cc in
+      let p = plain-words width n plain in
+      let c = ap (λ (x : Width). content_words x n) e in
+      let d = ap (content_words (list_width a)) l in
+      let o : weight (numbers a xs) ≡ content_words (list_width a) (length xs) = refl in
+      omega arith

@@ -1,0 +1,32 @@
+//! Words of a message, one after the other.
+
+ghost use Rattle.std.specs.Prelude.{◌≡◌, ◌+◌, ◌^◌, ◌<◌};
+
+use capn_words::Place;
+
+/// Words from a place on: those of a struct, its slots, or elements of a list of pointers.
+#[derive(Clone, Copy)]
+pub struct Run {
+    pub start: Place,
+    pub count: u32,
+}
+
+/// Returns the place `steps` words behind `start`.
+#[inline(always)]
+pub fn behind(start: Place, steps: u32) -> Place
+    requires { start.word + steps < 2 ^ 32 }
+    ensures { result ≡ record { segment = start.segment; word = start.word + steps } }
+{
+    Place {
+        segment: start.segment,
+        word: start.word + steps,
+    }
+}
+
+/// Rows of equal sizes, one after the other, each with its words and then its slots.
+#[derive(Clone, Copy)]
+pub struct Rows {
+    pub start: Place,
+    pub words: u32,
+    pub slots: u32,
+}

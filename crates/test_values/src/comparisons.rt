@@ -1,0 +1,79 @@
+//! Comparisons of two messages, beside those of their canonical bytes.
+
+use crate::words::bytes_of;
+use capn_canon::{Canonical, Refusal, SameRefusal, Side, canonical_of, same_messages};
+use capn_stream::first;
+use capn_walk::Limits;
+use std::alloc::Global;
+use std::process::Abort;
+
+/// Returns the answer of a comparison of the frames of these words; `None` if it isn't what comparing their canonical
+/// bytes says, with the refusal that these have.
+pub(crate) fn compared(
+    alloc: Global,
+    one: &[u64],
+    other: &[u64],
+    limits: Limits,
+) -> Option<Result<bool, SameRefusal>> {
+    let Ok(one) = bytes_of(alloc, one) else {
+        return None;
+    };
+    let Ok(other) = bytes_of(alloc, other) else {
+        return None;
+    };
+    let Ok((a, _taken)) = first(alloc, one.as_slice(), 8_388_608) else {
+        return None;
+    };
+    let Ok((b, _taken)) = first(alloc, other.as_slice(), 8_388_608) else {
+        return None;
+    };
+    let answer = same_messages(&a, &b, limits);
+    let want = wanted(
+        canonical_of(alloc, &a, limits),
+        canonical_of(alloc, &b, limits),
+    );
+    if answer == want { Some(answer) } else { None }
+}
+
+/// Returns what comparing canonical bytes says.
+fn wanted(
+    one: Result<Canonical, Refusal>,
+    other: Result<Canonical, Refusal>,
+) -> Result<bool, SameRefusal> {
+    match one {
+        Ok(one) => match other {
+            Ok(other) => Ok(one.bytes.as_slice() == other.bytes.as_slice()),
+            Err(refusal) => Err(SameRefusal {
+                side: Side::Second,
+                refusal,
+            }),
+        },
+        Err(refusal) => Err(SameRefusal {
+            side: Side::First,
+            refusal,
+        }),
+    }
+}
+
+/// Tests whether two messages are the same, asked both ways.
+pub(crate) fn expect(rt: &impl Abort, alloc: Global, one: &[u64], other: &[u64], want: bool) {
+    let limits = Limits::usual();
+    let there = compared(alloc, one, other, limits);
+    let back = compared(alloc, other, one, limits);
+    assert!(rt; there == Some(Ok(want)));
+    assert!(rt; back == Some(Ok(want)));
+}
+
+/// The pointer to a struct of these sizes, `offset` words after the pointer.
+pub(crate) fn node(offset: u64, words: u64, slots: u64) -> u64 {
+    offset.wrapping_mul(4)
+        | words.wrapping_mul(0x1_0000_0000)
+        | slots.wrapping_mul(0x1_0000_0000_0000)
+}
+
+/// The pointer to a list of `count` elements of this kind, `offset` words after the pointer.
+pub(crate) fn list(offset: u64, kind: u64, count: u64) -> u64 {
+    1 | offset.wrapping_mul(4)
+        | kind.wrapping_mul(0x1_0000_0000)
+        | count.wrapping_mul(0x8_0000_0000)
+}
