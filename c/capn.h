@@ -6,11 +6,11 @@
  *
  * The caller owes this too:
  *   - Each pointer leads to what its type and the size after it say. A pointer to no bytes may be null, and so may
- *     limits, which are then the usual ones, and a report that is not wanted; no other may. (Code in C sees to that,
- *     which is tested, not proved.) Bytes may start at any address; limits, figures, entries, the numbers of a way,
- *     departures and reports are aligned as their types are.
- *   - What a call writes (`out`, `digest`, `figures`, `entries`, `way`, `departed`, `report`) overlaps nothing else
- *     that it is given, and nothing else reads or writes it while the call runs.
+ *     limits, which are then the usual ones, and a report or a `which` that is not wanted; no other may. (Code in C
+ *     sees to that, which is tested, not proved.) Bytes may start at any address; limits, figures, entries, the numbers
+ *     of a way, departures, a `which` and reports are aligned as their types are.
+ *   - What a call writes (`out`, `digest`, `figures`, `entries`, `way`, `departed`, `which`, `report`) overlaps nothing
+ *     else that it is given, and nothing else reads or writes it while the call runs.
  *   - No call is made from a signal handler, nor from the child of a `fork` of a process with several threads.
  *   - malloc, realloc and free belong to one allocator, which aligns each block as C asks, up to 16 bytes.
  * Every number is tested: a form, a limit, a tariff or a style out of its range is refused.
@@ -18,8 +18,8 @@
  * A call reads bytes, writes into a buffer of the caller's, and keeps nothing: no state, no handle, nothing to free.
  * Calls may run in any threads at once, also on the same input. A call that takes memory asks malloc for it, and gives
  * it back before it returns. Of bare words and of a stream of at most 64 segments, capn_canonical, capn_check,
- * capn_survey, capn_index and capn_is_canonical ask for none, nor does a call whose name ends in `_segments` but
- * capn_hash_segments. Memory is asked for by a packed text, by a stream of more segments, for the bytes that are
+ * capn_survey, capn_same, capn_index and capn_is_canonical ask for none, nor does a call whose name ends in `_segments`
+ * but capn_hash_segments. Memory is asked for by a packed text, by a stream of more segments, for the bytes that are
  * hashed, packed or unpacked, for the text of capn_show, for a way and for the bytes that capn_departure compares; and
  * by capn_first and capn_show for the table of a stream of two segments or more. A call takes at most 16 KiB of stack,
  * and 304 bytes more for each level of depth that the limits allow, capn_show 432, capn_index 560: 92 KiB at depth 256,
@@ -180,6 +180,7 @@ enum capn_status_code {
     CAPN_BAD_TARIFF = 4,    /* the tariff is none of the two */
     CAPN_NOT_CANONICAL = 5, /* of capn_is_canonical alone: the bytes are accepted, and are not canonical */
     CAPN_BAD_STYLE = 6,     /* of capn_show alone: the style is none of the four */
+    CAPN_DIFFERENT = 7,     /* of capn_same alone: both messages have canonical bytes, and these differ */
     CAPN_MEMORY = 8,        /* memory was refused */
 
     /* refusals of what was passed */
@@ -322,6 +323,18 @@ capn_status capn_refusal_way(uint32_t form, const uint8_t *bytes, size_t size, c
  * times. */
 capn_status capn_departure(uint32_t form, const uint8_t *bytes, size_t size, const capn_limits *limits,
                            capn_departed *departed, uint32_t *way, size_t most_numbers, capn_report *report);
+
+/* The call that compares two messages is there. */
+#define CAPN_HAS_SAME 1
+
+/* Whether two messages, both in one form, have the same value: whether their canonical bytes are equal. None are made.
+ * CAPN_OK: they are equal. CAPN_DIFFERENT: they differ. With these two every field of the report is 0.
+ * Else the refusal of `a`, as capn_canonical has it, or if there is none that of `b`, which is not looked at before.
+ * Every call writes `which`, unless it is null: 1 if `b` is refused, or memory was refused for it; else 0.
+ * `a` and `b` may overlap. It takes memory where capn_check does: for the table of more than 64 segments, and for what
+ * is unpacked. It surveys both, and then walks them in step, up to the first difference. */
+capn_status capn_same(uint32_t form, const uint8_t *a, size_t size_a, const uint8_t *b, size_t size_b,
+                      const capn_limits *limits, uint32_t *which, capn_report *report);
 
 /* The calls for a message that is held in segments are there: those that end in `_segments`. */
 #define CAPN_HAS_SEGMENTS 1

@@ -115,6 +115,11 @@ public:
     /* With another text than that of the status. */
     refusal(capn_status status, const capn_report &report, const std::string &where, const std::string &text)
         : std::runtime_error(where + text), status_(status), report_(report) {}
+    /* Of one of two messages. */
+    refusal(capn_status status, const capn_report &report, std::uint32_t which)
+        : refusal(status, report) {
+        which_ = which;
+    }
 
     /* One of capn.h, from 16 on, such as CAPN_TOO_DEEP. */
     capn_status status() const noexcept { return status_; }
@@ -122,6 +127,8 @@ public:
     const capn_report &report() const noexcept { return report_; }
     /* The name of the status, such as "TooDeep". */
     const char *name() const noexcept { return capn_status_name(status_); }
+    /* Which of the two messages of `same` is refused: 0, the first, or 1. Of another call it is 0. */
+    std::uint32_t which() const noexcept { return which_; }
 
     /* The text that the program prints for a status, with its place. */
     static std::string text(capn_status status, const capn_report &report) {
@@ -133,6 +140,7 @@ public:
 private:
     capn_status status_;
     capn_report report_;
+    std::uint32_t which_ = 0;
 };
 
 namespace detail {
@@ -224,6 +232,19 @@ inline digest_bytes digest(bytes message, form written = form::stream, const lim
     auto *const to = reinterpret_cast<std::uint8_t *>(out.data());
     detail::answered(capn_hash(detail::number(written), message.u8(), message.size(), &most, to, &report), report);
     return out;
+}
+
+/* Whether two messages, both in one form, have the same value: whether their canonical bytes are equal. None are made.
+ * It throws what is wrong with the first one, or else with the second: `which()` of a refusal says of which. */
+inline bool same(bytes first, bytes second, form written = form::stream, const limits &most = {}) {
+    capn_report report;
+    std::uint32_t which;
+    const capn_status status = capn_same(detail::number(written), first.u8(), first.size(), second.u8(), second.size(),
+                                         &most, &which, &report);
+    if (status == CAPN_DIFFERENT) return false;
+    if (status >= CAPN_NOT_WHOLE) throw refusal(status, report, which);
+    detail::answered(status, report);
+    return true;
 }
 
 /* Whether bytes, read bare, are the canonical bytes of their value; it throws if that has none. A frame is not bare

@@ -84,6 +84,27 @@ WITH_LIMITS(capn_departure,
             (uint32_t form, const uint8_t *bytes, size_t size, const capn_limits *limits, capn_departed *departed,
              uint32_t *way, size_t most_numbers, capn_report *report),
             (form, bytes, size, limits, departed, way, most_numbers, report))
+
+/* The same with a place for which of two messages is refused, which may be null too. */
+HIDDEN capn_status proved_capn_same(uint32_t form, const uint8_t *a, size_t size_a, const uint8_t *b, size_t size_b,
+                                    const capn_limits *limits, uint32_t *which, capn_report *report);
+static SELDOM capn_status capn_same_by_default(uint32_t form, const uint8_t *a, size_t size_a, const uint8_t *b,
+                                               size_t size_b, const capn_limits *limits, uint32_t *which,
+                                               capn_report *report) {
+    uint32_t neither;
+    capn_report unwanted;
+    if (!limits) limits = &usual;
+    if (!which) which = &neither;
+    if (!report) report = &unwanted;
+    return proved_capn_same(form, a, size_a, b, size_b, limits, which, report);
+}
+capn_status capn_same(uint32_t form, const uint8_t *a, size_t size_a, const uint8_t *b, size_t size_b,
+                      const capn_limits *limits, uint32_t *which, capn_report *report) {
+    if (__builtin_expect(!limits | !which | !report, 0))
+        return capn_same_by_default(form, a, size_a, b, size_b, limits, which, report);
+    return proved_capn_same(form, a, size_a, b, size_b, limits, which, report);
+}
+
 WITH_LIMITS(capn_canonical_segments,
             (const capn_segment *segments, size_t count, const capn_limits *limits, uint8_t *out, size_t room,
              capn_report *report),

@@ -18,6 +18,7 @@ const char *capn_status_text(capn_status status) {
     case CAPN_BAD_TARIFF: return "the tariff is none of the two";
     case CAPN_NOT_CANONICAL: return "the bytes are not canonical";
     case CAPN_BAD_STYLE: return "the style is none of the four";
+    case CAPN_DIFFERENT: return "the canonical bytes of the two messages differ";
     case CAPN_MEMORY: return "memory was refused";
     case CAPN_NOT_WHOLE: return "the bytes are not whole words";
     case CAPN_BARE_TOO_LONG: return "more words than a bare message may have";
@@ -55,6 +56,7 @@ const char *capn_status_name(capn_status status) {
     case CAPN_BAD_TARIFF: return "BadTariff";
     case CAPN_NOT_CANONICAL: return "NotCanonical";
     case CAPN_BAD_STYLE: return "BadStyle";
+    case CAPN_DIFFERENT: return "Different";
     case CAPN_MEMORY: return "Memory";
     case CAPN_NOT_WHOLE: return "NotWhole";
     case CAPN_BARE_TOO_LONG: return "BareTooLong";

@@ -8,6 +8,7 @@ package capn
 // // Each call answers its report beside its status, so that Go has none on its heap.
 // typedef struct { capn_status status; capn_report report; } capn_told;
 // typedef struct { capn_status status; capn_report report; uint8_t digest[32]; } capn_hashed;
+// typedef struct { capn_status status; capn_report report; uint32_t which; } capn_compared;
 // typedef struct { capn_status status; capn_report report; capn_figures figures; } capn_surveyed;
 // typedef struct { capn_status status; capn_report report; capn_departed departed; } capn_left;
 //
@@ -30,6 +31,12 @@ package capn
 // static capn_hashed told_hash(uint32_t form, const uint8_t *bytes, size_t size, capn_limits limits) {
 //     capn_hashed told;
 //     told.status = capn_hash(form, bytes, size, &limits, told.digest, &told.report);
+//     return told;
+// }
+// static capn_compared told_same(uint32_t form, const uint8_t *a, size_t size_a, const uint8_t *b, size_t size_b,
+//                                capn_limits limits) {
+//     capn_compared told;
+//     told.status = capn_same(form, a, size_a, b, size_b, &limits, &told.which, &told.report);
 //     return told;
 // }
 // static capn_surveyed told_survey(uint32_t form, const uint8_t *bytes, size_t size, capn_limits limits) {
@@ -135,6 +142,11 @@ func callIsCanonical(m []byte, l Limits) (uint32, report) {
 func callHash(form Form, m []byte, l Limits) ([32]byte, uint32, report) {
 	told := C.told_hash(C.uint32_t(form), start(m), C.size_t(len(m)), laidOut(l))
 	return *(*[32]byte)(unsafe.Pointer(&told.digest)), uint32(told.status), reported(told.report)
+}
+
+func callSame(form Form, a, b []byte, l Limits) (which, status uint32, r report) {
+	told := C.told_same(C.uint32_t(form), start(a), C.size_t(len(a)), start(b), C.size_t(len(b)), laidOut(l))
+	return uint32(told.which), uint32(told.status), reported(told.report)
 }
 
 func callSurvey(form Form, m []byte, l Limits) (Figures, uint32, report) {

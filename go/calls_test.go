@@ -68,6 +68,86 @@ func TestCalls(t *testing.T) {
 	}
 }
 
+func TestSame(t *testing.T) {
+	bare := func(words ...uint64) []byte { return bytesOf([][]uint64{words})[0] }
+	stream := func(words ...uint64) []byte { return append(bare(uint64(len(words))<<32), bare(words...)...) }
+	tight, other, capability := stream(1<<32, 5), stream(1<<32, 6), stream(1<<48, 3|7<<32)
+	far := bare(1|1<<32, 2, 2|1<<32, 1<<32, 5)
+	for _, equal := range [][]byte{small, tight, far} {
+		if same, err := Same(small, equal, Stream, nil); err != nil || !same {
+			t.Errorf("%x: %v, %v", equal, same, err)
+		}
+		if same, err := Same(equal, other, Stream, nil); err != nil || same {
+			t.Errorf("%x: %v, %v", equal, same, err)
+		}
+	}
+	one, err := Pack(small)
+	if err != nil {
+		t.Fatal(err)
+	}
+	two, err := Pack(far)
+	if err != nil {
+		t.Fatal(err)
+	}
+	if same, err := Same(one, two, Packed, nil); err != nil || !same {
+		t.Error(same, err)
+	}
+	if same, err := Same(small[8:], tight[8:], Bare, nil); err != nil || !same {
+		t.Error(same, err)
+	}
+	for _, it := range []struct {
+		first, second []byte
+		kind          Kind
+		which         int
+	}{
+		{small[:20], capability, ErrFrameCut, 0},
+		{small, small[:20], ErrFrameCut, 1},
+		{capability, nil, ErrCapability, 0},
+		{small, capability, ErrCapability, 1},
+		{small, nil, ErrFrameEmpty, 1},
+	} {
+		var refused *Error
+		same, err := Same(it.first, it.second, Stream, nil)
+		if same || !errors.As(err, &refused) || refused.Kind != it.kind || refused.Which != it.which {
+			t.Errorf("%x and %x: %v, %v", it.first, it.second, same, err)
+		}
+	}
+	if same, err := Same(small, small, Stream, limitsWith(9, 9, 0, Strict)); same || err != ErrLimits {
+		t.Error(same, err)
+	}
+	if same, err := Same(small, small, Form(3), nil); same || err != ErrForm {
+		t.Error(same, err)
+	}
+}
+
+// Pairs of generated messages are the same exactly where their canonical bytes are.
+func TestSameAsCanonicalBytes(t *testing.T) {
+	source := rand.New(rand.NewSource(79))
+	var messages, canonical [][]byte
+	for i := 0; i < 60; i++ {
+		item, copies := randomItem(source, 0), 1+i%3
+		for j := 0; j < copies; j++ {
+			message, err := framed(bytesOf(segmentsOf(source, item, 1+source.Intn(3))))
+			if err != nil {
+				t.Fatal(err)
+			}
+			bytes, err := Canonical(message, Stream, nil)
+			if err != nil {
+				t.Fatal(err)
+			}
+			messages, canonical = append(messages, message), append(canonical, bytes)
+		}
+	}
+	for i, first := range messages {
+		for j, second := range messages {
+			same, err := Same(first, second, Stream, nil)
+			if err != nil || same != bytes.Equal(canonical[i], canonical[j]) {
+				t.Fatalf("%x and %x: %v, %v", first, second, same, err)
+			}
+		}
+	}
+}
+
 // An object that many pointers lead to is written for each: the canonical bytes are longer than the message.
 func TestLongAnswer(t *testing.T) {
 	const count = 500

@@ -145,6 +145,24 @@ func Digest(message []byte, form Form, limits *Limits) ([32]byte, error) {
 	return digest, nil
 }
 
+// Same reports whether two messages, both in one form, have the same value: whether their canonical bytes are equal,
+// of which none are made. It returns the error of the first message, as Canonical does, or if there is none that of the
+// second: Which of an *Error says of which.
+func Same(first, second []byte, form Form, limits *Limits) (bool, error) {
+	which, status, r := callSame(form, first, second, limitsOf(limits))
+	switch status {
+	case ok:
+		return true, nil
+	case different:
+		return false, nil
+	}
+	err := failure(status, r)
+	if e, refused := err.(*Error); refused {
+		e.Which = int(which)
+	}
+	return false, err
+}
+
 // IsCanonicalIn reports whether one message is canonical: whether it has one segment, and that is the canonical bytes
 // of its value. It returns an error if the message is refused, or has a capability and so no canonical bytes.
 func IsCanonicalIn(message []byte, form Form, limits *Limits) (bool, error) {
@@ -243,6 +261,7 @@ const (
 	ok           = 0
 	noRoom       = 1
 	notCanonical = 5
+	different    = 7
 	// The words of the longest segment table, and the most segments that it may announce.
 	tableWords   = 2049
 	mostSegments = 4096

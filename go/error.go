@@ -105,6 +105,7 @@ type Error struct {
 	Paid, Visits  uint32 // and what was paid and visited until then
 	Message       int64  // of a message of a stream: which one it is, from 1 on, else 0
 	Offset        int64  // and where it begins
+	Which         int    // of Same: which of its messages it is, 0 or 1, else 0
 	ofWords       bool
 }
 

@@ -14,6 +14,10 @@ func callHash(Form, []byte, Limits) ([32]byte, uint32, report) {
 	return [32]byte{}, unsupported, report{}
 }
 
+func callSame(_ Form, _, _ []byte, _ Limits) (which, status uint32, r report) {
+	return 0, unsupported, report{}
+}
+
 func callSurvey(Form, []byte, Limits) (Figures, uint32, report) {
 	return Figures{}, unsupported, report{}
 }

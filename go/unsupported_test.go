@@ -18,6 +18,8 @@ func TestUnsupported(t *testing.T) {
 	errs = append(errs, err)
 	_, err = Digest(message, Stream, nil)
 	errs = append(errs, err)
+	_, err = Same(message, message, Stream, nil)
+	errs = append(errs, err)
 	_, err = IsCanonical(message, nil)
 	errs = append(errs, err)
 	_, err = IsCanonicalIn(message, Stream, nil)

@@ -54,10 +54,10 @@ DECLARED = """
     enum {
         // c/statuses.txt: cffi
         CAPN_OK, CAPN_NO_ROOM, CAPN_BAD_FORM, CAPN_BAD_LIMITS, CAPN_BAD_TARIFF, CAPN_NOT_CANONICAL, CAPN_BAD_STYLE,
-        CAPN_MEMORY, CAPN_NOT_WHOLE, CAPN_BARE_TOO_LONG, CAPN_PACKED_CUT, CAPN_PACKED_TOO_LONG, CAPN_FRAME_EMPTY,
-        CAPN_TOO_MANY_SEGMENTS, CAPN_TOO_MANY_WORDS, CAPN_FRAME_CUT, CAPN_TRAILING, CAPN_NO_ROOT, CAPN_ROOT_KIND,
-        CAPN_RESERVED, CAPN_NO_SEGMENT, CAPN_PAD_RANGE, CAPN_BAD_PAD, CAPN_RANGE, CAPN_BAD_TAG, CAPN_TAG_OVERRUN,
-        CAPN_TOO_DEEP, CAPN_OVER_BUDGET, CAPN_CAPABILITY, ...
+        CAPN_DIFFERENT, CAPN_MEMORY, CAPN_NOT_WHOLE, CAPN_BARE_TOO_LONG, CAPN_PACKED_CUT, CAPN_PACKED_TOO_LONG,
+        CAPN_FRAME_EMPTY, CAPN_TOO_MANY_SEGMENTS, CAPN_TOO_MANY_WORDS, CAPN_FRAME_CUT, CAPN_TRAILING, CAPN_NO_ROOT,
+        CAPN_ROOT_KIND, CAPN_RESERVED, CAPN_NO_SEGMENT, CAPN_PAD_RANGE, CAPN_BAD_PAD, CAPN_RANGE, CAPN_BAD_TAG,
+        CAPN_TAG_OVERRUN, CAPN_TOO_DEEP, CAPN_OVER_BUDGET, CAPN_CAPABILITY, ...
         // c/statuses.txt ends
     };
 
@@ -83,6 +83,8 @@ DECLARED = """
                                  uint32_t *way, size_t most_numbers, capn_report *report);
     capn_status capn_departure(uint32_t form, const uint8_t *bytes, size_t size, const capn_limits *limits,
                                capn_departed *departed, uint32_t *way, size_t most_numbers, capn_report *report);
+    capn_status capn_same(uint32_t form, const uint8_t *a, size_t size_a, const uint8_t *b, size_t size_b,
+                          const capn_limits *limits, uint32_t *which, capn_report *report);
     const char *capn_version(void);
 
     typedef struct {

@@ -10,11 +10,11 @@ change, as a `bytearray`, a mapped file or an array does, are copied first; `byt
 `in_place=True` nothing is copied, and the caller sees to it that nothing changes the bytes until the call returns: a
 change can make the library read outside of them, which ends the process or ends up in the answer.
 
-`check`, `survey`, `canonical`, `is_canonical`, `digest`, `pack` and `unpack` take bytes; `read` makes a `Message` of
-them, whose root is a `Value`; `show` is its text; `departure` says why it is not canonical; `messages`, `digests`,
-`amessages` and `Splitter` are for streams. `check_segments`, `survey_segments`, `canonical_segments` and
-`digest_segments` take a message in segments."""
-from ._calls import Checked, Surveyed, canonical, check, digest, is_canonical, pack, survey, unpack
+`check`, `survey`, `canonical`, `is_canonical`, `digest`, `pack` and `unpack` take bytes, and `same` those of two
+messages; `read` makes a `Message` of them, whose root is a `Value`; `show` is its text; `departure` says why it is not
+canonical; `messages`, `digests`, `amessages` and `Splitter` are for streams. `check_segments`, `survey_segments`,
+`canonical_segments` and `digest_segments` take a message in segments."""
+from ._calls import Checked, Surveyed, canonical, check, digest, is_canonical, pack, same, survey, unpack
 from ._capn import ffi as _ffi
 from ._capn import lib as _lib
 from ._departure import Departure, departure
@@ -89,6 +89,7 @@ __all__ = [
     "messages",
     "pack",
     "read",
+    "same",
     "show",
     "survey",
     "survey_segments",

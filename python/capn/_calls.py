@@ -7,7 +7,7 @@ from typing import Any, Callable, Literal, NamedTuple
 from ._bytes import Buffer, taken
 from ._capn import ffi, lib
 from ._limits import Limits
-from ._refusal import failure, failure_of_words, refused
+from ._refusal import Refusal, failure, failure_of_words, let_go, refused
 
 # How the bytes of a message are written, as `capn --form` has it.
 Form = Literal["stream", "packed", "bare"]
@@ -18,7 +18,7 @@ _USUAL_WORDS = 8388608 + 2049
 _new, _report_type = ffi.new, ffi.typeof("capn_report *")
 _figures_type = ffi.typeof("capn_figures *")
 _room = ffi.new_allocator(should_clear_after_alloc=False)
-_room_type, _digest_type = ffi.typeof("uint8_t[]"), ffi.typeof("uint8_t[32]")
+_room_type, _digest_type, _which_type = ffi.typeof("uint8_t[]"), ffi.typeof("uint8_t[32]"), ffi.typeof("uint32_t *")
 _capn_check, _new_tuple = lib.capn_check, tuple.__new__
 # Reports that no call uses. Each call takes one for itself, whatever threads and signal handlers run meanwhile.
 _reports: list[Any] = []
@@ -150,6 +150,28 @@ def canonical(data: Buffer, form: Form = "stream", limits: Limits = _USUAL, *, i
     return _filled(
         lambda *out: lib.capn_canonical(number, given, size, bounds, *out), room,
         lambda status, report: refused(status, report, number, data, given, bounds))
+
+
+def same(
+    first: Buffer, second: Buffer, form: Form = "stream", limits: Limits = _USUAL, *, in_place: bool = False
+) -> bool:
+    """Whether two messages, both in one form, have the same value: whether their canonical bytes are equal, of which
+    none are made. Values are the same up to zero words and null pointers at the ends of structs. A refusal is that of
+    the first message, or if there is none that of the second, as `Refusal.which` says."""
+    number, given, bounds = _taken(first, form, limits, in_place)
+    other = taken(second, in_place)
+    report, which = _report(), _new(_which_type)
+    status = lib.capn_same(number, given, len(given), other, len(other), bounds, which, report)
+    if status not in (lib.CAPN_OK, lib.CAPN_DIFFERENT):
+        pair = (first, given), (second, other)
+        (data, one), (_, left) = pair[::-1] if which[0] else pair
+        let_go(left)
+        fault = refused(status, report, number, data, one, bounds)
+        if isinstance(fault, Refusal):
+            fault.which = which[0]
+        raise fault
+    _reports.append(report)
+    return bool(status == lib.CAPN_OK)
 
 
 def is_canonical(

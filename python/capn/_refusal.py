@@ -17,7 +17,8 @@ class Refusal(ValueError):
     `name` is the name of its status, as "Range" or "FrameCut". A refusal of the walk has a `place`, the segment and
     word of the slot at which it came, and what was `paid` and how many `visits` were made until then; the others have
     none, and 0. `at` is the offset, count or index of a refusal that has one, or 0. Of a message of a stream, `number`
-    says which one it is, from 1 on, and `offset` where it begins, in the unpacked bytes; else both are None.
+    says which one it is, from 1 on, and `offset` where it begins, in the unpacked bytes; else both are None. Of a
+    message that `same` compares, `which` says which of the two it is, 0 or 1; else it is None.
 
     A refusal of the walk also says where it came by a `way`, and by a `byte` of the message. They are looked for when
     one of them is first asked for, or when the refusal is copied or pickled, by a walk of the message again; for that
@@ -26,6 +27,7 @@ class Refusal(ValueError):
 
     number: int | None = None
     offset: int | None = None
+    which: int | None = None
     # What looks for the way and the byte, until it has found them.
     _look: Callable[[], Stop] | None = None
     _stop: Stop = (None, None)

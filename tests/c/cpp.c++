@@ -104,6 +104,35 @@ static void answers() {
     want("a longer answer", capn::canonical(shared).size() == 56 && shared.size() == 48);
 }
 
+/* Two messages: the same in other layouts, not the same, and one that is refused. */
+static void comparisons() {
+    using capn::form;
+    const std::string tight = framed(words({1ull << 32, 5})), other = framed(words({1ull << 32, 6}));
+    const std::string far = words({1 | 1ull << 32, 2, 2 | 1ull << 32, 1ull << 32, 5});
+    const std::string capability = framed(words({1ull << 48, 3 | 7ull << 32}));
+    want("the same", capn::same(one, one) && capn::same(one, tight) && capn::same(tight, one));
+    want("in two segments", capn::same(one, far) && capn::same(far, tight));
+    want("not the same", !capn::same(one, other) && !capn::same(other, one));
+    want("packed", capn::same(capn::pack(one), capn::pack(far), form::packed));
+    want("bare", capn::same(one.substr(8), capn::canonical(one), form::bare));
+    const auto which = [](capn::bytes first, capn::bytes second) {
+        try {
+            capn::same(first, second);
+        } catch (const capn::refusal &why) {
+            return why.name() + std::to_string(why.which());
+        }
+        return std::string("nothing");
+    };
+    want("the first is cut", which(cut, one) == "FrameCut0" && which(cut, hostile) == "FrameCut0");
+    want("the second is cut", which(one, cut) == "FrameCut1");
+    want("the second is hostile", which(one, hostile) == "TooDeep1");
+    want("capabilities", which(capability, capability) == "Capability0" && which(one, capability) == "Capability1");
+    want("the text of the second", thrown<capn::refusal>([] { capn::same(one, hostile); })
+                                       == "TooDeep at 0:0, paid 128, visits 65");
+    want("limits", thrown<std::invalid_argument>([] { capn::same(one, one, form::stream, {1, 1, 0}); })
+                       == "a limit is out of its range");
+}
+
 /* The way to what is refused, and where an accepted message leaves its canonical bytes. */
 static void ways() {
     using capn::form;
@@ -304,6 +333,7 @@ static void fields() {
 
 int main() {
     answers();
+    comparisons();
     ways();
     refusals();
     containers();

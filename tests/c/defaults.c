@@ -1,6 +1,6 @@
-/* Calls without limits, without a report, and without both: each answers, writes and reports what it does with the
- * usual limits and a report. The inputs are the bytes that end each line of standard input, in hexadecimal, in each
- * form. */
+/* Calls without limits, without a report, of two messages without a place for which, and without several of these:
+ * each answers, writes and reports what it does with the usual limits and all of them. The inputs are the bytes that
+ * end each line of standard input, in hexadecimal, in each form. */
 #define TEST "defaults"
 #include "wanted.h"
 
@@ -13,6 +13,7 @@ struct given {
     size_t size;
     const capn_limits *limits;
     capn_report *report;
+    uint32_t *which;
     union {
         uint8_t bytes[ROOM];
         char text[ROOM];
@@ -42,6 +43,14 @@ CALL(show, INPUT, CAPN_STYLE_TEXT, g->out.text, ROOM, g->report)
 CALL(refusal_way, INPUT, g->out.way, WAY, g->report)
 CALL(departure, INPUT, &g->out.departs.departed, g->out.departs.way, WAY, g->report)
 
+/* With half of the bytes, and with all of them, as the second message. */
+static capn_status try_same(struct given *g) {
+    return capn_same(g->form, g->bytes, g->size, g->bytes, g->size / 2, g->limits, g->which, g->report);
+}
+static capn_status try_same_as_itself(struct given *g) {
+    return capn_same(g->form, g->bytes, g->size, g->bytes, g->size, g->limits, g->which, g->report);
+}
+
 /* The words as two segments: so some pointers lead out of theirs. */
 #define HALVES {{g->bytes, g->size / 16}, {g->bytes + 8 * (g->size / 16), g->size / 8 - g->size / 16}}
 #define HELD(name, ...) \
@@ -62,6 +71,7 @@ static const struct {
 #define ONE(name, of_forms) {#name, try_##name, of_forms}
     ONE(canonical, 1), ONE(is_canonical, 0), ONE(hash, 1), ONE(check, 1), ONE(pack, 0), ONE(unpack, 0), ONE(first, 0),
     ONE(unpack_some, 0), ONE(survey, 1), ONE(index, 1), ONE(show, 1), ONE(refusal_way, 1), ONE(departure, 1),
+    ONE(same, 1), ONE(same_as_itself, 1),
     ONE(canonical_segments, 1), ONE(hash_segments, 1), ONE(check_segments, 1), ONE(survey_segments, 1)
 };
 enum { CALLS = sizeof calls / sizeof *calls };
@@ -72,20 +82,25 @@ static unsigned long long answered, refused;
 static void compare(size_t call, uint32_t form, const uint8_t *bytes, size_t size) {
     static struct given with, without;
     capn_report wanted, got;
+    uint32_t wanted_which = 9, which;
     memset(&with, 0x55, sizeof with);
     memset(&wanted, 0x55, sizeof wanted);
     with.form = form, with.bytes = bytes, with.size = size, with.limits = &usual, with.report = &wanted;
+    with.which = &wanted_which;
     const capn_status status = calls[call].call(&with);
     if (status == CAPN_OK) answered++;
     else refused++;
-    for (int null = 1; null < 4; null++) {
+    for (int null = 1; null < 8; null++) {
         memset(&without, 0x55, sizeof without);
         memset(&got, 0x55, sizeof got);
+        which = 9;
         without.form = form, without.bytes = bytes, without.size = size;
         without.limits = null & 1 ? NULL : &usual;
         without.report = null & 2 ? NULL : &got;
+        without.which = null & 4 ? NULL : &which;
         want(calls[call].name, calls[call].call(&without), status);
         if (!(null & 2)) want("its report", memcmp(&got, &wanted, sizeof got) != 0, 0);
+        if (!(null & 4)) want("which", which, wanted_which);
         want("what it writes", memcmp(&with.out, &without.out, sizeof with.out) != 0, 0);
     }
 }

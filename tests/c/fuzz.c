@@ -31,10 +31,13 @@ static void accepted(uint32_t form, const uint8_t *bytes, size_t size, const cap
     need(capn_hash(form, bytes, size, &limits, digest[0], &report) == CAPN_OK, "hash", bytes, size);
     need(capn_hash(CAPN_BARE, out, length, &limits, digest[1], &report) == CAPN_OK, "hash again", bytes, size);
     need(!memcmp(digest[0], digest[1], 32), "one digest", bytes, size);
+    need(capn_same(form, bytes, size, bytes, size, &limits, NULL, &report) == CAPN_OK, "same", bytes, size);
     if (form == CAPN_BARE) {
         int is_own = length == size && !memcmp(out, bytes, length);
         status = capn_is_canonical(bytes, size, &limits, &report);
         need(status == (is_own ? CAPN_OK : CAPN_NOT_CANONICAL), "is canonical only if it is", bytes, size);
+        status = capn_same(form, bytes, size, out, length, &limits, NULL, &report);
+        need(status == CAPN_OK, "same as its canonical bytes", bytes, size);
     }
     free(out);
     free(again);
@@ -149,6 +152,10 @@ static void message(uint32_t form, const uint8_t *bytes, size_t size) {
     capn_report hashed;
     need(status == (check == CAPN_OK ? CAPN_CAPABILITY : check), "canonical refuses as check", bytes, size);
     need(capn_hash(form, bytes, size, &limits, digest, &hashed) == status, "hash refuses as canonical", bytes, size);
+    need(!memcmp(&report, &hashed, sizeof report), "the reports of a refusal", bytes, size);
+    uint32_t which;
+    const capn_status same = capn_same(form, bytes, size, bytes, size, &limits, &which, &hashed);
+    need(same == status && !which, "same refuses as canonical", bytes, size);
     need(!memcmp(&report, &hashed, sizeof report), "the reports of a refusal", bytes, size);
 }
 

@@ -7,7 +7,7 @@
 #include <signal.h>
 #include <unistd.h>
 
-enum { ROOM = ALL_PAGES, LONGEST = PAGE * 8, FILL = 0x5a, LINE = 1 << 20, STORED = 4096, CALLS = 12 };
+enum { ROOM = ALL_PAGES, LONGEST = PAGE * 8, FILL = 0x5a, LINE = 1 << 20, STORED = 4096, CALLS = 13 };
 
 static unsigned long calls, inputs;
 static const char *doing = "nothing";
@@ -281,6 +281,18 @@ static size_t call(uint32_t which, const uint8_t *bytes, size_t size, size_t eno
         kept((uint8_t *)told, status ? 0 : sizeof *told, sizeof *told);
         kept(out, r->length <= 4 * most ? r->length : 0, 4 * most);
         return r->length;
+    }
+    case 11: {
+        doing = "capn_same";
+        uint32_t *told = any(4) ? (uint32_t *)(void *)filled(of_other, sizeof *told) : NULL;
+        /* With itself, with what follows a byte of it, or with what precedes one. */
+        const uint32_t of = size ? any(3) : 0, at = of ? any((uint32_t)size + 1) : 0;
+        const uint8_t *second = of == 1 ? bytes + at : bytes;
+        const size_t most = of == 1 ? size - at : of ? at : size;
+        status = capn_same(form, bytes, size, second, most, limits, told, r);
+        need(!told || *told < 2, "which of two");
+        need(!told || !*told || status >= CAPN_MEMORY, "which is refused");
+        return 0;
     }
     default: {
         doing = "capn_index";

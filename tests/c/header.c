@@ -33,6 +33,9 @@ int main(void) {
     if (capn_refusal_way(CAPN_BARE, null, 8, &limits, way, 2, &report) != CAPN_RANGE || report.length != 0) return 22;
     if (capn_departure(CAPN_STREAM, null, 16, &limits, &departed, way, 2, &report) != CAPN_OK) return 23;
     if (departed.kind != CAPN_DEPARTS_NOT || departed.owner != CAPN_OWNER_NONE) return 24;
+    uint32_t which = 2;
+    if (CAPN_HAS_SAME != 1) return 25;
+    if (capn_same(CAPN_BARE, out, 8, null + 8, 8, &limits, &which, &report) != CAPN_OK || which) return 26;
     if (CAPN_HAS_SEGMENTS != 1 || capn_refusal_text(CAPN_FRAME_CUT, &report, text, 16) != 10) return 17;
     if (capn_status_name(CAPN_RANGE)[0] != 'R') return 18;
     if (!capn_version()[0] || !capn_status_text(CAPN_OK)[0]) return 10;

@@ -31,6 +31,13 @@ static void answered(void) {
     want("its visits", r.visits, 1);
     want("check by the plain tariff", capn_check(CAPN_STREAM, message, 32, &plain, &r), CAPN_OK);
     want("its price", r.paid, 2);
+    uint32_t which = 9;
+    want("same", capn_same(CAPN_STREAM, message, 32, message, 32, &usual, &which, &r), CAPN_OK);
+    blank("its report", &r);
+    want("which", which, 0);
+    want("same of another", capn_same(CAPN_BARE, message + 8, 24, message + 24, 8, &usual, &which, &r),
+         CAPN_DIFFERENT);
+    blank("its report", &r);
     want("hash", capn_hash(CAPN_STREAM, message, 32, &usual, digest, &r), CAPN_OK);
     want("its bytes", memcmp(digest, sum, 4) != 0, 0);
     memset(digest, 0, 32);
@@ -74,6 +81,7 @@ static void anywhere(void) {
             want("hash anywhere, bare", capn_hash(CAPN_BARE, canonical, 16, &usual, out, &r), CAPN_OK);
             memcpy(digest[2], out, 32);
             want("one digest", memcmp(digest[0], digest[1], 32) || memcmp(digest[0], digest[2], 32), 0);
+            want("same anywhere", capn_same(CAPN_BARE, in + 8, 24, canonical, 16, &usual, NULL, &r), CAPN_OK);
             want("check anywhere", capn_check(CAPN_STREAM, in, 32, &usual, &r), CAPN_OK);
             want("check anywhere, packed", capn_check(CAPN_PACKED, text, 8, &usual, &r), CAPN_OK);
             want("check anywhere, bare", capn_check(CAPN_BARE, in + 8, 24, &usual, &r), CAPN_OK);

@@ -60,6 +60,9 @@ static capn_status hashed(const input *in, capn_report *report) {
 static capn_status checked(const input *in, capn_report *report) {
     return capn_check(in->form, in->bytes, in->size, &in->limits, report);
 }
+static capn_status compared(const input *in, capn_report *report) {
+    return capn_same(in->form, in->bytes, in->size, in->bytes, in->size, &in->limits, NULL, report);
+}
 static capn_status judged(const input *in, capn_report *report) {
     return capn_is_canonical(in->bytes, in->size, &in->limits, report);
 }
@@ -157,6 +160,8 @@ static void in_turn(void) {
     each("hash, packed", hashed, &pack, 4);
     each("check, 65 segments", checked, &more, 1);
     each("check, packed", checked, &pack, 3);
+    each("same, 65 segments", compared, &more, 2);
+    each("same, packed", compared, &pack, 6);
     each("pack", packed, &stream, 1);
     each("unpack", unpacked, &pack, 1);
     each("first", first, &stream, 1);
@@ -183,6 +188,8 @@ static void at_depth(uint32_t most, size_t depth, uint32_t wanted) {
     wants("canonical, bare", canonical, &bare, 0, wanted);
     wants("no room, bare", measured, &bare, 0, room);
     wants("is_canonical", judged, &bare, 0, wanted == CAPN_OK ? CAPN_NOT_CANONICAL : wanted);
+    wants("same, bare", compared, &bare, 0, wanted);
+    wants("same, one segment", compared, &stream, 0, wanted);
     wants("check, one segment", checked, &stream, 0, wanted);
     if (wanted == CAPN_OK) wants("refusal_way, one segment", led, &stream, 0, wanted);
     wants("survey, bare", surveyed, &bare, 0, wanted);
@@ -202,12 +209,14 @@ static void at_depth(uint32_t most, size_t depth, uint32_t wanted) {
     wants("canonical, 64 segments", canonical, &few, 0, wanted);
     if (wanted == CAPN_OK) wants("refusal_way, 64 segments", led, &few, 0, wanted);
     wants("departure, 64 segments", departed, &few, 0, wanted);
+    wants("same, 64 segments", compared, &few, 0, wanted);
     wants("survey, 64 segments", surveyed, &few, 0, wanted);
     wants("index, 64 segments", indexed, &few, 0, wanted);
     wants("no room, 64 segments", measured, &few, 0, room);
     const input more = {CAPN_STREAM, many, frame(many, 65, deep, bare.size), limits};
     wants("check, 65 segments", checked, &more, 1, wanted);
     wants("no room, 65 segments", measured, &more, 1, room);
+    wants("same, 65 segments", compared, &more, wanted == CAPN_OK ? 2 : 1, wanted);
     wants("survey, 65 segments", surveyed, &more, 1, wanted);
     wants("index, 65 segments", indexed, &more, wanted == CAPN_OK ? 2 : 1, wanted);
 }

@@ -26,6 +26,10 @@ static capn_status checked(const input *in, uint8_t *out, size_t room, capn_repo
     (void)out, (void)room;
     return capn_check(in->form, bytes, in->size, &in->limits, report);
 }
+static capn_status compared(const input *in, uint8_t *out, size_t room, capn_report *report) {
+    (void)out, (void)room;
+    return capn_same(in->form, bytes, in->size, bytes, in->size, &in->limits, NULL, report);
+}
 static capn_status judged(const input *in, uint8_t *out, size_t room, capn_report *report) {
     (void)out, (void)room;
     return capn_is_canonical(bytes, in->size, &in->limits, report);
@@ -67,6 +71,7 @@ static void each(const input *in) {
     twice("canonical, no room", canonical, in, 0);
     twice("canonical, 1 byte", canonical, in, 1);
     twice("check", checked, in, 0);
+    twice("same", compared, in, 0);
     twice("index", indexed, in, ROOM);
     twice("index, room of one entry", indexed, in, sizeof(capn_entry));
     twice("index, no room", counted, in, 0);

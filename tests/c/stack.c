@@ -7,7 +7,7 @@
 #include <string.h>
 
 enum { ROOM = 1 << 20 };
-enum { MOST_SEGMENTS = 66, CALLS = 26, KINDS = 3 };
+enum { MOST_SEGMENTS = 66, CALLS = 29, KINDS = 3 };
 /* The calls that have a bound of their own, and the bytes of each level of depth. */
 static const char *const names[KINDS] = {"", "capn_show ", "capn_index "};
 static const size_t levels[KINDS] = {304, 432, 560};
@@ -33,6 +33,14 @@ static capn_status led(uint32_t form, const uint8_t *bytes, size_t count) {
     uint32_t *way = (uint32_t *)(void *)out;
     const capn_status status = capn_refusal_way(form, bytes, count, &limits, way, ROOM / 4, &report);
     return status == CAPN_TOO_DEEP || status == CAPN_OVER_BUDGET ? CAPN_OK : status;
+}
+
+/* A message, compared with itself. */
+static capn_status same(uint32_t form, const uint8_t *bytes, size_t count) {
+    const capn_limits limits = limits_of(1u << 28, 1u << 28, depth, CAPN_STRICT);
+    capn_report report;
+    uint32_t which;
+    return capn_same(form, bytes, count, bytes, count, &limits, &which, &report);
 }
 
 static void *run(void *status) {
@@ -68,6 +76,9 @@ static void *run(void *status) {
     case 22: *told = led(CAPN_PACKED, text, packed_size); break;
     case 23: *told = capn_departure(CAPN_BARE, in, size, &limits, &departed, (uint32_t *)out, ROOM / 4, &report); break;
     case 24: *told = capn_departure(CAPN_PACKED, text, packed_size, &limits, &departed, NULL, 0, &report); break;
+    case 25: *told = same(CAPN_BARE, in, size); break;
+    case 26: *told = same(CAPN_STREAM, framed, framed_size); break;
+    case 27: *told = same(CAPN_PACKED, text, packed_size); break;
     default: *told = capn_unpack(text, packed_size, 1u << 20, out, ROOM, &report); break;
     }
     return NULL;

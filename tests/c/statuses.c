@@ -21,8 +21,8 @@ static void is(const char *what, capn_status status, capn_status wanted) {
     want(what, status, wanted);
 }
 
-/* What canonical, with room and without, hash, check, survey, show and the calls with ways answer of bytes, and index,
- * which doesn't take packed ones: all but canonical and hash say OK of a value with a capability. */
+/* What canonical, with room and without, hash, same, check, survey, show and the calls with ways answer of bytes, and
+ * index, which doesn't take packed ones: all but canonical, hash and same say OK of a value with a capability. */
 static capn_report each_call(const char *what, uint32_t form, const void *bytes, size_t size, const capn_limits *limits,
                              uint32_t wanted) {
     capn_report checked, report;
@@ -42,6 +42,9 @@ static capn_report each_call(const char *what, uint32_t form, const void *bytes,
     report.length = 0;
     want("the report of a way", memcmp(&report, &checked, sizeof report) != 0, 0);
     is(what, capn_hash(form, bytes, size, limits, out, &report), wanted);
+    uint32_t which;
+    is(what, capn_same(form, bytes, size, bytes, size, limits, &which, &report), wanted);
+    want("which is refused", which, 0);
     is(what, capn_canonical(form, bytes, size, limits, out, 64, &report), wanted);
     is(what, capn_canonical(form, bytes, size, limits, NULL, 0, &report), wanted == CAPN_OK ? CAPN_NO_ROOM : wanted);
     return wanted == CAPN_CAPABILITY ? report : checked;
@@ -163,6 +166,7 @@ static void called(void) {
     want("its length", report.length, 8);
     is("room for no text", capn_pack(message, 24, out, 1, &report), CAPN_NO_ROOM);
     is("room for no words", capn_unpack(message, 2, 1, out, 7, &report), CAPN_NO_ROOM);
+    is("two messages", capn_same(CAPN_BARE, message + 8, 8, message + 16, 8, &usual, NULL, &report), CAPN_DIFFERENT);
     is("a struct with a zero word", capn_is_canonical(message + 8, 16, &usual, &report), CAPN_NOT_CANONICAL);
 }
 

@@ -9,7 +9,7 @@
 #define THREADS 4
 #define ROUNDS 100
 #endif
-enum { DEPTH = 200, WORDS = 2 * DEPTH, ROOM = 16 * WORDS, CALLS = 15 };
+enum { DEPTH = 200, WORDS = 2 * DEPTH, ROOM = 16 * WORDS, CALLS = 17 };
 static capn_limits limits;
 /* Structs of two pointers, each in the one before: as a stream of two segments, and packed. */
 static uint8_t stream[16 + 8 * WORDS], packed[10 * (WORDS + 2)];
@@ -23,7 +23,7 @@ typedef struct answers {
     capn_figures figures;
     capn_entry entries[WORDS + 1];
     capn_departed departed;
-    uint32_t way[2][WORDS];
+    uint32_t way[2][WORDS], which[2];
 } answers;
 static answers alone, each[THREADS];
 static pthread_barrier_t start;
@@ -49,6 +49,8 @@ static void make(answers *a) {
     a->status[13] = capn_refusal_way(CAPN_BARE, bare, sizeof stream - 24, &limits, a->way[0], WORDS, &r[13]);
     uint32_t *way = a->way[1];
     a->status[14] = capn_departure(CAPN_BARE, bare, sizeof stream - 16, &limits, &a->departed, way, WORDS, &r[14]);
+    a->status[15] = capn_same(CAPN_PACKED, packed, packed_size, packed, packed_size, &limits, &a->which[0], &r[15]);
+    a->status[16] = capn_same(CAPN_BARE, bare, sizeof stream - 16, bare, 8, &limits, &a->which[1], &r[16]);
 }
 
 static void *run(void *number) {
@@ -79,7 +81,7 @@ int main(void) {
     packed_size = report.length;
     make(&alone);
     const capn_status wanted[CALLS] = {[1] = CAPN_NO_ROOM, [6] = CAPN_FRAME_CUT, [10] = CAPN_PACKED_CUT,
-                                        [13] = CAPN_RANGE};
+                                        [13] = CAPN_RANGE, [16] = CAPN_RANGE};
     if (memcmp(alone.status, wanted, sizeof wanted) || alone.report[5].visits <= DEPTH) {
         printf("threads: another answer\n");
         return 1;

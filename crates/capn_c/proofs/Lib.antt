@@ -1,3 +1,4 @@
+pub mod Comparisons
 pub mod Counted
 pub mod Delivered
 pub mod Digests
@@ -11,6 +12,7 @@ pub mod OneBare
 pub mod OutOfMemory
 pub mod PackedText
 pub mod Placed
+pub mod Ready
 pub mod Short
 pub mod Shown
 pub mod Unpacked

@@ -1,3 +1,4 @@
+pub mod Compared
 pub mod Entries
 pub mod Figures
 pub mod FrameReport

@@ -1,10 +1,10 @@
 //! The libraries for C: one export for each call.
 //! The buffers belong to the caller.
 //!
-//! Each export answers a status and fills in a [`CapnReport`]. Statuses up to 6 speak of the call: 0, the answer is
+//! Each export answers a status and fills in a [`CapnReport`]. Statuses up to 7 speak of the call: 0, the answer is
 //! there; 1, its buffer has no room; 2, 3, 4 and 6, the form, a limit, the tariff or the style is out of its range; 5,
-//! bytes are not canonical. From 8 on they stand for a refusal, with its numbers in the report; what a status does not
-//! speak of is 0.
+//! bytes are not canonical; 7, two messages differ. From 8 on they stand for a refusal, with its numbers in the report;
+//! what a status does not speak of is 0.
 //! An export requires nothing but what its types say: memory that is there, and no overlap of what is written.
 #![tactic(auto)]
 
@@ -13,6 +13,7 @@ mod canonical_fill;
 mod canonical_segments_call;
 mod check_call;
 mod check_segments_call;
+mod compared;
 mod departed;
 mod departure_call;
 mod entries;
@@ -31,6 +32,8 @@ mod message_index;
 mod message_text;
 mod pack_calls;
 mod refusal_way_call;
+mod same_call;
+mod same_surveyed;
 mod show_call;
 mod survey_bytes;
 mod survey_call;

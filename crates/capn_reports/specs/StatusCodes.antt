@@ -113,5 +113,5 @@ pub record ReportsPacked (status : ℕ) (report : CapnReport) (e : UnpackFault) 
 -- a number is one of the statuses
 abbrev pub is_status : ℕ → Bool
 is_status n =
-    nat_lt n 7 || nat_eq n 8 || nat_eq n 16 || nat_eq n 17 || nat_eq n 32 || nat_eq n 33 || (nat_lt 47 n && nat_lt n 53)
+    nat_lt n 9 || nat_eq n 16 || nat_eq n 17 || nat_eq n 32 || nat_eq n 33 || (nat_lt 47 n && nat_lt n 53)
     || (nat_lt 63 n && nat_lt n 75) || nat_eq n 80

@@ -24,8 +24,8 @@ pub use limits::{CapnLimits, flat_form_of, form_of, limits_of};
 pub use output::deliver;
 pub use report::{CapnReport, answer_of, report_at};
 pub use status_codes::{
-    BAD_FORM, BAD_LIMITS, BAD_STYLE, BAD_TARIFF, DONE, MEMORY, NO_ROOM, NOT_CANONICAL, NOT_WHOLE,
-    PACKED_CUT, PACKED_TOO_LONG, code_of_frame, number_of_frame, refuse, refuse_packed,
+    BAD_FORM, BAD_LIMITS, BAD_STYLE, BAD_TARIFF, DIFFERENT, DONE, MEMORY, NO_ROOM, NOT_CANONICAL,
+    NOT_WHOLE, PACKED_CUT, PACKED_TOO_LONG, code_of_frame, number_of_frame, refuse, refuse_packed,
 };
 pub use styles::{end_of, style_of};
 

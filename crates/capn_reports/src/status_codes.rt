@@ -33,6 +33,9 @@ pub const NOT_CANONICAL: u32 = 5;
 /// No style has this number.
 pub const BAD_STYLE: u32 = 6;
 
+/// The canonical bytes of two messages differ.
+pub const DIFFERENT: u32 = 7;
+
 /// A growth of memory was refused.
 pub const MEMORY: u32 = 8;
 

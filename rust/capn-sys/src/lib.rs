@@ -200,6 +200,16 @@ extern "C" {
         most_numbers: usize,
         report: *mut capn_report,
     ) -> capn_status;
+    pub fn capn_same(
+        form: u32,
+        a: *const u8,
+        size_a: usize,
+        b: *const u8,
+        size_b: usize,
+        limits: *const capn_limits,
+        which: *mut u32,
+        report: *mut capn_report,
+    ) -> capn_status;
     pub fn capn_canonical_segments(
         segments: *const capn_segment,
         count: usize,

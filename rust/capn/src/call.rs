@@ -88,6 +88,30 @@ pub(crate) fn is_canonical(words: &[u8], limits: &capn_limits) -> Result<bool, E
     }
 }
 
+/// Returns true if two messages have the same canonical bytes; or which of them is refused, and why.
+#[inline]
+pub(crate) fn same(
+    form: Form,
+    first: &[u8],
+    second: &[u8],
+    limits: &capn_limits,
+) -> Result<bool, (u32, Error)> {
+    const DIFFERENT: capn_status = 7;
+    let mut report = capn_report::default();
+    let mut which = 0;
+    let (a, size_a) = (first.as_ptr(), first.len());
+    let (b, size_b) = (second.as_ptr(), second.len());
+    let status = unsafe {
+        let (number, which) = (form as u32, &mut which);
+        capn_sys::capn_same(number, a, size_a, b, size_b, limits, which, &mut report)
+    };
+    match status {
+        OK => Ok(true),
+        DIFFERENT => Ok(false),
+        status => Err((which, Error::of(status, &report))),
+    }
+}
+
 #[inline]
 pub(crate) fn hash(form: Form, message: &[u8], limits: &capn_limits) -> Result<[u8; 32], Error> {
     let (bytes, size) = (message.as_ptr(), message.len());

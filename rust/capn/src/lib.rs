@@ -42,6 +42,7 @@ mod limits;
 mod message;
 #[cfg(feature = "std")]
 mod reader;
+mod same;
 pub mod segments;
 mod stream;
 mod ways;
@@ -56,5 +57,6 @@ pub use message::{
 };
 #[cfg(feature = "std")]
 pub use reader::{ReadError, Reader};
+pub use same::{same, SameError, Which};
 pub use stream::{messages, Messages};
 pub use ways::{departure, refusal_way, Departure, Owner, Way};

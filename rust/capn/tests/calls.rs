@@ -1,6 +1,7 @@
 //! The calls by hand.
 use capn::{
-    segments, Error, Form, Index, Kind, Limits, Place, ReadError, Reader, Style, Tariff, Value,
+    segments, Error, Form, Index, Kind, Limits, Place, ReadError, Reader, SameError, Style, Tariff,
+    Value, Which,
 };
 use std::io::{self, Read, Write};
 use std::os::unix::net::UnixStream;
@@ -50,6 +51,49 @@ fn answers() {
             .capability,
         Some(7)
     );
+}
+
+#[test]
+fn two_messages_are_compared() {
+    let same = |first: &[u8], second: &[u8]| capn::same(first, second, Form::Stream, &USUAL);
+    let (tight, other) = (framed(&[1 << 32, 5]), framed(&[1 << 32, 6]));
+    let far = words(&[1 | 1 << 32, 2, 2 | 1 << 32, 1 << 32, 5]);
+    for equal in [&one(), &tight, &far] {
+        assert_eq!(same(&one(), equal), Ok(true));
+        assert_eq!(same(equal, &other), Ok(false));
+    }
+    let packed = [&one(), &far].map(|it| capn::pack(it).unwrap());
+    assert_eq!(
+        capn::same(&packed[0], &packed[1], Form::Packed, &USUAL),
+        Ok(true)
+    );
+    assert_eq!(
+        capn::same(&one()[8..], &words(&[1 << 32, 5]), Form::Bare, &USUAL),
+        Ok(true)
+    );
+    let capability = framed(&[1 << 48, 3 | 7 << 32]);
+    let refused = |first: &[u8], second: &[u8]| same(first, second).unwrap_err();
+    let told = |refused: SameError| (refused.which, refused.error.kind().unwrap());
+    let (first, second) = (Which::First, Which::Second);
+    assert_eq!(
+        told(refused(&one()[..20], &hostile())),
+        (first, Kind::FrameCut)
+    );
+    assert_eq!(
+        told(refused(&one(), &one()[..20])),
+        (second, Kind::FrameCut)
+    );
+    assert_eq!(told(refused(&capability, &[])), (first, Kind::Capability));
+    assert_eq!(
+        told(refused(&one(), &capability)),
+        (second, Kind::Capability)
+    );
+    let text = refused(&one(), &hostile()).to_string();
+    assert_eq!(text, "TooDeep at 0:0, paid 128, visits 65");
+    let none = Limits { depth: 0, ..USUAL };
+    let wrong = capn::same(&one(), &one(), Form::Stream, &none).unwrap_err();
+    assert_eq!((wrong.which, wrong.error), (first, Error::Limits));
+    assert_eq!(Error::from(wrong), Error::Limits);
 }
 
 #[test]

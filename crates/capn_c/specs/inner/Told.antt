@@ -1,6 +1,9 @@
 -- The answers of private calls for a message.
-use Rattle.std.specs.Prelude.{◌≡◌, ◌≤◌, ℕ, List, Result, IfOk, IfErr, IsErrOf, MatchResult}
+use Rattle.std.specs.Prelude.{IsTrue, ◌≡◌, ◌≢◌, ◌↔◌, ◌≤◌, ℕ, Bool, List, None}
+use Rattle.std.specs.Prelude.{Result, IfOk, IfErr, IsErrOf, MatchResult}
 use Rattle.sha2.specs.Sha256.{sha256}
+use Rattle.capn_value.specs.FirstCap.{first_cap}
+use Rattle.capn_value.specs.Same.{Same}
 use Rattle.capn_value.specs.Tree.{Tree}
 use Rattle.capn_walk.specs.Accepted.{IsBounded, IsValueOf}
 use Rattle.capn_walk.specs.Limits.{Bounds}
@@ -8,10 +11,14 @@ use Rattle.capn_walk.specs.Surveyed.{IsSurvey}
 use Rattle.capn_show.specs.declared.style.Style.{Style}
 use Rattle.capn_canon.specs.Denotes.{AnswersMessage}
 use Rattle.capn_canon.specs.Measure.{IsCanonicalOf}
-use Rattle.capn_canon.specs.MemoryNeed.{MayNeedBytes}
-use Rattle.capn_canon.specs.Refusal.{IsPaidWithin, IsRefusedMessage, IsUnaccepted}
+use Rattle.capn_canon.specs.CanonicalLength.{HasBytes}
+use Rattle.capn_canon.specs.MemoryNeed.{MayNeedBytes, MayNeedMemory}
+use Rattle.capn_canon.specs.Reads.{Reads}
+use Rattle.capn_canon.specs.Refusal.{IsPaidWithin, IsRefused, IsRefusedMessage, IsUnaccepted}
+use Rattle.capn_canon.specs.declared.form.Form.{Form}
 use Rattle.capn_canon.specs.declared.refusal.Refusal.{Refusal}
 use Rattle.capn_canon.specs.declared.refusal.Refusal.TheVariants as refusals
+use Rattle.capn_answers.specs.MemoryAsked.{MayAsk}
 use Rattle.capn_c.specs.Shown.{ShowsMessage}
 use Rattle.capn_c.specs.declared.message_digest.Digested.{Digested}
 use Rattle.capn_c.specs.declared.message_text.ShownText.{ShownText}
@@ -34,3 +41,38 @@ pub record IsDigestTold (message : List (List ℕ)) (limits : Bounds) (r : Resul
   pub memory : IsErrOf r refusals.Memory → MayNeedBytes message limits
   pub made : IsErrOf r refusals.Memory → (v : Tree) → IsValueOf message limits v → IsCanonicalOf message v → ⊥
   pub bounded : MatchResult r (λ d. d.paid ≤ limits.budget) (λ e. IsPaidWithin limits.budget e)
+
+-- a message denotes a value without capabilities, and it is told whether that is the same as those of another message
+abbrev pub IsSameTo : List (List ℕ) → List (List ℕ) → Bounds → Bool → Type 0
+IsSameTo first second limits told = (w : Tree) × IsValueOf second limits w × (first_cap w ≡ None)
+    × ((v : Tree) → IsValueOf first limits v → IsTrue told ↔ Same v w)
+
+-- bytes are read as such a message
+abbrev pub IsSameIn : List (List ℕ) → Form → List ℕ → Bounds → Bool → Type 0
+IsSameIn first form bs limits told = (second : List (List ℕ)) × Reads form bs limits.message_words second
+    × IsSameTo first second limits told
+
+-- it is told whether bytes have the value of a first message, or why they have no canonical bytes; memory ran out only
+-- where reading them may ask for it
+pub record IsSecondTold (first : List (List ℕ)) (form : Form) (bs : List ℕ) (limits : Bounds) (r : Result Bool Refusal)
+    : Type 0 where
+  pub found : IfOk r (λ told. IsSameIn first form bs limits told)
+  pub refused : IfErr r (λ e. IsRefused form bs limits e)
+  pub memory : IsErrOf r refusals.Memory → MayNeedMemory form bs limits
+  pub asked : IsErrOf r refusals.Memory → MayAsk form bs limits
+  pub bounded : IfErr r (λ e. IsPaidWithin limits.budget e)
+
+-- a message has canonical bytes, and is compared with bytes; or why it has none
+pub record IsComparedTo (form : Form) (bs : List ℕ) (message : List (List ℕ)) (limits : Bounds)
+    (r : Result (Result Bool Refusal) Refusal) : Type 0 where
+  pub found : IfOk r (λ s. HasBytes message limits × IsSecondTold message form bs limits s)
+  pub refused : IfErr r (λ e. IsRefusedMessage message limits e)
+  pub no_memory : IfErr r (λ e. e ≢ refusals.Memory)
+  pub bounded : IfErr r (λ e. IsPaidWithin limits.budget e)
+
+-- bytes are read as a message that has canonical bytes, and is compared with other bytes
+pub record IsCompared (form : Form) (bs ds : List ℕ) (limits : Bounds) (r : Result Bool Refusal) : Type 0 where
+  pub message : List (List ℕ)
+  pub reads : Reads form bs limits.message_words message
+  pub has : HasBytes message limits
+  pub second : IsSecondTold message form ds limits r

@@ -11,6 +11,7 @@ use Rattle.capn_canon.proofs.shared.NotRefused.{accepted-not_refused}
 use Rattle.capn_reports.specs.Calls.{IsWritten}
 use Rattle.capn_reports.specs.declared.report.CapnReport.{CapnReport}
 use Rattle.capn_c.proofs.OutOfMemory.{stopped_memory}
+use Rattle.capn_c.proofs.Short.{short}
 use Rattle.capn_c.proofs.written_message.write_message.Goals as goal
 
 pub returns-in-Ok-clause-only : goal.returns-in-Ok-clause-only
@@ -33,11 +34,21 @@ returns-in-NoRoom-clause-only g c v h n =
     c.in-Err.ensures.refused in
     let same : r.0 ≡ v = unique m r.0 v root r.1.is h.is in
     let long = ap (λ (x : Tree). length (canon x)) same in
-    let told = ap (λ (x : CapnReport). x.length) c.answer_of.ensures in
+    let told = ap (λ (x : CapnReport). x.length) c.answer_of-in-NoRoom.ensures in
     record {
       length_is = told ∙ r.3 ∙ long;
       either = inr (refl, (omega (arith, r.3, r.4, long), c.in-Err.ensures.unchanged));
     }
+
+pub returns-in-NoRoom-clause-short : goal.returns-in-NoRoom-clause-short
+returns-in-NoRoom-clause-short g c t =
+    let m = g.S.Space.message c.args.space.now in
+    let r = subst (λ (e : IntoRefusal). RefusedInto m c.args.limits (length c.args.out.now) e) c.in-NoRoom.is
+    c.in-Err.ensures.refused in
+    let l = short m c.args.limits r.0 c.segments-segments.ensures.bounds (omega arith) (omega arith) r.1 in
+    let length_is = ap (λ (x : CapnReport). x.length) c.answer_of-in-NoRoom.ensures in
+    let paid_is = ap (λ (x : CapnReport). x.paid) c.answer_of-in-NoRoom.ensures in
+    omega (arith, l, r.3, r.5, length_is, paid_is)
 
 pub returns-in-Walk-clause-no_memory : goal.returns-in-Walk-clause-no_memory
 returns-in-Walk-clause-no_memory g c e =
