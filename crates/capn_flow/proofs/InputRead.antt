@@ -24,40 +24,36 @@ below a b e = grind (arith, nat_tests)
 pub read_end : (a b c : Option (List ℕ)) (xs buf : List ℕ) (n : ℕ) → n ≡ 0 → Consumes a b xs
     → Consumes b c (take n buf)
     × (n ≡ 0 → 0 < length buf → IsAtEnd c) → 0 < length buf → length xs ≤ most
-    → (bytes : List ℕ) × Kept a c xs false bytes
+    → Kept a c xs false xs
 read_end a b c xs buf n zero first second some short =
     let none : Consumes b c [] = subst (λ (k : ℕ). Consumes b c (take k buf)) zero second.0 in
-    let end = second.1 zero some in (
-      xs,
-      record {
-        read = subst (Consumes a c) (append-nil xs) (Consumes-trans a b c xs [] first none);
-        bounded = omega (arith, short);
-        are = take_all most xs short;
-        more = is_not_below most (length xs) short;
-        ended = λ e. end;
-      },
-    )
+    let end = second.1 zero some in
+    record {
+      read = subst (Consumes a c) (append-nil xs) (Consumes-trans a b c xs [] first none);
+      bounded = omega (arith, short);
+      are = take_all most xs short;
+      more = is_not_below most (length xs) short;
+      ended = λ e. end;
+    }
 
 -- a read past the greatest number of bytes: the first of them were taken
 pub read_past : (a b c : Option (List ℕ)) (xs buf : List ℕ) (n k : ℕ) → Consumes a b xs → Consumes b c (take n buf)
     → n ≤ length buf → length xs + k ≡ most → k < n → length xs + n ≤ most + 1
-    → (bytes : List ℕ) × Kept a c (xs ++ take k buf) true bytes
+    → Kept a c (xs ++ take k buf) true (xs ++ take n buf)
 read_past a b c xs buf n k first second within full past bound =
     let count : length (xs ++ take n buf) ≡ length xs + n =
     omega (arith, length-append xs (take n buf), length-take-le n buf within) in
-    let front : take k (take n buf) ≡ take k buf = take-take k n buf (omega (arith, past)) in (
-      xs ++ take n buf,
-      record {
-        read = Consumes-trans a b c xs (take n buf) first second;
-        bounded = omega (arith, count, bound);
-        are =
-            ap (λ (i : ℕ). take i (xs ++ take n buf)) (sym full)
-            ∙ take-append-add xs (take n buf) k
-            ∙ ap (λ (p : List ℕ). xs ++ p) front;
-        more = is_below most (length (xs ++ take n buf)) (omega (arith, count, full, past));
-        ended = λ e. absurd (cc);
-      },
-    )
+    let front : take k (take n buf) ≡ take k buf = take-take k n buf (omega (arith, past)) in
+    record {
+      read = Consumes-trans a b c xs (take n buf) first second;
+      bounded = omega (arith, count, bound);
+      are =
+          ap (λ (i : ℕ). take i (xs ++ take n buf)) (sym full)
+          ∙ take-append-add xs (take n buf) k
+          ∙ ap (λ (p : List ℕ). xs ++ p) front;
+      more = is_below most (length (xs ++ take n buf)) (omega (arith, count, full, past));
+      ended = λ e. absurd (cc);
+    }
 
 -- what was taken is what a run takes of all that a reader had, where that is known
 pub kept_all : (old new : Option (List ℕ)) (kept bytes : List ℕ) (is_longer : Bool)

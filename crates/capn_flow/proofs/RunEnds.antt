@@ -1,13 +1,14 @@
 -- The end of a run. (For `pack_stream` and `unpack_stream`.)
 use Rattle.std.proofs.Common.{◌≡◌, ◌⊎◌, inl, inr, ℕ, ◌+◌, ◌-◌, ◌<◌, ◌≤◌, min, List, ◌++◌, length, take, Bool, true}
-use Rattle.std.proofs.Common.{false, Option, None, Some, IfSome, Err, refl, ap, sym, subst, ◌∙◌, arith}
+use Rattle.std.proofs.Common.{[], append-nil, false, Option, None, Some, IfSome, Err, refl, ap, sym, subst, ◌∙◌, arith}
 use Rattle.std.proofs.Common.{length-append, length-take, length-take-le}
 use Rattle.std.proofs.Math.Seq.{take-length, take_all}
 use Rattle.std.specs.Io.KnownBytes.{Appends, Consumes, IsAtEnd, Keeps}
-use Rattle.std.proofs.KnownBytes.{Appends-trans, Consumes-trans, Consumes-kept}
+use Rattle.std.proofs.KnownBytes.{Appends-nil, Appends-trans, Consumes-trans, Consumes-kept}
 use Rattle.capn_flow.specs.declared.fault.FlowFault.{FlowFault}
 use Rattle.capn_flow.specs.declared.fault.FlowFault.TheVariants as faults
-use Rattle.capn_flow.specs.Flow.{Begins, Ending, Ends, EndsAs, Flow, HasEnded, HasWritten, Consumed, Kept, Runs, Stops}
+use Rattle.capn_flow.specs.Flow.{Begins, Ending, Ends, EndsAs, Flow, HasEnded, HasWritten, Consumed, IsAhead, Kept, Runs}
+use Rattle.capn_flow.specs.Flow.{Stops}
 use Rattle.capn_flow.specs.Flow.{most, taken_of}
 use Rattle.capn_flow.proofs.InputRead.{kept_all, read_end, read_past, taken_front}
 
@@ -42,11 +43,12 @@ module _ (f : Flow) where
       (text, length text, begun, subst (Appends c d) (sym (take-length text)) wrote)
 
   begins_with : (a b c d : Option (List ℕ)) (all s : List ℕ) → Consumes a b all → length all ≤ most + 1
-      → taken_of all ≡ s → HasWritten f s c d → Begins f a b c d
-  begins_with a b c d all s read bound is written = record {
+      → IsAhead f all c d → taken_of all ≡ s → HasWritten f s c d → Begins f a b c d
+  begins_with a b c d all s read bound lazy is written = record {
     bytes = all;
     read = read;
     bounded = bound;
+    lazy = lazy;
     written = subst (λ (l : List ℕ). HasWritten f l c d) (sym is) written;
   }
 
@@ -65,18 +67,51 @@ module _ (f : Flow) where
       (subst (λ (xs : List ℕ). HasEnded f xs is_longer c d r) (sym same.0) h)
 
   -- all that is taken has come
-  run_kept : (a b c d : Option (List ℕ)) (kept : List ℕ) (is_longer : Bool) (rf wf : Bool) (r : Ending) → rf ≡ false
-      → (bytes : List ℕ) × Kept a b kept is_longer bytes → Ends f kept is_longer c d wf r → Runs f a b c d rf wf r
-  run_kept a b c d kept is_longer rf wf r fine (bytes, k) ends = record {
+  run_kept : (a b c d : Option (List ℕ)) (kept bytes : List ℕ) (is_longer : Bool) (rf wf : Bool) (r : Ending)
+      → rf ≡ false → Kept a b kept is_longer bytes → IsAhead f bytes c d → Ends f kept is_longer c d wf r
+      → Runs f a b c d rf wf r
+  run_kept a b c d kept bytes is_longer rf wf r fine k lazy ends = record {
     exact = ends_kept a b c d kept is_longer bytes r k ends.exact;
     io = (λ h. inr (ends.io.0 h), λ h. ends.io.1 (writer_only rf wf fine h));
-    begun = begins_with a b c d bytes kept k.read k.bounded k.are ends.written;
+    begun = begins_with a b c d bytes kept k.read k.bounded lazy k.are ends.written;
     heard = λ h. absurd (not_read rf fine h);
     memory = λ h. (bytes, k.read, omega (arith, ends.memory h, ap length k.are, length-take most bytes));
   }
 
   module _ (P : List ℕ → List ℕ → Type 0) (settles : (bytes text : List ℕ) → P bytes text → f.settles bytes text)
       (begins : (bytes text : List ℕ) → P bytes text → f.begins bytes text) where
+    -- what is settled of the bytes that were heard was written, and then more, within one piece
+    ahead : (a b c d e : Option (List ℕ)) (taken k : ℕ) (buf more : List ℕ) → (h : Consumed P a b c d taken)
+        → k ≤ length buf → k ≤ 65536 → Appends d e more → IsAhead f (h.bytes ++ take k buf) c e
+    ahead a b c d e taken k buf more h within small wrote = (
+      h.bytes,
+      take k buf,
+      h.text,
+      more,
+      d,
+      refl,
+      omega (arith, small, length-take-le k buf within),
+      settles h.bytes h.text h.holds,
+      h.wrote,
+      wrote,
+    )
+
+    -- no piece came after them
+    ahead_all : (a b c d e : Option (List ℕ)) (taken : ℕ) (more : List ℕ) → (h : Consumed P a b c d taken)
+        → Appends d e more → IsAhead f h.bytes c e
+    ahead_all a b c d e taken more h wrote = (
+      h.bytes,
+      [],
+      h.text,
+      more,
+      d,
+      sym (append-nil h.bytes),
+      omega arith,
+      settles h.bytes h.text h.holds,
+      h.wrote,
+      wrote,
+    )
+
     -- the reader failed
     pub run_unread : (a b b2 c d : Option (List ℕ)) (taken : ℕ) (rf wf : Bool) → rf ≡ true → taken ≤ most
         → Consumed P a b c d taken → Keeps b b2 → Runs f a b2 c d rf wf (Err faults.Io)
@@ -86,7 +121,8 @@ module _ (f : Flow) where
         record {
           exact = ends_unread a c d faults.Io (inr refl);
           io = (λ e. inl broken, λ e. refl);
-          begun = begins_with a b2 c d h.bytes h.bytes here (omega (arith, h.count, short)) all
+          begun = begins_with a b2 c d h.bytes h.bytes here (omega (arith, h.count, short))
+              (ahead_all a b c d d taken [] h (Appends-nil d)) all
               (all_written h.bytes h.text c d (begins h.bytes h.text h.holds) h.wrote);
           heard = λ e. (h.bytes, h.text, here, settles h.bytes h.text h.holds, h.wrote);
           memory = λ e. absurd (cc);
@@ -96,27 +132,29 @@ module _ (f : Flow) where
     pub run_ended : (a b b2 c d e : Option (List ℕ)) (taken : ℕ) (buf : List ℕ) (n : ℕ) (rf wf : Bool) (r : Ending)
         → rf ≡ false → taken ≤ most → (h : Consumed P a b c d taken) → n ≡ 0
         → Consumes b b2 (take n buf) × (n ≡ 0 → 0 < length buf → IsAtEnd b2) → 0 < length buf
-        → Ends f h.bytes false c e wf r → Runs f a b2 c e rf wf r
-    run_ended a b b2 c d e taken buf n rf wf r fine short h zero more some ends =
-        run_kept a b2 c e h.bytes false rf wf r fine
-        (read_end a b b2 h.bytes buf n zero h.read more some (omega (arith, h.count, short))) ends
+        → (last : List ℕ) → Appends d e last → Ends f h.bytes false c e wf r → Runs f a b2 c e rf wf r
+    run_ended a b b2 c d e taken buf n rf wf r fine short h zero more some last wrote ends =
+        run_kept a b2 c e h.bytes h.bytes false rf wf r fine
+        (read_end a b b2 h.bytes buf n zero h.read more some (omega (arith, h.count, short)))
+        (ahead_all a b c d e taken last h wrote) ends
 
     -- a byte past the greatest number was read
     pub run_long : (a b b2 c d e : Option (List ℕ)) (taken : ℕ) (buf : List ℕ) (w k : ℕ) (rf wf : Bool) (r : Ending)
-        → rf ≡ false → taken + w ≡ most → w < k → taken + k ≤ most + 1 → (h : Consumed P a b c d taken)
-        → Consumes b b2 (take k buf) → k ≤ length buf → Ends f (h.bytes ++ take w buf) true c e wf r
-        → Runs f a b2 c e rf wf r
-    run_long a b b2 c d e taken buf w k rf wf r fine full past bound h more within ends =
-        run_kept a b2 c e (h.bytes ++ take w buf) true rf wf r fine
+        → rf ≡ false → taken + w ≡ most → w < k → taken + k ≤ most + 1 → k ≤ 65536 → (h : Consumed P a b c d taken)
+        → Consumes b b2 (take k buf) → k ≤ length buf → (last : List ℕ) → Appends d e last
+        → Ends f (h.bytes ++ take w buf) true c e wf r → Runs f a b2 c e rf wf r
+    run_long a b b2 c d e taken buf w k rf wf r fine full past bound small h more within last wrote ends =
+        run_kept a b2 c e (h.bytes ++ take w buf) (h.bytes ++ take k buf) true rf wf r fine
         (read_past a b b2 h.bytes buf k w h.read more within (omega (arith, h.count, full)) past
-        (omega (arith, h.count, bound))) ends
+        (omega (arith, h.count, bound))) (ahead a b c d e taken k buf last h within small wrote) ends
 
     -- the run stopped within a chunk
     pub run_stopped : (a b b2 c d e : Option (List ℕ)) (taken : ℕ) (buf : List ℕ) (w k : ℕ) (rf wf : Bool)
         (fault : FlowFault) → rf ≡ false → taken ≤ most → w ≡ min k (most - taken) → taken + k ≤ most + 1
-        → 0 < k → (h : Consumed P a b c d taken) → Consumes b b2 (take k buf) → k ≤ length buf
-        → Stops f (h.bytes ++ take w buf) c e wf fault → Runs f a b2 c e rf wf (Err fault)
-    run_stopped a b b2 c d e taken buf w k rf wf fault fine short least bound some h more within stop =
+        → 0 < k → k ≤ 65536 → (h : Consumed P a b c d taken) → Consumes b b2 (take k buf) → k ≤ length buf
+        → (last : List ℕ) → Appends d e last → Stops f (h.bytes ++ take w buf) c e wf fault
+        → Runs f a b2 c e rf wf (Err fault)
+    run_stopped a b b2 c d e taken buf w k rf wf fault fine short least bound some small h more within last wrote stop =
         let all = Consumes-trans a b b2 h.bytes (take k buf) h.read more in
         let front = taken_front h.bytes buf taken w k h.count short least within in
         record {
@@ -126,7 +164,8 @@ module _ (f : Flow) where
             λ e. ap stopped (stop.io.1 (writer_only rf wf fine e)),
           );
           begun = begins_with a b2 c e (h.bytes ++ take k buf) (h.bytes ++ take w buf) all
-              (omega (arith, h.count, bound, length-append h.bytes (take k buf), length-take-le k buf within)) front
+              (omega (arith, h.count, bound, length-append h.bytes (take k buf), length-take-le k buf within))
+              (ahead a b c d e taken k buf last h within small wrote) front
               stop.written;
           heard = λ e. absurd (not_read rf fine e);
           memory = λ e. (

@@ -1,5 +1,5 @@
 -- A stream of bytes that comes in through a reader and goes out through a writer: its text, and its end. (Own.)
-use Rattle.std.specs.Prelude.{◌≡◌, ◌⊎◌, ◌↔◌, ℕ, ◌+◌, ◌-◌, ◌^◌, ◌<◌, ◌≤◌, nat_lt, List, length, take, Bool, true, false}
+use Rattle.std.specs.Prelude.{◌≡◌, ◌⊎◌, ◌↔◌, ℕ, ◌+◌, ◌-◌, ◌^◌, ◌<◌, ◌≤◌, nat_lt, List, ◌++◌, length, take, Bool, true, false}
 use Rattle.std.specs.Prelude.{Option, IfSome, Result, Err}
 use Rattle.std.specs.Io.KnownBytes.{Consumes, Appends, IsAtEnd}
 use Rattle.capn_flow.specs.declared.fault.FlowFault.{FlowFault}
@@ -50,11 +50,19 @@ module _ (f : Flow) where
   abbrev pub HasWritten : List ℕ → Option (List ℕ) → Option (List ℕ) → Type 0
   HasWritten bytes c d = (text : List ℕ) × (count : ℕ) × f.begins bytes text × Appends c d (take count text)
 
-  -- a reader gave some bytes, at most one more than are taken, and a beginning of their text was written
+  -- the last piece of these bytes has at most 65,536, and what is settled of the bytes before it was written before it
+  -- was read
+  abbrev pub IsAhead : List ℕ → Option (List ℕ) → Option (List ℕ) → Type 0
+  IsAhead bytes c d = (before piece text more : List ℕ) × (mid : Option (List ℕ)) × (bytes ≡ before ++ piece)
+      × (length piece ≤ 65536) × f.settles before text × Appends c mid text × Appends mid d more
+
+  -- a reader gave some bytes, at most one more than are taken, and no more than a piece beyond those of which all that
+  -- is settled was written; and a beginning of their text was written
   pub record Begins (a b c d : Option (List ℕ)) : Type 0 where
     pub bytes : List ℕ
     pub read : Consumes a b bytes
     pub bounded : length bytes ≤ most + 1
+    pub lazy : IsAhead bytes c d
     pub written : HasWritten (taken_of bytes) c d
 
   -- all that can be written of the bytes that a reader gave was written

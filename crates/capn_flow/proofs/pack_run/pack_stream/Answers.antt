@@ -44,12 +44,13 @@ returns-in-Ok-eq0 g c =
     let h = i.heard in
     let held = c.chunks.held.items in
     let room = length-take (c.min-room.result + 1) c.chunks.buffer in
+    let last = rw c.deref.ensures.value at c.pack_last.ensures in
+    let wrote = last.written in
     run_ended packing (Holds held) (holds_settles held) (holds_begins held) _ _ _ _ _ _ c.chunks.taken
     c.read.new.buf c.in-Ok-eq0.field-0 _ _ c.pack_last.result
     (still_fine _ _ i.reader c.in-Ok-eq0.ensures.failed) i.within h c.in-Ok-eq0.field-0-test
-    c.in-Ok-eq0.ensures.bytes (omega (arith, room))
-    (packing_ends h.bytes h.text held h.holds.0 c.chunks.taken h.count _ _ _ h.wrote i.few false _ _
-    (rw c.deref.ensures.value at c.pack_last.ensures))
+    c.in-Ok-eq0.ensures.bytes (omega (arith, room)) (take wrote.1 wrote.0) wrote.3
+    (packing_ends h.bytes h.text held h.holds.0 c.chunks.taken h.count _ _ _ h.wrote i.few false _ _ last)
 
 pub returns-in_err-pack_chunk-in-Ok : goal.returns-in_err-pack_chunk-in-Ok
 returns-in_err-pack_chunk-in-Ok g c =
@@ -67,7 +68,8 @@ returns-in_err-pack_chunk-in-Ok g c =
     (run_stopped packing (Holds held) (holds_settles held) (holds_begins held) _ _ _ _ _ _ c.chunks.taken
     c.read.new.buf within c.in-Ok.count _ _ fault (still_fine _ _ i.reader c.in-Ok.ensures.failed) i.within
     (omega (arith, c.min-within.ensures)) (omega (arith, bound.0, room, c.min-room.ensures, i.within))
-    (omega (arith, c.in-Ok.count-test)) h c.in-Ok.ensures.bytes.0 bound.0
+    (omega (arith, c.in-Ok.count-test)) (omega (arith, bound.0, room, c.min-room.ensures)) h c.in-Ok.ensures.bytes.0
+    bound.0 (take stop.written.1 stop.written.0) stop.written.3
     (packs_stop h.bytes h.text held (take within c.read.new.buf) h.holds.0 _ _ _ _ fault h.wrote stop))
 
 pub returns-then-within-count : goal.returns-then-within-count
@@ -99,13 +101,16 @@ returns-then-within-count g c =
       i.few,
       length-take within (c.read.new.buf ++ drop (c.min-room.result + 1) c.chunks.buffer),
     ) in
+    let last = rw c.deref-then-within-count.ensures.value at c.pack_last-then-within-count.ensures in
+    let wrote = last.written in
     run_long packing (Holds held) (holds_settles held) (holds_begins held) _ _ _ _ _ _ c.chunks.taken
     c.read.new.buf within c.in-Ok.count _ _ _ (still_fine _ _ i.reader c.in-Ok.ensures.failed)
     (omega (arith, i.within, c.min-within.ensures, past)) past
-    (omega (arith, bound.0, room, c.min-room.ensures, i.within)) h c.in-Ok.ensures.bytes.0 bound.0
+    (omega (arith, bound.0, room, c.min-room.ensures, i.within)) (omega (arith, bound.0, room, c.min-room.ensures))
+    h c.in-Ok.ensures.bytes.0 bound.0 (done.0 ++ take wrote.1 wrote.0)
+    (Appends-trans _ _ _ done.0 (take wrote.1 wrote.0) done.3 wrote.3)
     (packing_ends (h.bytes ++ take within c.read.new.buf) (h.text ++ done.0) next all (c.chunks.taken + within) size
-    _ _ _ (Appends-trans _ _ _ h.text done.0 h.wrote done.3) few true _ _
-    (rw c.deref-then-within-count.ensures.value at c.pack_last-then-within-count.ensures))
+    _ _ _ (Appends-trans _ _ _ h.text done.0 h.wrote done.3) few true _ _ last)
 
 pub chunks-preserved : goal.chunks-preserved
 chunks-preserved g c =

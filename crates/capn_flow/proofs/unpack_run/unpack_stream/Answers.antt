@@ -46,7 +46,7 @@ returns-in-Ok-eq0 g c =
     run_ended unpacking (FromStart left) (start_settles left) (start_begins left) _ _ _ _ _ _ c.chunks.taken
     c.read.new.buf c.in-Ok-eq0.field-0 _ _ c.end_of_unpacking.result
     (still_fine _ _ i.reader c.in-Ok-eq0.ensures.failed) i.within h c.in-Ok-eq0.field-0-test
-    c.in-Ok-eq0.ensures.bytes (omega (arith, room, behind, i.short, c.min-room.ensures))
+    c.in-Ok-eq0.ensures.bytes (omega (arith, room, behind, i.short, c.min-room.ensures)) [] (Appends-nil _)
     (unpacking_ends left h.bytes h.text _ _ _ _ (c.chunks.taken - held) _ i.writer h.holds h.wrote
     (omega (arith, h.count, size, i.short, start_at left h.bytes h.text h.holds))
     (ending_left c.chunks.buffer c.read.new.buf _ held (c.chunks.taken - held) _ (omega (arith, i.short))
@@ -70,8 +70,8 @@ returns-in_err-at-in-Ok g c =
     (run_stopped unpacking (FromStart left) (start_settles left) (start_begins left) _ _ _ _ _ _ c.chunks.taken
     c.read.new.buf within c.in-Ok.count _ _ fault (still_fine _ _ i.reader c.in-Ok.ensures.failed) i.within
     (omega (arith, c.min-within.ensures)) (omega (arith, bound.0, room, behind, c.min-room.ensures, i.within))
-    (omega (arith, c.in-Ok.count-test)) h
-    c.in-Ok.ensures.bytes.0 bound.0
+    (omega (arith, c.in-Ok.count-test)) (omega (arith, bound.0, room, behind, c.min-room.ensures)) h
+    c.in-Ok.ensures.bytes.0 bound.0 (take stop.written.1 stop.written.0) stop.written.3
     (start_stop left h.bytes h.text (take within c.read.new.buf) h.holds _ _ _ _ fault h.wrote stop))
 
 pub returns-then-within-count : goal.returns-then-within-count
@@ -92,7 +92,8 @@ returns-then-within-count g c =
     run_long unpacking (FromStart left) (start_settles left) (start_begins left) _ _ _ _ _ _ c.chunks.taken
     c.read.new.buf within c.in-Ok.count _ _ _ (still_fine _ _ i.reader c.in-Ok.ensures.failed)
     (omega (arith, i.within, c.min-within.ensures, past)) past
-    (omega (arith, bound.0, room, behind, c.min-room.ensures, i.within)) h c.in-Ok.ensures.bytes.0 bound.0
+    (omega (arith, bound.0, room, behind, c.min-room.ensures, i.within))
+    (omega (arith, bound.0, room, behind, c.min-room.ensures)) h c.in-Ok.ensures.bytes.0 bound.0 done.0 done.3
     (unpacking_ends _ (h.bytes ++ take within c.read.new.buf) (h.text ++ done.0) true _ _ _ told.0 _ done.4 told
     (Appends-trans _ _ _ h.text done.0 h.wrote done.3) (start_at _ _ _ told) refl)
 
