@@ -6,3 +6,4 @@ pub mod Zeros
 pub mod AtLeast
 pub mod RefusedReporters
 pub mod RefusedAnswers
+pub mod NothingWritten

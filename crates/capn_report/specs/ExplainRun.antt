@@ -1,6 +1,7 @@
 -- A run that explains one message: the text at its end, and the rest by the definition for all such runs. (Own.)
 use Rattle.std.specs.Prelude.{◌≡◌, ℕ, List, [], ◌++◌, Bool, Option, Some, None, Result, Ok, Err, codes, refl}
 use Rattle.std.specs.Fmt.{digits}
+use Rattle.std.specs.Io.KnownBytes.{Appends}
 use Rattle.capn_canon.specs.declared.refusal.Refusal.{Refusal}
 use Rattle.capn_canon.specs.declared.refusal.Refusal.TheVariants as refusals
 use Rattle.capn_serve.specs.declared.fault.RunFault.{RunFault}
@@ -43,15 +44,16 @@ rest_text None (Some (Ok text)) count = text
 rest_text None (Some (Err memory)) count = []
 rest_text None None count = count_line (counts.NoneRefused count)
 
--- the text after all messages: nothing more, if one was explained
-abbrev pub closing_by : Outcome → Option ℕ → Option First → ℕ → List ℕ
-closing_by outcomes.Nothing number first count = rest_text number first count
-closing_by (outcomes.Refused at stopped) number first count = []
-closing_by outcomes.Accepted number first count = []
+-- the text after all messages: the lines of the one that was explained, if one was
+abbrev pub closing_by : Outcome → List ℕ → Option ℕ → Option First → ℕ → List ℕ
+closing_by outcomes.Nothing lines number first count = rest_text number first count
+closing_by (outcomes.Refused at stopped) lines number first count = lines
+closing_by outcomes.Accepted lines number first count = lines
 
 -- that text by the state after them
 abbrev pub closing : Run Reporting → List ℕ
-closing run = closing_by run.service.outcome run.service.order.number run.service.first run.at.index
+closing run =
+    closing_by run.service.outcome run.service.lines run.service.order.number run.service.first run.at.index
 
 -- the end of a run whose messages explained nothing: for memory, if that was refused for the lines of the only message;
 -- else as done
@@ -83,12 +85,12 @@ explain_finish order = record {
   told = λ at r came. told_at order at r came;
 }
 
--- a run, over a reader (from a to b) and a writer (from c to d)
-abbrev pub Explained : Explain → Option (List ℕ) → Option (List ℕ) → Option (List ℕ) → Option (List ℕ) → Bool → Bool
-    → Result (Unit {0}) RunFault → Type 0
-Explained order a b c d reader_failed writer_failed r =
-    Finished (explain_fold order) (first_run order) (explain_finish order) order.form a b c d reader_failed
-    writer_failed r
+-- a run, over a reader (from a to b) and a writer (from c to d); if memory was refused, nothing was written
+pub record Explained (order : Explain) (a b c d : Option (List ℕ)) (reader_failed writer_failed : Bool)
+    (r : Result (Unit {0}) RunFault) : Type 0 where
+  pub run : Finished (explain_fold order) (first_run order) (explain_finish order) order.form a b c d reader_failed
+      writer_failed r
+  pub nothing : r ≡ Err faults.Memory → Appends c d []
 
 -- ---- the lines of counts
 

@@ -52,9 +52,14 @@ key_of (refusals.Packed fault) most_words rest came = packed_key fault came
 key_of (refusals.Bare fault) most_words rest came = bare_key fault
 key_of _ most_words rest came = keys.Nothing
 
--- the segments of a message in a frame, if their sizes came
+-- the segments of a message whose frame is refused, if their sizes came; none if they are too many
+abbrev pub frame_segments : FrameFault → List ℕ → Option SegmentsText
+frame_segments (frames.TooManySegments count) rest = None
+frame_segments _ rest = segments rest
+
+-- the segments of a message in a frame, if their sizes came and they are not too many
 abbrev pub segments_at : Refusal → List ℕ → Option SegmentsText
-segments_at (refusals.Frame fault) rest = segments rest
+segments_at (refusals.Frame fault) rest = frame_segments fault rest
 segments_at (refusals.Packed fault) rest = segments rest
 segments_at _ rest = None
 

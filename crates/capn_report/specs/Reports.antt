@@ -25,16 +25,17 @@ use Rattle.capn_report.specs.declared.outcome.Outcome.TheVariants as outcomes
 abbrev pub First : Type 0
 First = Result (List ℕ) Memory
 
--- the state of a reporter: its order, the message that has been explained, and the first message until another one has
--- begun
+-- the state of a reporter: its order, the message that has been explained, the lines that explain it, and the first
+-- message until another one has begun
 pub record Reporting : Type 0 where
   pub order : Explain
   pub outcome : Outcome
+  pub lines : List ℕ
   pub first : Option First
 
 -- nothing has been found
 abbrev pub first_reporting : Explain → Reporting
-first_reporting order = record { order = order; outcome = outcomes.Nothing; first = None }
+first_reporting order = record { order = order; outcome = outcomes.Nothing; lines = []; first = None }
 
 -- the account that is kept of the first message, as lines
 abbrev pub lines_first : {A : Type 0} → Option (Result (Account A) Memory) → Option First
@@ -63,25 +64,26 @@ IsFirst form at message limits None = 0 < at.index
 
 -- ---- from one state to the next
 
--- this state, in which this has been explained
-abbrev pub with_outcome : Reporting → Outcome → Reporting
-with_outcome s outcome = record { order = s.order; outcome = outcome; first = s.first }
+-- this state, in which this has been explained, by these lines
+abbrev pub with_outcome : Reporting → Outcome → List ℕ → Reporting
+with_outcome s outcome lines = record { order = s.order; outcome = outcome; lines = lines; first = s.first }
 
 -- this state, in which this is kept of the only message
 abbrev pub with_first : Reporting → Option First → Reporting
-with_first s first = record { order = s.order; outcome = s.outcome; first = first }
+with_first s first = record { order = s.order; outcome = s.outcome; lines = s.lines; first = first }
 
--- a message that is refused writes the lines that explain it, and is remembered
+-- a message that is refused writes nothing: it is remembered, with the lines that explain it, until the end
 abbrev pub TellsRefused : Reporting → Position → List (List ℕ) → List ℕ → Reporting → Type 0
 TellsRefused s at message text t =
-    (stopped : Stopped) × IsTold s.order at message stopped text
-    × (t ≡ with_outcome s (outcomes.Refused at stopped))
+    (stopped : Stopped) × (lines : List ℕ) × IsTold s.order at message stopped lines × (text ≡ [])
+    × (t ≡ with_outcome s (outcomes.Refused at stopped) lines)
 
--- a message that is accepted, by the number that is asked for: with one it writes its lines; without, it writes
--- nothing, and what is told of it is kept if it is the first, and nothing if another one has begun
+-- a message that is accepted, by the number that is asked for, writes nothing: with one it is remembered, with its
+-- lines; without, what is told of it is kept if it is the first, and nothing if another one has begun
 abbrev pub TellsAcceptedBy : Option ℕ → Reporting → Position → List (List ℕ) → List ℕ → Reporting → Type 0
 TellsAcceptedBy (Some number) s at message text t =
-    IsAccountText s.order.form at message s.order.limits text × (t ≡ with_outcome s outcomes.Accepted)
+    (lines : List ℕ) × IsAccountText s.order.form at message s.order.limits lines × (text ≡ [])
+    × (t ≡ with_outcome s outcomes.Accepted lines)
 TellsAcceptedBy None s at message text t =
     (first : Option First) × IsAccepted message s.order.limits
     × IsFirst s.order.form at message s.order.limits first × (text ≡ []) × (t ≡ with_first s first)
@@ -95,7 +97,7 @@ abbrev pub ServesBy : Bool → Reporting → Position → List (List ℕ) → Li
 ServesBy true s at message text t = (text ≡ []) × (t ≡ s)
 ServesBy false s at message text t = TellsRefused s at message text t ⊎ TellsAccepted s at message text t
 
--- from one state to the next, a message with its frame writes a text
+-- from one state to the next, a message with its frame writes nothing
 abbrev pub serves : Reporting → Position → List ℕ → List (List ℕ) → List ℕ → Reporting → Type 0
 serves s at frame message text t = ServesBy (is_before at s.order.number) s at message text t
 
@@ -114,6 +116,11 @@ abbrev pub done : Reporting → Position → Bool
 done s at = is_explained s.outcome
 
 -- ---- the answer of a call
+
+-- nothing is written, and this is the state that it leads to; or memory was refused
+abbrev pub Keeps : {S : Type 0} → (List ℕ → S → Type 0) → Result (Unit {0}) ServeFault → S → Type 0
+Keeps tells (Ok u) t = tells [] t
+Keeps tells (Err fault) t = fault ≡ faults.Memory
 
 -- a text was appended; or memory was refused, and the text is as it was
 abbrev pub PutsText : List ℕ → List ℕ → List ℕ → Result (Unit {0}) ServeFault → Type 0

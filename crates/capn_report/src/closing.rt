@@ -40,7 +40,7 @@ pub(crate) fn rest_ending<A: Allocator>(
 }
 
 /// Returns the end of `run`, whose messages ended as done.
-pub(crate) fn ending_of<A: Allocator>(run: &Run<Reporter<A>>) -> Result<(), RunFault>
+pub(crate) fn ending_of<A: Allocator + Copy>(run: &Run<Reporter<A>>) -> Result<(), RunFault>
     ensures { result ≡ spec.ending run.now }
 {
     let reporter = &run.service;
@@ -98,25 +98,38 @@ pub(crate) fn rest_lines<B: Allocator, A: Allocator>(
     Ok(Some(lines))
 }
 
-/// Returns the text after all messages.
-fn closing_lines<B: Allocator, A: Allocator>(
-    alloc: A,
-    run: &Run<Reporter<B>>,
-) -> Result<Option<String<A>>, RunFault>
-    ensures { AreLines (spec.closing run.now) result }
+/// Writes the `lines` of the message that has been explained.
+fn write_kept<W: Write>(lines: &[u8], writer: &mut Watched<W>) -> Result<(), RunFault>
+    requires { has_failed writer.old ≡ false }
+    ensures { PutsClosing lines.now (W.contents (inner_of writer.old)) (W.contents (inner_of writer.new))
+        (has_failed writer.old) (has_failed writer.new) result }
 {
-    let reporter = &run.service;
-    match reporter.outcome() {
-        Outcome::Refused(_, _) | Outcome::Accepted => Ok(None),
-        Outcome::Nothing => {
-            let number = reporter.order().number;
-            rest_lines(alloc, number, reporter.first(), run.at.index)
-        }
+    if lines.is_empty() {
+        return Ok(());
+    }
+    write_all(writer, lines)
+}
+
+/// Writes the text of a run of `count` messages that explained nothing.
+fn write_rest<W: Write, B: Allocator, A: Allocator>(
+    alloc: A,
+    number: Option<u64>,
+    first: &Option<Result<Account<B>, Memory>>,
+    count: u64,
+    writer: &mut Watched<W>,
+) -> Result<(), RunFault>
+    requires { has_failed writer.old ≡ false }
+    ensures { PutsClosing (spec.rest_text number (lines_first first.now) count) (W.contents (inner_of writer.old))
+        (W.contents (inner_of writer.new)) (has_failed writer.old) (has_failed writer.new) result }
+{
+    match rest_lines(alloc, number, first, count)? {
+        Some(lines) => write_all(writer, lines.as_bytes()),
+        None => Ok(()),
     }
 }
 
 /// Writes the text after all messages.
-pub(crate) fn write_closing<W: Write, B: Allocator, A: Allocator + Copy>(
+pub(crate) fn write_closing<W: Write, B: Allocator + Copy, A: Allocator + Copy>(
     alloc: A,
     run: &Run<Reporter<B>>,
     writer: &mut Watched<W>,
@@ -125,9 +138,13 @@ pub(crate) fn write_closing<W: Write, B: Allocator, A: Allocator + Copy>(
     ensures { PutsClosing (spec.closing run.now) (W.contents (inner_of writer.old))
         (W.contents (inner_of writer.new)) (has_failed writer.old) (has_failed writer.new) result }
 {
-    match closing_lines(alloc, run)? {
-        Some(lines) => write_all(writer, lines.as_bytes()),
-        None => Ok(()),
+    let reporter = &run.service;
+    match reporter.outcome() {
+        Outcome::Refused(_, _) | Outcome::Accepted => write_kept(reporter.lines(), writer),
+        Outcome::Nothing => {
+            let number = reporter.order().number;
+            write_rest(alloc, number, reporter.first(), run.at.index, writer)
+        }
     }
 }
 

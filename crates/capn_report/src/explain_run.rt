@@ -16,7 +16,7 @@ use std::alloc::Allocator;
 use std::io::{Read, Write};
 
 /// Returns the run of `order` before its first message.
-fn first_run<A: Allocator>(alloc: A, order: Explain) -> Run<Reporter<A>>
+fn first_run<A: Allocator + Copy>(alloc: A, order: Explain) -> Run<Reporter<A>>
     ensures { result ≡ spec.first_run order }
 {
     Run::new(Reporter::new(alloc, order))
@@ -58,8 +58,9 @@ fn serve_messages<R: Read, W: Write, A: Allocator + Copy>(
 /// It reads as [`serve_form`] does. The run ends as done, or as refused if the message that is explained is refused:
 /// its lines have been written then. It ends with `InputTooLong`; with `Io` if and only if the reader or the writer
 /// failed; and with `Memory` if a growth on `alloc` was refused; if that was for the account of the first message, only
-/// if no other has come. Then no explanation has been written, unless the writer failed within it. It holds what its
-/// loop holds, the canonical bytes of the message that is explained, the ways of its account, and the lines.
+/// if no other has come. Then no explanation has been written, unless the writer failed within it: its lines are kept,
+/// and written at the end. It holds what its loop holds, the canonical bytes of the message that is explained, the ways
+/// of its account, and the lines.
 pub fn run_explain<R: Read, W: Write, A: Allocator + Copy>(
     alloc: A,
     order: Explain,

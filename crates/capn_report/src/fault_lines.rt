@@ -62,12 +62,23 @@ fn key_of(refusal: &Refusal, most_words: u32, rest: &[u8], came: &[u8]) -> Frame
     }
 }
 
-/// Returns the segments of a message in a frame, if their sizes came.
+/// Returns the segments of a message whose frame is refused, if their sizes came and they are not too many.
+fn frame_segments(fault: FrameFault, rest: &[u8]) -> Option<SegmentsText>
+    ensures { result ≡ spec.frame_segments fault rest.now }
+{
+    match fault {
+        FrameFault::TooManySegments(_) => None,
+        _ => segments(rest),
+    }
+}
+
+/// Returns the segments of a message in a frame, if their sizes came and they are not too many.
 fn segments_at(refusal: &Refusal, rest: &[u8]) -> Option<SegmentsText>
     ensures { result ≡ spec.segments_at refusal.now rest.now }
 {
     match refusal {
-        Refusal::Frame(_) | Refusal::Packed(_) => segments(rest),
+        Refusal::Frame(fault) => frame_segments(*fault, rest),
+        Refusal::Packed(_) => segments(rest),
         _ => None,
     }
 }

@@ -1,12 +1,12 @@
 //! The service that finds the message that is explained.
 
-ghost use Rattle.std.specs.Prelude.{◌≡◌, false, IfOk, IfErr, string_bytes};
+ghost use Rattle.std.specs.Prelude.{◌≡◌, [], false, IfOk, IfErr, string_bytes};
 ghost use Rattle.capn_walk.specs.Accepted.{IsWalkRefused};
 ghost use Rattle.capn_serve.specs.declared.fault.ServeFault.TheVariants as faults;
 ghost use Rattle.capn_report.specs.Accounts.{account_text};
 ghost use Rattle.capn_report.specs.Reports as spec;
 ghost use Rattle.capn_report.specs.inner.Figures.{AreFigures};
-ghost use Rattle.capn_report.specs.Reports.{IsFirst, IsTold, Puts, PutsAccount, PutsText, ServesBy, TellsAccepted};
+ghost use Rattle.capn_report.specs.Reports.{IsFirst, IsTold, Keeps, PutsAccount, PutsText, ServesBy, TellsAccepted};
 
 use crate::account::{Account, account_of};
 use crate::explain::Explain;
@@ -21,15 +21,17 @@ use std::marker::Model;
 
 /// The service that finds the message that is explained, and its outcome.
 ///
-/// Without a number it walks each message. The first one that is refused writes the lines that explain it, and no more
-/// is served. With a number it passes over the messages before that one, which are not walked; that one writes the
-/// lines that explain it, refused or accepted, and no more is served. No message ends its run. It keeps the account of
-/// the first message, or that memory was refused for it, until another one has begun.
+/// Without a number it walks each message. The first one that is refused is explained, and no more is served. With a
+/// number it passes over the messages before that one, which are not walked; that one is explained, refused or
+/// accepted, and no more is served. No message ends its run, and none writes anything: the lines that explain one are
+/// kept, and written at the end. It keeps the account of the first message, or that memory was refused for it, until
+/// another one has begun.
 #[derive(Drop)]
 pub struct Reporter<A: Allocator = Global> {
     alloc: A,
     order: Explain,
     outcome: Outcome,
+    lines: Vec<u8, A>,
     first: Option<Result<Account<A>, Memory>>,
 }
 
@@ -38,7 +40,12 @@ impl<A: Allocator> Model for Reporter<A> {
 
     ghost Value = { Reporting };
 
-    ghost view = { λ s. record { order = s.order; outcome = s.outcome; first = lines_first s.first } };
+    ghost view = { λ s. record {
+      order = s.order;
+      outcome = s.outcome;
+      lines = s.lines.items;
+      first = lines_first s.first;
+    } };
 }
 
 /// Returns `true` if the message at the position `at` comes before the one of `number`.
@@ -151,7 +158,7 @@ pub(crate) fn first_of<S: Space, A: Allocator + Copy>(
     Some(account_of(alloc, order.form, at, message, order.limits, surveyed))
 }
 
-impl<B: Allocator> Reporter<B> {
+impl<B: Allocator + Copy> Reporter<B> {
     /// Returns a reporter that has found nothing. It takes no memory.
     pub(crate) fn new(alloc: B, order: Explain) -> Reporter<B>
         ensures { result ≡ spec.first_reporting order }
@@ -160,6 +167,7 @@ impl<B: Allocator> Reporter<B> {
             alloc,
             order,
             outcome: Outcome::Nothing,
+            lines: Vec::new(alloc),
             first: None,
         }
     }
@@ -178,6 +186,13 @@ impl<B: Allocator> Reporter<B> {
         self.outcome
     }
 
+    /// Returns the lines of the message that has been explained.
+    pub(crate) fn lines(&self) -> &[u8]
+        ensures { result.now ≡ self.now.lines }
+    {
+        &self.lines
+    }
+
     /// Returns the account of the only message so far, if that is accepted and no number is asked for.
     pub(crate) fn first(&self) -> &Option<Result<Account<B>, Memory>>
         ensures { spec.lines_first result.now ≡ self.now.first }
@@ -187,27 +202,44 @@ impl<B: Allocator> Reporter<B> {
 }
 
 impl<B: Allocator + Copy> Reporter<B> {
+    /// Remembers what has been explained, and its `lines`.
+    fn explain(&mut self, outcome: Outcome, lines: Vec<u8, B>)
+        ensures { self.new ≡ spec.with_outcome self.old outcome lines.items }
+    {
+        self.outcome = outcome;
+        self.lines = lines;
+    }
+
+    /// Keeps this of the first message.
+    fn keep(&mut self, first: Option<Result<Account<B>, Memory>>)
+        ensures { self.new ≡ spec.with_first self.old (spec.lines_first first) }
+    {
+        self.first = first;
+    }
+
     /// Reports on a `message` that is accepted and was `surveyed`.
-    fn report_accepted<S: Space, A: Allocator + Copy>(
+    fn report_accepted<S: Space>(
         &mut self,
-        alloc: A,
         at: Position,
         message: &S,
         surveyed: Measured,
-        text: &mut Vec<u8, A>,
     ) -> Result<(), ServeFault>
         requires surveyed { AreFigures (S.message message.now) self.old.order.limits surveyed }
-        ensures { Puts (TellsAccepted self.old at (S.message message.now)) text.old.items text.new.items result
-            self.new }
+        ensures { Keeps (TellsAccepted self.old at (S.message message.now)) result self.new }
     {
-        match self.order.number {
+        let order = self.order();
+        match order.number {
             Some(_) => {
-                put_accepted(alloc, &self.order, at, message, surveyed, text)?;
-                self.outcome = Outcome::Accepted;
+                let mut lines = Vec::new(self.alloc);
+                put_accepted(self.alloc, &order, at, message, surveyed, &mut lines)?;
+                self.explain(Outcome::Accepted, lines);
+                Ok(())
             }
-            None => self.first = first_of(self.alloc, &self.order, at, message, surveyed),
+            None => {
+                self.keep(first_of(self.alloc, &order, at, message, surveyed));
+                Ok(())
+            }
         }
-        Ok(())
     }
 
     /// Reports on a `message` that isn't before the one that is explained.
@@ -216,17 +248,15 @@ impl<B: Allocator + Copy> Reporter<B> {
         alloc: A,
         at: Position,
         message: &S,
-        text: &mut Vec<u8, A>,
     ) -> Result<(), ServeFault>
-        ensures { Puts (ServesBy false self.old at (S.message message.now)) text.old.items text.new.items result
-            self.new }
+        ensures { Keeps (ServesBy false self.old at (S.message message.now)) result self.new }
     {
-        match survey_depth(alloc, message, self.order.limits) {
-            Ok(surveyed) => self.report_accepted(alloc, at, message, surveyed, text),
+        let order = self.order();
+        match survey_depth(alloc, message, order.limits) {
+            Ok(surveyed) => self.report_accepted(at, message, surveyed),
             Err(stopped) => {
-                let told = told_of(alloc, &self.order, at, message, stopped)?;
-                put_bytes(text, &told.text)?;
-                self.outcome = Outcome::Refused(at, told.stopped);
+                let told = told_of(self.alloc, &order, at, message, stopped)?;
+                self.explain(Outcome::Refused(at, told.stopped), told.text);
                 Ok(())
             }
         }
@@ -238,15 +268,14 @@ impl<B: Allocator + Copy> Reporter<B> {
         alloc: A,
         at: Position,
         message: &S,
-        text: &mut Vec<u8, A>,
     ) -> Result<(), ServeFault>
-        ensures { Puts (ServesBy (spec.is_before at self.old.order.number) self.old at (S.message message.now))
-            text.old.items text.new.items result self.new }
+        ensures { Keeps (ServesBy (spec.is_before at self.old.order.number) self.old at (S.message message.now)) result
+            self.new }
     {
-        if is_before(at, self.order.number) {
+        if is_before(at, self.order().number) {
             return Ok(());
         }
-        self.report_known(alloc, at, message, text)
+        self.report_known(alloc, at, message)
     }
 }
 
@@ -276,7 +305,7 @@ impl<B: Allocator + Copy> Service for Reporter<B> {
         text: &mut Vec<u8, A>,
         writer: &mut Watched<W>,
     ) -> Result<(), ServeFault> {
-        self.report(alloc, at, message, text)?;
+        self.report(alloc, at, message)?;
         flush_long(text, writer)
     }
 }

@@ -2,12 +2,13 @@ use Rattle.std.proofs.Common.{◌≡◌, Err, sym, subst}
 use Rattle.capn_words.specs.Watched.{inner_of, has_failed}
 use Rattle.capn_serve.specs.declared.fault.RunFault.TheVariants as faults
 use Rattle.capn_serve.specs.declared.service.Run.{Run}
-use Rattle.capn_report.specs.ExplainRun.{Explained, ending, explain_finish, explain_fold, first_run}
+use Rattle.capn_report.specs.ExplainRun.{Explained, closing, ending, explain_finish, explain_fold, first_run, told_at}
 use Rattle.capn_report.specs.Finish.{plain}
 use Rattle.capn_report.specs.Reports.{Reporting}
 use Rattle.capn_report.proofs.Closings.{Ending, done_fine, ending_not_io, fine_if_told}
 use Rattle.capn_report.proofs.Finishes.{finished_closed, finished_told, finished_unclosed, finished_untold}
 use Rattle.capn_report.proofs.Finishes.{plain_faithful}
+use Rattle.capn_report.proofs.NothingWritten.{closed_none, served_none, told_none, unclosed_none, untold_none}
 use Rattle.capn_report.proofs.explain_run.run_explain.Goals as goal
 
 not_io : (run : Run Reporting) → ending run ≡ Err faults.Io → ⊥
@@ -29,47 +30,66 @@ returns-in-Ok-write_closing g c =
     (g.R.Read.remaining (inner_of c.serve_messages.new.reader)) (g.W.Write.contents (inner_of c.args.writer.now))
     (g.W.Write.contents (inner_of c.write_closing.new.writer)) (has_failed c.serve_messages.new.reader)
     (has_failed c.write_closing.new.writer) r) (sym c.ending_of.ensures)
-    (finished_closed (explain_fold c.args.order) (first_run c.args.order) (explain_finish c.args.order) plain
-    (plain_faithful (explain_fold c.args.order))
-    c.args.order.form (g.R.Read.remaining (inner_of c.args.reader.now))
-    (g.R.Read.remaining (inner_of c.serve_messages.new.reader)) (g.W.Write.contents (inner_of c.args.writer.now))
-    (g.W.Write.contents (inner_of c.serve_messages.new.writer)) (has_failed c.serve_messages.new.reader)
-    (has_failed c.serve_messages.new.writer) c.serve_messages.new.run
-    (g.W.Write.contents (inner_of c.write_closing.new.writer)) (has_failed c.write_closing.new.writer)
-    (not_io c.serve_messages.new.run) c.in-Ok.ensures.serves c.in-Ok-write_closing.ensures)
+    record {
+      run = finished_closed (explain_fold c.args.order) (first_run c.args.order) (explain_finish c.args.order) plain
+          (plain_faithful (explain_fold c.args.order))
+          c.args.order.form (g.R.Read.remaining (inner_of c.args.reader.now))
+          (g.R.Read.remaining (inner_of c.serve_messages.new.reader)) (g.W.Write.contents (inner_of c.args.writer.now))
+          (g.W.Write.contents (inner_of c.serve_messages.new.writer)) (has_failed c.serve_messages.new.reader)
+          (has_failed c.serve_messages.new.writer) c.serve_messages.new.run
+          (g.W.Write.contents (inner_of c.write_closing.new.writer)) (has_failed c.write_closing.new.writer)
+          (not_io c.serve_messages.new.run) c.in-Ok.ensures.serves c.in-Ok-write_closing.ensures;
+      nothing = closed_none c.serve_messages.new.run _ _ _ _ _ (served_none c.args.order (first_run c.args.order) c.args.order.form c.in-Ok.ensures.serves.begun.bytes _ _
+          c.in-Ok.ensures.serves.begun.written) c.in-Ok-write_closing.ensures;
+    }
 
 pub returns-in-Ok : goal.returns-in-Ok
 returns-in-Ok g c =
-    finished_unclosed (explain_fold c.args.order) (first_run c.args.order) (explain_finish c.args.order) plain
-    (plain_faithful (explain_fold c.args.order))
-    c.args.order.form (g.R.Read.remaining (inner_of c.args.reader.now))
-    (g.R.Read.remaining (inner_of c.serve_messages.new.reader)) (g.W.Write.contents (inner_of c.args.writer.now))
-    (g.W.Write.contents (inner_of c.serve_messages.new.writer)) (has_failed c.serve_messages.new.reader)
-    (has_failed c.serve_messages.new.writer) c.serve_messages.new.run
-    (g.W.Write.contents (inner_of c.write_closing.new.writer)) (has_failed c.write_closing.new.writer)
-    c.in-Err-write_closing.fault (not_io c.serve_messages.new.run) c.in-Ok.ensures.serves
-    c.in-Err-write_closing.ensures
+    record {
+      run = finished_unclosed (explain_fold c.args.order) (first_run c.args.order) (explain_finish c.args.order) plain
+          (plain_faithful (explain_fold c.args.order))
+          c.args.order.form (g.R.Read.remaining (inner_of c.args.reader.now))
+          (g.R.Read.remaining (inner_of c.serve_messages.new.reader)) (g.W.Write.contents (inner_of c.args.writer.now))
+          (g.W.Write.contents (inner_of c.serve_messages.new.writer)) (has_failed c.serve_messages.new.reader)
+          (has_failed c.serve_messages.new.writer) c.serve_messages.new.run
+          (g.W.Write.contents (inner_of c.write_closing.new.writer)) (has_failed c.write_closing.new.writer)
+          c.in-Err-write_closing.fault (not_io c.serve_messages.new.run) c.in-Ok.ensures.serves
+          c.in-Err-write_closing.ensures;
+      nothing = unclosed_none (closing c.serve_messages.new.run) _ _ _ _ _ c.in-Err-write_closing.fault (served_none c.args.order (first_run c.args.order) c.args.order.form c.in-Ok.ensures.serves.begun.bytes _ _
+          c.in-Ok.ensures.serves.begun.written)
+          c.in-Err-write_closing.ensures;
+    }
 
 pub returns-in-Ok-write_fault : goal.returns-in-Ok-write_fault
 returns-in-Ok-write_fault g c =
-    finished_told (explain_fold c.args.order) (first_run c.args.order) (explain_finish c.args.order) plain
-    (plain_faithful (explain_fold c.args.order))
-    c.args.order.form (g.R.Read.remaining (inner_of c.args.reader.now))
-    (g.R.Read.remaining (inner_of c.serve_messages.new.reader)) (g.W.Write.contents (inner_of c.args.writer.now))
-    (g.W.Write.contents (inner_of c.serve_messages.new.writer)) (has_failed c.serve_messages.new.reader)
-    (has_failed c.serve_messages.new.writer) c.serve_messages.new.run c.serve_messages.new.begun
-    (g.W.Write.contents (inner_of c.write_fault.new.writer)) (has_failed c.write_fault.new.writer)
-    c.in-Err.stopped c.in-Err.ensures.serves c.in-Err.ensures.begun
-    c.in-Ok-write_fault.ensures
+    record {
+      run = finished_told (explain_fold c.args.order) (first_run c.args.order) (explain_finish c.args.order) plain
+          (plain_faithful (explain_fold c.args.order))
+          c.args.order.form (g.R.Read.remaining (inner_of c.args.reader.now))
+          (g.R.Read.remaining (inner_of c.serve_messages.new.reader)) (g.W.Write.contents (inner_of c.args.writer.now))
+          (g.W.Write.contents (inner_of c.serve_messages.new.writer)) (has_failed c.serve_messages.new.reader)
+          (has_failed c.serve_messages.new.writer) c.serve_messages.new.run c.serve_messages.new.begun
+          (g.W.Write.contents (inner_of c.write_fault.new.writer)) (has_failed c.write_fault.new.writer)
+          c.in-Err.stopped c.in-Err.ensures.serves c.in-Err.ensures.begun
+          c.in-Ok-write_fault.ensures;
+      nothing = told_none (λ at r. told_at c.args.order at r c.serve_messages.new.begun) _ _ _ _ _ c.in-Err.stopped (served_none c.args.order (first_run c.args.order) c.args.order.form c.in-Err.ensures.serves.begun.bytes _ _
+          c.in-Err.ensures.serves.begun.written)
+          c.in-Ok-write_fault.ensures;
+    }
 
 pub returns : goal.returns
 returns g c =
-    finished_untold (explain_fold c.args.order) (first_run c.args.order) (explain_finish c.args.order) plain
-    (plain_faithful (explain_fold c.args.order))
-    c.args.order.form (g.R.Read.remaining (inner_of c.args.reader.now))
-    (g.R.Read.remaining (inner_of c.serve_messages.new.reader)) (g.W.Write.contents (inner_of c.args.writer.now))
-    (g.W.Write.contents (inner_of c.serve_messages.new.writer)) (has_failed c.serve_messages.new.reader)
-    (has_failed c.serve_messages.new.writer) c.serve_messages.new.run c.serve_messages.new.begun
-    (g.W.Write.contents (inner_of c.write_fault.new.writer)) (has_failed c.write_fault.new.writer)
-    c.in-Err.stopped c.in-Err-write_fault.fault c.in-Err.ensures.serves c.in-Err.ensures.begun
-    c.in-Err-write_fault.ensures
+    record {
+      run = finished_untold (explain_fold c.args.order) (first_run c.args.order) (explain_finish c.args.order) plain
+          (plain_faithful (explain_fold c.args.order))
+          c.args.order.form (g.R.Read.remaining (inner_of c.args.reader.now))
+          (g.R.Read.remaining (inner_of c.serve_messages.new.reader)) (g.W.Write.contents (inner_of c.args.writer.now))
+          (g.W.Write.contents (inner_of c.serve_messages.new.writer)) (has_failed c.serve_messages.new.reader)
+          (has_failed c.serve_messages.new.writer) c.serve_messages.new.run c.serve_messages.new.begun
+          (g.W.Write.contents (inner_of c.write_fault.new.writer)) (has_failed c.write_fault.new.writer)
+          c.in-Err.stopped c.in-Err-write_fault.fault c.in-Err.ensures.serves c.in-Err.ensures.begun
+          c.in-Err-write_fault.ensures;
+      nothing = untold_none (λ at r. told_at c.args.order at r c.serve_messages.new.begun) _ _ _ _ _ c.in-Err.stopped
+          c.in-Err-write_fault.fault (served_none c.args.order (first_run c.args.order) c.args.order.form c.in-Err.ensures.serves.begun.bytes _ _
+          c.in-Err.ensures.serves.begun.written) c.in-Err-write_fault.ensures;
+    }

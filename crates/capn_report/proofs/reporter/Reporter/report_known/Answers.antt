@@ -1,7 +1,0 @@
-use Rattle.capn_report.proofs.Reporters.{puts_accepted}
-use Rattle.capn_report.proofs.reporter.Reporter.report_known.Goals as goal
-
-pub returns-in-Ok : goal.returns-in-Ok
-returns-in-Ok g c =
-    puts_accepted c.args.self.now c.report_accepted.new.self c.args.at (g.S.Space.message c.args.message.now)
-    c.args.text.now.items c.report_accepted.new.text.items c.report_accepted.result c.report_accepted.ensures
