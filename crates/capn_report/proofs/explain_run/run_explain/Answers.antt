@@ -26,6 +26,8 @@ write_fault-requires g c =
 
 pub returns-in-Ok-write_closing : goal.returns-in-Ok-write_closing
 returns-in-Ok-write_closing g c =
+    let began = c.in-Ok.ensures.serves.begun in
+    let none = served_none c.args.order (first_run c.args.order) c.args.order.form began.bytes _ _ began.written in
     subst (λ (r : Ending). Explained c.args.order (g.R.Read.remaining (inner_of c.args.reader.now))
     (g.R.Read.remaining (inner_of c.serve_messages.new.reader)) (g.W.Write.contents (inner_of c.args.writer.now))
     (g.W.Write.contents (inner_of c.write_closing.new.writer)) (has_failed c.serve_messages.new.reader)
@@ -39,12 +41,13 @@ returns-in-Ok-write_closing g c =
           (has_failed c.serve_messages.new.writer) c.serve_messages.new.run
           (g.W.Write.contents (inner_of c.write_closing.new.writer)) (has_failed c.write_closing.new.writer)
           (not_io c.serve_messages.new.run) c.in-Ok.ensures.serves c.in-Ok-write_closing.ensures;
-      nothing = closed_none c.serve_messages.new.run _ _ _ _ _ (served_none c.args.order (first_run c.args.order) c.args.order.form c.in-Ok.ensures.serves.begun.bytes _ _
-          c.in-Ok.ensures.serves.begun.written) c.in-Ok-write_closing.ensures;
+      nothing = closed_none c.serve_messages.new.run _ _ _ _ _ none c.in-Ok-write_closing.ensures;
     }
 
 pub returns-in-Ok : goal.returns-in-Ok
 returns-in-Ok g c =
+    let began = c.in-Ok.ensures.serves.begun in
+    let none = served_none c.args.order (first_run c.args.order) c.args.order.form began.bytes _ _ began.written in
     record {
       run = finished_unclosed (explain_fold c.args.order) (first_run c.args.order) (explain_finish c.args.order) plain
           (plain_faithful (explain_fold c.args.order))
@@ -55,13 +58,14 @@ returns-in-Ok g c =
           (g.W.Write.contents (inner_of c.write_closing.new.writer)) (has_failed c.write_closing.new.writer)
           c.in-Err-write_closing.fault (not_io c.serve_messages.new.run) c.in-Ok.ensures.serves
           c.in-Err-write_closing.ensures;
-      nothing = unclosed_none (closing c.serve_messages.new.run) _ _ _ _ _ c.in-Err-write_closing.fault (served_none c.args.order (first_run c.args.order) c.args.order.form c.in-Ok.ensures.serves.begun.bytes _ _
-          c.in-Ok.ensures.serves.begun.written)
+      nothing = unclosed_none (closing c.serve_messages.new.run) _ _ _ _ _ c.in-Err-write_closing.fault none
           c.in-Err-write_closing.ensures;
     }
 
 pub returns-in-Ok-write_fault : goal.returns-in-Ok-write_fault
 returns-in-Ok-write_fault g c =
+    let began = c.in-Err.ensures.serves.begun in
+    let none = served_none c.args.order (first_run c.args.order) c.args.order.form began.bytes _ _ began.written in
     record {
       run = finished_told (explain_fold c.args.order) (first_run c.args.order) (explain_finish c.args.order) plain
           (plain_faithful (explain_fold c.args.order))
@@ -72,13 +76,14 @@ returns-in-Ok-write_fault g c =
           (g.W.Write.contents (inner_of c.write_fault.new.writer)) (has_failed c.write_fault.new.writer)
           c.in-Err.stopped c.in-Err.ensures.serves c.in-Err.ensures.begun
           c.in-Ok-write_fault.ensures;
-      nothing = told_none (λ at r. told_at c.args.order at r c.serve_messages.new.begun) _ _ _ _ _ c.in-Err.stopped (served_none c.args.order (first_run c.args.order) c.args.order.form c.in-Err.ensures.serves.begun.bytes _ _
-          c.in-Err.ensures.serves.begun.written)
+      nothing = told_none (λ at r. told_at c.args.order at r c.serve_messages.new.begun) _ _ _ _ _ c.in-Err.stopped none
           c.in-Ok-write_fault.ensures;
     }
 
 pub returns : goal.returns
 returns g c =
+    let began = c.in-Err.ensures.serves.begun in
+    let none = served_none c.args.order (first_run c.args.order) c.args.order.form began.bytes _ _ began.written in
     record {
       run = finished_untold (explain_fold c.args.order) (first_run c.args.order) (explain_finish c.args.order) plain
           (plain_faithful (explain_fold c.args.order))
@@ -90,6 +95,5 @@ returns g c =
           c.in-Err.stopped c.in-Err-write_fault.fault c.in-Err.ensures.serves c.in-Err.ensures.begun
           c.in-Err-write_fault.ensures;
       nothing = untold_none (λ at r. told_at c.args.order at r c.serve_messages.new.begun) _ _ _ _ _ c.in-Err.stopped
-          c.in-Err-write_fault.fault (served_none c.args.order (first_run c.args.order) c.args.order.form c.in-Err.ensures.serves.begun.bytes _ _
-          c.in-Err.ensures.serves.begun.written) c.in-Err-write_fault.ensures;
+          c.in-Err-write_fault.fault none c.in-Err-write_fault.ensures;
     }
