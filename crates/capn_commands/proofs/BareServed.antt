@@ -20,7 +20,7 @@ use Rattle.capn_commands.specs.declared.plan.Whole.{Whole}
 use Rattle.capn_commands.specs.declared.plan.Whole.TheVariants as wholes
 use Rattle.capn_commands.specs.declared.fault.ToolFault.{ToolFault}
 use Rattle.capn_commands.specs.declared.fault.ToolFault.TheVariants as faults
-use Rattle.capn_commands.proofs.Served.{Ending, IsOf, ending_of, io_same}
+use Rattle.capn_commands.proofs.Served.{Ending, IsOf, ending_of, io_same, memory_from}
 use Rattle.capn_commands.proofs.WholeRun.{is_all, is_more}
 
 -- the piece of a bare message is that of any message, except for its price
@@ -118,4 +118,6 @@ module _ (piece : MessageText) (limits : Bounds) (other : piece ≢ kinds.Price)
     io = io_same ((reader_failed ≡ true) ⊎ (writer_failed ≡ true)) r h.io;
     begun = begins a b c d h.begun;
     heard = h.heard;
+    ahead = tt;
+    memory = λ e. h.memory (memory_from r e);
   }

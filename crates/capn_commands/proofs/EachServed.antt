@@ -1,6 +1,7 @@
 -- A run over a stream whose messages are served is the run of its plan.
 use Rattle.std.proofs.Common.{◌≡◌, ◌⊎◌, inl, inr, ℕ, List, Bool, true, false, Option, Some, None, IfSome}
 use Rattle.std.proofs.Common.{Ok, Err, refl, ap, sym, subst}
+use Rattle.std.specs.Io.KnownBytes.{Appends}
 use Rattle.capn_walk.specs.Limits.{Bounds}
 use Rattle.capn_serve.specs.Fold.{fold_of}
 use Rattle.capn_serve.specs.StreamRun as served
@@ -8,7 +9,7 @@ use Rattle.capn_serve.specs.declared.service.Run.{Run}
 use Rattle.capn_serve.specs.declared.fault.RunFault.{RunFault}
 use Rattle.capn_commands.specs.Limits.{most_input}
 use Rattle.capn_commands.specs.Streams.{IsDueEach, behind_stream}
-use Rattle.capn_commands.specs.CommandRun.{HasKeptUp, Runs, unplaced}
+use Rattle.capn_commands.specs.CommandRun.{HasKeptUp, HasWrittenAll, Runs, StaysAhead, unplaced}
 use Rattle.capn_commands.specs.Text.{HasEnded, HasWritten, PlanBegins, PlanEndsAs, has_more, taken_of}
 use Rattle.capn_commands.specs.inner.MessageTexts.{refuses, serves}
 use Rattle.capn_commands.specs.declared.message_texts.MessageTexts.{MessageTexts}
@@ -16,7 +17,8 @@ use Rattle.capn_commands.specs.declared.plan.MessageText.{MessageText}
 use Rattle.capn_commands.specs.declared.plan.Plan.{Plan}
 use Rattle.capn_commands.specs.declared.plan.Plan.TheVariants as plans
 use Rattle.capn_commands.specs.declared.fault.ToolFault.{ToolFault}
-use Rattle.capn_commands.proofs.Served.{Ending, IsOf, behind_of, due, ending_of, io_same, row, texts}
+use Rattle.capn_commands.proofs.Served.{Ending, IsOf, behind_of, due, ending_of, io_same, memory_from, row}
+use Rattle.capn_commands.proofs.Served.{texts}
 
 behind_same : (more : Bool) → behind_of (served.behind more) ≡ behind_stream more
 behind_same true = refl
@@ -70,6 +72,18 @@ module _ (piece : MessageText) (limits : Bounds) (x : Run MessageTexts) (of : Is
   keeps_up a b c d (bytes, text, r, y, read, h, wrote) =
       (bytes, text, ending_of r, read, due_each y (taken_of bytes) text (has_more bytes) r h, wrote)
 
+  all_written : (bytes : List ℕ) (c d : Option (List ℕ))
+      → served.HasWrittenAll (texts piece limits) x most_input bytes c d → HasWrittenAll piece limits bytes c d
+  all_written bytes c d (ps, rest, y, are, unfinished, wrote) =
+      let front = row piece limits x y bytes rest ps of are in
+      (front.0, rest, front.1, unfinished, subst (Appends c d) (sym front.2) wrote)
+
+  stays_ahead : (a b c d : Option (List ℕ)) → served.Begins (texts piece limits) x most_input a b c d
+      → StaysAhead (HasWrittenAll piece limits) a b c d
+  stays_ahead a b c d h =
+      let (before, piece, mid, more, is, short, written, after) = h.lazy in
+      (h.bytes, h.read, (before, piece, mid, more, is, short, all_written before c mid written, after))
+
   runs_each : (a b c d : Option (List ℕ)) (reader_failed writer_failed : Bool) (r : Ending) (y : Run MessageTexts)
       → served.Runs (texts piece limits) x most_input a b c d reader_failed writer_failed r y
       → Runs each a b c d reader_failed writer_failed (ending_of r)
@@ -78,6 +92,8 @@ module _ (piece : MessageText) (limits : Bounds) (x : Run MessageTexts) (of : Is
     io = io_same ((reader_failed ≡ true) ⊎ (writer_failed ≡ true)) r h.io;
     begun = begins a b c d h.begun;
     heard = λ failed. keeps_up a b c d (h.heard failed);
+    ahead = stays_ahead a b c d h.begun;
+    memory = λ e. h.memory (memory_from r e);
   }
 
   -- the maximum of words is that of the limits

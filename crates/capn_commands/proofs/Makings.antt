@@ -1,5 +1,5 @@
 -- What is made of an input, from what was read of it.
-use Rattle.std.proofs.Common.{◌≡◌, ◌⊎◌, inl, inr, ℕ, ◌+◌, ◌*◌, ◌<◌, ◌^◌, List, Bool, Option, Result, Ok}
+use Rattle.std.proofs.Common.{◌≡◌, ◌⊎◌, inl, inr, ℕ, ◌+◌, ◌*◌, ◌^◌, List, Bool, Option, Result, Ok}
 use Rattle.std.proofs.Common.{Err, IsErr, IsErrAnd}
 use Rattle.std.proofs.Common.{Vec, ap, sym, subst, ◌∙◌, arith, take_all}
 use Rattle.capn_words.specs.Message.{ReadsBare}

@@ -3,7 +3,7 @@ use Rattle.std.proofs.Common.{◌≡◌, ◌≢◌, inl, inr, ℕ, List, Bool, O
 use Rattle.capn_walk.specs.Limits.{Bounds}
 use Rattle.capn_walk.specs.declared.walk_answer.Stopped.{Stopped}
 use Rattle.capn_canon.specs.Reads.{IsFramed, Reads}
-use Rattle.capn_canon.specs.Refusal.{IsMisread, IsRefused, IsRefusedMessage}
+use Rattle.capn_canon.specs.Refusal.{IsMisread}
 use Rattle.capn_canon.specs.declared.form.Form.{Form}
 use Rattle.capn_canon.specs.declared.form.Form.TheVariants as forms
 use Rattle.capn_canon.specs.declared.refusal.Refusal.{Refusal}
@@ -41,6 +41,8 @@ runs_plan whole a b c d r w e h = record {
     record { read = h.begun.read; bounded = h.begun.bounded; written = h.begun.written },
   );
   heard = h.heard;
+  ahead = tt;
+  memory = h.memory;
 }
 
 -- a frame of a message is read as that

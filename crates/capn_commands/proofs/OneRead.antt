@@ -1,5 +1,5 @@
 -- The frame of the one message of an input, as it was read, and how the message was served.
-use Rattle.std.proofs.Common.{◌≡◌, ◌⊎◌, ◌||◌, inl, inr, ℕ, ◌+◌, ◌*◌, ◌<◌, ◌≤◌, List, [], ◌++◌, length, take, Bool, true}
+use Rattle.std.proofs.Common.{◌≡◌, ◌⊎◌, ◌||◌, inl, inr, ℕ, ◌+◌, ◌*◌, ◌≤◌, List, [], ◌++◌, length, take, Bool, true}
 use Rattle.std.proofs.Common.{false, Option, Result, Ok, Err, Vec, ap, sym, subst, ◌∙◌, arith, length-take}
 use Rattle.std.proofs.Math.Seq.{take-append-add, take-append_seam, take-length, take-nil, take_all}
 use Rattle.std.proofs.lemmas.Bool.{cases_lt}
@@ -14,7 +14,7 @@ use Rattle.capn_canon.specs.Reads.{IsFramed}
 use Rattle.capn_canon.specs.RefusalOf.{IsOfFrame}
 use Rattle.capn_canon.specs.declared.refusal.Refusal.{Refusal}
 use Rattle.capn_canon.specs.declared.refusal.Refusal.TheVariants as refusals
-use Rattle.capn_serve.specs.Outgoing.{Adds, AddsBeginning, outgoing}
+use Rattle.capn_serve.specs.Outgoing.{Adds, outgoing}
 use Rattle.capn_serve.specs.Service.{DoesService}
 use Rattle.capn_serve.specs.StreamRun.{start}
 use Rattle.capn_serve.specs.WholeInput.{HasGivenAll, IsBeginning}
@@ -29,7 +29,7 @@ use Rattle.capn_serve.specs.declared.whole_input.WholeInput.{WholeInput}
 use Rattle.capn_commands.specs.CommandRun.{unplaced}
 use Rattle.capn_commands.specs.OneMessage.{Writes}
 use Rattle.capn_commands.specs.WholeInput.{Gives, IsFaultOf}
-use Rattle.capn_commands.specs.inner.OneServing.{HoldsFrame, RefusesFrame, ServesWhole, WritesFrame}
+use Rattle.capn_commands.specs.inner.OneServing.{HoldsFrame, RefusesFrame, ServesWhole}
 use Rattle.capn_commands.specs.inner.ReadInput.{TakesAll}
 use Rattle.capn_commands.specs.declared.plan.Whole.TheVariants as wholes
 use Rattle.capn_commands.specs.declared.fault.ToolFault.{ToolFault}

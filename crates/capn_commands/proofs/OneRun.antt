@@ -17,7 +17,7 @@ use Rattle.capn_serve.specs.declared.pick.StreamForm.TheVariants as streams
 use Rattle.capn_serve.specs.declared.position.Position.{Position}
 use Rattle.capn_serve.specs.StreamRun.{start}
 use Rattle.capn_serve.specs.WholeInput.{HasGiven, HasGivenAll}
-use Rattle.capn_commands.specs.OneMessage.{IsFrameOf, RefusesOne, Writes, WritesOne}
+use Rattle.capn_commands.specs.OneMessage.{RefusesOne, Writes, WritesOne}
 use Rattle.capn_commands.specs.Text.{IsDueOf, has_more, taken_of}
 use Rattle.capn_commands.specs.WholeRun.{RunsWhole, WholeBegins, WholeEnds}
 use Rattle.capn_commands.specs.inner.OneServing.{HoldsFrame, RefusesFrame, ServesWhole, WritesFrame}

@@ -5,6 +5,7 @@ use Rattle.std.proofs.Common.{length-append, length-take}
 use Rattle.std.proofs.lemmas.List.{length-replicate}
 use Rattle.std.proofs.Math.Seq.{take_all}
 use Rattle.std.proofs.lemmas.Bool.Decides.{nat_tests}
+use Rattle.std.specs.Io.KnownBytes.{Appends}
 use Rattle.std.specs.List.{AllByRecursion}
 use Rattle.capn_walk.specs.Limits.{Bounds}
 use Rattle.capn_pack.specs.Packed.{Group, IsGroup, content, contents, text, texts}
@@ -17,7 +18,7 @@ use Rattle.capn_serve.specs.declared.service.Run.{Run}
 use Rattle.capn_serve.specs.declared.fault.RunFault.{RunFault}
 use Rattle.capn_commands.specs.Limits.{most_input}
 use Rattle.capn_commands.specs.Streams.{IsDueEach, IsDuePacked, behind_packed}
-use Rattle.capn_commands.specs.CommandRun.{HasKeptUp, Runs, unplaced}
+use Rattle.capn_commands.specs.CommandRun.{HasKeptUp, HasWrittenAllPacked, Runs, StaysAhead, unplaced}
 use Rattle.capn_commands.specs.Text.{HasEnded, HasWritten, PlanBegins, PlanEndsAs, has_more, taken_of}
 use Rattle.capn_commands.specs.inner.MessageTexts.{refuses, serves}
 use Rattle.capn_commands.specs.declared.message_texts.MessageTexts.{MessageTexts}
@@ -26,7 +27,7 @@ use Rattle.capn_commands.specs.declared.plan.Plan.{Plan}
 use Rattle.capn_commands.specs.declared.plan.Plan.TheVariants as plans
 use Rattle.capn_commands.specs.declared.fault.ToolFault.{ToolFault}
 use Rattle.capn_commands.proofs.Served as folded
-use Rattle.capn_commands.proofs.Served.{Ending, IsOf, behind_of, due, ending_of, io_same, row}
+use Rattle.capn_commands.proofs.Served.{Ending, IsOf, behind_of, due, ending_of, io_same, memory_from, row}
 
 -- ---- a packed input unpacks to no more than a run takes
 
@@ -156,6 +157,20 @@ module _ (piece : MessageText) (limits : Bounds) (x : Run MessageTexts) (of : Is
     wrote,
   )
 
+  all_written : (bytes : List ℕ) (c d : Option (List ℕ))
+      → served.HasWrittenAllPacked (folded.texts piece limits) x most_unpacked bytes c d
+      → HasWrittenAllPacked piece limits bytes c d
+  all_written bytes c d (stream, group, offset, split, few, ps, rest, y, are, unfinished, wrote) =
+      let front = row piece limits x y stream rest ps of are in
+      (stream, group, offset, split, (front.0, rest, front.1, unfinished, subst (Appends c d) (sym front.2) wrote))
+
+  stays_ahead : (a b c d : Option (List ℕ))
+      → served.BeginsPacked (folded.texts piece limits) x most_input most_unpacked a b c d
+      → StaysAhead (HasWrittenAllPacked piece limits) a b c d
+  stays_ahead a b c d h =
+      let (before, piece, mid, more, is, short, written, after) = h.lazy in
+      (h.bytes, h.read, (before, piece, mid, more, is, short, all_written before c mid written, after))
+
   runs_packed : (a b c d : Option (List ℕ)) (reader_failed writer_failed : Bool) (r : Ending) (y : Run MessageTexts)
       → served.RunsPacked (folded.texts piece limits) x most_input most_unpacked a b c d reader_failed
       writer_failed r y
@@ -165,6 +180,8 @@ module _ (piece : MessageText) (limits : Bounds) (x : Run MessageTexts) (of : Is
     io = io_same ((reader_failed ≡ true) ⊎ (writer_failed ≡ true)) r h.io;
     begun = begins_so a b c d h.begun;
     heard = λ failed. keeps_up a b c d (h.heard failed);
+    ahead = stays_ahead a b c d h.begun;
+    memory = λ e. h.memory (memory_from r e);
   }
 
   -- the maximum of words is that of the limits

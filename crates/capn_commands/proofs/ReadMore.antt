@@ -1,5 +1,5 @@
 -- One more read.
-use Rattle.std.proofs.Common.{◌≡◌, ℕ, ◌+◌, ◌<◌, ◌^◌, List, ◌++◌, length, refl, ap, ◌∙◌}
+use Rattle.std.proofs.Common.{◌≡◌, ℕ, ◌<◌, ◌^◌, List, ◌++◌, length, refl, ap, ◌∙◌}
 use Rattle.std.proofs.Common.{arith, length-append, append-nil, Option, None, Some, IfSome, Bool, true}
 use Rattle.std.proofs.Common.{false, nat_lt, ◌||◌}
 use Rattle.std.proofs.lemmas.List.{take-append-le}

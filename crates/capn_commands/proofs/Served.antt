@@ -55,6 +55,14 @@ io_from (Err run_faults.Io) e = refl
 io_from (Err run_faults.InputTooLong) e = absurd (cc)
 io_from (Err (run_faults.Refused at refusal)) e = absurd (cc)
 
+-- a run ends with Memory only where it did
+pub memory_from : (r : Ending) → ending_of r ≡ Err faults.Memory → r ≡ Err run_faults.Memory
+memory_from (Ok u) e = absurd (cc)
+memory_from (Err run_faults.Memory) e = refl
+memory_from (Err run_faults.Io) e = absurd (cc)
+memory_from (Err run_faults.InputTooLong) e = absurd (cc)
+memory_from (Err (run_faults.Refused at refusal)) e = absurd (cc)
+
 -- a run ends with Io where it did
 pub io_same : (P : Type 0) (r : Ending) → ((r ≡ Err run_faults.Io) ↔ P) → (ending_of r ≡ Err faults.Io) ↔ P
 io_same P r io = (λ e. io.0 (io_from r e), λ h. ap ending_of (io.1 h))

@@ -4,8 +4,9 @@ use Rattle.std.proofs.Common.{Option, IfSome, Result, Ok, Err, IsOkUnless, OnOk,
 use Rattle.std.proofs.Common.{subst, arith, take_all}
 use Rattle.std.proofs.lemmas.Bool.Decides.{nat_tests}
 use Rattle.std.proofs.KnownBytes.{Appends-nil}
-use Rattle.std.specs.Io.KnownBytes.{Appends}
 use Rattle.capn_words.specs.Watched.{HasBegun}
+use Rattle.std.specs.Io.KnownBytes.{Appends, IsAtEnd}
+use Rattle.capn_serve.specs.StreamRun.{TakesBytes}
 use Rattle.capn_serve.specs.WholeInput.{HasGiven, HasGivenAll}
 use Rattle.capn_commands.specs.inner.ReadInput.{IsUntaken, TakesAll}
 use Rattle.capn_commands.specs.Text.{HasEnded, PlanBegins, PlanEndsAs, has_more, taken_of}
@@ -91,6 +92,14 @@ module _ (whole : Whole) (a b c : Option (List ℕ)) where
       begins_none (plans.Whole whole) a b c (bytes, read, bound)
   unmade_begins failed fault (inr (bytes, all, why)) =
       begins_none (plans.Whole whole) a b c (bytes, all.given.read, all.given.bounded)
+
+  -- memory was refused for bytes that came, or once all had come
+  pub unmade_memory : (failed : Bool) (fault : ToolFault) → Unmade whole a b failed fault → fault ≡ faults.Memory
+      → TakesBytes a b ⊎ IsAtEnd b
+  unmade_memory failed fault (inl (bytes, inl (h, inl (memory, some)))) is = inl (bytes, h.read, some)
+  unmade_memory failed fault (inl (bytes, inl (h, inr (long, more)))) is = absurd (cc)
+  unmade_memory failed fault (inl (bytes, inr (read, bound, broken, io))) is = absurd (cc)
+  unmade_memory failed fault (inr (bytes, all, why)) is = inr all.ended
 
   -- ---- a text was made, and written
 

@@ -1,9 +1,15 @@
 -- A run over all of its input: it has kept up with its reader, and ended as it must. (Own.)
-use Rattle.std.specs.Prelude.{◌≡◌, ◌⊎◌, ◌↔◌, ℕ, List, [], Bool, true, Option, IfSome, Result, Err}
-use Rattle.std.specs.Io.KnownBytes.{Consumes, Appends}
+use Rattle.std.specs.Prelude.{◌≡◌, ◌⊎◌, ◌↔◌, ℕ, List, [], Bool, true, Option, IfSome, Result, Err, ⊤}
+use Rattle.std.specs.Io.KnownBytes.{Consumes, Appends, IsAtEnd}
+use Rattle.capn_pack.specs.PackedPieces.{Splits}
+use Rattle.capn_stream.specs.StreamPieces.{IsUnfinished}
+use Rattle.capn_walk.specs.Limits.{Bounds}
+use Rattle.capn_serve.specs.StreamRun.{IsAhead, TakesBytes}
 use Rattle.capn_serve.specs.declared.fault.RunFault.{RunFault}
 use Rattle.capn_serve.specs.declared.fault.RunFault.TheVariants as run_faults
+use Rattle.capn_commands.specs.Streams.{AreParts, Part, texts_of}
 use Rattle.capn_commands.specs.Text.{IsDue, PlanEndsAs, PlanBegins, taken_of, has_more}
+use Rattle.capn_commands.specs.declared.plan.MessageText.{MessageText}
 use Rattle.capn_commands.specs.declared.plan.Plan.{Plan}
 use Rattle.capn_commands.specs.declared.plan.Plan.TheVariants as plans
 use Rattle.capn_commands.specs.declared.command.Command.{Command}
@@ -36,6 +42,41 @@ PlanKeepsUp (plans.Packed piece limits) a b c d = HasKeptUp (plans.Packed piece 
 abbrev pub KeepsUp : Command → Option (List ℕ) → Option (List ℕ) → Option (List ℕ) → Option (List ℕ) → Type 0
 KeepsUp command a b c d = PlanKeepsUp (plan_of command) a b c d
 
+-- the texts of all whole messages in these bytes were written, and what is left is no whole frame
+abbrev pub HasWrittenAll : MessageText → Bounds → List ℕ → Option (List ℕ) → Option (List ℕ) → Type 0
+HasWrittenAll piece limits bytes c d = (parts : List Part) × (rest : List ℕ)
+    × AreParts piece limits bytes parts rest × IsUnfinished rest limits.message_words × Appends c d (texts_of parts)
+
+-- so it is with what the whole groups of these bytes unpack to
+abbrev pub HasWrittenAllPacked : MessageText → Bounds → List ℕ → Option (List ℕ) → Option (List ℕ) → Type 0
+HasWrittenAllPacked piece limits bytes c d = (words group : List ℕ) × (at : ℕ) × Splits bytes group [] words at
+    × HasWrittenAll piece limits words c d
+
+-- a reader gave these bytes, and before the last piece of them was read this was written of those before it
+abbrev pub StaysAhead : (List ℕ → Option (List ℕ) → Option (List ℕ) → Type 0) → Option (List ℕ) → Option (List ℕ)
+    → Option (List ℕ) → Option (List ℕ) → Type 0
+StaysAhead Written a b c d = (bytes : List ℕ) × Consumes a b bytes × IsAhead Written bytes c d
+
+-- if messages are taken one by one, all that the bytes before the last piece decided was written before that was read
+abbrev pub PlanIsAhead : Plan → Option (List ℕ) → Option (List ℕ) → Option (List ℕ) → Option (List ℕ) → Type 0
+PlanIsAhead (plans.Whole whole) a b c d = ⊤
+PlanIsAhead (plans.Each piece limits) a b c d = StaysAhead (HasWrittenAll piece limits) a b c d
+PlanIsAhead (plans.Packed piece limits) a b c d = StaysAhead (HasWrittenAllPacked piece limits) a b c d
+
+-- a run of a command is ahead as its plan is
+abbrev pub StaysAheadAs : Command → Option (List ℕ) → Option (List ℕ) → Option (List ℕ) → Option (List ℕ) → Type 0
+StaysAheadAs command a b c d = PlanIsAhead (plan_of command) a b c d
+
+-- where memory may be refused: some bytes were read, or all of an input that is taken whole, which may have none
+abbrev pub PlanMayNeedMemory : Plan → Option (List ℕ) → Option (List ℕ) → Type 0
+PlanMayNeedMemory (plans.Whole whole) a b = TakesBytes a b ⊎ IsAtEnd b
+PlanMayNeedMemory (plans.Each piece limits) a b = TakesBytes a b
+PlanMayNeedMemory (plans.Packed piece limits) a b = TakesBytes a b
+
+-- where memory may be refused in a run of a command, by its plan
+abbrev pub MayNeedMemory : Command → Option (List ℕ) → Option (List ℕ) → Type 0
+MayNeedMemory command a b = PlanMayNeedMemory (plan_of command) a b
+
 -- what a run by a plan did, over a reader (from a to b) and a writer (from c to d)
 pub record Runs (plan : Plan) (a b c d : Option (List ℕ)) (reader_failed writer_failed : Bool)
     (r : Result (Unit {0}) ToolFault) : Type 0 where
@@ -43,3 +84,5 @@ pub record Runs (plan : Plan) (a b c d : Option (List ℕ)) (reader_failed write
   pub io : (r ≡ Err faults.Io) ↔ ((reader_failed ≡ true) ⊎ (writer_failed ≡ true))
   pub begun : PlanBegins plan a b c d
   pub heard : reader_failed ≡ true → PlanKeepsUp plan a b c d
+  pub ahead : PlanIsAhead plan a b c d
+  pub memory : r ≡ Err faults.Memory → PlanMayNeedMemory plan a b

@@ -3,7 +3,7 @@
 ghost use Rattle.std.specs.Prelude.{◌≡◌, ◌↔◌, ◌⊎◌, ℕ, Bool, List, Option, Result, true, false, IfSome, IsErrOf};
 ghost use Rattle.capn_words.specs.Watched.{inner_of, has_failed};
 ghost use Rattle.capn_commands.specs.Plan as spec;
-ghost use Rattle.capn_commands.specs.CommandRun.{KeepsUp, Runs};
+ghost use Rattle.capn_commands.specs.CommandRun.{KeepsUp, MayNeedMemory, Runs, StaysAheadAs};
 ghost use Rattle.capn_commands.specs.Text.{EndsAs, EndsBy, IsText, Begins};
 ghost use Rattle.capn_commands.specs.WholeInput.{Gives};
 ghost use Rattle.capn_commands.specs.inner.ReadInput.{TakesAll};
@@ -137,6 +137,12 @@ pub fn run<R: Read, W: Write, A: Allocator + Copy>(
     ensures heard { has_failed reader.new ≡ true
         → KeepsUp command (R.remaining (inner_of reader.old)) (R.remaining (inner_of reader.new))
         (W.contents (inner_of writer.old)) (W.contents (inner_of writer.new)) }
+    // Before a piece was read, all that the bytes before it decided was written, if they are taken message by message.
+    ensures ahead { StaysAheadAs command (R.remaining (inner_of reader.old)) (R.remaining (inner_of reader.new))
+        (W.contents (inner_of writer.old)) (W.contents (inner_of writer.new)) }
+    // It answers Memory only where some bytes were read, or all of an input that is taken whole.
+    ensures memory { IsErrOf result ToolFault.Memory
+        → MayNeedMemory command (R.remaining (inner_of reader.old)) (R.remaining (inner_of reader.new)) }
 {
     perform(alloc, plan_of(command), reader, writer)
 }

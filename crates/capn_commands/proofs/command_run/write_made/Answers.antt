@@ -5,6 +5,7 @@ use Rattle.std.proofs.KnownBytes.{Appends-nil}
 use Rattle.capn_commands.specs.declared.fault.ToolFault.{ToolFault}
 use Rattle.capn_commands.specs.declared.fault.ToolFault.TheVariants as faults
 use Rattle.capn_commands.proofs.WholeRun.{made_begins, made_ends, made_fine, unmade_begins, unmade_ends, unmade_io}
+use Rattle.capn_commands.proofs.WholeRun.{unmade_memory}
 use Rattle.capn_commands.proofs.command_run.write_made.Goals as goal
 
 abbrev Ending : Type 0
@@ -38,6 +39,8 @@ returns-in-Err g c whole a b unread given =
           c.requires refl;
       begun = unmade_begins whole a b _ unread c.in-Err.fault none;
       heard = λ failed. Appends-nil _;
+      ahead = tt;
+      memory = λ is. unmade_memory whole a b a unread c.in-Err.fault none (cc);
     }
 
 -- a writer that had not failed has if the call failed, and has not if it did not
@@ -59,6 +62,8 @@ returns-in_err-write_all-in-Ok g c whole a b unread given =
       io = made (Err faults.Io) unread _ fine (λ is. has_failed_by _ _ wrote.failed c.requires, λ is. refl);
       begun = made_begins whole a b _ unread c.in-Ok.text _ all (rw c.deref.ensures.value at wrote.begun);
       heard = λ failed. absurd (let bad = sym failed ∙ fine in cc);
+      ahead = tt;
+      memory = λ is. absurd (cc);
     })
 
 pub returns-in_ok-write_all-in-Ok : goal.returns-in_ok-write_all-in-Ok
@@ -72,4 +77,6 @@ returns-in_ok-write_all-in-Ok g c whole a b unread given =
       io = made (Ok tt) unread _ fine (λ is. absurd cc, λ is. absurd (let bad = sym is ∙ as_before in cc));
       begun = made_begins whole a b _ unread c.in-Ok.text _ all (rw c.deref.ensures.value at wrote.begun);
       heard = λ failed. absurd (let bad = sym failed ∙ fine in cc);
+      ahead = tt;
+      memory = λ is. absurd (cc);
     }
