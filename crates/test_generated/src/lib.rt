@@ -15,6 +15,8 @@ mod changed;
 #[cfg(test)]
 mod hostile;
 #[cfg(test)]
+mod long_lists;
+#[cfg(test)]
 mod random;
 #[cfg(test)]
 mod segments;

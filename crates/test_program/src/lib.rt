@@ -12,6 +12,10 @@ mod broken_streams;
 #[cfg(test)]
 mod fault_lines;
 #[cfg(test)]
+mod greatest_limits;
+#[cfg(test)]
+mod large_inputs;
+#[cfg(test)]
 mod long_ways;
 #[cfg(test)]
 mod option_texts;

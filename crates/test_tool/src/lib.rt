@@ -10,6 +10,8 @@ mod lines;
 #[cfg(test)]
 mod pieces;
 #[cfg(test)]
+mod program_calls;
+#[cfg(test)]
 mod programs;
 #[cfg(test)]
 mod slow;

@@ -11,14 +11,14 @@ use std::io::{self, Read, Write};
 
 /// The numbers of calls of the reader and of the writer of a run, and of the reader before the writer was first called.
 #[derive(Drop)]
-struct Calls {
-    reads: Cell<u64>,
-    writes: Cell<u64>,
+pub(crate) struct Calls {
+    pub(crate) reads: Cell<u64>,
+    pub(crate) writes: Cell<u64>,
     reads_before: Cell<u64>,
 }
 
 /// No calls.
-fn no_calls() -> Calls {
+pub(crate) fn no_calls() -> Calls {
     Calls {
         reads: Cell::new(0),
         writes: Cell::new(0),
@@ -28,10 +28,10 @@ fn no_calls() -> Calls {
 
 /// A reader of at most `piece` bytes a call.
 #[derive(Drop)]
-struct Source<'a> {
-    bytes: &'a [u8],
-    piece: usize,
-    calls: &'a Calls,
+pub(crate) struct Source<'a> {
+    pub(crate) bytes: &'a [u8],
+    pub(crate) piece: usize,
+    pub(crate) calls: &'a Calls,
 }
 
 impl Read for Source<'_> {
@@ -49,9 +49,9 @@ impl Read for Source<'_> {
 
 /// A writer of all that it is given.
 #[derive(Drop)]
-struct Sink<'a> {
-    bytes: Vec<u8>,
-    calls: &'a Calls,
+pub(crate) struct Sink<'a> {
+    pub(crate) bytes: Vec<u8>,
+    pub(crate) calls: &'a Calls,
 }
 
 impl Write for Sink<'_> {
@@ -93,7 +93,7 @@ fn ended(
 }
 
 /// A struct of two words, framed: 32 bytes.
-const FRAMED: [u8; 32] = [
+pub(crate) const FRAMED: [u8; 32] = [
     0, 0, 0, 0, 3, 0, 0, 0, 0, 0, 0, 0, 2, 0, 0, 0, 5, 0, 0, 0, 0, 0, 0, 0, 6, 0, 0, 0, 0, 0, 0, 0,
 ];
 
