@@ -7,7 +7,8 @@ use Rattle.std.specs.Io.KnownBytes.{Appends, Consumes, IsAtEnd, Keeps}
 use Rattle.std.proofs.KnownBytes.{Appends-nil, Appends-trans, Consumes-trans, Consumes-kept}
 use Rattle.capn_flow.specs.declared.fault.FlowFault.{FlowFault}
 use Rattle.capn_flow.specs.declared.fault.FlowFault.TheVariants as faults
-use Rattle.capn_flow.specs.Flow.{Begins, Ending, Ends, EndsAs, Flow, HasEnded, HasWritten, Consumed, IsAhead, Kept, Runs}
+use Rattle.capn_flow.specs.Flow.{Begins, Ending, Ends, EndsAs, Flow, HasEnded, HasWritten, Consumed, IsAhead, Kept}
+use Rattle.capn_flow.specs.Flow.{Runs}
 use Rattle.capn_flow.specs.Flow.{Stops}
 use Rattle.capn_flow.specs.Flow.{most, taken_of}
 use Rattle.capn_flow.proofs.InputRead.{kept_all, read_end, read_past, taken_front}

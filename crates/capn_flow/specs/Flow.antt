@@ -1,6 +1,6 @@
 -- A stream of bytes that comes in through a reader and goes out through a writer: its text, and its end. (Own.)
-use Rattle.std.specs.Prelude.{◌≡◌, ◌⊎◌, ◌↔◌, ℕ, ◌+◌, ◌-◌, ◌^◌, ◌<◌, ◌≤◌, nat_lt, List, ◌++◌, length, take, Bool, true, false}
-use Rattle.std.specs.Prelude.{Option, IfSome, Result, Err}
+use Rattle.std.specs.Prelude.{◌≡◌, ◌⊎◌, ◌↔◌, ℕ, ◌+◌, ◌-◌, ◌^◌, ◌<◌, ◌≤◌, nat_lt, List, ◌++◌, length, take}
+use Rattle.std.specs.Prelude.{Bool, true, false, Option, IfSome, Result, Err}
 use Rattle.std.specs.Io.KnownBytes.{Consumes, Appends, IsAtEnd}
 use Rattle.capn_flow.specs.declared.fault.FlowFault.{FlowFault}
 use Rattle.capn_flow.specs.declared.fault.FlowFault.TheVariants as faults
