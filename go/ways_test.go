@@ -183,6 +183,9 @@ func TestStoredWays(t *testing.T) {
 		if len(words) < 4 || words[0] != "archive" || words[2] != "explain" {
 			continue
 		}
+		if strings.Contains(line, " --keep-going ") {
+			continue // It explains several messages, each as without it.
+		}
 		form, limits := Stream, UsualLimits()
 		for at := 3; at < len(words)-1; at += 2 {
 			number, _ := strconv.ParseUint(words[at+1], 10, 32)

@@ -223,6 +223,8 @@ fn input_of(call: &str) -> Option<(Form, Limits, Vec<u8>)> {
             "--depth" => limits.depth = words.next()?.parse().ok()?,
             "--message-words" => limits.message_words = words.next()?.parse().ok()?,
             "--number" => drop(words.next()?),
+            // It explains several messages, each as without it.
+            "--keep-going" => return None,
             digits => return Some((form, limits, bytes_of(digits.trim_start_matches('-')))),
         }
     }
