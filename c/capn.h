@@ -22,8 +22,8 @@
  * but capn_hash_segments. Memory is asked for by a packed text, by a stream of more segments, for the bytes that are
  * hashed, packed or unpacked, for the text of capn_show, for a way and for the bytes that capn_departure compares; and
  * by capn_first and capn_show for the table of a stream of two segments or more. A call takes at most 16 KiB of stack,
- * and 304 bytes more for each level of depth that the limits allow, capn_show 432, capn_index 560: 92 KiB at depth 256,
- * capn_show 124 KiB, capn_index 156 KiB.
+ * and 304 bytes more for each level of depth that the limits allow, capn_show 432, capn_index 560, capn_same 576: 92
+ * KiB at depth 256, capn_show 124 KiB, capn_index 156 KiB, capn_same 160 KiB.
  *
  * Each call answers a status and fills its report in; a field that the status does not speak of is 0. */
 #ifndef CAPN_H

@@ -7,10 +7,10 @@
 #include <string.h>
 
 enum { ROOM = 1 << 20 };
-enum { MOST_SEGMENTS = 66, CALLS = 29, KINDS = 3 };
+enum { MOST_SEGMENTS = 66, CALLS = 29, KINDS = 4 };
 /* The calls that have a bound of their own, and the bytes of each level of depth. */
-static const char *const names[KINDS] = {"", "capn_show ", "capn_index "};
-static const size_t levels[KINDS] = {304, 432, 560};
+static const char *const names[KINDS] = {"", "capn_show ", "capn_index ", "capn_same "};
+static const size_t levels[KINDS] = {304, 432, 560, 576};
 static uint8_t in[8 * 4096], framed[8 * 4096 + 1024], text[ROOM];
 static _Alignas(8) uint8_t out[ROOM];
 static capn_segment all[MOST_SEGMENTS];
@@ -148,7 +148,7 @@ int main(void) {
                     printf("stack: call %d at depth %u, kind %d: status %u\n", call, depth, kind, status);
                     return 4;
                 }
-                const int of = call >= 14 && call <= 17 ? 1 : call == 9 ? 2 : 0;
+                const int of = call >= 14 && call <= 17 ? 1 : call == 9 ? 2 : call >= 25 && call <= 27 ? 3 : 0;
                 if (used > most[of][d]) most[of][d] = used;
                 free(stack);
             }

@@ -166,7 +166,7 @@ static void called(void) {
     want("its length", report.length, 8);
     is("room for no text", capn_pack(message, 24, out, 1, &report), CAPN_NO_ROOM);
     is("room for no words", capn_unpack(message, 2, 1, out, 7, &report), CAPN_NO_ROOM);
-    is("two messages", capn_same(CAPN_BARE, message + 8, 8, message + 16, 8, &usual, NULL, &report), CAPN_DIFFERENT);
+    is("two messages", capn_same(CAPN_BARE, message + 8, 16, message + 16, 8, &usual, NULL, &report), CAPN_DIFFERENT);
     is("a struct with a zero word", capn_is_canonical(message + 8, 16, &usual, &report), CAPN_NOT_CANONICAL);
 }
 
