@@ -1,5 +1,5 @@
 -- The last group of a packer's text, by the last word of it. (For `settled_part` and `zeros_part`.)
-use Rattle.std.proofs.Common.{◌≡◌, ◌≢◌, inl, inr, ℕ, zero, suc, ◌+◌, ◌-◌, ◌*◌, ◌/◌, ◌^◌, ◌<◌, ◌≤◌, List, [], ◌∷◌}
+use Rattle.std.proofs.Common.{◌≡◌, ◌≢◌, ◌⊎◌, inl, inr, ℕ, zero, suc, ◌+◌, ◌-◌, ◌*◌, ◌/◌, ◌^◌, ◌<◌, ◌≤◌, List, [], ◌∷◌}
 use Rattle.std.proofs.Common.{◌++◌}
 use Rattle.std.proofs.Common.{length, take, drop, replicate, get_or, eqb, false, refl, ap, sym, subst, ◌∙◌, arith}
 use Rattle.std.proofs.Common.{append-nil, length-append, length-drop, drop-drop, take_all}
@@ -13,7 +13,8 @@ use Rattle.capn_pack.specs.Packed.Group.{Zeros, Named, Raw}
 use Rattle.capn_pack.specs.Chosen.{AllDense, Chosen, IsChoice, IsChosenRow, zero_count}
 use Rattle.capn_pack.proofs.shared.ChosenLaws.{chosen_whole}
 use Rattle.capn_pack.proofs.shared.GroupLemmas.{length_content, length_contents}
-use Rattle.capn_flow.specs.PackRun.{IsSettled, last_word}
+use Rattle.capn_flow.specs.PackRun.{AreOpen, IsSettled, last_word}
+use Rattle.capn_flow.proofs.HeldBack.{open_raw, open_zeros}
 use Rattle.capn_flow.proofs.Settled.{Last, each_front, row_after, settled_front, settled_whole, words_some}
 
 -- ---- zero bytes and tags
@@ -30,7 +31,7 @@ few_zeros (zero ∷ xs) = omega (arith, few_zeros xs)
 few_zeros (suc x ∷ xs) = omega (arith, few_zeros xs, (some_first x xs).1)
 
 -- a full tag leaves no zero byte
-full_tag : (n : ℕ) (xs : List ℕ) → length xs ≡ n → 1 + tag_of xs ≡ 2 ^ n → zero_count xs ≡ 0
+pub full_tag : (n : ℕ) (xs : List ℕ) → length xs ≡ n → 1 + tag_of xs ≡ 2 ^ n → zero_count xs ≡ 0
 full_tag zero [] size full = refl
 full_tag zero (x ∷ xs) size full = absurd (omega (arith, size))
 full_tag (suc n) [] size full = refl
@@ -183,6 +184,27 @@ zeros_by (Zeros more) nulls kind all = (more, refl)
 zeros_by (Named tag word) nulls kind all = absurd (omega (arith, kind, all))
 zeros_by (Raw word count more) nulls kind all = absurd (omega (arith, kind, all))
 
+-- a group that may go on, by its tag, is open
+pub open_group : (g : Group) (behind : List ℕ) → IsGroup g → IsChoice g behind
+    → (get_or (text g) 0 0 ≡ 0) ⊎ (get_or (text g) 0 0 ≡ 255) → AreOpen (content g)
+open_group (Zeros more) behind is choice tag = open_zeros more (content (Zeros more)) refl
+open_group (Named tag word) behind is choice (inl none) = absurd (omega (arith, is.0, none))
+open_group (Named tag word) behind is choice (inr full) = absurd (omega (arith, is.1, full))
+open_group (Raw word count more) behind is choice tag =
+    let none : zero_count word ≡ 0 = full_tag 8 word is.0 (omega (arith, choice.0)) in
+    open_raw word more count (content (Raw word count more)) (is.0, omega (arith, none)) choice.1 refl
+
+-- the same, by the byte where the last group of a text begins
+pub open_last : (t bs : List ℕ) (count taken known tag : ℕ) (l : Last t bs count taken known)
+    → get_or t taken 0 ≡ tag → (tag ≡ 0) ⊎ (tag ≡ 255) → AreOpen (content l.last)
+open_last t bs count taken known tag l is kind =
+    let at : taken + 0 ≡ taken = omega arith in
+    let same : get_or (text l.last) 0 0 ≡ tag = ap (λ (x : List ℕ). get_or x 0 0) (sym l.behind)
+    ∙ get_or-drop taken t 0 0 ∙ ap (λ (k : ℕ). get_or t k 0) at ∙ is in
+    let group_is = row_after l.groups (l.last ∷ []) l.row in
+    open_group l.last [] group_is.0 group_is.1
+    (subst (λ (x : ℕ). (x ≡ 0) ⊎ (x ≡ 255)) (sym same) kind)
+
 -- ---- what is settled
 
 -- a text whose last word is zero: how many zero words its last group has, and what is settled
@@ -235,7 +257,8 @@ module _ (t bs : List ℕ) (count taken known : ℕ) (l : Last t bs count taken 
         going = λ less.
             subst (λ (k : ℕ). IsSettled t bs (length t - 2) k) front
             (subst (λ (k : ℕ). IsSettled t bs k (8 * known)) first
-            (settled_front t bs count taken known l size (omega (arith, words_are, less))));
+            (settled_front t bs count taken known l size (omega (arith, words_are, less))
+            (open_zeros more (content l.last) (ap content is))));
         full = λ all.
             settled_whole t bs count taken known l c (λ less. absurd (omega (arith, words_are, less, all)));
       }

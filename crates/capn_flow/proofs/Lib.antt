@@ -5,3 +5,4 @@ pub mod Chunk
 pub mod Settled
 pub mod LastWord
 pub mod Packed
+pub mod HeldBack

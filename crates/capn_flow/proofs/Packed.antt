@@ -12,7 +12,7 @@ use Rattle.capn_words.specs.Watched.{HasBegun}
 use Rattle.capn_flow.specs.declared.fault.FlowFault.{FlowFault}
 use Rattle.capn_flow.specs.declared.fault.FlowFault.TheVariants as faults
 use Rattle.capn_flow.specs.Flow.{Ending, Ends, HasEnded, HasWritten, Stops}
-use Rattle.capn_flow.specs.PackRun.{IsFront, PacksPart, Settles, most_held, ending_of, packing, packing_last}
+use Rattle.capn_flow.specs.PackRun.{IsFront, MayGoOn, PacksPart, Settles, most_held, ending_of, packing, packing_last}
 use Rattle.capn_flow.specs.PackRun.{whole_of}
 
 abbrev stopped : FlowFault → Ending
@@ -105,10 +105,10 @@ module _ (bytes text held : List ℕ) (s : Settles bytes text held) (count : ℕ
 
 -- these bytes are held, and the text of those before them was written
 abbrev pub Holds : List ℕ → List ℕ → List ℕ → Type 0
-Holds held bytes text = Settles bytes text held × (length held < most_held)
+Holds held bytes text = Settles bytes text held × (length held < most_held) × MayGoOn held
 
 pub holds_settles : (held bytes text : List ℕ) → Holds held bytes text → packing.settles bytes text
-holds_settles held bytes text h = (held, h.0, h.1)
+holds_settles held bytes text h = (held, h.0, h.1, h.2)
 
 pub holds_begins : (held bytes text : List ℕ) → Holds held bytes text → packing.begins bytes text
 holds_begins held bytes text h = inl (held, h.0)
@@ -140,15 +140,16 @@ wrote_fine true u io = absurd (let e = io.1 refl in cc)
 -- what is settled was written, and the rest is held
 pub packs_part : (before bytes held text rest : List ℕ) (c d : Option (List ℕ)) (failed : Bool) (u v : Unit {0})
     → held ≡ before ++ bytes → Settles held text rest → length rest < most_held → length rest ≤ length held
-    → Appends c d text
+    → MayGoOn rest → Appends c d text
     → (wrote u ≡ Err faults.Io) ↔ (failed ≡ true) → PacksPart before bytes c d failed (Ok v) rest
-packs_part before bytes held text rest c d failed u v is s short few done io = (
+packs_part before bytes held text rest c d failed u v is s short few open_rest done io = (
   text,
   subst (λ (l : List ℕ). Settles l text rest) is s,
   short,
   done,
   wrote_fine failed u io,
   omega (arith, few, ap length is, length-append before bytes),
+  open_rest,
 )
 
 -- a beginning of what is settled was written, and the writer failed

@@ -1,7 +1,7 @@
 -- The settled part of a packer's text. (For `settle` and `unpacked_part`.)
 use Rattle.std.proofs.Common.{◌≡◌, inl, inr, ℕ, ◌+◌, ◌-◌, ◌*◌, ◌/◌, ◌<◌, ◌≤◌, List, [], ◌∷◌}
 use Rattle.std.proofs.Common.{◌++◌, length, take, drop, get_or, refl, ap, sym, subst, ◌∙◌, arith}
-use Rattle.std.proofs.Common.{append-nil, append_assoc, length-append, length-drop, take-append-drop}
+use Rattle.std.proofs.Common.{append-nil, append_assoc, length-append, length-drop, length-take-le, take-append-drop}
 use Rattle.std.specs.Prelude.{⊤}
 use Rattle.std.proofs.Math.Seq.{drop-append_seam, take-append-add, take-length}
 use Rattle.std.proofs.lemmas.List.{drop-append-le, drop_all, get_or-drop, take-append-le}
@@ -10,14 +10,15 @@ use Rattle.std.proofs.lemmas.Grind.{flat_map-append}
 use Rattle.std.specs.List.{AllByRecursion}
 use Rattle.capn_pack.specs.Packed.{Group, IsGroup, text, content, words, texts, contents, word_count}
 use Rattle.capn_pack.specs.Packed.Group.{Zeros, Named, Raw}
-use Rattle.capn_pack.specs.Chosen.{Chosen, IsChoice, IsChosenRow, IsDense}
+use Rattle.capn_pack.specs.Chosen.{AllDense, Chosen, IsChoice, IsChosenRow, IsDense}
 use Rattle.capn_pack.specs.WholeGroups.{StandsNext, UnpacksSome}
 use Rattle.capn_pack.specs.declared.whole_groups.Next.{Next}
 use Rattle.capn_pack.specs.declared.whole_groups.Next.TheVariants as nexts
 use Rattle.capn_pack.proofs.shared.ChosenLaws.{chosen_whole}
 use Rattle.capn_pack.proofs.shared.GroupLaws.{goes_on, head_of, no_group}
 use Rattle.capn_pack.proofs.shared.GroupLemmas.{count_append, length_content, length_contents, text_some}
-use Rattle.capn_flow.specs.PackRun.{IsSettled, Settles, most_held, whole_of}
+use Rattle.capn_flow.specs.PackRun.{AreOpen, IsSettled, MayGoOn, Settles, most_held, whole_of}
+use Rattle.capn_flow.proofs.HeldBack.{open_more, open_none}
 
 -- ---- whole words
 
@@ -203,12 +204,17 @@ module _ (t bs : List ℕ) (count taken known : ℕ) (old new : List ℕ) (next 
 
 -- ---- the settled part
 
+no_bytes : (bs : List ℕ) → length bs ≡ 0 → bs ≡ []
+no_bytes [] none = refl
+no_bytes (b ∷ bs) none = absurd (omega (arith, none))
+
 -- of less than a word nothing is settled
-pub settled_none : (t bs : List ℕ) → length bs < 8 → IsSettled t bs 0 0
-settled_none t bs less = record {
+pub settled_none : (t bs : List ℕ) → Chosen t bs → length bs < 8 → IsSettled t bs 0 0
+settled_none t bs c less = record {
   inside = omega arith;
   settled = λ more. record { settled = λ next s c. c };
   short = omega (arith, less);
+  open_words = open_none bs (no_bytes bs (omega (arith, chosen_whole t bs c, less)));
 }
 
 module _ (t bs : List ℕ) (count taken known : ℕ) (l : Last t bs count taken known) where
@@ -224,8 +230,9 @@ module _ (t bs : List ℕ) (count taken known : ℕ) (l : Last t bs count taken 
       ∙ drop-append_seam (contents l.groups) (content l.last)
 
   -- its last group may go on
-  pub settled_front : length bs ≡ 8 * count → count - known < 256 → IsSettled t bs taken (8 * known)
-  settled_front size less = record {
+  pub settled_front : length bs ≡ 8 * count → count - known < 256 → AreOpen (content l.last)
+      → IsSettled t bs taken (8 * known)
+  settled_front size less is_open = record {
     inside = omega (arith, size, l.words_are);
     settled = λ more.
         let law = settles_front l.groups l.last more l.each l.row in
@@ -235,6 +242,7 @@ module _ (t bs : List ℕ) (count taken known : ℕ) (l : Last t bs count taken 
         (sym (ap (λ (x : List ℕ). x ++ more) l.content_is ∙ append_assoc (contents l.groups) (content l.last) more))
         law));
     short = omega (arith, size, l.words_are, less);
+    open_words = subst AreOpen (sym rest_of) is_open;
   }
 
   -- its last group is settled, by its tag and its number of words
@@ -274,6 +282,7 @@ module _ (t bs : List ℕ) (count taken known : ℕ) (l : Last t bs count taken 
             (subst (λ (x : List ℕ). Settles (bs ++ more) x more) (sym text_is)
             (subst (λ (x : List ℕ). Settles (x ++ more) (texts rows) more) (sym all) law)));
         short = omega arith;
+        open_words = open_none (drop (length bs) bs) (drop_all (length bs) bs (omega arith));
       }
 
 -- the same, by the byte where the last group begins
@@ -294,11 +303,20 @@ last_of t bs taken known old new next c some u =
 
 -- ---- what is held
 
+-- behind the cut are dense words, and less than a word
+dense_behind : (held : List ℕ) (cut whole : ℕ) → cut ≤ whole → whole ≤ length held
+    → drop cut held ≡ drop cut (take whole held) ++ drop whole held
+dense_behind held cut whole before inside =
+    ap (drop cut) (sym (take-append-drop whole held))
+    ∙ drop-append-le cut (take whole held) (drop whole held) (omega (arith, before, length-take-le whole held inside))
+
 -- of bytes of which the first were packed, and those after them are few
-pub settled_held : (held t first_of rest_of : List ℕ) (cut first at : ℕ) → IsSettled t (take cut held) first at
-    → length held < length (take cut held) + 2048 → first_of ≡ take first t → rest_of ≡ drop at held
-    → Settles held first_of rest_of × (length rest_of < most_held)
-settled_held held t first_of rest_of cut first at s long text_is rest_is =
+pub settled_held : (held t first_of rest_of : List ℕ) (cut whole first at n : ℕ)
+    → IsSettled t (take cut held) first at → length held < length (take cut held) + 2048 → first_of ≡ take first t
+    → rest_of ≡ drop at held → cut ≤ whole → whole ≤ length held → length held < whole + 8
+    → AllDense n (drop cut (take whole held))
+    → Settles held first_of rest_of × (length rest_of < most_held) × MayGoOn rest_of
+settled_held held t first_of rest_of cut whole first at n s long text_is rest_is before inside near dense =
     let all : take cut held ++ drop cut held ≡ held = take-append-drop cut held in
     let behind : drop at (take cut held) ++ drop cut held ≡ rest_of =
     sym (drop-append-le at (take cut held) (drop cut held) s.inside) ∙ ap (drop at) all ∙ sym rest_is in
@@ -307,4 +325,14 @@ settled_held held t first_of rest_of cut first at s long text_is rest_is =
           (subst (λ (l : List ℕ). Settles held (take first t) l) behind
           (subst (λ (l : List ℕ). Settles l (take first t) (drop at (take cut held) ++ drop cut held)) all law)),
       omega (arith, s.short, long, ap length rest_is, length-drop at held),
+      record {
+        words = drop at (take cut held) ++ drop cut (take whole held);
+        tail = drop whole held;
+        is =
+            sym behind
+            ∙ ap (λ (l : List ℕ). drop at (take cut held) ++ l) (dense_behind held cut whole before inside)
+            ∙ sym (append_assoc (drop at (take cut held)) (drop cut (take whole held)) (drop whole held));
+        open_words = open_more (drop at (take cut held)) (drop cut (take whole held)) n s.open_words dense;
+        short = omega (arith, near, length-drop whole held);
+      },
     )

@@ -3,7 +3,7 @@
 use Rattle.std.specs.Prelude.{◌≡◌, ◌⊎◌, ℕ, ◌+◌, ◌-◌, ◌*◌, ◌/◌, ◌%◌, ◌<◌, ◌≤◌, ◌==◌, if◌then◌else◌, List, ◌++◌, length}
 use Rattle.std.specs.Prelude.{take, drop, replicate, refl, Bool, true, false, Option, Ok, Err}
 use Rattle.std.specs.Io.KnownBytes.{Appends}
-use Rattle.capn_pack.specs.Chosen.{Chosen}
+use Rattle.capn_pack.specs.Chosen.{AllDense, Chosen}
 use Rattle.capn_flow.specs.declared.fault.FlowFault.TheVariants as faults
 use Rattle.capn_flow.specs.Flow.{Ending, Flow, Stops}
 
@@ -40,9 +40,25 @@ pub record Settles (bytes text rest : List ℕ) : Type 0 where
 abbrev pub most_held : ℕ
 most_held = 4096
 
--- a text is settled, and little is held back
+-- these bytes are zero words, and then dense ones, which have at most one zero byte each
+pub record AreOpen (bytes : List ℕ) : Type 0 where
+  pub nulls : ℕ
+  pub count : ℕ
+  pub dense : List ℕ
+  pub is : bytes ≡ replicate (8 * nulls) 0 ++ dense
+  pub are : AllDense count dense
+
+-- such words, whose text may hang on what follows, and less than a word
+pub record MayGoOn (rest : List ℕ) : Type 0 where
+  pub words : List ℕ
+  pub tail : List ℕ
+  pub is : rest ≡ words ++ tail
+  pub open_words : AreOpen words
+  pub short : length tail < 8
+
+-- a text is settled, and little is held back: the last words alone, and only if they are zero or dense
 abbrev pub SettlesMost : List ℕ → List ℕ → Type 0
-SettlesMost bytes text = (rest : List ℕ) × Settles bytes text rest × (length rest < most_held)
+SettlesMost bytes text = (rest : List ℕ) × Settles bytes text rest × (length rest < most_held) × MayGoOn rest
 
 -- a text is settled, or it is that of all whole words
 abbrev pub IsFront : List ℕ → List ℕ → Type 0
@@ -67,6 +83,7 @@ pub record IsSettled (text words : List ℕ) (first at : ℕ) : Type 0 where
   pub inside : at ≤ length words
   pub settled : (more : List ℕ) → Settles (words ++ more) (take first text) (drop at words ++ more)
   pub short : length words ≤ at + most_open
+  pub open_words : AreOpen (drop at words)
 
 -- the last word of some bytes
 abbrev pub last_word : List ℕ → List ℕ
@@ -77,5 +94,5 @@ last_word bytes = drop (length bytes - 8) bytes
 abbrev pub PacksPart : List ℕ → List ℕ → Option (List ℕ) → Option (List ℕ) → Bool → Ending → List ℕ → Type 0
 PacksPart before bytes c d failed (Ok u) after =
     (text : List ℕ) × Settles (before ++ bytes) text after × (length after < most_held) × Appends c d text
-    × (failed ≡ false) × (length after ≤ length before + length bytes)
+    × (failed ≡ false) × (length after ≤ length before + length bytes) × MayGoOn after
 PacksPart before bytes c d failed (Err fault) after = Stops packing (before ++ bytes) c d failed fault

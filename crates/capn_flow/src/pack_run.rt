@@ -1,11 +1,12 @@
 //! Packing of a whole stream.
 
-ghost use Rattle.std.specs.Prelude.{◌≡◌, ◌+◌, ◌%◌, ◌<◌, ◌≤◌, length, true, false, IfOk};
-ghost use Rattle.capn_pack.specs.Chosen.{Chosen, zero_count};
+ghost use Rattle.std.specs.Prelude.{◌≡◌, ◌⊎◌, ◌+◌, ◌%◌, ◌<◌, ◌≤◌, ℕ, drop, length, true, false, IfOk};
+ghost use Rattle.capn_pack.specs.Chosen.{AllDense, Chosen, zero_count};
 ghost use Rattle.capn_words.specs.Watched.{inner_of, has_failed};
 ghost use Rattle.capn_flow.specs.Flow.{Ends, Runs};
 ghost use Rattle.capn_flow.specs.PackRun.{
   IsSettled,
+  MayGoOn,
   PacksPart,
   Settles,
   ending_of,
@@ -43,6 +44,7 @@ struct Settled {
 /// Returns `true` if a group with this `tag` and number of `words` is a run that may go on.
 fn may_go_on(tag: u8, words: u32) -> bool
     ensures open { result ≡ true → words < 256 }
+    ensures tag { result ≡ true → (tag ≡ 0) ⊎ (tag ≡ 255) }
     ensures closed { result ≡ false → words < 256 → (0 < tag) × (tag < 255) }
 {
     words < RUN && (tag == 0 || tag == 255)
@@ -68,6 +70,7 @@ fn before_dense(words: &[u8]) -> usize
     ensures whole { result % 8 ≡ 0 }
     ensures inside { result ≤ length words.now }
     ensures near { length words.now ≤ result + most_open }
+    ensures dense { (n : ℕ) × AllDense n (drop result words.now) }
 {
     let mut cut = words.len();
     while cut > 0 {
@@ -171,6 +174,7 @@ fn settle<A: Allocator + Copy>(alloc: A, held: &[u8]) -> Result<Settlement<A>, A
     ensures settled { IfOk result (λ s. Settles held.now s.text.items s.rest.items) }
     ensures short { IfOk result (λ s. length s.rest.items < most_held) }
     ensures few { IfOk result (λ s. length s.rest.items ≤ length held.now) }
+    ensures open { IfOk result (λ s. MayGoOn s.rest.items) }
 {
     let whole = held.len() / 8 * 8;
     let cut = before_dense(&held[..whole]);

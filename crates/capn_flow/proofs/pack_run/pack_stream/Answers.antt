@@ -5,6 +5,7 @@ use Rattle.std.proofs.lemmas.List.{take-append-le}
 use Rattle.std.proofs.lemmas.Result.{err_from_is_err_and}
 use Rattle.capn_flow.specs.Flow.{Consumed}
 use Rattle.capn_flow.specs.PackRun.{Settles, packing}
+use Rattle.capn_flow.proofs.HeldBack.{open_none}
 use Rattle.capn_flow.proofs.InputRead.{has_broken, still_fine}
 use Rattle.capn_flow.proofs.RunEnds.{heard_more, run_ended, run_long, run_stopped, run_unread}
 use Rattle.capn_flow.proofs.Packed.{Holds, front_stop, holds_begins, holds_settles, packing_ends, packs_stop}
@@ -19,7 +20,17 @@ heard_none held a c is = record {
   read = Consumes-nil a;
   count = refl;
   wrote = Appends-nil c;
-  holds = subst (λ (h : List ℕ). Holds h [] []) (sym is) (settles_none [], omega arith);
+  holds = subst (λ (h : List ℕ). Holds h [] []) (sym is) (
+    settles_none [],
+    omega arith,
+    record {
+      words = [];
+      tail = [];
+      is = refl;
+      open_words = open_none [] refl;
+      short = omega arith;
+    },
+  );
 }
 
 pub chunks-init : goal.chunks-init
@@ -139,7 +150,7 @@ chunks-preserved g c =
       );
       heard = heard_more (Holds held) (Holds next) _ _ _ _ _ _ c.chunks.taken within count c.read.new.buf
           done.0 same h c.in-Ok.ensures.bytes.0 bound.0 done.3
-          (settles_more h.bytes h.text held (take count c.read.new.buf) h.holds.0 done.0 next part, done.2);
+          (settles_more h.bytes h.text held (take count c.read.new.buf) h.holds.0 done.0 next part, done.2, done.6);
     }
 
 pub pack_chunk-requires-clause-fine : goal.pack_chunk-requires-clause-fine

@@ -1,5 +1,6 @@
 use Rattle.std.proofs.Common.{arith, refl}
 use Rattle.capn_pack.proofs.shared.ChosenLaws.{chosen_whole}
+use Rattle.capn_flow.proofs.LastWord.{open_last}
 use Rattle.capn_flow.proofs.Settled.{last_inside, last_of, settled_front, settled_tag}
 use Rattle.capn_flow.proofs.pack_run.unpacked_part.Goals as goal
 
@@ -15,6 +16,7 @@ returns-then-may_go_on g c =
     c.in_ok-progress.ensures.some in
     settled_front c.args.text.now c.args.words.now _ _ _ l (omega (arith, chosen_whole _ _ c.requires.chosen))
     (c.may_go_on.ensures.open c.if-may_go_on.true)
+    (open_last c.args.text.now c.args.words.now _ _ _ _ l refl (c.may_go_on.ensures.tag c.if-may_go_on.true))
 
 pub returns : goal.returns
 returns g c =
