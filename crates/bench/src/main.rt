@@ -1,4 +1,4 @@
-//! Measurements of the libraries on messages of eight shapes.
+//! Measurements of the libraries on messages of nine shapes.
 //! A fixed generator makes the messages.
 //!
 //! - Without a word: the digest of a little of each shape, and whether the operations agree on it.

@@ -1,4 +1,4 @@
-//! Messages of eight shapes, and a stream of small ones.
+//! Messages of nine shapes, and a stream of small ones.
 //! They are the same in every run.
 
 mod draft;
@@ -30,13 +30,15 @@ pub(crate) enum Shape {
     Segments,
     /// Structs, lists of structs with slots, texts, lists of pointers and null slots.
     Mixed,
+    /// Lists of structs and of pointers in the segments of a builder: three of four objects are near.
+    Builder,
     /// A stream of messages of 32 bytes each, in place of one message.
     Small,
 }
 
 impl Shape {
     /// The shapes of one message.
-    pub(crate) const MESSAGES: [Shape; 8] = [
+    pub(crate) const MESSAGES: [Shape; 9] = [
         Shape::Wide,
         Shape::Deep,
         Shape::Texts,
@@ -45,6 +47,7 @@ impl Shape {
         Shape::Noise,
         Shape::Segments,
         Shape::Mixed,
+        Shape::Builder,
     ];
 
     /// Returns its name.
@@ -58,6 +61,7 @@ impl Shape {
             Shape::Noise => "noise",
             Shape::Segments => "segs",
             Shape::Mixed => "mixed",
+            Shape::Builder => "builder",
             Shape::Small => "small",
         }
     }
@@ -85,6 +89,7 @@ pub(crate) fn framed(alloc: Global, shape: Shape, bytes: u32) -> Result<Vec<u8>,
         Shape::Noise => flat::noise(alloc, bytes),
         Shape::Segments => mixed::segments(alloc, bytes),
         Shape::Mixed => mixed::mixed(alloc, bytes),
+        Shape::Builder => mixed::builder(alloc, bytes),
         Shape::Small => small::stream(alloc, bytes),
     }
 }

@@ -19,13 +19,25 @@ enum Route {
     DoubleFar,
 }
 
+/// The segments of a message.
+#[derive(Clone, Copy)]
+pub(crate) enum Segments {
+    /// One.
+    One,
+    /// Segments of about so many words, with pointers of all routes.
+    Scattered(usize),
+    /// Segments of about so many words, filled one after the other as builders fill them: an object is near, unless
+    /// its pointer is in another segment.
+    Filled(usize),
+}
+
 /// A message in the making. Objects are in the order in which they are made.
 #[derive(Drop)]
 pub(crate) struct Draft {
     words: Vec<u64>,
     sizes: Vec<u32>,
     start: usize,
-    most: Option<usize>,
+    segments: Segments,
     random: Random,
 }
 
@@ -35,15 +47,15 @@ fn narrow(number: usize) -> u32 {
 }
 
 impl Draft {
-    /// Returns a draft with the pointer to the root alone, in one segment, or in segments of about `most` words.
-    pub(crate) fn new(alloc: Global, most: Option<usize>) -> Result<Draft, AllocError> {
+    /// Returns a draft with the pointer to the root alone, in such `segments`.
+    pub(crate) fn new(alloc: Global, segments: Segments) -> Result<Draft, AllocError> {
         let mut words = Vec::new(alloc);
         words.push(0)?;
         Ok(Draft {
             words,
             sizes: Vec::new(alloc),
             start: 0,
-            most,
+            segments,
             random: Random::new(),
         })
     }
@@ -91,16 +103,18 @@ impl Draft {
 
     /// Chooses the route from the pointer of `slot` to the object that is next.
     fn route(&mut self, slot: Slot) -> Result<Route, AllocError> {
-        let Some(most) = self.most else {
-            return Ok(Route::Near);
+        let (most, scattered) = match self.segments {
+            Segments::One => return Ok(Route::Near),
+            Segments::Scattered(most) => (most, true),
+            Segments::Filled(most) => (most, false),
         };
         if self.len() >= most {
             self.cut()?;
         }
-        if self.below(16) == 0 {
+        if scattered && self.below(16) == 0 {
             return Ok(Route::DoubleFar);
         }
-        if slot.segment != self.sizes.len() || self.below(8) == 0 {
+        if slot.segment != self.sizes.len() || scattered && self.below(8) == 0 {
             return Ok(Route::Far);
         }
         Ok(Route::Near)
@@ -108,9 +122,9 @@ impl Draft {
 
     /// Tests whether seven eighths of the words that the last segment may have are there.
     fn is_nearly_full(&self) -> bool {
-        match self.most {
-            Some(most) => self.len() >= most - most / 8,
-            None => false,
+        match self.segments {
+            Segments::One => false,
+            Segments::Scattered(most) | Segments::Filled(most) => { self.len() >= most - most / 8 }
         }
     }
 

@@ -1,13 +1,13 @@
 //! Shapes with few pointers.
 
-use crate::shapes::draft::Draft;
+use crate::shapes::draft::{Draft, Segments};
 use crate::shapes::random::Content;
 use crate::shapes::slot::Slot;
 use std::alloc::{AllocError, Global};
 
 /// Structs of 16 to 128 data words.
 pub(crate) fn wide(alloc: Global, bytes: u32) -> Result<Vec<u8>, AllocError> {
-    let mut draft = Draft::new(alloc, None)?;
+    let mut draft = Draft::new(alloc, Segments::One)?;
     let (first, count) = draft.groups(bytes, 73)?;
     for i in 0..count {
         let words = 16 + draft.below(113);
@@ -18,7 +18,7 @@ pub(crate) fn wide(alloc: Global, bytes: u32) -> Result<Vec<u8>, AllocError> {
 
 /// One list of 64-bit numbers.
 pub(crate) fn numbers(alloc: Global, bytes: u32) -> Result<Vec<u8>, AllocError> {
-    let mut draft = Draft::new(alloc, None)?;
+    let mut draft = Draft::new(alloc, Segments::One)?;
     let slot = draft.node(Slot::ROOT, Content::Zeros, 0, 1)?;
     draft.numbers(slot, Content::Noise, (bytes / 8).saturating_sub(3))?;
     draft.into_frame(alloc)
@@ -26,7 +26,7 @@ pub(crate) fn numbers(alloc: Global, bytes: u32) -> Result<Vec<u8>, AllocError> 
 
 /// One list of random bytes.
 pub(crate) fn noise(alloc: Global, bytes: u32) -> Result<Vec<u8>, AllocError> {
-    let mut draft = Draft::new(alloc, None)?;
+    let mut draft = Draft::new(alloc, Segments::One)?;
     let slot = draft.node(Slot::ROOT, Content::Zeros, 0, 1)?;
     draft.bytes(slot, Content::Noise, bytes.saturating_sub(24))?;
     draft.into_frame(alloc)
@@ -47,7 +47,7 @@ fn sparse(draft: &mut Draft, slot: Slot) -> Result<(), AllocError> {
 
 /// Structs and lists of 8 to 64 words that are mostly zero.
 pub(crate) fn zeros(alloc: Global, bytes: u32) -> Result<Vec<u8>, AllocError> {
-    let mut draft = Draft::new(alloc, None)?;
+    let mut draft = Draft::new(alloc, Segments::One)?;
     let (first, count) = draft.groups(bytes, 37)?;
     for i in 0..count {
         sparse(&mut draft, first.after(i))?;

@@ -1,6 +1,6 @@
 //! A bit of everything.
 
-use crate::shapes::draft::Draft;
+use crate::shapes::draft::{Draft, Segments};
 use crate::shapes::random::Content;
 use crate::shapes::slot::Slot;
 use std::alloc::{AllocError, Global};
@@ -89,7 +89,7 @@ fn group(draft: &mut Draft, slot: Slot) -> Result<(), AllocError> {
 
 /// All of these in one segment.
 pub(crate) fn mixed(alloc: Global, bytes: u32) -> Result<Vec<u8>, AllocError> {
-    let mut draft = Draft::new(alloc, None)?;
+    let mut draft = Draft::new(alloc, Segments::One)?;
     let (first, count) = draft.groups(bytes, 12)?;
     for i in 0..count {
         group(&mut draft, first.after(i))?;
@@ -100,10 +100,26 @@ pub(crate) fn mixed(alloc: Global, bytes: u32) -> Result<Vec<u8>, AllocError> {
 /// All of these in some 400 segments, or in segments of 16 words.
 pub(crate) fn segments(alloc: Global, bytes: u32) -> Result<Vec<u8>, AllocError> {
     let most = (bytes / 8 / 400).max(16) as usize;
-    let mut draft = Draft::new(alloc, Some(most))?;
+    let mut draft = Draft::new(alloc, Segments::Scattered(most))?;
     let (first, count) = draft.groups(bytes, 14)?;
     for i in 0..count {
         group(&mut draft, first.after(i))?;
+    }
+    draft.into_frame(alloc)
+}
+
+/// Lists of structs with texts, and lists of pointers to structs, in some 64 segments that are filled one after the
+/// other. Three of four objects are near.
+pub(crate) fn builder(alloc: Global, bytes: u32) -> Result<Vec<u8>, AllocError> {
+    let most = (bytes / 8 / 64).max(16) as usize;
+    let mut draft = Draft::new(alloc, Segments::Filled(most))?;
+    let (first, count) = draft.groups(bytes, 18)?;
+    for i in 0..count {
+        if draft.below(3) == 0 {
+            list(&mut draft, first.after(i))?;
+        } else {
+            table(&mut draft, first.after(i))?;
+        }
     }
     draft.into_frame(alloc)
 }

@@ -1,6 +1,6 @@
 //! Shapes of small structs.
 
-use crate::shapes::draft::Draft;
+use crate::shapes::draft::{Draft, Segments};
 use crate::shapes::random::Content;
 use crate::shapes::slot::Slot;
 use std::alloc::{AllocError, Global};
@@ -20,7 +20,7 @@ fn nest(draft: &mut Draft, slot: Slot) -> Result<(), AllocError> {
 
 /// Nests of small structs.
 pub(crate) fn deep(alloc: Global, bytes: u32) -> Result<Vec<u8>, AllocError> {
-    let mut draft = Draft::new(alloc, None)?;
+    let mut draft = Draft::new(alloc, Segments::One)?;
     let (first, count) = draft.groups(bytes, 91)?;
     for i in 0..count {
         nest(&mut draft, first.after(i))?;
@@ -39,7 +39,7 @@ fn pair(draft: &mut Draft, slot: Slot) -> Result<(), AllocError> {
 
 /// Structs with two texts each.
 pub(crate) fn texts(alloc: Global, bytes: u32) -> Result<Vec<u8>, AllocError> {
-    let mut draft = Draft::new(alloc, None)?;
+    let mut draft = Draft::new(alloc, Segments::One)?;
     let (first, count) = draft.groups(bytes, 30)?;
     for i in 0..count {
         pair(&mut draft, first.after(i))?;
