@@ -1,5 +1,5 @@
 -- The number of words before each segment, one segment after the other. (For `byte_of` and `words_before`.)
-use Rattle.std.proofs.Common.{◌≡◌, ℕ, ◌+◌, ◌<◌, ◌≤◌, nat_lt, Bool, true, false, List, [], ◌∷◌, ◌++◌, length}
+use Rattle.std.proofs.Common.{◌≡◌, ℕ, zero, suc, ◌+◌, ◌<◌, ◌≤◌, nat_lt, Bool, true, false, List, [], ◌∷◌, ◌++◌, length}
 use Rattle.std.proofs.Common.{take, slice_index, refl, ap, subst, ◌∙◌, arith}
 use Rattle.std.proofs.lemmas.Bool.Decides.{nat_tests}
 use Rattle.std.proofs.Math.ListN.{get_or-append}
@@ -49,3 +49,11 @@ module _ (m : List (List ℕ)) (xs : List ℕ) (n x : ℕ) (h : AreBefore m xs n
 -- of all of them
 pub counts_before : (m : List (List ℕ)) (xs : List ℕ) (n : ℕ) → AreBefore m xs n → n ≡ length m → CountsBefore m xs
 counts_before m xs n h e = record { count = h.count ∙ e; each = λ s below. h.each s (omega arith) }
+
+first : (m : List (List ℕ)) (s : ℕ) → s < 1 → slice_index (0 ∷ []) s ≡ total (take s m)
+first m zero below = refl
+first m (suc s) below = absurd (omega arith)
+
+-- of a message's only one
+pub alone : (m : List (List ℕ)) → 1 ≡ length m → CountsBefore m (0 ∷ [])
+alone m one = record { count = one; each = λ s below. first m s (omega arith) }

@@ -35,13 +35,6 @@ in-block name part k short is same =
     (ap (λ (j : ℕ). drop {A = ℕ} k (replicate j 9)) all ∙ tabs-left k n))
     ∙ name-and-tab name (replicate n 9)
 
--- the same, as a slice from byte 21 on
-pub name-alone : (b name : List ℕ) → take (1 + length name) (drop 21 b) ≡ name ++ 9 ∷ []
-    → take (22 + length name - 21) (drop 21 b) ≡ name ++ 9 ∷ []
-name-alone b name named =
-    let count : 22 + length name - 21 ≡ 1 + length name = omega arith in
-    ap (λ (j : ℕ). take j (drop 21 b)) count ∙ named
-
 -- the digits, a tab, the name and a tab
 pub before-name : (d b b' name : List ℕ) (start : ℕ) → start + length d ≡ 20 → drop start b' ≡ d ++ drop 20 b
     → drop 20 b ≡ 9 ∷ drop 21 b → take (1 + length name) (drop 21 b) ≡ name ++ 9 ∷ []

@@ -22,6 +22,7 @@ use std::io::Write;
 
 /// Appends the text of the value at `at` to `text`, at this `level`, with `marks`; `way` leads to it.
 #[cycle(marked)]
+#[inline(always)]
 pub fn mark_slot<S: Space, W: Write, A: Allocator>(
     text: &mut Vec<u8, A>,
     writer: &mut Watched<W>,
@@ -58,6 +59,7 @@ pub fn mark_slot<S: Space, W: Write, A: Allocator>(
 
 /// Appends the text of the value with the target `found`, to which `way` leads, to `text`, behind its first mark.
 #[cycle(marked)]
+#[inline(always)]
 pub fn mark_found<S: Space, W: Write, A: Allocator>(
     text: &mut Vec<u8, A>,
     writer: &mut Watched<W>,
@@ -172,6 +174,7 @@ pub fn mark_found<S: Space, W: Write, A: Allocator>(
 /// Appends the text of a struct of `words` and `slots`, whose content starts at `start`, to `text`, behind its first
 /// mark.
 #[cycle(marked)]
+#[inline(always)]
 pub fn mark_body<S: Space, W: Write, A: Allocator>(
     text: &mut Vec<u8, A>,
     writer: &mut Watched<W>,

@@ -18,6 +18,7 @@ use std::alloc::Allocator;
 use std::io::Write;
 
 /// Appends the line of a data `word` to `text`, with its mark.
+#[inline(always)]
 fn mark_word<W: Write, A: Allocator>(
     text: &mut Vec<u8, A>,
     writer: &mut Watched<W>,
@@ -39,6 +40,7 @@ fn mark_word<W: Write, A: Allocator>(
 }
 
 /// Appends the line of the element `n` to `text`, with its mark.
+#[inline(always)]
 fn mark_number<W: Write, A: Allocator>(
     text: &mut Vec<u8, A>,
     writer: &mut Watched<W>,

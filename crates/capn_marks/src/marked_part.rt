@@ -27,8 +27,8 @@ use std::io::Write;
 /// line.
 ///
 /// The text without its marks is that of `capn_show::show_part`, as lines, and the message is surveyed within `limits`,
-/// and the text added, kept and written as there. Beside that it takes memory of `alloc` for the words before each
-/// segment, 4 bytes for each, and for the way to where it is.
+/// and the text added, kept and written as there. Beside that it takes memory of `alloc` for the way to where it is,
+/// and, for a message of several segments alone, 4 bytes for each.
 pub fn show_marked<S: Space, W: Write, A: Allocator + Copy>(
     alloc: A,
     text: &mut Vec<u8, A>,
@@ -75,12 +75,39 @@ fn mark_part<S: Space, W: Write, A: Allocator + Copy>(
     ensures cut { IfErr result (λ e. IsPartMarked (S.message space.now) marks.now numbers.now (BreaksOff
         (outgoing W.contents writer.old text.old.items) (outgoing W.contents writer.new text.new.items) e)) }
 {
+    if space.segments() == 1 {
+        return mark_counted(alloc, text, writer, space, &[0], marks, numbers, depth);
+    }
     let Ok(before) = words_before(alloc, space) else {
         return Err(Broken::Memory);
     };
+    mark_counted(alloc, text, writer, space, &before, marks, numbers, depth)
+}
+
+/// Appends the text of the value at the way of `numbers` from the root to `text`, with the words `before` each segment.
+fn mark_counted<S: Space, W: Write, A: Allocator>(
+    alloc: A,
+    text: &mut Vec<u8, A>,
+    writer: &mut Watched<W>,
+    space: &S,
+    before: &[u32],
+    marks: &Marks,
+    numbers: &[u64],
+    depth: u32,
+) -> Result<(), Broken>
+    requires message { IsMessage (S.message space.now) }
+    requires counts { CountsBefore (S.message space.now) before.now }
+    requires place { IsPlace (S.message space.now) root }
+    requires ready { IsReady (S.message space.now) root depth }
+    requires room { 2 * depth < 2 ^ 32 }
+    ensures shown { OnOk result (IsPartMarked (S.message space.now) marks.now numbers.now (Adds
+        (outgoing W.contents writer.old text.old.items) (outgoing W.contents writer.new text.new.items))) }
+    ensures cut { IfErr result (λ e. IsPartMarked (S.message space.now) marks.now numbers.now (BreaksOff
+        (outgoing W.contents writer.old text.old.items) (outgoing W.contents writer.new text.new.items) e)) }
+{
     let mut way = Vec::new(alloc);
     match lead(&mut way, space, numbers) {
-        Ok(found) => mark_led(text, writer, &mut way, space, &before, marks, found, depth),
+        Ok(found) => mark_led(text, writer, &mut way, space, before, marks, found, depth),
         Err(broken) => Err(broken),
     }
 }

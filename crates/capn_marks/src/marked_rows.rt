@@ -63,6 +63,7 @@ pub fn mark_rows<S: Space, W: Write, A: Allocator>(
 
 /// Appends the text of the row of this `number`, which starts at `start`, to `text`.
 #[cycle(marked)]
+#[inline(always)]
 fn mark_row<S: Space, W: Write, A: Allocator>(
     text: &mut Vec<u8, A>,
     writer: &mut Watched<W>,

@@ -17,6 +17,7 @@ use std::io::Write;
 
 /// Appends the text of the values of `count` slots from `first` on, one after the other, to `text`.
 #[cycle(marked)]
+#[inline(always)]
 pub fn mark_slots<S: Space, W: Write, A: Allocator>(
     text: &mut Vec<u8, A>,
     writer: &mut Watched<W>,

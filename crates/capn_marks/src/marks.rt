@@ -7,7 +7,7 @@ ghost use Rattle.capn_show.specs.declared.fault.Broken.TheVariants as broken;
 ghost use Rattle.capn_marks.specs.Marked as spec;
 ghost use Rattle.capn_show.specs.Outgoing.{Adds, BreaksOff, outgoing};
 
-use capn_show::{Broken, put, put_number};
+use capn_show::{Broken, put};
 use capn_words::Watched;
 use itoa::Buffer;
 use std::alloc::Allocator;
@@ -47,6 +47,24 @@ fn put_wide<W: Write, A: Allocator>(
 }
 
 /// Appends the digits of `byte` and a tab to `text`.
+#[inline(always)]
+fn put_digits<W: Write, A: Allocator>(
+    text: &mut Vec<u8, A>,
+    writer: &mut Watched<W>,
+    byte: u64,
+) -> Result<(), Broken>
+    ensures shown { OnOk result (Adds (outgoing W.contents writer.old text.old.items)
+        (outgoing W.contents writer.new text.new.items) (decimal byte ++ 9 ∷ [])) }
+    ensures cut { IfErr result (λ e. BreaksOff (outgoing W.contents writer.old text.old.items)
+        (outgoing W.contents writer.new text.new.items) e (decimal byte ++ 9 ∷ [])) }
+{
+    let mut digits = [b'\t'; 21];
+    let start = itoa::write_digits(byte, &mut digits, 20);
+    put(text, writer, &digits[start..])
+}
+
+/// Appends the digits of a `byte` of any size and a tab to `text`.
+#[inline(always)]
 fn put_byte<W: Write, A: Allocator>(
     text: &mut Vec<u8, A>,
     writer: &mut Watched<W>,
@@ -58,13 +76,14 @@ fn put_byte<W: Write, A: Allocator>(
         (outgoing W.contents writer.new text.new.items) e (decimal byte ++ 9 ∷ [])) }
 {
     if byte < 1 << 64 {
-        put_number(text, writer, byte as u64, b'\t')
+        put_digits(text, writer, byte as u64)
     } else {
         put_wide(text, writer, byte)
     }
 }
 
 /// Appends the `byte` of a line's subject and a tab to `text`, if `offsets` are asked for.
+#[inline(always)]
 fn put_offset<W: Write, A: Allocator>(
     text: &mut Vec<u8, A>,
     writer: &mut Watched<W>,
@@ -84,6 +103,7 @@ fn put_offset<W: Write, A: Allocator>(
 }
 
 /// Returns the name of `way`: that of the root, which has no numbers, is `root`.
+#[inline(always)]
 fn way_name(way: &[u8]) -> &[u8]
     ensures { result.now ≡ spec.way_name way.now }
 {
@@ -106,9 +126,9 @@ fn name_block(name: &[u8]) -> [u8; 64]
     block
 }
 
-/// Appends a `name` that has no room in a block and a tab to `text`.
-#[cold]
-fn put_long<W: Write, A: Allocator>(
+/// Appends `name` and a tab to `text`.
+#[inline(always)]
+fn put_named<W: Write, A: Allocator>(
     text: &mut Vec<u8, A>,
     writer: &mut Watched<W>,
     name: &[u8],
@@ -122,25 +142,8 @@ fn put_long<W: Write, A: Allocator>(
     put(text, writer, b"\t")
 }
 
-/// Appends `name` and a tab to `text`.
-fn put_named<W: Write, A: Allocator>(
-    text: &mut Vec<u8, A>,
-    writer: &mut Watched<W>,
-    name: &[u8],
-) -> Result<(), Broken>
-    ensures shown { OnOk result (Adds (outgoing W.contents writer.old text.old.items)
-        (outgoing W.contents writer.new text.new.items) (name.now ++ 9 ∷ [])) }
-    ensures cut { IfErr result (λ e. BreaksOff (outgoing W.contents writer.old text.old.items)
-        (outgoing W.contents writer.new text.new.items) e (name.now ++ 9 ∷ [])) }
-{
-    if name.len() > MOST {
-        return put_long(text, writer, name);
-    }
-    let block = name_block(name);
-    put(text, writer, &block[21..22 + name.len()])
-}
-
 /// Appends the digits of `byte`, a tab, `name` and a tab to `text`, in one block.
+#[inline(always)]
 fn put_block<W: Write, A: Allocator>(
     text: &mut Vec<u8, A>,
     writer: &mut Watched<W>,
@@ -177,6 +180,7 @@ fn put_apart<W: Write, A: Allocator>(
 }
 
 /// Appends the digits of `byte`, a tab, `name` and a tab to `text`.
+#[inline(always)]
 fn put_both<W: Write, A: Allocator>(
     text: &mut Vec<u8, A>,
     writer: &mut Watched<W>,
@@ -196,6 +200,7 @@ fn put_both<W: Write, A: Allocator>(
 }
 
 /// Appends the `marks` of a line to `text`, whose subject lies at `byte` and has this `way`.
+#[inline(always)]
 pub fn put_mark<W: Write, A: Allocator>(
     text: &mut Vec<u8, A>,
     writer: &mut Watched<W>,
@@ -218,10 +223,31 @@ pub fn put_mark<W: Write, A: Allocator>(
 }
 
 /// Returns the number of bytes of `way`.
+#[inline(always)]
 pub fn way_length<A: Allocator>(way: &Vec<u8, A>) -> usize
     ensures { result ≡ length way.now.items }
 {
     way.len()
+}
+
+/// Appends the digits of `number` to `way`.
+#[tactic(auto, using(std::proofs::lemmas::Fmt::decimal_digit))]
+fn push_digits<A: Allocator>(way: &mut Vec<u8, A>, number: u64) -> Result<(), Broken>
+    ensures digits { OnOk result (way.new.items ≡ way.old.items ++ decimal number) }
+    ensures memory { IfErr result (λ e. e ≡ broken.Memory) }
+{
+    if number < 10 {
+        return match way.push(b'0' + number as u8) {
+            Ok(()) => Ok(()),
+            Err(_) => Err(Broken::Memory),
+        };
+    }
+    let mut digits = [0; 20];
+    let start = itoa::write_digits(number, &mut digits, 20);
+    match way.extend_from_slice(&digits[start..]) {
+        Ok(()) => Ok(()),
+        Err(_) => Err(Broken::Memory),
+    }
 }
 
 /// Appends `number` to `way`, which then leads to the value of this number below.
@@ -234,15 +260,11 @@ pub fn push_number<A: Allocator>(way: &mut Vec<u8, A>, number: u64) -> Result<()
             return Err(Broken::Memory);
         };
     }
-    let mut digits = [0; 20];
-    let start = itoa::write_digits(number, &mut digits, 20);
-    match way.extend_from_slice(&digits[start..]) {
-        Ok(()) => Ok(()),
-        Err(_) => Err(Broken::Memory),
-    }
+    push_digits(way, number)
 }
 
 /// Appends `number` to `way`, if `ways` are asked for; else it stays, and nothing reads it.
+#[inline(always)]
 pub fn step_below<A: Allocator>(way: &mut Vec<u8, A>, ways: bool, number: u64) -> Result<(), Broken>
     ensures below { OnOk result (way.new.items ≡ (if ways then spec.below way.old.items number else way.old.items)) }
     ensures memory { IfErr result (λ e. e ≡ broken.Memory) }

@@ -9,10 +9,11 @@ use crate::marks::Marks;
 use capn_words::{Place, Space};
 use std::alloc::{AllocError, Allocator};
 
-/// Returns the number of words of the message `space` before each of its segments.
+/// Returns the number of words of the message `space`, which has several segments, before each of them.
 #[tactic(auto, using(crate::proofs::Before::one_more, crate::proofs::Before::next, crate::proofs::Before::within))]
 pub fn words_before<S: Space, A: Allocator>(alloc: A, space: &S) -> Result<Vec<u32, A>, AllocError>
     requires message { IsMessage (S.message space.now) }
+    requires several { 1 < length (S.message space.now) }
     ensures { IfOk result (λ before. CountsBefore (S.message space.now) before.items) }
 {
     let count = space.segments();
@@ -28,6 +29,7 @@ pub fn words_before<S: Space, A: Allocator>(alloc: A, space: &S) -> Result<Vec<u
 }
 
 /// Returns the byte of a message's first word.
+#[inline(always)]
 fn first_byte(marks: &Marks) -> u128
     ensures is { result ≡ spec.first_byte marks.now }
     ensures small { result < 2 ^ 65 }
@@ -37,6 +39,7 @@ fn first_byte(marks: &Marks) -> u128
 
 /// Returns the byte of the word at `at`, or of a segment's end; `before` has the words before each segment.
 #[tactic(auto, using(crate::proofs::Before::within))]
+#[inline(always)]
 pub fn byte_of<S: Space>(space: &S, marks: &Marks, before: &[u32], at: Place) -> u128
     requires message { IsMessage (S.message space.now) }
     requires counts { CountsBefore (S.message space.now) before.now }
