@@ -1,3 +1,4 @@
 pub mod shared
 pub mod PartServed
 pub mod ShownRuns
+mod EndLines

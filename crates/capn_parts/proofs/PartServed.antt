@@ -1,5 +1,5 @@
 -- A message of which a part is shown, as a message that a service served.
-use Rattle.std.proofs.Common.{◌≡◌, ◌≢◌, ◌⊎◌, inl, inr, ℕ, List, [], ◌++◌, false, Option, Result}
+use Rattle.std.proofs.Common.{◌≡◌, inl, inr, ℕ, List, [], ◌++◌, false, Option, Result}
 use Rattle.std.proofs.Common.{Ok, Err, refl, sym, subst, ◌∙◌, append-nil, take, Bool, true, IsErrAnd}
 use Rattle.std.specs.Prelude.{if◌then◌else◌}
 use Rattle.std.specs.Io.KnownBytes.{Appends}

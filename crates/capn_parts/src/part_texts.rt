@@ -10,7 +10,7 @@ ghost use Rattle.capn_parts.specs.MessageMarks as marking;
 ghost use Rattle.capn_parts.specs.PartTexts as spec;
 ghost use Rattle.capn_parts.specs.inner.AddedParts.{AddsEnd, AddsPart, IsFaultOf};
 
-use crate::message_marks::{marked_end, marks_of};
+use crate::message_marks::{add_marked_end, marks_of};
 use capn_canon::Form;
 use capn_marks::{Marks, show_marked};
 use capn_serve::{Position, ServeFault, Service, fault_of_stop, flush_long};
@@ -59,7 +59,7 @@ fn end_of(style: Style) -> &'static [u8]
 }
 
 /// Adds an end to the text, or nothing if memory is refused, and writes what is long.
-fn add_end<W: Write, A: Allocator>(
+pub(crate) fn add_end<W: Write, A: Allocator>(
     end: &[u8],
     text: &mut Vec<u8, A>,
     writer: &mut Watched<W>,
@@ -111,10 +111,7 @@ fn add_marked<S: Space, W: Write, A: Allocator + Copy>(
         (outgoing W.contents writer.new text.new.items) result }
 {
     match show_marked(alloc, text, writer, message, limits, marks, way) {
-        Ok(()) => {
-            let end = marked_end(alloc, marks, total_words(message))?;
-            add_end(end.as_bytes(), text, writer)
-        }
+        Ok(()) => add_marked_end(alloc, marks, total_words(message), text, writer),
         Err(fault) => Err(fault_of(fault)),
     }
 }

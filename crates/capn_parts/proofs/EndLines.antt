@@ -1,0 +1,37 @@
+-- The line `end` with marks, by what marks are asked for. (For `add_marked_end` and what it calls.)
+use Rattle.std.proofs.Common.{◌≡◌, ℕ, ◌+◌, ◌-◌, ◌≤◌, List, [], ◌∷◌, ◌++◌, length, take, drop, codes}
+use Rattle.std.proofs.Common.{Bool, true, false, not, refl, sym, ap, ◌∙◌, arith, append_assoc}
+use Rattle.std.specs.Prelude.{if◌then◌else◌}
+use Rattle.std.proofs.lemmas.List.{length-append, take_all}
+
+-- what stands in a block from some digits on is whole
+pub all_written : (n s : ℕ) (b d rest : List ℕ) → drop s b ≡ d ++ rest → s + length d + length rest ≡ n
+    → take (n - s) (drop s b) ≡ d ++ rest
+all_written n s b d rest e size =
+    let both : length (d ++ rest) ≡ length d + length rest = length-append d rest in
+    let short : length (d ++ rest) ≤ n - s = omega arith in
+    ap (λ (l : List ℕ). take (n - s) l) e ∙ take_all (n - s) (d ++ rest) short
+
+module _ (d : List ℕ) where
+  -- no byte is asked for
+  pub way_alone : (offsets ways : Bool) → not offsets ≡ true
+      → (if ways then 9 ∷ [] else []) ++ (codes "end" ++ 10 ∷ [])
+      ≡ (if offsets then d ++ 9 ∷ [] else []) ++ ((if ways then 9 ∷ [] else []) ++ (codes "end" ++ 10 ∷ []))
+  way_alone true ways off = absurd (cc)
+  way_alone false ways off = refl
+
+  -- a byte and a way
+  pub byte_and_way : (offsets ways : Bool) → not offsets ≡ false → ways ≡ true
+      → d ++ codes "\t\tend\n"
+      ≡ (if offsets then d ++ 9 ∷ [] else []) ++ ((if ways then 9 ∷ [] else []) ++ (codes "end" ++ 10 ∷ []))
+  byte_and_way false ways on way = absurd (cc)
+  byte_and_way true false on way = absurd (cc)
+  byte_and_way true true on way = sym (append_assoc d (9 ∷ []) (9 ∷ (codes "end" ++ 10 ∷ [])))
+
+  -- a byte alone
+  pub byte_alone : (offsets ways : Bool) → not offsets ≡ false → ways ≡ false
+      → d ++ codes "\tend\n"
+      ≡ (if offsets then d ++ 9 ∷ [] else []) ++ ((if ways then 9 ∷ [] else []) ++ (codes "end" ++ 10 ∷ []))
+  byte_alone false ways on way = absurd (cc)
+  byte_alone true true on way = absurd (cc)
+  byte_alone true false on way = sym (append_assoc d (9 ∷ []) (codes "end" ++ 10 ∷ []))
