@@ -1,5 +1,6 @@
 -- The words that are held back. (For `before_dense`, `settle` and `unpacked_part`.)
-use Rattle.std.proofs.Common.{◌≡◌, ℕ, zero, suc, ◌+◌, ◌-◌, ◌*◌, ◌≤◌, List, [], ◌++◌, length, take, drop, replicate, refl, ap}
+use Rattle.std.proofs.Common.{◌≡◌, ℕ, zero, suc, ◌+◌, ◌-◌, ◌*◌, ◌≤◌, List, [], ◌++◌, length, take, drop, replicate}
+use Rattle.std.proofs.Common.{refl, ap}
 use Rattle.std.proofs.Common.{sym, subst, ◌∙◌, arith, append-nil, append_assoc, drop-drop, length-drop, length-take}
 use Rattle.std.proofs.Common.{slice_range, take_all}
 use Rattle.std.proofs.Math.Seq.{drop-append_seam}

@@ -19,8 +19,9 @@ returns-clause-settled g c =
     ∙ ap (λ (l : List ℕ). l ++ slice_range held part.words (length held)) c.new-rest.ensures.items
     ∙ rest_is held part.words in
     let dense = c.before_dense-cut.ensures.dense in
-    (settled_held held c.in-Ok.text.items c.truncate.new.self.items c.extend_from_slice.new.self.items cut whole part.text
-    part.words dense.0 settled long c.truncate.ensures.items rest inside (omega arith) (omega arith) dense.1).0
+    (settled_held held c.in-Ok.text.items c.truncate.new.self.items c.extend_from_slice.new.self.items cut whole
+    part.text part.words dense.0 settled long c.truncate.ensures.items rest inside (omega arith) (omega arith)
+    dense.1).0
 
 pub returns-clause-short : goal.returns-clause-short
 returns-clause-short g c =
@@ -37,8 +38,9 @@ returns-clause-short g c =
     ∙ ap (λ (l : List ℕ). l ++ slice_range held part.words (length held)) c.new-rest.ensures.items
     ∙ rest_is held part.words in
     let dense = c.before_dense-cut.ensures.dense in
-    (settled_held held c.in-Ok.text.items c.truncate.new.self.items c.extend_from_slice.new.self.items cut whole part.text
-    part.words dense.0 settled long c.truncate.ensures.items rest inside (omega arith) (omega arith) dense.1).1
+    (settled_held held c.in-Ok.text.items c.truncate.new.self.items c.extend_from_slice.new.self.items cut whole
+    part.text part.words dense.0 settled long c.truncate.ensures.items rest inside (omega arith) (omega arith)
+    dense.1).1
 
 pub returns-clause-open : goal.returns-clause-open
 returns-clause-open g c =
@@ -55,5 +57,6 @@ returns-clause-open g c =
     ∙ ap (λ (l : List ℕ). l ++ slice_range held part.words (length held)) c.new-rest.ensures.items
     ∙ rest_is held part.words in
     let dense = c.before_dense-cut.ensures.dense in
-    (settled_held held c.in-Ok.text.items c.truncate.new.self.items c.extend_from_slice.new.self.items cut whole part.text
-    part.words dense.0 settled long c.truncate.ensures.items rest inside (omega arith) (omega arith) dense.1).2
+    (settled_held held c.in-Ok.text.items c.truncate.new.self.items c.extend_from_slice.new.self.items cut whole
+    part.text part.words dense.0 settled long c.truncate.ensures.items rest inside (omega arith) (omega arith)
+    dense.1).2

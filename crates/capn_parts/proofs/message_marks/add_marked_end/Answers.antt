@@ -19,13 +19,13 @@ returns-then-marks g c =
     (outgoing g.W.Write.contents c.add_end_with_way.new.writer c.add_end_with_way.new.text.items)
     c.add_end_with_way.result)
     (ap (λ (n : ℕ). decimal n ++ codes "\t\tend\n") c.byte_after-byte.ensures
-    ∙ byte_and_way (decimal (spec.byte_after c.args.marks c.args.words)) c.args.marks.offsets c.args.marks.ways c.if-not-marks.false
-    c.if-marks.true) c.add_end_with_way.ensures
+    ∙ byte_and_way (decimal (spec.byte_after c.args.marks c.args.words)) c.args.marks.offsets c.args.marks.ways
+    c.if-not-marks.false c.if-marks.true) c.add_end_with_way.ensures
 
 pub returns : goal.returns
 returns g c =
     subst (λ (l : List ℕ). AddsEnd l (outgoing g.W.Write.contents c.args.writer.now c.args.text.now.items)
     (outgoing g.W.Write.contents c.add_end_at.new.writer c.add_end_at.new.text.items) c.add_end_at.result)
     (ap (λ (n : ℕ). decimal n ++ codes "\tend\n") c.byte_after-byte.ensures
-    ∙ byte_alone (decimal (spec.byte_after c.args.marks c.args.words)) c.args.marks.offsets c.args.marks.ways c.if-not-marks.false
-    c.if-marks.false) c.add_end_at.ensures
+    ∙ byte_alone (decimal (spec.byte_after c.args.marks c.args.words)) c.args.marks.offsets c.args.marks.ways
+    c.if-not-marks.false c.if-marks.false) c.add_end_at.ensures
