@@ -32,6 +32,8 @@ mod same_lists;
 #[cfg(test)]
 mod same_messages;
 #[cfg(test)]
+mod scratch_forms;
+#[cfg(test)]
 mod steps;
 #[cfg(test)]
 mod targets;

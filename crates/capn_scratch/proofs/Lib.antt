@@ -1,0 +1,4 @@
+mod EndWords
+mod Forms
+mod Groups
+mod Spread

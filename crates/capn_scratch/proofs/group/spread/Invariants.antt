@@ -1,0 +1,13 @@
+use Rattle.std.proofs.Common.{◌≡◌, ◌+◌, ◌++◌, List, ℕ, length, take, count_ones}
+use Rattle.capn_pack.specs.Packed.{named_bytes, IsNamedBy}
+use Rattle.capn_scratch.proofs.group.spread.Given as goal
+
+-- what was named so far, and what is still to be named, is what the tag names
+abbrev pub invariant-loop-index : goal.invariant-loop-index
+invariant-loop-index l = record {
+  named : (ws : List ℕ) → IsNamedBy l.left ws → IsNamedBy l.tag (take l.index l.word ++ ws);
+  bytes : (ws : List ℕ)
+      → named_bytes l.tag (take l.index l.word ++ ws) ≡ take l.next l.bytes ++ named_bytes l.left ws;
+  ones : l.next + count_ones l.left ≡ count_ones l.tag;
+  room : length l.word ≡ 8;
+}

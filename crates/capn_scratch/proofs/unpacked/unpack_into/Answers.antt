@@ -1,0 +1,30 @@
+use Rattle.std.proofs.Common.{◌≡◌, ℕ, ◌+◌, ◌-◌, ◌*◌, take, ap, subst, sym, arith}
+use Rattle.capn_pack.specs.Packed.{Packs}
+use Rattle.capn_pack.specs.UnpackRefusal.{IsCut, IsTooLong}
+use Rattle.capn_scratch.proofs.Groups.{Unpacked, stands, unpacked_all, unpacked_length, unpacked_more, unpacked_none}
+use Rattle.capn_scratch.proofs.unpacked.unpack_into.Goals as goal
+
+pub loop-at-preserved : goal.loop-at-preserved
+loop-at-preserved c =
+    let l = c.loop-at in
+    let is = c.in-Ok.ensures in
+    record {
+      unpacked = unpacked_more _ _ _ _ _ _ _ _ l.invariant.unpacked c.put_group.ensures is.4;
+      filled = omega (arith, l.invariant.filled, is.4);
+      long = omega (arith, l.invariant.long);
+    }
+
+pub returns-in-Err-Cut-clause-refused : goal.returns-in-Err-Cut-clause-refused
+returns-in-Err-Cut-clause-refused c =
+    stands IsCut _ _ _ _ _ c.loop-at.invariant.unpacked (rw c.in-Err-Cut.field-0-is at c.in-Err-Cut.ensures)
+
+pub returns-in-Err-TooLong-clause-refused : goal.returns-in-Err-TooLong-clause-refused
+returns-in-Err-TooLong-clause-refused c =
+    stands IsTooLong _ _ _ _ _ c.loop-at.invariant.unpacked (rw c.in-Err-TooLong.field-0-is at c.in-Err-TooLong.ensures)
+
+pub returns-clause-found : goal.returns-clause-found
+returns-clause-found c =
+    let l = c.loop-at in
+    let size : l.fill ≡ 8 * (c.args.max_words - l.room) = omega (arith, l.invariant.filled) in
+    subst (λ (n : ℕ). Packs c.args.bytes.now (take n l.out)) size
+    (unpacked_all _ _ _ _ _ l.invariant.unpacked (omega arith))

@@ -1,0 +1,14 @@
+use Rattle.std.proofs.Common.{◌≡◌, ◌+◌, ◌*◌, length, take, ◌-◌}
+use Rattle.capn_scratch.proofs.Groups.{Unpacked}
+use Rattle.capn_scratch.proofs.unpacked.unpack_into.Given as goal
+
+-- the bytes so far are groups, and their words were written
+abbrev pub invariant-loop-at : goal.invariant-loop-at
+invariant-loop-at l = record {
+  unpacked : Unpacked l.bytes l.at (take l.fill l.out) l.room l.max_words;
+  filled : l.fill + 8 * l.room ≡ 8 * l.max_words;
+  long : length l.out ≡ length l.fn.out;
+}
+
+abbrev pub decreases-loop-at : goal.decreases-loop-at
+decreases-loop-at l = length l.bytes - l.at

@@ -1,0 +1,5 @@
+pub mod inner
+pub mod Needs
+pub mod FormRefusal
+pub mod Theorem
+pub mod Display

@@ -1,0 +1,30 @@
+-- The theorem of `canonical_into_form`. (Own.)
+use Rattle.std.specs.Prelude.{◌≡◌, ◌↔◌, ℕ, ◌≤◌, List, length, None, Result, IsOk}
+use Rattle.capn_value.specs.Tree.{Tree}
+use Rattle.capn_value.specs.FirstCap.{first_cap}
+use Rattle.capn_walk.specs.Limits.{Bounds}
+use Rattle.capn_layout.specs.Layout.{canon}
+use Rattle.capn_canon.specs.declared.form.Form.{Form}
+use Rattle.capn_canon.specs.declared.length.CanonicalLength.{CanonicalLength}
+use Rattle.capn_canon.specs.Denotes.{Denotes}
+use Rattle.capn_canon.specs.Reads.{Reads}
+use Rattle.capn_canon.specs.Theorem.{WrittenInto}
+use Rattle.capn_scratch.specs.Needs.{HasScratch}
+use Rattle.capn_scratch.specs.declared.refusal.FormRefusal.{FormRefusal}
+
+-- For any bytes, form, limits, scratch and buffer, it answers if and only if the bytes denote a value without
+-- capabilities within the limits, the scratch has as many words as they take, and the buffer has room for its canonical
+-- bytes.
+abbrev pub AnsweredForm : Form → List ℕ → Bounds → ℕ → ℕ → Result CanonicalLength FormRefusal → Type 0
+AnsweredForm form bs limits scratch room r =
+    IsOk r ↔ ((v : Tree) × Denotes form bs limits v × (first_cap v ≡ None) × HasScratch form bs scratch
+    × (length (canon v) ≤ room))
+
+-- It writes exactly the canonical bytes of the message that the bytes are read as, at the beginning of the buffer; the
+-- bytes after them are as they were.
+pub record WrittenForm (form : Form) (bs : List ℕ) (limits : Bounds) (scratch : ℕ) (old new : List ℕ)
+    (c : CanonicalLength) : Type 0 where
+  pub message : List (List ℕ)
+  pub reads : Reads form bs limits.message_words message
+  pub has : HasScratch form bs scratch
+  pub written : WrittenInto message limits old new c

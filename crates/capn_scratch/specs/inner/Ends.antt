@@ -1,0 +1,13 @@
+-- The ends of segments, kept as words.
+use Rattle.std.specs.Prelude.{ℕ, List, map, drop}
+use Rattle.std.specs.Int.{w64, from_le_bytes}
+use Rattle.capn_stream.specs.Cuts.{ends_from}
+use Rattle.capn_stream.specs.FrameRefusal.{entries, entry_number}
+
+-- the numbers of words of 8 bytes, the least significant first
+abbrev pub numbers : List (List ℕ) → List ℕ
+numbers words = map (λ word. from_le_bytes w64 word) words
+
+-- the ends of all segments but the last that a table announces
+abbrev pub announced_ends : List ℕ → List ℕ
+announced_ends bs = ends_from 0 (entries (entry_number bs) (drop 4 bs))

@@ -1,0 +1,42 @@
+-- The outcomes of private calls.
+use Rattle.std.specs.Prelude.{◌≡◌, ℕ, ◌+◌, List, length, Result, IfOk, IfErr, OnErr, MatchResult}
+use Rattle.capn_walk.specs.Accepted.{IsBounded}
+use Rattle.capn_walk.specs.Limits.{Bounds}
+use Rattle.capn_canon.specs.declared.form.Form.{Form}
+use Rattle.capn_canon.specs.declared.form.Form.TheVariants as forms
+use Rattle.capn_canon.specs.declared.length.CanonicalLength.{CanonicalLength}
+use Rattle.capn_canon.specs.Theorem.{WrittenInto}
+use Rattle.capn_scratch.specs.FormRefusal.{IsFormPaidWithin, IsFormRefused, IsMessageRefused, LacksTable}
+use Rattle.capn_scratch.specs.Theorem.{WrittenForm}
+use Rattle.capn_scratch.specs.declared.refusal.FormRefusal.{FormRefusal}
+use Rattle.capn_scratch.specs.declared.refusal.FormRefusal.TheVariants as told
+
+-- a call leaves the canonical bytes of a message in a buffer, or leaves that as it was and tells the reason
+pub record IsTold (message : List (List ℕ)) (limits : Bounds) (old new : List ℕ)
+    (r : Result CanonicalLength FormRefusal) : Type 0 where
+  pub written : IfOk r (λ c. WrittenInto message limits old new c)
+  pub refused : IfErr r (λ e. IsMessageRefused message limits (length old) e)
+  pub unchanged : OnErr r (new ≡ old)
+  pub bounded : MatchResult r (λ c. IsBounded limits.budget c.paid c.visits) (λ e. IsFormPaidWithin limits.budget e)
+
+-- a call does so for bytes in a form
+pub record IsFormTold (form : Form) (bs : List ℕ) (limits : Bounds) (scratch : ℕ) (old new : List ℕ)
+    (r : Result CanonicalLength FormRefusal) : Type 0 where
+  pub written : IfOk r (λ c. WrittenForm form bs limits scratch old new c)
+  pub refused : IfErr r (λ e. IsFormRefused form bs limits scratch (length old) e)
+  pub unchanged : OnErr r (new ≡ old)
+  pub bounded : MatchResult r (λ c. IsBounded limits.budget c.paid c.visits) (λ e. IsFormPaidWithin limits.budget e)
+
+-- a frame is refused, and words that come before its own count among those that are needed
+abbrev pub IsFrameRefusedAfter : ℕ → List ℕ → Bounds → ℕ → ℕ → FormRefusal → Type 0
+IsFrameRefusedAfter before bs limits scratch room (told.NoScratch n) =
+    (k : ℕ) × (n ≡ before + k) × LacksTable forms.Stream bs limits.message_words scratch k
+IsFrameRefusedAfter before bs limits scratch room e = IsFormRefused forms.Stream bs limits scratch room e
+
+-- a call does so for a frame
+pub record IsFrameTold (before : ℕ) (bs : List ℕ) (limits : Bounds) (scratch : ℕ) (old new : List ℕ)
+    (r : Result CanonicalLength FormRefusal) : Type 0 where
+  pub written : IfOk r (λ c. WrittenForm forms.Stream bs limits scratch old new c)
+  pub refused : IfErr r (λ e. IsFrameRefusedAfter before bs limits scratch (length old) e)
+  pub unchanged : OnErr r (new ≡ old)
+  pub bounded : MatchResult r (λ c. IsBounded limits.budget c.paid c.visits) (λ e. IsFormPaidWithin limits.budget e)

@@ -1,0 +1,68 @@
+//! The ends of the segments of a table, kept in the caller's words.
+
+ghost use Rattle.std.specs.Prelude.{◌≡◌, ◌*◌, ◌^◌, ◌<◌, ◌≤◌, ◌∷◌, ◌++◌, [], length, take, sum, slice_index};
+ghost use Rattle.capn_words.specs.Message.{most_segments};
+ghost use Rattle.capn_stream.specs.Cuts.{ends_from};
+ghost use Rattle.capn_stream.specs.FrameRefusal.{entries};
+ghost use Rattle.capn_scratch.specs.inner.Ends.{numbers};
+
+use capn_stream::table::entry_at;
+
+/// Writes the ends of the first `count` segments of `sizes`, in words, to the beginning of `ends`, each in a word.
+pub(crate) fn put_ends(sizes: &[u8], count: usize, ends: &mut [[u8; 8]])
+    requires few { count ≤ most_segments }
+    requires inside { 4 * count ≤ length sizes.now }
+    requires small { sum (entries count sizes.now) < 2 ^ 32 }
+    requires room { count ≤ length ends.old }
+    ensures ends { numbers (take count ends.new) ≡ ends_from 0 (entries count sizes.now) }
+    ensures long { length ends.new ≡ length ends.old }
+{
+    let mut end: u64 = 0;
+    for index in 0..count {
+        end += entry_at(sizes, index) as u64;
+        ends[index] = end.to_le_bytes();
+    }
+}
+
+/// Returns the number in word `index` of `ends`.
+fn end_at(ends: &[[u8; 8]], index: usize) -> u32
+    requires inside { index < length ends.now }
+    requires small { slice_index (numbers ends.now) index < 2 ^ 32 }
+    ensures { result ≡ slice_index (numbers ends.now) index }
+{
+    u64::from_le_bytes(ends[index]) as u32
+}
+
+/// Returns the word at which `segment` begins.
+pub(crate) fn start_of(ends: &[[u8; 8]], segment: usize) -> u32
+    requires inside { segment ≤ length ends.now }
+    requires small { slice_index (0 ∷ numbers ends.now) segment < 2 ^ 32 }
+    ensures { result ≡ slice_index (0 ∷ numbers ends.now) segment }
+{
+    if segment == 0 {
+        0
+    } else {
+        end_at(ends, segment - 1)
+    }
+}
+
+/// Returns the word at which `segment` ends: for the last one, the end of the message, which has `words` words.
+pub(crate) fn end_of(ends: &[[u8; 8]], words: u32, segment: usize) -> u32
+    requires inside { segment ≤ length ends.now }
+    requires small { slice_index (numbers ends.now ++ words ∷ []) segment < 2 ^ 32 }
+    ensures { result ≡ slice_index (numbers ends.now ++ words ∷ []) segment }
+{
+    if segment == ends.len() {
+        words
+    } else {
+        end_at(ends, segment)
+    }
+}
+
+/// Returns the first `count` of `ends`, which are those that were written.
+pub(crate) fn kept(ends: &[[u8; 8]], count: usize) -> &[[u8; 8]]
+    requires { count ≤ length ends.now }
+    ensures { result.now ≡ take count ends.now }
+{
+    &ends[..count]
+}

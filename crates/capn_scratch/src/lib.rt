@@ -1,0 +1,38 @@
+//! Canonical bytes of every form with no allocator.
+//!
+//! [`canonical_into_form`] writes the canonical bytes of the value that bytes denote, whichever of the three forms they
+//! are in, into a buffer that is there, as `capn_canon::canonical_into` does of a message. The caller lends the words
+//! that are needed on the way: those that a packed text unpacks to, and the ends of segments, if they are more than 64.
+//! A refusal for want of them says how many are needed; [`FormRefusal`] has no variant for memory.
+//!
+//! ```text
+//! let mut scratch = [[0; 8]; 512];
+//! let mut out = [0; 4096];
+//! match canonical_into_form(Form::Packed, &input, Limits::usual(), &mut scratch, &mut out) {
+//!     Ok(written) => // the canonical bytes are the first `written.length` of `out`
+//!     Err(FormRefusal::NoScratch { needed }) => // the words that it takes to go on
+//!     Err(refusal) => // why there are none, and `out` is as it was
+//! }
+//! ```
+//!
+//! For any bytes, form, limits, scratch and buffer, it succeeds if and only if the bytes denote a value without
+//! capabilities within the limits, the scratch has as many words as they take, and the canonical bytes have room. It
+//! writes exactly these; else it names the first refusal, and the buffer is as it was. The clauses say so, in the
+//! definitions of `specs/Theorem.antt`, `specs/FormRefusal.antt` and `specs/Needs.antt`.
+//!
+//! No call takes memory, or an allocator.
+#![tactic(auto)]
+
+mod canonical_form;
+mod ends;
+mod framed;
+mod group;
+mod refusal;
+mod scratch_segments;
+mod unpacked;
+
+pub use canonical_form::canonical_into_form;
+pub use refusal::FormRefusal;
+
+// The types in the signatures above.
+pub use capn_canon::{BareFault, CanonicalLength, Form, FrameFault, Limits, Stopped, UnpackFault};

@@ -1,0 +1,66 @@
+//! Packed texts: how many words they have, and their words in a buffer.
+
+ghost use Rattle.std.specs.Prelude.{◌≡◌, ◌≢◌, ℕ, ◌*◌, ◌≤◌, List, length, take, IfOk, IfErr};
+ghost use Rattle.capn_pack.specs.Packed.{Packs};
+ghost use Rattle.capn_pack.specs.UnpackRefusal.{IsUnpackRefused};
+
+use crate::group::{Stop, put_group, size_of};
+use capn_pack::UnpackFault;
+
+/// Returns the number of words that the packed text `bytes` has, if they are at most `max_words`. It writes nothing.
+///
+/// Refusals, with the offset of the group's tag: `Cut` if the group's head is cut, else `TooLong` if its words would
+/// bring their number above `max_words`, else `Cut` if its raw words are cut. `Memory` and `Failed` never come.
+pub(crate) fn unpacked_words(bytes: &[u8], max_words: usize) -> Result<usize, UnpackFault>
+    ensures found { IfOk result (λ n. (text : List ℕ) × Packs bytes.now text × (length text ≡ 8 * n)) }
+    ensures within { IfOk result (λ n. n ≤ max_words) }
+    ensures refused { IfErr result (λ e. IsUnpackRefused bytes.now max_words e) }
+    ensures no_memory { IfErr result (λ e. e ≢ UnpackFault.Memory) }
+{
+    let mut room = max_words;
+    let mut at = 0;
+    while at < bytes.len() {
+        match size_of(&bytes[at..], room) {
+            Ok(size) => {
+                at += size.bytes;
+                room -= size.words;
+            }
+            Err(Stop::Cut) => return Err(UnpackFault::Cut { at: at as u64 }),
+            Err(Stop::TooLong) => return Err(UnpackFault::TooLong { at: at as u64 }),
+        }
+    }
+    Ok(max_words - room)
+}
+
+/// Writes the words of the packed text `bytes` to the beginning of `out`, if they are at most `max_words`, and returns
+/// their number. What `out` holds after them, or after a refusal, is not said.
+///
+/// It refuses what [`unpacked_words`] refuses.
+pub(crate) fn unpack_into(
+    bytes: &[u8],
+    max_words: usize,
+    out: &mut [u8],
+) -> Result<usize, UnpackFault>
+    requires { 8 * max_words ≤ length out.old }
+    ensures found { IfOk result (λ n. Packs bytes.now (take (8 * n) out.new)) }
+    ensures within { IfOk result (λ n. n ≤ max_words) }
+    ensures refused { IfErr result (λ e. IsUnpackRefused bytes.now max_words e) }
+    ensures no_memory { IfErr result (λ e. e ≢ UnpackFault.Memory) }
+{
+    let mut room = max_words;
+    let mut at = 0;
+    let mut fill = 0;
+    while at < bytes.len() {
+        match size_of(&bytes[at..], room) {
+            Ok(size) => {
+                put_group(&bytes[at..], size, out, fill);
+                at += size.bytes;
+                fill += 8 * size.words;
+                room -= size.words;
+            }
+            Err(Stop::Cut) => return Err(UnpackFault::Cut { at: at as u64 }),
+            Err(Stop::TooLong) => return Err(UnpackFault::TooLong { at: at as u64 }),
+        }
+    }
+    Ok(max_words - room)
+}
