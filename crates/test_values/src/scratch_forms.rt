@@ -146,7 +146,7 @@ fn refusals_are_those_of_other_calls(rt: HostRuntime) {
     ];
     for (form, bytes, limits) in cases {
         let mut out = [0xbb; 24];
-        let mut scratch = [[0; 8]; MOST];
+        let mut scratch = [[0; 8]; 512];
         let told = canonical_into_form(form, bytes, limits, &mut scratch, &mut out);
         let other = match canonicalise(rt.alloc(), form, bytes, limits) {
             Ok(_) => None,
