@@ -2,7 +2,9 @@
 use Rattle.std.proofs.Common.{◌≡◌, inl, inr, ℕ, List, [], Bool, true, false, Option, Some, Result, Ok, Err, refl}
 use Rattle.std.proofs.Common.{IsErrAnd}
 use Rattle.std.proofs.Common.{ap, sym, subst, ◌∙◌}
-use Rattle.std.specs.BTreeSet.{BTreeSet}
+use Rattle.std.specs.FinSet.{FinSet}
+use Rattle.std.specs.Ordering.{nat_cmp}
+use Rattle.std.specs.Cmp.Lexicographic.{slice_cmp}
 use Rattle.capn_canon.specs.declared.refusal.Refusal.{Refusal}
 use Rattle.capn_serve.specs.declared.fault.ServeFault.{ServeFault}
 use Rattle.capn_serve.specs.declared.fault.ServeFault.TheVariants as faults
@@ -19,15 +21,15 @@ use Rattle.capn_archive.specs.UniqMessages.{UniqState, IsSkipped, Deduplicates, 
 use Rattle.capn_archive.specs.UniqMessages.{refuses, serves, kept_text, TriesToDeduplicate}
 
 -- a state of these parts
-abbrev pub state : UniqOrder → BTreeSet (List ℕ) → ℕ → Option SkippedSoFar → UniqState
+abbrev pub state : UniqOrder → FinSet (slice_cmp nat_cmp) → ℕ → Option SkippedSoFar → UniqState
 state order digests served skipped =
     record { order = order; digests = digests; served = served; skipped = skipped }
 
-module _ (order : UniqOrder) (digests : BTreeSet (List ℕ)) (served : ℕ) (skipped : Option SkippedSoFar) where
+module _ (order : UniqOrder) (digests : FinSet (slice_cmp nat_cmp)) (served : ℕ) (skipped : Option SkippedSoFar) where
   -- a message whose digest was inserted is served
   pub deduplicates : (s : UniqState) → state order digests served skipped ≡ s → (frame digest : List ℕ)
       (message : List (List ℕ)) → IsDigest message order.limits digest → (is_duplicate : Bool)
-      → is_duplicate ≡ has digests digest → (inserted : BTreeSet (List ℕ)) → inserted ≡ and_one digests digest
+      → is_duplicate ≡ has digests digest → (inserted : FinSet (slice_cmp nat_cmp)) → inserted ≡ and_one digests digest
       → (more : ℕ) → more ≡ one_served served
       → Deduplicates s frame message (kept_text order.count is_duplicate frame) (state order inserted more skipped)
   deduplicates s same frame digest message is is_duplicate double inserted note more one =
@@ -36,7 +38,7 @@ module _ (order : UniqOrder) (digests : BTreeSet (List ℕ)) (served : ℕ) (ski
         digest,
         is,
         ap (λ (b : Bool). kept_text order.count b frame) double,
-        ap (λ (n : BTreeSet (List ℕ)). state order n more skipped) note
+        ap (λ (n : FinSet (slice_cmp nat_cmp)). state order n more skipped) note
             ∙ ap (λ (m : ℕ). state order (and_one digests digest) m skipped) one,
       )
 
@@ -75,6 +77,15 @@ module _ (s : UniqState) (frame : List ℕ) (message : List (List ℕ)) (a b : O
       ((text, u, count, inl is, breaks), broken)
   tried_does t at (Err (faults.Refused e)) (undigested, same, kept, fine) ends =
       ((ends e refl, undigested), subst (λ (x : Outgoing). Adds a x []) (sym same) (added_none a), fine)
+
+  -- memory was refused, or the writer failed
+  pub fault_does : (t : UniqState) (at : Position) (fault other : ServeFault) → fault ≡ other
+      → TriesToDeduplicate s frame message a b failed (stopped fault) t
+      → ((e : Refusal) → stopped other ≡ stopped (faults.Refused e) → s.order.keep_going ≡ false)
+      → DoesService serves refuses s at frame message a b failed (stopped other) t
+  fault_does t at fault other same tried ends =
+      tried_does t at (stopped other)
+      (subst (λ (e : ServeFault). TriesToDeduplicate s frame message a b failed (stopped e) t) same tried) ends
 
   -- what is known of a message that was not served since it has no digest
   pub undigested : (t : UniqState) (fault : ServeFault) (r : Refusal) → fault ≡ faults.Refused r

@@ -1,7 +1,7 @@
 -- Which messages `uniq` keeps: those whose canonical bytes no message before them had, by their SHA-256. (Own.)
 use Rattle.std.specs.Prelude.{◌≡◌, ◌⊎◌, ℕ, ◌+◌, ◌-◌, ◌^◌, ◌<◌, min, List, [], length, Bool, true, false, Option, None}
 use Rattle.std.specs.Prelude.{Some, Result, Ok, Err}
-use Rattle.std.specs.BTreeSet.{BTreeSet, contains, insert_key}
+use Rattle.std.specs.FinSet as set
 use Rattle.std.specs.Cmp.Lexicographic.{slice_cmp}
 use Rattle.std.specs.Ordering.{nat_cmp}
 use Rattle.capn_canon.specs.declared.refusal.Refusal.{Refusal}
@@ -14,25 +14,25 @@ use Rattle.capn_archive.specs.declared.uniq_order.UniqOrder.{UniqOrder}
 use Rattle.capn_archive.specs.Digest.{IsDigest, IsUndigested}
 use Rattle.capn_serve.specs.Skipped.{one_more}
 
--- what `uniq` has kept: its order, the digests of the messages that it has kept, how many it has served, and those
--- that it has skipped
+-- what `uniq` has kept: its order, the set of the digests of the messages that it has kept, how many it has served, and
+-- those that it has skipped
 pub record UniqState : Type 0 where
   pub order : UniqOrder
-  pub digests : BTreeSet (List ℕ)
+  pub digests : set.FinSet (slice_cmp nat_cmp)
   pub served : ℕ
   pub skipped : Option SkippedSoFar
 
 -- nothing has been kept
 abbrev pub first_state : UniqOrder → UniqState
-first_state order = record { order = order; digests = record { keys = [] }; served = 0; skipped = None }
+first_state order = record { order = order; digests = set.empty; served = 0; skipped = None }
 
 -- whether a digest is among these
-abbrev pub has : BTreeSet (List ℕ) → List ℕ → Bool
-has digests digest = contains (slice_cmp nat_cmp) digests digest
+abbrev pub has : set.FinSet (slice_cmp nat_cmp) → List ℕ → Bool
+has digests digest = set.contains digests digest
 
 -- these digests, and one more, unless it is among them
-abbrev pub and_one : BTreeSet (List ℕ) → List ℕ → BTreeSet (List ℕ)
-and_one digests digest = record { keys = insert_key (slice_cmp nat_cmp) digests.keys digest }
+abbrev pub and_one : set.FinSet (slice_cmp nat_cmp) → List ℕ → set.FinSet (slice_cmp nat_cmp)
+and_one digests digest = set.insert digests digest
 
 -- one message more; no number passes 2^64 - 1
 abbrev pub one_served : ℕ → ℕ
@@ -78,7 +78,8 @@ abbrev pub refuses : UniqState → Position → List ℕ → List (List ℕ) →
 refuses s at frame message r = (s.order.keep_going ≡ false) × IsUndigested message s.order.limits r
 
 -- a digest was inserted, and was not among those before, or was; or memory was refused
-abbrev pub InsertsDigest : BTreeSet (List ℕ) → BTreeSet (List ℕ) → List ℕ → Result Bool ServeFault → Type 0
+abbrev pub InsertsDigest : set.FinSet (slice_cmp nat_cmp) → set.FinSet (slice_cmp nat_cmp) → List ℕ
+    → Result Bool ServeFault → Type 0
 InsertsDigest old new digest (Ok is_duplicate) = (is_duplicate ≡ has old digest) × (new ≡ and_one old digest)
 InsertsDigest old new digest (Err fault) = fault ≡ faults.Memory
 

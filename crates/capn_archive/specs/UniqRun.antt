@@ -1,5 +1,6 @@
 -- What a run of `uniq` did. (Own.)
-use Rattle.std.specs.Prelude.{◌≡◌, ℕ, List, [], ◌++◌, codes, length, Bool, true, false, Option, None, Result, refl}
+use Rattle.std.specs.Prelude.{◌≡◌, ℕ, List, [], ◌++◌, codes, Bool, true, false, Option, None, Result, refl}
+use Rattle.std.specs.FinSet as set
 use Rattle.std.specs.Fmt.{decimal, digits}
 use Rattle.capn_archive.specs.declared.fault.ArchiveFault.{ArchiveFault}
 use Rattle.capn_serve.specs.declared.service.Run.{Run}
@@ -32,7 +33,7 @@ closing_by false kept served = []
 
 -- what the service writes after the last message
 abbrev pub closing : UniqState → List ℕ
-closing s = closing_by s.order.count (length s.digests.keys) s.served
+closing s = closing_by s.order.count (set.len s.digests) s.served
 
 -- what a run does after its last message
 abbrev pub uniq_finish : Finish (Run UniqState)

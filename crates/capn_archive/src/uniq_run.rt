@@ -18,7 +18,7 @@ use std::alloc::Allocator;
 use std::io::{Read, Write};
 
 /// The run of an order, before its first message.
-fn first_run<A: Allocator>(alloc: A, order: UniqOrder) -> Run<UniqService<A>>
+fn first_run<A: Allocator + Copy>(alloc: A, order: UniqOrder) -> Run<UniqService<A>>
     ensures { result ≡ spec.first_run order }
 {
     Run::new(UniqService::new(alloc, order))

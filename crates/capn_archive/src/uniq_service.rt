@@ -1,6 +1,7 @@
 //! The service of `uniq`.
 
-ghost use Rattle.std.specs.Prelude.{◌≡◌, length, false};
+ghost use Rattle.std.specs.Prelude.{◌≡◌, false};
+ghost use Rattle.std.specs.FinSet as set;
 ghost use Rattle.capn_words.specs.Watched.{inner_of, has_failed};
 ghost use Rattle.capn_archive.specs.CanonicalFrame.{AddsText};
 ghost use Rattle.capn_archive.specs.UniqMessages as spec;
@@ -9,10 +10,10 @@ ghost use Rattle.capn_serve.specs.Outgoing.{outgoing};
 
 use crate::digest::digest_of;
 use crate::uniq_order::UniqOrder;
+use capn_digests::DigestSet;
 use capn_serve::{Position, ServeFault, Service, SkippedSoFar, add_bytes, one_more};
 use capn_words::{Space, Watched};
 use std::alloc::Allocator;
-use std::collections::BTreeSet;
 use std::io::Write;
 use std::marker::Model;
 
@@ -20,35 +21,40 @@ use std::marker::Model;
 /// message before had, by their SHA-256.
 ///
 /// A message that is refused by its walk, or for a capability, ends the run, or, if the order says to keep going, is
-/// skipped: it writes nothing and is no duplicate of another. Of a run it holds the digest of each message kept, in
-/// a tree of blocks that are at least half full: about 50 bytes each if they come in no order, at most 72 if they
-/// ascend.
+/// skipped: it writes nothing and is no duplicate of another. Of a run it holds the set of the digests of the messages
+/// kept.
 #[derive(Drop)]
 pub struct UniqService<A: Allocator> {
     order: UniqOrder,
-    digests: BTreeSet<[u8; 32], A>,
+    digests: DigestSet<A>,
     served: u64,
     skipped: Option<SkippedSoFar>,
 }
 
 impl<A: Allocator> Model for UniqService<A> {
+    ghost use Rattle.std.specs.FinSet as set;
+    ghost use Rattle.std.specs.Ordering.{nat_cmp};
+    ghost use Rattle.std.specs.Cmp.Lexicographic.{slice_cmp};
+    ghost use Rattle.std.specs.Coded.{codes, coded_ℕ, coded_list};
     ghost use Rattle.capn_archive.specs.UniqMessages.{UniqState};
 
     ghost Value = { UniqState };
+
+    ghost coded = { Prim.hlevel (codes, set.code {R = slice_cmp nat_cmp} (coded_list coded_ℕ)) };
 
     ghost view = { λ s.
         record { order = s.order; digests = s.digests; served = s.served; skipped = s.skipped } };
 }
 
 /// Inserts a digest, and answers whether it was among those before.
-fn insert_digest<A: Allocator + Clone>(
-    digests: &mut BTreeSet<[u8; 32], A>,
+fn insert_digest<A: Allocator + Copy>(
+    digests: &mut DigestSet<A>,
     digest: [u8; 32],
 ) -> Result<bool, ServeFault>
     ensures { InsertsDigest digests.old digests.new digest result }
 {
     match digests.insert(digest) {
-        Ok(added) => Ok(!added),
+        Ok(is_duplicate) => Ok(is_duplicate),
         Err(_) => Err(ServeFault::Memory),
     }
 }
@@ -73,18 +79,6 @@ fn add_kept<W: Write, A: Allocator>(
 }
 
 impl<B: Allocator> UniqService<B> {
-    /// A service that has kept nothing. It takes no memory.
-    pub(crate) fn new(alloc: B, order: UniqOrder) -> UniqService<B>
-        ensures { result ≡ spec.first_state order }
-    {
-        UniqService {
-            order,
-            digests: BTreeSet::new(alloc),
-            served: 0,
-            skipped: None,
-        }
-    }
-
     /// The order that it carries out.
     pub(crate) fn order(&self) -> UniqOrder
         ensures { result ≡ self.now.order }
@@ -94,7 +88,7 @@ impl<B: Allocator> UniqService<B> {
 
     /// Returns the number of messages that it has kept.
     pub(crate) fn kept(&self) -> usize
-        ensures { result ≡ length self.now.digests.keys }
+        ensures { result ≡ set.len self.now.digests }
     {
         self.digests.len()
     }
@@ -115,6 +109,18 @@ impl<B: Allocator> UniqService<B> {
 }
 
 impl<B: Allocator + Copy> UniqService<B> {
+    /// A service that has kept nothing. It takes no memory.
+    pub(crate) fn new(alloc: B, order: UniqOrder) -> UniqService<B>
+        ensures { result ≡ spec.first_state order }
+    {
+        UniqService {
+            order,
+            digests: DigestSet::new(alloc),
+            served: 0,
+            skipped: None,
+        }
+    }
+
     /// Serves a message.
     fn deduplicate<S: Space, W: Write, A: Allocator + Copy>(
         &mut self,
@@ -161,11 +167,18 @@ impl<B: Allocator + Copy> Service for UniqService<B> {
         writer: &mut Watched<W>,
     ) -> Result<(), ServeFault> {
         match self.deduplicate(alloc, frame, message, text, writer) {
-            Err(ServeFault::Refused(_)) if self.order.keep_going => {
-                self.skipped = Some(one_more(self.skipped, at));
-                Ok(())
-            }
-            served => served,
+            Ok(()) => Ok(()),
+            Err(fault) => match fault {
+                ServeFault::Refused(refusal) => {
+                    if !self.order.keep_going {
+                        return Err(ServeFault::Refused(refusal));
+                    }
+                    self.skipped = Some(one_more(self.skipped, at));
+                    Ok(())
+                }
+                ServeFault::Memory => Err(ServeFault::Memory),
+                ServeFault::Io => Err(ServeFault::Io),
+            },
         }
     }
 }

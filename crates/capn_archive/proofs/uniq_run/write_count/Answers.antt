@@ -1,4 +1,5 @@
-use Rattle.std.proofs.Common.{◌≡◌, Bool, true, false, not, length, ap, refl, sym, ◌∙◌}
+use Rattle.std.proofs.Common.{◌≡◌, Bool, true, false, not, ap, refl, sym, ◌∙◌}
+use Rattle.std.specs.FinSet as set
 use Rattle.capn_archive.specs.UniqRun as spec
 use Rattle.capn_archive.specs.declared.uniq_order.UniqOrder.{UniqOrder}
 use Rattle.capn_archive.proofs.Closings.{closing_refused, count_some}
@@ -14,4 +15,4 @@ returns-in_err-line g c =
     let counts : s.order.count ≡ true =
     sym (ap (λ (u : UniqOrder). u.count) c.order.ensures) ∙ is_true c.order.result.count c.if-not-order.false in
     closing_refused (spec.closing s) _ _ _ c.from_residual.result c.in_err-line.field-0.0 c.from_residual.ensures.1
-    c.in_err-line.ensures.only refl c.requires (count_some s.order.count (length s.digests.keys) s.served counts)
+    c.in_err-line.ensures.only refl c.requires (count_some s.order.count (set.len s.digests) s.served counts)

@@ -1,0 +1,4 @@
+pub mod Marks
+pub mod Kept
+pub mod Found
+pub mod Sets

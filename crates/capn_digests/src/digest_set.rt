@@ -1,0 +1,148 @@
+//! The set of digests.
+
+ghost use Rattle.std.specs.Prelude.{◌≡◌, false, OnOk, OnErr, IfOk};
+ghost use Rattle.std.specs.FinSet as set;
+
+use crate::doubling::make_room;
+use crate::look::is_among;
+use crate::slot::{Head, SLOTS, Slot, put, tag_of};
+use std::alloc::{AllocError, Allocator};
+use std::collections::BTreeSet;
+use std::marker::Model;
+
+/// A set of digests.
+///
+/// A digest takes 32 to 36 bytes of the list, and 17 to 34 of the table, which has at most eight for each bucket of
+/// sixteen slots; or up to 72 of the tree. The list grows by an eighth, and the table doubles in place.
+#[derive(Drop)]
+pub struct DigestSet<A: Allocator> {
+    list: Vec<[u8; 32], A>,
+    heads: Vec<Head, A>,
+    table: Vec<[Slot; SLOTS], A>,
+    rest: BTreeSet<[u8; 32], A>,
+}
+
+impl<A: Allocator> Model for DigestSet<A> {
+    ghost use Rattle.std.specs.FinSet as set;
+    ghost use Rattle.std.specs.Ordering.{nat_cmp};
+    ghost use Rattle.std.specs.Cmp.Lexicographic.{slice_cmp};
+    ghost use Rattle.std.specs.Coded.{coded_ℕ, coded_list};
+    ghost use Rattle.capn_digests.specs.Buckets.{IsIndexed, digests_of};
+
+    ghost Value = { set.FinSet (slice_cmp nat_cmp) };
+
+    ghost coded = { set.code (coded_list coded_ℕ) };
+
+    ghost view = { λ s. digests_of s.list.items s.rest.keys };
+
+    ghost invariant = { λ s. IsIndexed s.list.items s.heads.items s.table.items s.rest.keys };
+}
+
+impl<A: Allocator + Copy> DigestSet<A> {
+    /// The empty set. It takes no memory.
+    pub fn new(alloc: A) -> DigestSet<A>
+        ensures { result ≡ set.empty }
+    {
+        DigestSet {
+            list: Vec::new(alloc),
+            heads: Vec::new(alloc),
+            table: Vec::new(alloc),
+            rest: BTreeSet::new(alloc),
+        }
+    }
+
+    /// Inserts a digest, and returns whether it was there. If memory is refused, the set is as it was.
+    pub fn insert(&mut self, digest: [u8; 32]) -> Result<bool, AllocError>
+        ensures answer { IfOk result (λ was. was ≡ set.contains self.old digest) }
+        ensures inserted { OnOk result (self.new ≡ set.insert self.old digest) }
+        ensures refused { OnErr result (self.new ≡ self.old) }
+    {
+        if self.contains(&digest) {
+            return Ok(true);
+        }
+        self.add(digest)?;
+        Ok(false)
+    }
+
+    /// Adds a digest that the set does not have. If memory is refused, the set is as it was.
+    #[inline(always)]
+    fn add(&mut self, digest: [u8; 32]) -> Result<(), AllocError>
+        requires { set.contains self.old digest ≡ false }
+        ensures added { OnOk result (self.new ≡ set.insert self.old digest) }
+        ensures refused { OnErr result (self.new ≡ self.old) }
+    {
+        make_room(&mut self.list, &mut self.heads, &mut self.table)?;
+        let tag = tag_of(&digest);
+        let home = tag as usize % self.heads.len();
+        let head = self.heads[home];
+        let at = self.list.len();
+        if (head.count as usize) < SLOTS && at < u32::MAX as usize {
+            self.list.push(digest)?;
+            let slot = Slot { tag, at: at as u32 };
+            put(&mut self.table[home], head.count, slot);
+            self.heads[home] = head.and_one(tag);
+        } else {
+            self.rest.insert(digest)?;
+            self.heads[home] = Head {
+                overflowed: true,
+                ..head
+            };
+        }
+        Ok(())
+    }
+}
+
+impl<A: Allocator> DigestSet<A> {
+    /// The number of digests.
+    pub fn len(&self) -> usize
+        ensures { result ≡ set.len self.now }
+    {
+        self.list.len() + self.rest.len()
+    }
+
+    /// Tests whether the set has a digest.
+    #[inline(always)]
+    pub fn contains(&self, digest: &[u8; 32]) -> bool
+        ensures { result ≡ set.contains self.now digest.now }
+    {
+        if self.heads.is_empty() {
+            return false;
+        }
+        let tag = tag_of(digest);
+        let at = tag as usize % self.heads.len();
+        if !self.heads[at].may_have(tag) {
+            return false;
+        }
+        is_among(&self.table[at], &self.list, tag, digest) || self.rest.contains(digest)
+    }
+}
+
+#[cfg(test)]
+mod tests {
+    use super::*;
+    use std::test::Fail;
+
+    /// A digest whose first bytes are those of a number.
+    fn digest(number: u32, last: u8) -> [u8; 32] {
+        let mut digest = [last; 32];
+        digest[..4].copy_from_slice(&number.to_le_bytes());
+        digest
+    }
+
+    #[test]
+    fn digests_of_all_buckets_and_of_one(rt: HostRuntime) -> Result<(), Fail> {
+        let mut digests = DigestSet::new(rt.alloc());
+        for round in 0..2u8 {
+            for number in 0..3_000u32 {
+                let was = digests.insert(digest(number.wrapping_mul(0x9E37_79B9), 1))?;
+                assert!(rt; was == (round == 1));
+            }
+            for last in 2..100u8 {
+                let was = digests.insert(digest(7, last))?;
+                assert!(rt; was == (round == 1));
+            }
+        }
+        assert!(rt; digests.len() == 3_098);
+        Ok(())
+    }
+}

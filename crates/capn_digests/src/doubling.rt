@@ -1,0 +1,101 @@
+//! The table with twice as many buckets.
+
+ghost use Rattle.std.specs.Prelude.{◌≡◌, ℕ, ◌+◌, ◌<◌, ◌%◌, List, length, OnOk};
+ghost use Rattle.capn_digests.specs.declared.slot.Slot.{Slot as SlotValue};
+ghost use Rattle.capn_digests.specs.Buckets.{IsHeld, IsFound};
+
+use crate::slot::{Head, NO_HEAD, NO_SLOT, SLOTS, Slot};
+use std::alloc::{AllocError, Allocator};
+
+/// A bucket with the slots alone whose tags are of bucket `at` of so many.
+fn kept(head: Head, bucket: &[Slot; SLOTS], at: usize, buckets: usize) -> (Head, [Slot; SLOTS])
+    requires { 0 < buckets }
+    ensures held { (s : SlotValue) → s.tag % buckets ≡ at → IsHeld head bucket.now s → IsHeld result.0 result.1 s }
+    ensures overflowed { result.0.overflowed ≡ head.overflowed }
+{
+    let mut kept = [NO_SLOT; SLOTS];
+    let mut new = Head {
+        overflowed: head.overflowed,
+        ..NO_HEAD
+    };
+    for j in 0..SLOTS {
+        let slot = bucket[j];
+        if j < head.count as usize && slot.tag as usize % buckets == at {
+            kept[new.count as usize] = slot;
+            new = new.and_one(slot.tag);
+        }
+    }
+    (new, kept)
+}
+
+/// Has bucket `at` keep the slots alone whose tags are its own.
+fn keep_own(heads: &mut [Head], table: &mut [[Slot; SLOTS]], at: usize)
+    requires within { at < length heads.old }
+    requires even { length table.old ≡ length heads.old }
+    ensures { (list rest : List (List ℕ)) → IsFound list heads.old table.old rest
+        → IsFound list heads.new table.new rest }
+{
+    let (head, bucket) = kept(heads[at], &table[at], at, heads.len());
+    heads[at] = head;
+    table[at] = bucket;
+}
+
+/// Has each bucket keep the slots alone whose tags are its own.
+fn keep_each_own(heads: &mut [Head], table: &mut [[Slot; SLOTS]])
+    requires { length table.old ≡ length heads.old }
+    ensures { (list rest : List (List ℕ)) → IsFound list heads.old table.old rest
+        → IsFound list heads.new table.new rest }
+{
+    for at in 0..heads.len() {
+        keep_own(heads, table, at);
+    }
+}
+
+/// Doubles the number of buckets, or makes the first one. If memory is refused, all is as it was.
+#[inline(never)]
+fn double<A: Allocator>(
+    heads: &mut Vec<Head, A>,
+    table: &mut Vec<[Slot; SLOTS], A>,
+) -> Result<(), AllocError>
+    requires { length table.old.items ≡ length heads.old.items }
+    ensures found { (list rest : List (List ℕ)) → IsFound list heads.old.items table.old.items rest
+        → IsFound list heads.new.items table.new.items rest }
+    ensures some { OnOk result (0 < length heads.new.items) }
+{
+    let count = heads.len().max(1);
+    heads.try_reserve_exact(count)?;
+    table.try_reserve_exact(count)?;
+    if heads.is_empty() {
+        heads.push(NO_HEAD)?;
+        table.push([NO_SLOT; SLOTS])?;
+        return Ok(());
+    }
+    heads.extend_from_within(..)?;
+    table.extend_from_within(..)?;
+    keep_each_own(heads, table);
+    Ok(())
+}
+
+/// Makes room for one digest more: in the list, which grows by an eighth, and in the table, which has at most eight
+/// digests for each bucket. If memory is refused, what is found stays so.
+#[inline(always)]
+pub(crate) fn make_room<A: Allocator>(
+    list: &mut Vec<[u8; 32], A>,
+    heads: &mut Vec<Head, A>,
+    table: &mut Vec<[Slot; SLOTS], A>,
+) -> Result<(), AllocError>
+    requires { length table.old.items ≡ length heads.old.items }
+    ensures found { (all rest : List (List ℕ)) → IsFound all heads.old.items table.old.items rest
+        → IsFound all heads.new.items table.new.items rest }
+    ensures same { list.new.items ≡ list.old.items }
+    ensures some { OnOk result (0 < length heads.new.items) }
+{
+    let count = list.len();
+    if count == list.capacity() {
+        list.try_reserve_exact(count / 8 + 16)?;
+    }
+    if count / 8 >= heads.len() {
+        return double(heads, table);
+    }
+    Ok(())
+}

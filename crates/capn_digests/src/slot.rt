@@ -1,0 +1,104 @@
+//! A slot of the table, and the head of a bucket.
+
+ghost use Rattle.std.specs.Prelude.{◌≡◌, ℕ, ◌+◌, ◌<◌, true, length, slice_set};
+ghost use Rattle.capn_digests.specs.Tag.{tag, marks, more};
+ghost use Rattle.capn_digests.specs.Buckets.{IsMarked};
+
+/// The number of slots of a bucket.
+pub(crate) const SLOTS: usize = 16;
+
+/// The place of a digest: its tag, and its index in the list.
+#[derive(Clone, Copy)]
+pub(crate) struct Slot {
+    pub(crate) tag: u32,
+    pub(crate) at: u32,
+}
+
+/// A slot that is not taken.
+pub(crate) const NO_SLOT: Slot = Slot { tag: 0, at: 0 };
+
+/// The head of a bucket: marks of the tags in its slots, the number of slots that are taken, and whether a digest of
+/// the bucket went into the tree.
+#[derive(Clone, Copy)]
+pub(crate) struct Head {
+    pub(crate) marks: u32,
+    pub(crate) more: u16,
+    pub(crate) count: u8,
+    pub(crate) overflowed: bool,
+}
+
+/// The head of a bucket of which no slot is taken.
+pub(crate) const NO_HEAD: Head = Head {
+    marks: 0,
+    more: 0,
+    count: 0,
+    overflowed: false,
+};
+
+/// The first four bytes of a digest, as a number.
+#[inline(always)]
+#[tactic(auto, unfolding(crate::specs::Tag::tag))]
+pub(crate) fn tag_of(digest: &[u8; 32]) -> u32
+    ensures { result ≡ tag digest.now }
+{
+    digest[0] as u32
+        + digest[1] as u32 * 0x100
+        + digest[2] as u32 * 0x1_0000
+        + digest[3] as u32 * 0x100_0000
+}
+
+/// Two bits of 32, by a tag.
+#[inline(always)]
+pub(crate) fn marks_of(tag: u32) -> u32
+    ensures { result ≡ marks tag }
+{
+    (1u32 << (tag >> 27)) | (1u32 << ((tag >> 22) % 32))
+}
+
+/// One bit of 16, by a tag.
+#[inline(always)]
+pub(crate) fn more_of(tag: u32) -> u16
+    ensures { result ≡ more tag }
+{
+    1u16 << ((tag >> 18) % 16)
+}
+
+impl Head {
+    /// Tests whether a digest of this tag may be in the bucket or in the tree: always, if one is.
+    #[inline(always)]
+    pub(crate) fn may_have(self, tag: u32) -> bool
+        ensures marked { IsMarked self tag → result ≡ true }
+        ensures overflowed { self.overflowed ≡ true → result ≡ true }
+    {
+        let marks = marks_of(tag);
+        let more = more_of(tag);
+        self.overflowed || (self.marks & marks == marks && self.more & more == more)
+    }
+
+    /// This head with one slot more, of this tag.
+    #[inline(always)]
+    pub(crate) fn and_one(self, tag: u32) -> Head
+        requires { self.count < 16 }
+        ensures marked { IsMarked result tag }
+        ensures kept { (t : ℕ) → IsMarked self t → IsMarked result t }
+        ensures count { result.count ≡ self.count + 1 }
+        ensures overflowed { result.overflowed ≡ self.overflowed }
+    {
+        Head {
+            marks: self.marks | marks_of(tag),
+            more: self.more | more_of(tag),
+            count: self.count + 1,
+            overflowed: self.overflowed,
+        }
+    }
+}
+
+/// Puts a slot into a bucket.
+#[inline(always)]
+pub(crate) fn put(bucket: &mut [Slot; SLOTS], place: u8, slot: Slot)
+    requires { place < 16 }
+    ensures set { bucket.new ≡ slice_set bucket.old place slot }
+    ensures whole { length bucket.old ≡ 16 }
+{
+    bucket[place as usize] = slot;
+}
