@@ -32,6 +32,66 @@ pub fn target_at<S: Space, L: Ledger>(
     requires place { IsPlace space.now at }
     requires found { (t : Targets) × (spec.target space.now at ≡ Ok t) }
     ensures found { spec.target space.now at ≡ Ok result }
+    ensures reads { reads.new ≤ reads.old + 5 }
+{
+    match split(space.word(at, reads)) {
+        Pointer::Nil => Target::Nil,
+        Pointer::Node {
+            offset,
+            words,
+            slots,
+        } => Target::Content {
+            segment: at.segment,
+            start: start_of(at.word, offset),
+            shape: Shape::Node { words, slots },
+            pads: 0,
+        },
+        Pointer::Many {
+            offset,
+            width,
+            count,
+        } => match width {
+            Width::Rows => followed(space, at, reads),
+            _ => Target::Content {
+                segment: at.segment,
+                start: start_of(at.word, offset),
+                shape: Shape::Many { width, count },
+                pads: 0,
+            },
+        },
+        _ => followed(space, at, reads),
+    }
+}
+
+/// Returns the target of the pointer at `at`, whatever that is. A call has its answer in a place of its own: then only
+/// that one comes through memory, and the place lies on the stack no longer than here.
+#[inline(always)]
+fn followed<S: Space, L: Ledger>(
+    space: &CountedSpace<'_, S, L>,
+    at: Place,
+    reads: &mut Reads<L>,
+) -> Target
+    requires message { IsMessage space.now }
+    requires place { IsPlace space.now at }
+    requires found { (t : Targets) × (spec.target space.now at ≡ Ok t) }
+    ensures found { spec.target space.now at ≡ Ok result }
+    ensures reads { reads.new ≤ reads.old + 4 }
+{
+    let target = resolved(space.again(), at, reads);
+    target
+}
+
+/// Returns the target of the pointer at `at`, whatever that is, as a call of its own. It is known to have one.
+#[inline(never)]
+fn resolved<S: Space, L: Ledger>(
+    space: CountedSpace<'_, S, L>,
+    at: Place,
+    reads: &mut Reads<L>,
+) -> Target
+    requires message { IsMessage space }
+    requires place { IsPlace space at }
+    requires found { (t : Targets) × (spec.target space at ≡ Ok t) }
+    ensures found { spec.target space.entry at ≡ Ok result }
     ensures reads { reads.new ≤ reads.old + 4 }
 {
     match split(space.word(at, reads)) {
@@ -57,7 +117,7 @@ pub fn target_at<S: Space, L: Ledger>(
                     width,
                     count,
                 };
-                content_of(space, at.segment, at.word, 0, pointer, reads)
+                content_of(&space, at.segment, at.word, 0, pointer, reads)
             }
             _ => Target::Content {
                 segment: at.segment,
@@ -70,25 +130,19 @@ pub fn target_at<S: Space, L: Ledger>(
             double: false,
             word,
             segment,
-        } => {
-            let target = behind_one(space.again(), segment, word, reads);
-            target
-        }
+        } => { behind_one(&space, segment, word, reads) }
         Pointer::Far {
             double: true,
             word,
             segment,
-        } => {
-            let target = behind_two(space.again(), segment, word, reads);
-            target
-        }
+        } => { behind_two(space.again(), segment, word, reads) }
         Pointer::Cap(index) => Target::Cap(index),
         Pointer::Reserved(_) => unreachable!(),
     }
 }
 
-/// Returns the content that the struct or list `pointer` at `word` of `segment` names: the word is the slot itself, or
-/// a pad of one word. It is known to name some, so nothing is tested again.
+/// Returns the content that the struct or list `pointer` at `word` of `segment` names: the word is the slot itself, or a
+/// pad of one word. It is known to name some, so nothing is tested again.
 #[inline(always)]
 fn content_of<S: Space, L: Ledger>(
     space: &CountedSpace<'_, S, L>,
@@ -169,27 +223,27 @@ fn rows_of<S: Space, L: Ledger>(
 
 /// Returns the target of a far pointer by the landing pad of one word at `word` of `segment`, which is known to have
 /// one.
-#[inline(never)]
+#[inline(always)]
 fn behind_one<S: Space, L: Ledger>(
-    space: CountedSpace<'_, S, L>,
+    space: &CountedSpace<'_, S, L>,
     segment: u32,
     word: u32,
     reads: &mut Reads<L>,
 ) -> Target
-    requires message { IsMessage space }
-    requires found { (t : Targets) × (spec.landing space segment word 1
-        (spec.near space segment word 1 (spec.pointer_in space segment word)) ≡ Ok t) }
-    ensures found { spec.landing space.entry segment word 1
-        (spec.near space.entry segment word 1 (spec.pointer_in space.entry segment word)) ≡ Ok result }
+    requires message { IsMessage space.now }
+    requires found { (t : Targets) × (spec.landing space.now segment word 1
+        (spec.near space.now segment word 1 (spec.pointer_in space.now segment word)) ≡ Ok t) }
+    ensures found { spec.landing space.now segment word 1
+        (spec.near space.now segment word 1 (spec.pointer_in space.now segment word)) ≡ Ok result }
     ensures reads { reads.new ≤ reads.old + 2 }
 {
-    let pointer = pointer_at(&space, segment, word, reads);
-    content_of(&space, segment, word, 1, pointer, reads)
+    let pointer = pointer_at(space, segment, word, reads);
+    content_of(space, segment, word, 1, pointer, reads)
 }
 
 /// Returns the target of a far pointer by the landing pad of two words at `word` of `segment`, which is known to have
 /// one.
-#[inline(never)]
+#[inline(always)]
 fn behind_two<S: Space, L: Ledger>(
     space: CountedSpace<'_, S, L>,
     segment: u32,

@@ -7,6 +7,7 @@
 //! - [`surveyed_length`] returns their number.
 //! - [`surveyed_layout_counted`] and [`surveyed_length_counted`] do the same to a message whose reads are counted: the
 //!   cost of its value bounds how often they read it. [`surveyed_layout_into_counted`] writes the bytes into a buffer.
+//! - [`target_at`] returns the target of a pointer of a surveyed message, and tests nothing again.
 //! - [`Patch`] is a buffer of words and of holes for what is not known yet, as a pointer whose object has no place so
 //!   far. Nothing here writes to it.
 //! - [`list_pointer`], [`tag_word`] and [`bits_of`] give the words of a layout, for whoever compares bytes with it.
@@ -36,6 +37,7 @@ mod tree_layout;
 mod tree_slots;
 mod zero_bytes;
 
+pub use known_target::target_at;
 pub use message_layout::{
     surveyed_layout, surveyed_layout_counted, surveyed_layout_into_counted, surveyed_length,
     surveyed_length_counted,

@@ -12,7 +12,6 @@
 #![tactic(auto)]
 
 mod asked_pair;
-mod known_target;
 mod numbers;
 mod objects;
 mod run;

@@ -8,11 +8,10 @@ ghost use Rattle.capn_layout.specs.MessageSlots.{HasSlot};
 ghost use Rattle.capn_layout.specs.Weight.{weight, weights, weights_in_rows};
 ghost use Rattle.capn_same.specs.inner.Held.{HasValue, AreIn, HasValues, IsRow, HasRow, AreRowsIn, HasRows, HasContent};
 
-use crate::known_target::target_of;
 use crate::numbers::are_same_bits;
 use crate::run::{Rows, Run, behind};
 use crate::words::{are_same, are_zero};
-use capn_layout::bits_of;
+use capn_layout::{bits_of, target_at};
 use capn_target::counted::{CountedSpace, Reads};
 use capn_target::place;
 use capn_walk::{Shape, Target};
@@ -40,8 +39,8 @@ pub fn is_same_slot<S: Space, T: Space, L: Ledger, M: Ledger>(
     ensures second { (w : Tree) → HasSlot b.now beside.segment beside.word w
         → second.new ≤ second.old + 9 + 20 * weight w }
 {
-    let other = target_of(b, beside, second);
-    match target_of(a, at, first) {
+    let other = target_at(b, beside, second);
+    match target_at(a, at, first) {
         Target::Nil => match other {
             Target::Nil => true,
             _ => false,

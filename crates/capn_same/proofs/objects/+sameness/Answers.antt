@@ -16,12 +16,12 @@ use Rattle.capn_same.proofs.objects.+sameness.Goals as goal
 
 -- ---- a slot
 
-pub is_same_slot-target_of-other-requires-clause-found : goal.is_same_slot-target_of-other-requires-clause-found
-is_same_slot-target_of-other-requires-clause-found g t c =
+pub is_same_slot-target_at-other-requires-clause-found : goal.is_same_slot-target_at-other-requires-clause-found
+is_same_slot-target_at-other-requires-clause-found g t c =
     found c.args.b.now c.args.beside c.requires.two.value c.requires.two.is.at
 
-pub is_same_slot-target_of-requires-clause-found : goal.is_same_slot-target_of-requires-clause-found
-is_same_slot-target_of-requires-clause-found g t c =
+pub is_same_slot-target_at-requires-clause-found : goal.is_same_slot-target_at-requires-clause-found
+is_same_slot-target_at-requires-clause-found g t c =
     found c.args.a.now c.args.at c.requires.one.value c.requires.one.is.at
 
 pub is_same_slot-is_same_content-requires : goal.is_same_slot-is_same_content-requires
@@ -29,9 +29,9 @@ is_same_slot-is_same_content-requires g t c κs within =
     let x = c.in-Content in
     let y = c.in-Content-other in
     let one = has-content c.args.a.now c.args.at c.args.depth x.segment x.start x.pads x.shape c.requires.one
-    (c.target_of.ensures.found ∙ ap Ok x.is) in
+    (c.target_at.ensures.found ∙ ap Ok x.is) in
     let two = has-content c.args.b.now c.args.beside c.args.depth y.elsewhere y.begin y.pads y.form c.requires.two
-    (c.target_of-other.ensures.found ∙ ap Ok y.is) in
+    (c.target_at-other.ensures.found ∙ ap Ok y.is) in
     (omega arith, (within.0, (within.1.0, (within.1.1.0, (within.1.1.1, (one, two))))))
 
 pub is_same_slot-returns-in-Content-other-clause-same : goal.is_same_slot-returns-in-Content-other-clause-same
@@ -39,17 +39,17 @@ is_same_slot-returns-in-Content-other-clause-same g t c v w h j =
     let x = c.in-Content in
     let y = c.in-Content-other in
     c.is_same_content.ensures.same v w
-    (inside-of c.args.a.now c.args.at x.segment x.start x.pads x.shape (c.target_of.ensures.found ∙ ap Ok x.is) v h.at)
+    (inside-of c.args.a.now c.args.at x.segment x.start x.pads x.shape (c.target_at.ensures.found ∙ ap Ok x.is) v h.at)
     (inside-of c.args.b.now c.args.beside y.elsewhere y.begin y.pads y.form
-    (c.target_of-other.ensures.found ∙ ap Ok y.is) w j.at)
+    (c.target_at-other.ensures.found ∙ ap Ok y.is) w j.at)
 
 pub is_same_slot-returns-in-Content-other-clause-first : goal.is_same_slot-returns-in-Content-other-clause-first
 is_same_slot-returns-in-Content-other-clause-first g t c v h =
     let x = c.in-Content in
     let r = c.is_same_content.ensures.first v
-    (inside-of c.args.a.now c.args.at x.segment x.start x.pads x.shape (c.target_of.ensures.found ∙ ap Ok x.is) v h.at)
+    (inside-of c.args.a.now c.args.at x.segment x.start x.pads x.shape (c.target_at.ensures.found ∙ ap Ok x.is) v h.at)
     in
-    let o = c.target_of.ensures.reads in
+    let o = c.target_at.ensures.reads in
     omega arith
 
 pub is_same_slot-returns-in-Content-other-clause-second : goal.is_same_slot-returns-in-Content-other-clause-second
@@ -57,8 +57,8 @@ is_same_slot-returns-in-Content-other-clause-second g t c w j =
     let y = c.in-Content-other in
     let r = c.is_same_content.ensures.second w
     (inside-of c.args.b.now c.args.beside y.elsewhere y.begin y.pads y.form
-    (c.target_of-other.ensures.found ∙ ap Ok y.is) w j.at) in
-    let o = c.target_of-other.ensures.reads in
+    (c.target_at-other.ensures.found ∙ ap Ok y.is) w j.at) in
+    let o = c.target_at-other.ensures.reads in
     omega arith
 
 -- ---- content
