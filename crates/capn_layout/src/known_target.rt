@@ -141,8 +141,8 @@ fn resolved<S: Space, L: Ledger>(
     }
 }
 
-/// Returns the content that the struct or list `pointer` at `word` of `segment` names: the word is the slot itself, or a
-/// pad of one word. It is known to name some, so nothing is tested again.
+/// Returns the content that the struct or list `pointer` at `word` of `segment` names: the word is the slot itself, or
+/// a pad of one word. It is known to name some, so nothing is tested again.
 #[inline(always)]
 fn content_of<S: Space, L: Ledger>(
     space: &CountedSpace<'_, S, L>,
