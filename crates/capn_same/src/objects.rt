@@ -9,7 +9,7 @@ ghost use Rattle.capn_layout.specs.Weight.{weight, weights, weights_in_rows};
 ghost use Rattle.capn_same.specs.inner.Held.{HasValue, AreIn, HasValues, IsRow, HasRow, AreRowsIn, HasRows, HasContent};
 
 use crate::numbers::are_same_bits;
-use crate::run::{Rows, Run, behind};
+use crate::run::{Rows, Run, behind, data_of, slots_of};
 use crate::words::{are_same, are_zero};
 use capn_layout::{bits_of, target_at};
 use capn_target::counted::{CountedSpace, Reads};
@@ -201,26 +201,10 @@ fn is_same_row<S: Space, T: Space, L: Ledger, M: Ledger>(
     ensures second { (vs : List ℕ) (ts : Trees) → IsRow b.now two.start two.words two.slots vs ts
         → second.new ≤ second.old + 2 * two.words + 12 * two.slots + 20 * weights ts }
 {
-    let own = Run {
-        start: one.start,
-        count: one.words,
-    };
-    let other = Run {
-        start: two.start,
-        count: two.words,
-    };
-    if !are_same(a, own, b, other, first, second) {
+    if !are_same(a, data_of(one), b, data_of(two), first, second) {
         return false;
     }
-    let below = Run {
-        start: behind(one.start, one.words),
-        count: one.slots,
-    };
-    let under = Run {
-        start: behind(two.start, two.words),
-        count: two.slots,
-    };
-    are_same_slots(a, below, b, under, depth, first, second)
+    are_same_slots(a, slots_of(one), b, slots_of(two), depth, first, second)
 }
 
 /// Returns `true` if the values in the slots `one` of `a` and `two` of `b`, at most `depth` objects deep, are the same,

@@ -30,3 +30,29 @@ pub struct Rows {
     pub words: u32,
     pub slots: u32,
 }
+
+/// Returns the data words of a row.
+#[inline(always)]
+pub fn data_of(row: Rows) -> Run
+    ensures { result ≡ record { start = row.start; count = row.words } }
+{
+    Run {
+        start: row.start,
+        count: row.words,
+    }
+}
+
+/// Returns the slots of a row.
+#[inline(always)]
+pub fn slots_of(row: Rows) -> Run
+    requires { row.start.word + row.words < 2 ^ 32 }
+    ensures { result ≡ record {
+      start = record { segment = row.start.segment; word = row.start.word + row.words };
+      count = row.slots;
+    } }
+{
+    Run {
+        start: behind(row.start, row.words),
+        count: row.slots,
+    }
+}
