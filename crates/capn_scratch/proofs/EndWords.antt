@@ -1,11 +1,10 @@
 -- The ends of segments, kept as words. (For `ends.rt`, `framed.rt` and `scratch_segments.rt`.)
-use Rattle.std.proofs.Common.{◌≡◌, ℕ, ◌+◌, ◌-◌, ◌^◌, ◌<◌, ◌≤◌, List, [], ◌∷◌, ◌++◌, length, take, drop, map, set}
-use Rattle.std.proofs.Common.{slice_index}
-use Rattle.std.proofs.Common.{slice_index_or, slice_range, sum, ap, sym, ◌∙◌, arith, w64}
+use Rattle.std.proofs.Common.{◌≡◌, ℕ, ◌+◌, ◌^◌, ◌<◌, ◌≤◌, List}
+use Rattle.std.proofs.Common.{[], ◌∷◌, ◌++◌, length, take, drop, set, slice_index}
+use Rattle.std.proofs.Common.{slice_index_or, slice_range, ap, ◌∙◌, arith, w64}
 use Rattle.std.specs.Int.{from_le_bytes, to_le_bytes}
 use Rattle.std.proofs.lemmas.List.{get_or-map, length-map, map-append, take_more_set, take_rest}
 use Rattle.std.proofs.lemmas.Nat.{from_le_bytes-to_le_bytes_8}
-use Rattle.capn_words.specs.Message.{segment_at}
 use Rattle.capn_stream.specs.Cuts.{AreEnds, cut, ends_from}
 use Rattle.capn_stream.specs.FrameRefusal.{entries, entry_number}
 use Rattle.capn_stream.proofs.shared.Cutting.{rising, seen_count, seen_inside}

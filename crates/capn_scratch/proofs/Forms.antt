@@ -1,7 +1,7 @@
 -- What is told of a message is so of the bytes that are read as it. (For `canonical_form.rt` and `framed.rt`.)
-use Rattle.std.proofs.Common.{◌≡◌, ℕ, ◌+◌, ◌-◌, ◌*◌, ◌^◌, ◌<◌, ◌≤◌, inl, inr, List, [], ◌∷◌, length, take, refl, ap}
-use Rattle.std.proofs.Common.{sym}
-use Rattle.std.proofs.Common.{subst, ◌∙◌, arith, Result, Ok, Err, IsErrAnd, IfErr, OnErr, None, Some, false, true}
+use Rattle.std.proofs.Common.{◌≡◌, ℕ, ◌+◌, ◌-◌, ◌*◌, ◌<◌, ◌≤◌, inl}
+use Rattle.std.proofs.Common.{inr, List, length, take, refl, ap, sym}
+use Rattle.std.proofs.Common.{subst, ◌∙◌, arith, Result, Ok, Err, IsErrAnd, None, Some}
 use Rattle.std.proofs.Math.Seq.{take-length}
 use Rattle.std.proofs.lemmas.Bool.{le-ltb, lt-ltb}
 use Rattle.std.proofs.lemmas.List.{length-take, take_all}
@@ -9,7 +9,6 @@ use Rattle.capn_pack.specs.Packed.{Packs}
 use Rattle.capn_pack.proofs.shared.GroupLaws.{one_reading}
 use Rattle.capn_stream.specs.Frames.{Frames, StandsFirst, most_table_words}
 use Rattle.capn_stream.specs.FrameRefusal.{announced_segments, entry_number}
-use Rattle.capn_stream.proofs.shared.FrameLaws.{announces}
 use Rattle.capn_value.specs.Tree.{Tree}
 use Rattle.capn_value.specs.FirstCap.{first_cap}
 use Rattle.capn_walk.specs.Accepted.{IsValueOf, root}
@@ -24,15 +23,14 @@ use Rattle.capn_canon.specs.declared.message_refusal.IntoRefusal.TheVariants as 
 use Rattle.capn_canon.specs.declared.refusal.Refusal.TheVariants as refusals
 use Rattle.capn_canon.specs.Denotes.{Denotes}
 use Rattle.capn_canon.specs.MessageRefusal.{IsIntoPaidWithin}
-use Rattle.capn_canon.specs.Reads.{IsFramed, Reads, Unpacks}
-use Rattle.capn_canon.specs.Refusal.{IsMisread}
+use Rattle.capn_canon.specs.Reads.{IsFramed, Reads}
 use Rattle.capn_canon.specs.Theorem.{RefusedInto}
 use Rattle.capn_canon.proofs.shared.NotRefused.{accepted-not_refused, read-not_misread}
 use Rattle.capn_canon.proofs.shared.OneReading.{one_message}
 use Rattle.capn_scratch.specs.FormRefusal.{IsFormPaidWithin, IsFormRefused, IsMessageRefused, IsOfInto, IsReadRefused}
 use Rattle.capn_scratch.specs.FormRefusal.{LacksTable, LacksText}
 use Rattle.capn_scratch.specs.Needs.{HasScratch, HoldsText, Needs, table_need}
-use Rattle.capn_scratch.specs.Theorem.{AnsweredForm, WrittenForm}
+use Rattle.capn_scratch.specs.Theorem.{AnsweredForm}
 use Rattle.capn_scratch.specs.inner.Outcomes.{IsFormTold, IsFrameRefusedAfter, IsFrameTold, IsTold}
 use Rattle.capn_scratch.specs.declared.refusal.FormRefusal.{FormRefusal}
 use Rattle.capn_scratch.specs.declared.refusal.FormRefusal.TheVariants as told

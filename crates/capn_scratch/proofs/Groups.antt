@@ -1,18 +1,17 @@
 -- Groups one after another at the front of some bytes. (For `group.rt` and `unpacked.rt`.)
-use Rattle.std.proofs.Common.{◌≡◌, ℕ, ◌+◌, ◌-◌, ◌*◌, ◌^◌, ◌<◌, ◌≤◌, inl, inr, List, [], ◌∷◌, ◌++◌, length, take, drop}
-use Rattle.std.proofs.Common.{get_or}
-use Rattle.std.proofs.Common.{slice_range, refl, sym, ap, ◌∙◌, subst, arith, append_assoc, length-append, take-add}
-use Rattle.std.proofs.Common.{take-append-drop, length-take, length-drop, take_all, eqb, false}
+use Rattle.std.proofs.Common.{◌≡◌, ℕ, ◌+◌, ◌-◌, ◌*◌, ◌<◌, ◌≤◌, inl}
+use Rattle.std.proofs.Common.{inr, List, [], ◌∷◌, ◌++◌, length, take, drop, get_or}
+use Rattle.std.proofs.Common.{slice_range, refl, sym, ap, ◌∙◌, subst, arith, take-add}
+use Rattle.std.proofs.Common.{take-append-drop, length-take, length-drop, take_all}
 use Rattle.std.proofs.lemmas.Bool.{cases_eq, ne_eqb, eq-eqb}
-use Rattle.std.proofs.lemmas.List.{append-nil}
 use Rattle.std.specs.Prelude.{count_ones}
 use Rattle.std.specs.List.{AllByRecursion}
-use Rattle.capn_pack.specs.Packed.{Group, IsGroup, text, content, words, Packs, texts, contents, word_count}
+use Rattle.capn_pack.specs.Packed.{Group, IsGroup, content, Packs, texts, contents, word_count}
 use Rattle.capn_pack.specs.Packed.Group.{Zeros, Named, Raw}
 use Rattle.capn_pack.specs.UnpackRefusal.{Stands, len_at, words_at}
-use Rattle.capn_pack.proofs.shared.GroupLemmas.{contents_more, each_more, length_content, length_contents, rest_is}
-use Rattle.capn_pack.proofs.shared.GroupLemmas.{byte_of_rest, raw_is_group, take_first, take_raw_text, take_two}
-use Rattle.capn_pack.proofs.shared.GroupLemmas.{texts_more, count_more}
+use Rattle.capn_pack.proofs.shared.GroupLemmas.{contents_more, each_more, length_contents, rest_is}
+use Rattle.capn_pack.proofs.shared.GroupLemmas.{byte_of_rest, raw_is_group, take_first}
+use Rattle.capn_pack.proofs.shared.GroupLemmas.{take_raw_text, take_two, texts_more, count_more}
 use Rattle.capn_scratch.specs.inner.Groups.{Takes}
 use Rattle.capn_scratch.proofs.Spread.{spread_from}
 

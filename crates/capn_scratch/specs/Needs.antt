@@ -1,5 +1,5 @@
 -- The words of scratch that bytes in a form take. (Own.)
-use Rattle.std.specs.Prelude.{◌≡◌, ℕ, ◌+◌, ◌-◌, ◌*◌, ◌<◌, ◌≤◌, List, length, nat_lt, if◌then◌else◌, ⊤}
+use Rattle.std.specs.Prelude.{◌≡◌, ℕ, ◌+◌, ◌-◌, ◌*◌, ◌≤◌, List, length, nat_lt, if◌then◌else◌, ⊤}
 use Rattle.capn_pack.specs.Packed.{Packs}
 use Rattle.capn_stream.specs.FrameRefusal.{announced_segments}
 use Rattle.capn_canon.specs.declared.form.Form.{Form}

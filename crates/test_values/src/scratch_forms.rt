@@ -125,8 +125,13 @@ const TRAILED: [u8; 24] = [
     0, 0, 0, 0, 1, 0, 0, 0, 3, 0, 0, 0, 5, 0, 0, 0, 0, 0, 0, 0, 0, 0, 0, 0,
 ];
 
-/// Packed texts: cut in a word; of 256 zero words.
-const PACKED: [&[u8]; 2] = [&[0x51, 8, 3], &[0, 255]];
+/// Packed texts: cut in a word; of 2,304 zero words.
+const PACKED: [&[u8]; 2] = [
+    &[0x51, 8, 3],
+    &[
+        0, 255, 0, 255, 0, 255, 0, 255, 0, 255, 0, 255, 0, 255, 0, 255, 0, 255,
+    ],
+];
 
 /// The refusals of a call are those of `canonicalise`, and leave the buffer as it was.
 #[test]
@@ -136,7 +141,7 @@ fn refusals_are_those_of_other_calls(rt: HostRuntime) {
     let cases: [(Form, &[u8], Limits); 9] = [
         (Form::Bare, &CAPABILITY[..7], limits),
         (Form::Bare, &CAPABILITY, limits),
-        (Form::Bare, &[1, 0, 0, 0, 0, 0, 0, 0], limits),
+        (Form::Bare, &[0, 0, 0, 0, 1, 0, 0, 0], limits),
         (Form::Stream, &[], limits),
         (Form::Stream, &TRAILED[..15], limits),
         (Form::Stream, &TRAILED, limits),
@@ -146,7 +151,7 @@ fn refusals_are_those_of_other_calls(rt: HostRuntime) {
     ];
     for (form, bytes, limits) in cases {
         let mut out = [0xbb; 24];
-        let mut scratch = [[0; 8]; 512];
+        let mut scratch = [[0; 8]; MOST];
         let told = canonical_into_form(form, bytes, limits, &mut scratch, &mut out);
         let other = match canonicalise(rt.alloc(), form, bytes, limits) {
             Ok(_) => None,

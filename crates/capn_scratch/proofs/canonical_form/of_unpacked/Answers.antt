@@ -1,4 +1,4 @@
-use Rattle.std.proofs.Common.{ℕ, ◌*◌, take, arith}
+use Rattle.std.proofs.Common.{arith}
 use Rattle.capn_pack.proofs.shared.GroupLaws.{refused_only}
 use Rattle.capn_scratch.proofs.Forms.{all_unpacked, packed_told}
 use Rattle.capn_scratch.proofs.canonical_form.of_unpacked.Goals as goal

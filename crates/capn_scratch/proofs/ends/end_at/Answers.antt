@@ -1,4 +1,4 @@
-use Rattle.std.proofs.Common.{sym, ◌∙◌, arith}
+use Rattle.std.proofs.Common.{sym, ◌∙◌}
 use Rattle.capn_scratch.proofs.EndWords.{number_in}
 use Rattle.capn_scratch.proofs.ends.end_at.Goals as goal
 

@@ -1,4 +1,4 @@
-use Rattle.std.proofs.Common.{ℕ, List, ◌+◌, ◌*◌, take, length, sum, ap, sym, subst, ◌∙◌, arith}
+use Rattle.std.proofs.Common.{ℕ, List, sum, ap, sym, subst, ◌∙◌, arith}
 use Rattle.capn_stream.specs.Cuts.{AreEnds, cut}
 use Rattle.capn_scratch.specs.inner.Ends.{numbers}
 use Rattle.capn_scratch.specs.inner.Outcomes.{IsTold}

@@ -1,4 +1,4 @@
-use Rattle.std.proofs.Common.{◌≡◌, ℕ, List, ◌-◌, sum, drop, ap, sym, ◌∙◌, arith}
+use Rattle.std.proofs.Common.{◌≡◌, ℕ, List, ◌-◌, sum, drop, ap, sym, arith}
 use Rattle.capn_stream.specs.Cuts.{ends_from}
 use Rattle.capn_stream.specs.FrameRefusal.{entries, entry_number}
 use Rattle.capn_stream.proofs.shared.Entries.{sum-entries_more}

@@ -1,4 +1,4 @@
-use Rattle.std.proofs.Common.{◌≡◌, ℕ, List, ◌+◌, ◌*◌, ◌++◌, ◌∷◌, get_or, length, take, ap, sym, ◌∙◌, arith}
+use Rattle.std.proofs.Common.{◌≡◌, ℕ, List, ◌+◌, ◌*◌, ◌∷◌, get_or, length, take, ap, sym, ◌∙◌, arith}
 use Rattle.capn_pack.specs.Packed.Group.{Named}
 use Rattle.capn_pack.proofs.shared.GroupLemmas.{take_first, take_tail}
 use Rattle.capn_scratch.proofs.group.put_named.Goals as goal

@@ -1,6 +1,6 @@
-use Rattle.std.proofs.Common.{◌≡◌, ℕ, ◌+◌, ◌-◌, ◌*◌, ◌≤◌, ◌++◌, ◌∷◌, List, get_or, length, take, drop, slice_range, sym}
-use Rattle.std.proofs.Common.{ap, ◌∙◌, arith}
-use Rattle.std.proofs.Common.{append_assoc, length-take, length-drop, subst}
+use Rattle.std.proofs.Common.{◌≡◌, ℕ, ◌+◌, ◌*◌, ◌≤◌, ◌++◌, ◌∷◌, List}
+use Rattle.std.proofs.Common.{get_or, length, take, slice_range, sym, ap, ◌∙◌, arith}
+use Rattle.std.proofs.Common.{append_assoc}
 use Rattle.capn_pack.specs.Packed.Group.{Raw}
 use Rattle.capn_pack.proofs.shared.GroupLemmas.{take_raw_text, raw_is_group}
 use Rattle.capn_scratch.proofs.group.put_raw.Goals as goal

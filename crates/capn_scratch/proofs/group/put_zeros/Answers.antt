@@ -1,4 +1,4 @@
-use Rattle.std.proofs.Common.{ℕ, ◌+◌, ◌*◌, ◌++◌, ◌∷◌, [], get_or, take, replicate, ap, ◌∙◌, arith}
+use Rattle.std.proofs.Common.{ℕ, ◌*◌, ◌++◌, ◌∷◌, [], get_or, take, replicate, ap, ◌∙◌, arith}
 use Rattle.capn_pack.specs.Packed.Group.{Zeros}
 use Rattle.capn_pack.proofs.shared.GroupLemmas.{take_two}
 use Rattle.capn_scratch.proofs.group.put_zeros.Goals as goal

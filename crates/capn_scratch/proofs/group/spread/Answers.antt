@@ -1,6 +1,6 @@
-use Rattle.std.proofs.Common.{◌≡◌, ℕ, List, ◌++◌, [], length, take, take_all, ap, sym, ◌∙◌, arith}
+use Rattle.std.proofs.Common.{◌≡◌, ℕ, List, ◌++◌, [], take, take_all, ap, sym, ◌∙◌, arith}
 use Rattle.std.proofs.lemmas.List.{append-nil, length-set}
-use Rattle.capn_pack.specs.Packed.{named_bytes, IsNamedBy}
+use Rattle.capn_pack.specs.Packed.{named_bytes}
 use Rattle.capn_pack.proofs.shared.SpreadLemmas.{ones_half}
 use Rattle.capn_scratch.proofs.Spread.{spread_all, spread_bytes, spread_named}
 use Rattle.capn_scratch.proofs.group.spread.Goals as goal

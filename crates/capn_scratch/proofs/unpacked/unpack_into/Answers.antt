@@ -1,7 +1,7 @@
-use Rattle.std.proofs.Common.{◌≡◌, ℕ, ◌+◌, ◌-◌, ◌*◌, take, ap, subst, sym, arith}
+use Rattle.std.proofs.Common.{◌≡◌, ℕ, ◌-◌, ◌*◌, take, subst, arith}
 use Rattle.capn_pack.specs.Packed.{Packs}
 use Rattle.capn_pack.specs.UnpackRefusal.{IsCut, IsTooLong}
-use Rattle.capn_scratch.proofs.Groups.{Unpacked, stands, unpacked_all, unpacked_length, unpacked_more, unpacked_none}
+use Rattle.capn_scratch.proofs.Groups.{stands, unpacked_all, unpacked_more}
 use Rattle.capn_scratch.proofs.unpacked.unpack_into.Goals as goal
 
 pub loop-at-preserved : goal.loop-at-preserved

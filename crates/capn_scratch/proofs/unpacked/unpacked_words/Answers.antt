@@ -1,7 +1,7 @@
 use Rattle.std.proofs.Common.{[], arith}
 use Rattle.capn_pack.specs.UnpackRefusal.{IsCut, IsTooLong}
-use Rattle.capn_scratch.proofs.Groups.{byte_below, group_there, stands, unpacked_all, unpacked_length, unpacked_more}
-use Rattle.capn_scratch.proofs.Groups.{unpacked_none}
+use Rattle.capn_scratch.proofs.Groups.{byte_below, group_there, stands}
+use Rattle.capn_scratch.proofs.Groups.{unpacked_all, unpacked_length, unpacked_more, unpacked_none}
 use Rattle.capn_scratch.proofs.unpacked.unpacked_words.Goals as goal
 
 pub loop-at-init : goal.loop-at-init
@@ -11,8 +11,8 @@ pub loop-at-preserved : goal.loop-at-preserved
 loop-at-preserved c =
     let l = c.loop-at in
     let is = c.in-Ok.ensures in
-    let there =
-    group_there _ l.invariant.0 _ _ (byte_below c.args.bytes.now l.at (λ i. omega (arith, c.type_inv.bytes i)))
+    let there = group_there _ l.invariant.0 _ _
+    (byte_below c.args.bytes.now l.at (λ i. omega (arith, c.type_inv.bytes i)))
     is.0 is.1 (omega arith) is.3 in
     (there.0, unpacked_more _ _ _ _ _ _ _ _ l.invariant.1 there.1 is.4)
 

@@ -1,5 +1,5 @@
-use Rattle.std.proofs.Common.{◌≡◌, ℕ, ◌+◌, ◌<◌, ◌^◌, ◌∷◌, ◌++◌, [], Some, length, slice_index, ap, sym, subst, ◌∙◌}
-use Rattle.std.proofs.Common.{arith}
+use Rattle.std.proofs.Common.{◌≡◌, ℕ, ◌<◌, ◌^◌, ◌∷◌, ◌++◌, []}
+use Rattle.std.proofs.Common.{Some, length, slice_index, ap, sym, subst, ◌∙◌, arith}
 use Rattle.capn_stream.proofs.shared.Cutting.{seen_order, seen_size, words_of-none, words_of-some}
 use Rattle.capn_scratch.specs.inner.Ends.{numbers}
 use Rattle.capn_scratch.proofs.EndWords.{cut_count, end_small, start_small}
