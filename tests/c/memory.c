@@ -161,7 +161,7 @@ static void in_turn(void) {
     each("check, 65 segments", checked, &more, 1);
     each("check, packed", checked, &pack, 3);
     each("same, 65 segments", compared, &more, 2);
-    each("same, packed", compared, &pack, 6);
+    each("same, packed", compared, &pack, 5);
     each("pack", packed, &stream, 1);
     each("unpack", unpacked, &pack, 1);
     each("first", first, &stream, 1);
