@@ -51,11 +51,15 @@ impl<A: Allocator + Copy> DigestSet<A> {
         }
     }
 
-    /// Inserts a digest, and returns whether it was there. If memory is refused, the set is as it was.
+    /// Inserts `digest`, and returns whether it was there.
+    ///
+    /// `AllocError` comes only for a digest that was not there, if a growth was refused: of the list, of the table or
+    /// of the tree. Then the set is as it was.
     pub fn insert(&mut self, digest: [u8; 32]) -> Result<bool, AllocError>
         ensures answer { IfOk result (λ was. was ≡ set.contains self.old digest) }
         ensures inserted { OnOk result (self.new ≡ set.insert self.old digest) }
         ensures refused { OnErr result (self.new ≡ self.old) }
+        ensures memory { OnErr result (set.contains self.old digest ≡ false) }
     {
         if self.contains(&digest) {
             return Ok(true);
@@ -143,6 +147,19 @@ mod tests {
             }
         }
         assert!(rt; digests.len() == 3_098);
+        Ok(())
+    }
+
+    /// With ample memory none of 1,000,001 digests is refused. A body that gives up at a number of them ends there:
+    /// callers see no table, so no clause of theirs says when that has to grow.
+    #[test]
+    fn more_than_a_million_digests(rt: HostRuntime) -> Result<(), Fail> {
+        let mut digests = DigestSet::new(rt.alloc());
+        for number in 0..1_000_001u32 {
+            let was = digests.insert(digest(number.wrapping_mul(0x9E37_79B9), 1))?;
+            assert!(rt; !was);
+        }
+        assert!(rt; digests.len() == 1_000_001);
         Ok(())
     }
 }

@@ -1,8 +1,8 @@
 //! The table with twice as many buckets.
 
-ghost use Rattle.std.specs.Prelude.{◌≡◌, ℕ, ◌+◌, ◌<◌, ◌%◌, List, length, OnOk};
+ghost use Rattle.std.specs.Prelude.{◌≡◌, ℕ, ◌+◌, ◌<◌, ◌%◌, List, length, vec_capacity, OnOk, OnErr};
 ghost use Rattle.capn_digests.specs.declared.slot.Slot.{Slot as SlotValue};
-ghost use Rattle.capn_digests.specs.Buckets.{IsHeld, IsFound};
+ghost use Rattle.capn_digests.specs.Buckets.{HasToGrow, IsHeld, IsFound};
 
 use crate::slot::{Head, NO_HEAD, NO_SLOT, SLOTS, Slot};
 use std::alloc::{AllocError, Allocator};
@@ -77,7 +77,10 @@ fn double<A: Allocator>(
 }
 
 /// Makes room for one digest more: in the list, which grows by an eighth, and in the table, which has at most eight
-/// digests for each bucket. If memory is refused, what is found stays so.
+/// digests for each bucket.
+///
+/// `AllocError` comes only if the list is as long as its room, or each bucket has eight digests already, and a growth
+/// was refused. Then what is found stays so.
 #[inline(always)]
 pub(crate) fn make_room<A: Allocator>(
     list: &mut Vec<[u8; 32], A>,
@@ -89,6 +92,9 @@ pub(crate) fn make_room<A: Allocator>(
         → IsFound all heads.new.items table.new.items rest }
     ensures same { list.new.items ≡ list.old.items }
     ensures some { OnOk result (0 < length heads.new.items) }
+    ensures spare { OnOk result (length list.new.items < vec_capacity list.new) }
+    ensures memory { OnErr result
+        (HasToGrow (length list.old.items) (vec_capacity list.old) (length heads.old.items)) }
 {
     let count = list.len();
     if count == list.capacity() {
