@@ -13,6 +13,8 @@ mod framers;
 #[cfg(test)]
 mod growing;
 #[cfg(test)]
+mod long_archives;
+#[cfg(test)]
 mod long_streams;
 #[cfg(test)]
 mod no_memory;

@@ -5,6 +5,8 @@
 #![tactic(auto)]
 
 #[cfg(test)]
+mod explained_archives;
+#[cfg(test)]
 mod explanations;
 #[cfg(test)]
 mod flows;

@@ -12,6 +12,8 @@ mod pieces;
 #[cfg(test)]
 mod quoted;
 #[cfg(test)]
+mod quoted_room;
+#[cfg(test)]
 mod reading;
 #[cfg(test)]
 mod streaming;

@@ -165,11 +165,11 @@ fn a_writer_that_fails_at_each_write(rt: HostRuntime) {
 
 /// A reader that gives a beginning, then the same bytes a number of times, then an end.
 #[derive(Drop)]
-struct Repeating<'a> {
-    begins: &'a [u8],
-    again: &'a [u8],
-    times: u64,
-    ends: &'a [u8],
+pub(crate) struct Repeating<'a> {
+    pub(crate) begins: &'a [u8],
+    pub(crate) again: &'a [u8],
+    pub(crate) times: u64,
+    pub(crate) ends: &'a [u8],
 }
 
 impl Read for Repeating<'_> {
@@ -192,8 +192,8 @@ impl Read for Repeating<'_> {
 
 /// A writer that counts the bytes that it is given.
 #[derive(Drop)]
-struct Counting {
-    bytes: u64,
+pub(crate) struct Counting {
+    pub(crate) bytes: u64,
 }
 
 impl Write for Counting {

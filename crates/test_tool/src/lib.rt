@@ -8,6 +8,8 @@ mod ends;
 #[cfg(test)]
 mod lines;
 #[cfg(test)]
+mod picked_lists;
+#[cfg(test)]
 mod pieces;
 #[cfg(test)]
 mod program_calls;

@@ -4,6 +4,7 @@ ghost use Rattle.std.specs.Prelude.{◌≡◌};
 
 use crate::words::bytes_of;
 use capn_canon::{canonical_into, canonical_length, canonical_of};
+use capn_explain::explain_stop;
 use capn_stream::first;
 use capn_walk::{Entry, Limits, index_into, survey};
 use capn_words::{Place, Space};
@@ -135,5 +136,41 @@ fn nor_where_it_answers(rt: HostRuntime) -> Result<(), Fail> {
     // It pays 14 words, two for each of seven structs.
     assert!(rt; 0 < surveyed && surveyed <= 14 * 15 + 2 && indexed <= 14 * 15 + 2);
     assert!(rt; length <= 34 * 15 + 1 && written <= 54 * 15 + 1 && canonical <= 56 * 15 + 1);
+    Ok(())
+}
+
+/// Counts the questions of a survey to a frame that it refuses within `limits`, and those of the explanation of that.
+fn times_explained(alloc: Global, bytes: &[u8], limits: Limits) -> Result<(u64, u64), Fail> {
+    let Ok((message, _taken)) = first(alloc, bytes, 8_388_608) else {
+        return Err(Fail::new("no frame"));
+    };
+    let space = Asked {
+        space: &message,
+        times: Cell::new(0),
+    };
+    let Err(stopped) = survey(alloc, &space, limits) else {
+        return Err(Fail::new("accepted"));
+    };
+    let surveyed = space.taken();
+    match explain_stop(alloc, &space, 0, 0, 2, limits, stopped) {
+        Ok(_told) => Ok((surveyed, space.taken())),
+        Err(_) => Err(Fail::new("no memory")),
+    }
+}
+
+/// A message that its walk refuses is explained by one walk more, up to the same slot, which asks about three times as
+/// often as a survey. A body that surveys it again before that, or after, asks once more for each survey; one that
+/// looks for the way twice asks six times as often.
+#[test]
+fn a_refused_message_is_walked_once_more(rt: HostRuntime) -> Result<(), Fail> {
+    let bytes = doubling(rt.alloc(), 11)?;
+    let Some(limits) = Limits::new(8_388_608, 2_000, 63) else {
+        return Err(Fail::new("no limits"));
+    };
+    let (surveyed, explained) = times_explained(rt.alloc(), bytes.as_slice(), limits)?;
+    assert!(rt;
+        1_000 < surveyed && explained <= surveyed.saturating_mul(3).saturating_add(200),
+        "{surveyed} {explained}"
+    );
     Ok(())
 }
