@@ -9,7 +9,7 @@ fn add_word(bytes: &mut Vec<u8>, word: u64) -> Result<(), AllocError> {
     bytes.extend_from_slice(&word.to_le_bytes())
 }
 
-/// Returns the frame of one segment of so many words, of which `root` is the first and `last` the last, and all others
+/// Returns the frame of one segment of `words` words, of which `root` is the first and `last` the last, and all others
 /// are `word`.
 fn frame_of(
     alloc: Global,

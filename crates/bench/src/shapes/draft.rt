@@ -24,10 +24,10 @@ enum Route {
 pub(crate) enum Segments {
     /// One.
     One,
-    /// Segments of about so many words, with pointers of all routes.
+    /// Segments of about this number of words, with pointers of all routes.
     Scattered(usize),
-    /// Segments of about so many words, filled one after the other as builders fill them: an object is near, unless
-    /// its pointer is in another segment.
+    /// Segments of about this number of words, filled one after the other as builders fill them: an object is near,
+    /// unless its pointer is in another segment.
     Filled(usize),
 }
 
