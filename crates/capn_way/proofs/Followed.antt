@@ -8,7 +8,6 @@ use Rattle.capn_words.specs.declared.space.Place.{Place}
 use Rattle.capn_target.specs.declared.target.Target.{Target}
 use Rattle.capn_target.specs.declared.target.Target.TheVariants as targets
 use Rattle.capn_target.specs.declared.target.Shape.{Shape}
-use Rattle.capn_target.specs.declared.target.Shape.TheVariants as shapes
 use Rattle.capn_target.specs.declared.target.Fault.{Fault}
 use Rattle.capn_target.specs.Target.{target, named}
 use Rattle.capn_words.specs.Pointers.{pointer_of}
@@ -22,9 +21,9 @@ use Rattle.capn_way.specs.Ways.{AreNumbersOf, Leads, Descends}
 use Rattle.capn_way.specs.Holders.{IsHeldIn, Holds, IsHolder, IsHolderOrRoot}
 use Rattle.capn_way.specs.Laws.{HoldersAreOne}
 use Rattle.capn_way.specs.inner.Followed.{step_in, step_by, onward, follow, start, holder_at}
-use Rattle.capn_way.proofs.Steps.{none-split}
-use Rattle.capn_way.proofs.Leading.{goes}
-use Rattle.capn_way.proofs.Holding.{spot, Told, told, Taken, taken, held-one}
+use Rattle.capn_way.proofs.Splits.{none-split}
+use Rattle.capn_way.proofs.shared.Steps.{goes}
+use Rattle.capn_way.proofs.Holding.{spot, told, Taken, taken, held-one}
 
 module _ (m : List (List ℕ)) where
   -- a way without numbers

@@ -1,9 +1,8 @@
 -- The holder of the slot to which a way leads. (For `Followed`.)
-use Rattle.std.proofs.Common.{◌≡◌, ℕ, zero, suc, ◌+◌, ◌*◌, ◌<◌, ◌≤◌, List, [], ◌∷◌, ◌++◌, length, Result, Ok, Err}
-use Rattle.std.proofs.Common.{refl, ap, sym, ◌∙◌, arith, append_assoc, length-append, Option, Some, None, inl, inr}
+use Rattle.std.proofs.Common.{◌≡◌, ℕ, zero, suc, ◌+◌, ◌-◌, ◌*◌, ◌<◌, List, [], ◌∷◌, ◌++◌, length}
+use Rattle.std.proofs.Common.{refl, ap, sym, ◌∙◌, arith, length-append, Option, Some, None, inl, inr}
 use Rattle.std.proofs.Common.{nat_lt}
 use Rattle.std.proofs.lemmas.Bool.Decides.{nat_tests}
-use Rattle.capn_words.specs.Message.{segment_at}
 use Rattle.capn_words.proofs.shared.Choices.{less-yes, pick, if-yes}
 use Rattle.capn_words.specs.declared.space.Place.{Place}
 use Rattle.capn_words.specs.declared.pointer.Width.TheVariants.{W0, W1, W8, W16, W32, W64, Link, Rows}
@@ -11,25 +10,19 @@ use Rattle.capn_target.specs.declared.target.Target.{Target}
 use Rattle.capn_target.specs.declared.target.Target.TheVariants as targets
 use Rattle.capn_target.specs.declared.target.Shape.{Shape}
 use Rattle.capn_target.specs.declared.target.Shape.TheVariants as shapes
-use Rattle.capn_target.specs.declared.target.Fault.{Fault}
-use Rattle.capn_target.specs.Target.{target}
 use Rattle.capn_walk.specs.Visits.{places, row_places, slots}
-use Rattle.capn_walk.specs.View.{slots_below}
-use Rattle.capn_walk.specs.Accepted.{root}
+use Rattle.capn_walk.proofs.shared.Walks.{places-split}
 use Rattle.capn_way.specs.declared.holder.Holder.{Holder}
 use Rattle.capn_way.specs.declared.holder.Holder.TheVariants.{Struct, Pointers, Row}
 use Rattle.capn_way.specs.declared.holder.Spot.{Spot}
-use Rattle.capn_way.specs.Ways.{AreNumbersOf, Leads, Descends}
-use Rattle.capn_way.specs.Holders.{place, row_start, IsHeldIn, Holds}
-use Rattle.capn_way.specs.inner.Followed.{step_among, step_in, step_by, onward, follow, holder_at}
-use Rattle.capn_way.proofs.Steps.{in-either, none-split}
+use Rattle.capn_way.specs.Ways.{AreNumbersOf}
+use Rattle.capn_way.specs.Holders.{place, row_start, IsHeldIn}
+use Rattle.capn_way.specs.inner.Followed.{step_among, step_in}
+use Rattle.capn_way.proofs.Splits.{in-either, none-split}
+use Rattle.capn_way.proofs.shared.Steps.{length-places, length-rows, row-split, middle}
 use Rattle.capn_way.proofs.Unique.{row-parts}
 
 -- ---- slots one after the other
-
-places-length : (s w n : ℕ) → length (places s w n) ≡ n
-places-length s w zero = refl
-places-length s w (suc n) = ap suc (places-length s (w + 1) n)
 
 -- which slot it is, by those before it
 slot-there : (s w n : ℕ) (before : List Place) (p : Place) (behind : List Place)
@@ -54,19 +47,12 @@ pub record Around (ps : List Place) (number : ℕ) (p : Place) : Type 0 where
   pub count : length before ≡ number
 
 around-slot : (s w n i : ℕ) → i < n → Around (places s w n) i (place s (w + i))
-around-slot s w zero i h = absurd (omega arith)
-around-slot s w (suc n) zero h =
-    let z : w + 0 ≡ w = omega arith in
-    rw z (record { before = []; behind = places s (w + 1) n; is = refl; count = refl })
-around-slot s w (suc n) (suc i) h =
-    let r = around-slot s (w + 1) n i (omega arith) in
-    let z : w + 1 + i ≡ w + suc i = omega arith in
-    record {
-      before = place s w ∷ r.before;
-      behind = r.behind;
-      is = ap (λ (ps : List Place). place s w ∷ ps) (rw z at r.is);
-      count = ap suc r.count;
-    }
+around-slot s w n i h = record {
+  before = places s w i;
+  behind = places s (w + i + 1) (n - suc i);
+  is = places-split s w i n h;
+  count = length-places s w i;
+}
 
 -- ---- the slots of rows
 
@@ -98,7 +84,7 @@ slot-in-rows s w a b (suc n) before p behind e =
       | inr f ↦ let r = slot-in-rows s (w + a + b) a b n f.before p behind f.is in
           let l = ap length f.front in
           let m = length-append first f.before in
-          let o = places-length s (w + a) b in
+          let o = length-places s (w + a) b in
           let c = r.count in
           let low = r.low in
           let z : w + a + b + r.row * (a + b) + a + r.slot ≡ w + (r.row + 1) * (a + b) + a + r.slot = omega arith in
@@ -112,42 +98,23 @@ slot-in-rows s w a b (suc n) before p behind e =
           }
     ]
 
--- the slots around, with more after them or before them
-around-more : (ps qs : List Place) (number : ℕ) (p : Place) → Around ps number p → Around (ps ++ qs) number p
-around-more ps qs number p h = record {
-  before = h.before;
-  behind = h.behind ++ qs;
-  is = ap (λ (l : List Place). l ++ qs) h.is ∙ append_assoc h.before (p ∷ h.behind) qs;
-  count = h.count;
-}
-
-around-behind : (ps qs : List Place) (number n : ℕ) (p : Place) → Around qs number p → length ps + number ≡ n
-    → Around (ps ++ qs) n p
-around-behind ps qs number n p h e =
-    let l = length-append ps h.before in
-    let c = h.count in
-    record {
-      before = ps ++ h.before;
-      behind = h.behind;
-      is = ap (λ (l : List Place). ps ++ l) h.is ∙ sym (append_assoc ps h.before (p ∷ h.behind));
-      count = omega arith;
-    }
-
 around-row : (s w a b n row slot : ℕ) → row < n → slot < b
     → Around (row_places s w a b n) (row * b + slot) (place s (w + row * (a + b) + a + slot))
-around-row s w a b zero row slot h k = absurd (omega arith)
-around-row s w a b (suc n) zero slot h k =
-    let z : w + 0 * (a + b) + a + slot ≡ w + a + slot = omega arith in
-    let y : 0 * b + slot ≡ slot = omega arith in
-    rw (z, y)
-    (around-more (places s (w + a) b) (row_places s (w + a + b) a b n) slot (place s (w + a + slot))
-    (around-slot s (w + a) b slot k))
-around-row s w a b (suc n) (suc row) slot h k =
-    let z : w + a + b + row * (a + b) + a + slot ≡ w + suc row * (a + b) + a + slot = omega arith in
-    let l = places-length s (w + a) b in
-    let r = around-row s (w + a + b) a b n row slot (omega arith) k in
-    around-behind (places s (w + a) b) (row_places s (w + a + b) a b n) (row * b + slot) (suc row * b + slot)
-    (place s (w + suc row * (a + b) + a + slot)) (rw z at r) (omega arith)
+around-row s w a b n row slot h k =
+    let p = w + row * (a + b) + a in
+    let front = row_places s w a b row in
+    let later = row_places s (w + row * (a + b) + a + b) a b (n - suc row) in
+    let lf = length-rows s w a b row in
+    let lp = length-places s p slot in
+    let la = length-append front (places s p slot) in
+    record {
+      before = front ++ places s p slot;
+      behind = places s (p + slot + 1) (b - suc slot) ++ later;
+      is = row-split s w a b row n h
+          ∙ ap (λ (ps : List Place). front ++ (ps ++ later)) (places-split s p slot b k)
+          ∙ middle front (places s p slot) (place s (p + slot)) (places s (p + slot + 1) (b - suc slot)) later;
+      count = omega arith;
+    }
 
 -- ---- a step among the slots of a holder
 

@@ -1,8 +1,7 @@
+pub mod shared
+pub mod Splits
 pub mod Searches
-pub mod Steps
-pub mod Visiting
-pub mod Leading
-pub mod Stopping
 pub mod Unique
+pub mod Stopping
 pub mod Holding
 pub mod Followed

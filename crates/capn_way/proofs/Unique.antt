@@ -1,27 +1,24 @@
--- A slot that a way leads to is met, and so one way at most leads to the slot of a visit. (For `ways`.)
-use Rattle.std.proofs.Common.{◌≡◌, ℕ, zero, suc, ◌+◌, ◌-◌, ◌*◌, ◌/◌, ◌<◌, List, [], ◌∷◌, ◌++◌, length, map, Ok}
-use Rattle.std.proofs.Common.{refl, ap, ap₂, sym, ◌∙◌, arith, append_assoc}
-use Rattle.std.proofs.lemmas.List.{append-nil, length-map}
+-- One way at most leads to the slot of a visit. (For `ways`.)
+use Rattle.std.proofs.Common.{◌≡◌, ℕ, zero, suc, ◌+◌, ◌-◌, ◌*◌, ◌/◌, ◌<◌, List, [], ◌∷◌, ◌++◌, length, Ok}
+use Rattle.std.proofs.Common.{Result, refl, ap, ap₂, sym, ◌∙◌, arith, length-append}
+use Rattle.std.specs.List.{flat_map}
+use Rattle.std.proofs.lemmas.Grind.{flat_map-append}
 use Rattle.std.proofs.lemmas.Nat.{div-mul-add}
 use Rattle.capn_words.specs.declared.space.Place.{Place}
 use Rattle.capn_value.specs.Cost.{base}
 use Rattle.capn_target.specs.declared.target.Target.{Target}
 use Rattle.capn_target.specs.declared.target.Target.TheVariants as targets
+use Rattle.capn_target.specs.declared.target.Fault.{Fault}
 use Rattle.capn_target.specs.declared.target.Shape.{Shape}
 use Rattle.capn_target.specs.declared.target.Shape.TheVariants as shapes
-use Rattle.capn_walk.specs.Visits.{visits_of}
+use Rattle.capn_walk.specs.Visits.{Visit, visits}
 use Rattle.capn_walk.specs.View.{slots_below}
 use Rattle.capn_walk.specs.Accepted.{root}
+use Rattle.capn_walk.proofs.shared.Walks.{visits-object}
 use Rattle.capn_way.specs.Ways.{AreNumbersOf, Leads, Descends}
 use Rattle.capn_way.specs.Laws.{WaysAreOne}
-use Rattle.capn_way.specs.inner.Met.{Met, met, met_of, numbered_slots, IsMet}
-use Rattle.capn_way.proofs.Searches.{met-first, met-content, met-among, met-before, met-behind}
-use Rattle.capn_way.proofs.Steps.{at_place, none-split, slots-places, numbers-of}
-use Rattle.capn_way.proofs.Visiting.{as-many}
-
--- a slot as it is met
-abbrev met_at : List ℕ → Place → Met
-met_at way place = record { way = way; place = place }
+use Rattle.capn_way.proofs.Splits.{none-split}
+use Rattle.capn_way.proofs.shared.Passing.{begins}
 
 -- ---- the numbers of a slot are one
 
@@ -54,96 +51,110 @@ numbers-one s start pads (shapes.Many width n) k (i ∷ x ∷ xs) ms h g = absur
 numbers-one s start pads (shapes.Many width n) k (i ∷ []) [] h g = absurd g
 numbers-one s start pads (shapes.Many width n) k (i ∷ []) (j ∷ x ∷ xs) h g = absurd g
 
--- ---- a slot that a way leads to is met
+-- ---- one slot of several by how many visits come before it
 
--- the slot that is met at a place of a list of places
-record Standing (ms : List Met) (before : List Place) (slot : Place) : Type 0 where
-  first : List Met
-  at : Met
-  later : List Met
-  is : ms ≡ first ++ at ∷ later
-  front : map at_place first ≡ before
-  place : at.place ≡ slot
+module _ (f : Place → List Visit) where
+  record Same (xs ys : List Place) (p q : Place) (i j : ℕ) : Type 0 where
+    front : xs ≡ ys
+    slot : p ≡ q
+    later : i ≡ j
 
-standing : (ms : List Met) (before : List Place) (slot : Place) (behind : List Place)
-    → map at_place ms ≡ before ++ slot ∷ behind → Standing ms before slot
-standing [] [] slot behind e = absurd (none-split [] slot behind e)
-standing [] (p ∷ ps) slot behind e = absurd (none-split (p ∷ ps) slot behind e)
-standing (x ∷ ms) [] slot behind e = record { first = []; at = x; later = ms; is = refl; front = refl; place = cc }
-standing (x ∷ ms) (p ∷ ps) slot behind e =
-    let t : map at_place ms ≡ ps ++ slot ∷ behind = cc in
-    let h : x.place ≡ p = cc in
-    let r = standing ms ps slot behind t in
-    record {
-      first = x ∷ r.first;
-      at = r.at;
-      later = r.later;
-      is = ap (λ (l : List Met). x ∷ l) r.is;
-      front = ap₂ (λ (y : Place) (ys : List Place). y ∷ ys) h r.front;
-      place = r.place;
-    }
+  one-slot : (xs ys : List Place) (p q : Place) (us vs : List Place) (i j : ℕ) → xs ++ p ∷ us ≡ ys ++ q ∷ vs
+      → i < length (f p) → j < length (f q) → length (flat_map f xs) + i ≡ length (flat_map f ys) + j
+      → Same xs ys p q i j
+  one-slot [] [] p q us vs i j e h k c = record { front = refl; slot = cc; later = omega arith }
+  one-slot [] (y ∷ ys) p q us vs i j e h k c =
+      let z : p ≡ y = cc in
+      let l = length-append (f y) (flat_map f ys) in
+      let n = ap (λ (x : Place). length (f x)) z in
+      absurd (omega arith)
+  one-slot (x ∷ xs) [] p q us vs i j e h k c =
+      let z : x ≡ q = cc in
+      let l = length-append (f x) (flat_map f xs) in
+      let n = ap (λ (y : Place). length (f y)) z in
+      absurd (omega arith)
+  one-slot (x ∷ xs) (y ∷ ys) p q us vs i j e h k c =
+      let z : x ≡ y = cc in
+      let t : xs ++ p ∷ us ≡ ys ++ q ∷ vs = cc in
+      let l = length-append (f x) (flat_map f xs) in
+      let o = length-append (f y) (flat_map f ys) in
+      let n = ap (λ (r : Place). length (f r)) z in
+      let r = one-slot xs ys p q us vs i j t h k (omega arith) in
+      record { front = ap₂ (λ (y : Place) (ys : List Place). y ∷ ys) z r.front; slot = r.slot; later = r.later }
+
+-- ---- one way
 
 module _ (m : List (List ℕ)) (b : ℕ) where
-  here-met : (d : ℕ) (at to : Place) (way : List ℕ) (n : ℕ) → to ≡ at → n ≡ 0
-      → IsMet (met m d (met_at way at)) n (way ++ []) to
-  here-met d at to way n e z = rw (append-nil way, e, z) (met-first m d (met_at way at))
+  here-shorter : (d : ℕ) (at : Place) (n : ℕ) → n ≡ 0 → n < length (visits m b d at)
+  here-shorter d at n z = let o = begins m b d at in let l = ap length o.is in omega arith
 
-  module _ (d : ℕ) (met-on : (at : Place) (way rest : List ℕ) (to : Place) (n : ℕ) → Leads m b d at rest to n
-      → IsMet (met m d (met_at way at)) n (way ++ rest) to) (at : Place) (way rest : List ℕ) (to : Place) (n : ℕ)
-      (h : Descends m b d (Leads m b d) at rest to n) where
-    content-met : (s start pads : ℕ) (shape : Shape) → h.found ≡ targets.Content s start shape pads
-        → IsMet (met m (suc d) (met_at way at)) n (way ++ rest) to
-    content-met s start pads shape e =
-        let ns = numbered_slots way s start shape in
-        let st = standing (numbered_slots way s start shape) h.before h.slot h.behind
-        (slots-places way s start shape ∙ sym (ap slots_below e) ∙ h.slots) in
-        let k = numbers-of way s start pads shape st.first st.at st.later st.is in
-        let l = sym (length-map st.first at_place) ∙ ap length st.front in
-        let o = numbers-one s start pads shape (length h.before) k.numbers h.numbers (rw l at k.are) (rw e at h.are) in
-        let x : st.at ≡ met_at (way ++ h.numbers) h.slot =
-        ap₂ met_at (k.is ∙ ap (λ (w : List ℕ). way ++ w) o) st.place in
-        let on = met-on h.slot (way ++ h.numbers) h.rest to h.later h.onward in
-        let on2 = rw (append_assoc way h.numbers h.rest, ← h.is) at on in
-        let on3 = rw (← x) at on2 in
-        let c = as-many m b d st.first ∙ ap (λ (ps : List Place). length (visits_of m b d ps)) st.front in
+  module _ (d : ℕ) (on : (at : Place) (way : List ℕ) (to : Place) (n : ℕ) → Leads m b d at way to n
+      → n < length (visits m b d at)) (at : Place) (way : List ℕ) (to : Place) (n : ℕ)
+      (h : Descends m b d (Leads m b d) at way to n) where
+    below-shorter : (found : Target) → h.found ≡ found → n < length (visits m b (suc d) at)
+    below-shorter (targets.Content s start shape pads) e =
+        let f = visits m b d in
         let z : suc d - 1 ≡ d = omega arith in
-        let below = met-among (met m d) st.first (st.at ∷ []) st.later h.later (length (met_of m d st.first) + h.later)
-        (way ++ rest) to (met-behind (met m d st.at) [] h.later (way ++ rest) to on3) refl in
-        let count : 1 + (length (met_of m d st.first) + h.later) ≡ n = let f = h.count in omega arith in
-        let content = met-content m (suc d) s start pads shape (met_at way at) (omega arith) (h.names ∙ ap Ok e) in
-        rw (content, z, st.is, ← count)
-        (met-before (met_at way at ∷ []) (met_of m d (st.first ++ st.at ∷ st.later))
-        (length (met_of m d st.first) + h.later) (way ++ rest) to below)
+        let parts = sym (ap slots_below e) ∙ h.slots in
+        let v = rw z at (visits-object m b at s start pads shape (h.names ∙ ap Ok e) (suc d) (omega arith)) in
+        let lv = ap length v in
+        let lp = ap (λ (ps : List Place). length (flat_map f ps)) parts in
+        let lj = ap length (flat_map-append f h.before (h.slot ∷ h.behind)) in
+        let la = length-append (flat_map f h.before) (flat_map f (h.slot ∷ h.behind)) in
+        let lh = length-append (f h.slot) (flat_map f h.behind) in
+        let later = on h.slot h.rest to h.later h.onward in
+        let c = h.count in
+        omega arith
+    below-shorter targets.Nil e = absurd (none-split h.before h.slot h.behind (sym (ap slots_below e) ∙ h.slots))
+    below-shorter (targets.Cap k) e = absurd (none-split h.before h.slot h.behind (sym (ap slots_below e) ∙ h.slots))
 
-    by-found : (found : Target) → h.found ≡ found → IsMet (met m (suc d) (met_at way at)) n (way ++ rest) to
-    by-found (targets.Content s start shape pads) e = content-met s start pads shape e
+  -- fewer visits are before the slot than below the first
+  shorter : (d : ℕ) (at : Place) (way : List ℕ) (to : Place) (n : ℕ) → Leads m b d at way to n
+      → n < length (visits m b d at)
+  shorter zero at [] to n h = here-shorter zero at n h.1
+  shorter zero at (i ∷ way) to n h = absurd h
+  shorter (suc d) at [] to n h = here-shorter (suc d) at n h.1
+  shorter (suc d) at (i ∷ way) to n h =
+      below-shorter d (λ p w t k g. shorter d p w t k g) at (i ∷ way) to n h h.found refl
+
+  ok-one : (x y : Target) → ◌≡◌ {A = Result Target Fault} (Ok x) (Ok y) → x ≡ y
+  ok-one x y e = cc
+
+  module _ (d : ℕ) (one : (at : Place) (v w : List ℕ) (to p : Place) (n : ℕ) → Leads m b d at v to n
+      → Leads m b d at w p n → (v ≡ w) × (to ≡ p)) (at : Place) (v w : List ℕ) (to p : Place) (n : ℕ)
+      (h : Descends m b d (Leads m b d) at v to n) (g : Descends m b d (Leads m b d) at w p n) where
+    same-found : h.found ≡ g.found
+    same-found = ok-one h.found g.found (sym h.names ∙ g.names)
+
+    same-slot : Same (visits m b d) h.before g.before h.slot g.slot h.later g.later
+    same-slot =
+        let c = h.count in
+        let k = g.count in
+        one-slot (visits m b d) h.before g.before h.slot g.slot h.behind g.behind h.later g.later
+        (sym h.slots ∙ ap slots_below same-found ∙ g.slots)
+        (shorter d h.slot h.rest to h.later h.onward) (shorter d g.slot g.rest p g.later g.onward) (omega arith)
+
+    by-found : (found : Target) → h.found ≡ found → (v ≡ w) × (to ≡ p)
+    by-found (targets.Content s start shape pads) e =
+        let s1 = same-slot in
+        let l = ap length s1.front in
+        let numbers = numbers-one s start pads shape (length h.before) h.numbers g.numbers (rw e at h.are)
+        (rw (sym same-found ∙ e, ← l) at g.are) in
+        let on = one h.slot h.rest g.rest to p h.later h.onward (rw (← s1.slot, ← s1.later) at g.onward) in
+        (h.is ∙ ap₂ (λ (x y : List ℕ). x ++ y) numbers on.0 ∙ sym g.is, on.1)
     by-found targets.Nil e = absurd (none-split h.before h.slot h.behind (sym (ap slots_below e) ∙ h.slots))
     by-found (targets.Cap k) e = absurd (none-split h.before h.slot h.behind (sym (ap slots_below e) ∙ h.slots))
 
-  is-met : (d : ℕ) (at : Place) (way rest : List ℕ) (to : Place) (n : ℕ) → Leads m b d at rest to n
-      → IsMet (met m d (met_at way at)) n (way ++ rest) to
-  is-met zero at way [] to n h = here-met zero at to way n h.0 h.1
-  is-met zero at way (i ∷ rest) to n h = absurd h
-  is-met (suc d) at way [] to n h = here-met (suc d) at to way n h.0 h.1
-  is-met (suc d) at way (i ∷ rest) to n h =
-      by-found d (λ p w r q k g. is-met d p w r q k g) at way (i ∷ rest) to n h h.found refl
-
--- the slot that is met at a number is one
-same-met : (zs bs : List Met) (x y : Met) (cs ds : List Met) → zs ++ x ∷ cs ≡ bs ++ y ∷ ds → length zs ≡ length bs
-    → x ≡ y
-same-met [] [] x y cs ds e l = cc
-same-met [] (b ∷ bs) x y cs ds e l = absurd (omega arith)
-same-met (z ∷ zs) [] x y cs ds e l = absurd (omega arith)
-same-met (z ∷ zs) (b ∷ bs) x y cs ds e l =
-    let t : zs ++ x ∷ cs ≡ bs ++ y ∷ ds = cc in
-    same-met zs bs x y cs ds t (omega arith)
+  one-way : (d : ℕ) (at : Place) (v w : List ℕ) (to p : Place) (n : ℕ) → Leads m b d at v to n
+      → Leads m b d at w p n → (v ≡ w) × (to ≡ p)
+  one-way zero at [] [] to p n h g = (refl, h.0 ∙ sym g.0)
+  one-way zero at (i ∷ v) w to p n h g = absurd h
+  one-way zero at [] (j ∷ w) to p n h g = absurd g
+  one-way (suc d) at [] [] to p n h g = (refl, h.0 ∙ sym g.0)
+  one-way (suc d) at [] (j ∷ w) to p n h g = let z = h.1 in let c = g.count in absurd (omega arith)
+  one-way (suc d) at (i ∷ v) [] to p n h g = let z = g.1 in let c = h.count in absurd (omega arith)
+  one-way (suc d) at (i ∷ v) (j ∷ w) to p n h g =
+      by-found d (λ q x y t u k e f. one-way d q x y t u k e f) at (i ∷ v) (j ∷ w) to p n h g h.found refl
 
 pub ways-are-one : WaysAreOne
-ways-are-one m limits n way other at to g h =
-    let d = limits.depth in
-    let b = base limits.tariff in
-    let p = is-met m b d root [] way at n g in
-    let q = is-met m b d root [] other to n h in
-    let x = same-met p.before q.before (met_at way at) (met_at other to) p.behind q.behind (sym p.is ∙ q.is)
-    (p.count ∙ sym q.count) in
-    (ap (λ (y : Met). y.way) x, ap (λ (y : Met). y.place) x)
+ways-are-one m limits n way other at to g h = one-way m (base limits.tariff) limits.depth root way other at to n g h

@@ -1,3 +1,4 @@
 -- Definitions that no public clause cites.
-pub mod Met
+pub mod Seeks
+pub mod Numbered
 pub mod Followed

@@ -8,6 +8,7 @@
 //! - [`way_of_stop`] finds that way of a walk that has stopped.
 //! - [`way_of_visit`] finds the way to the slot of a visit by its number.
 //! - [`holder_of`] finds the object that holds the slot to which a way leads.
+//! - [`seek`] finds the first visit at whose slot an [`Aim`] finds something, and the way to it.
 //! - Module [`laws`] has what holds of ways apart from any call: one way at most leads to the slot of a visit, and one
 //!   object holds it.
 //!
@@ -18,12 +19,15 @@
 //! ```
 #![tactic(auto)]
 
+mod aim;
 mod holder;
 pub mod laws;
 mod refusal;
-mod seek;
+mod search;
 mod visit;
 
+pub use aim::Aim;
 pub use holder::{Holder, holder_of};
 pub use refusal::{Refused, way_of_refusal, way_of_stop};
+pub use search::seek;
 pub use visit::{Visited, way_of_visit};

@@ -1,10 +1,11 @@
 //! The way to the slot of a visit.
 
-ghost use Rattle.std.specs.Prelude.{IfOk, IfSome, IfNone};
+ghost use Rattle.std.specs.Prelude.{◌<◌, IfOk, IfSome, IfNone, OnErr};
 ghost use Rattle.capn_way.specs.Ways.{IsVisited, IsNotVisited};
 
-use crate::seek::{Sought, seek_slot};
-use capn_target::segment_length;
+use crate::aim::Aim;
+use crate::search::seek;
+use capn_target::{Fault, Target, segment_length};
 use capn_walk::Limits;
 use capn_words::{Memory, Place, Space};
 use std::alloc::{Allocator, Global};
@@ -16,6 +17,31 @@ pub struct Visited<A: Allocator = Global> {
     pub way: Vec<u32, A>,
     /// Its place.
     pub place: Place,
+}
+
+/// The aim at one visit, by its number.
+#[derive(Drop)]
+struct Numbered {
+    /// The number of visits that come before it.
+    left: u32,
+}
+
+impl Aim for Numbered {
+    ghost use Rattle.capn_way.specs.inner.Numbered.{found_at, one_less};
+
+    type Found = Place;
+
+    ghost finds = { found_at };
+
+    ghost next = { one_less };
+
+    fn test(&mut self, at: Place, _named: Result<Target, Fault>) -> Option<Place> {
+        if self.left == 0 {
+            return Some(at);
+        }
+        self.left -= 1;
+        None
+    }
 }
 
 /// Finds the slot that the walk of the message `space` visits after `number` others, and the way to it: `None`, if
@@ -33,13 +59,14 @@ pub fn way_of_visit<S: Space, A: Allocator + Copy>(
     ensures found { IfOk result (λ r. IfSome r
         (λ v. IsVisited (S.message space.now) limits number v.way.items v.place)) }
     ensures none { IfOk result (λ r. IfNone r (IsNotVisited (S.message space.now) limits number)) }
+    // The way to the root's slot, which is visited first, takes no memory.
+    ensures memory { OnErr result (0 < number) }
 {
     if segment_length(space, Place::ROOT.segment) == 0 {
         return Ok(None);
     }
-    let mut way = Vec::new(alloc);
-    match seek_slot(space, Place::ROOT, limits.depth(), number, &mut way)? {
-        Sought::Found(place) => Ok(Some(Visited { way, place })),
-        Sought::Passed(_) => Ok(None),
+    match seek(alloc, space, limits.depth(), Numbered { left: number })? {
+        Some((place, way)) => Ok(Some(Visited { way, place })),
+        None => Ok(None),
     }
 }

@@ -1,0 +1,3 @@
+-- Lemmas that other crates cite.
+pub mod Steps
+pub mod Passing

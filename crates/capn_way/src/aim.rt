@@ -1,0 +1,27 @@
+//! The aim of a search among the visits of a walk.
+
+ghost use Rattle.std.specs.Prelude.{◌≡◌, IfNone, Option as Options, Result as Results};
+ghost use Rattle.capn_words.specs.declared.space.Place.{Place as Places};
+ghost use Rattle.capn_target.specs.declared.target.Target.{Target as Targets};
+ghost use Rattle.capn_target.specs.declared.target.Fault.{Fault as Faults};
+
+use capn_target::{Fault, Target};
+use capn_words::Place;
+
+/// The aim of a search among the visits of a walk: it tests their slots in preorder, until something is found at one.
+pub trait Aim: Drop {
+    /// The find.
+    type Found: Drop;
+
+    /// The find at the slot at a place, by its target or the fault of its pointer.
+    ghost finds: { Self → Places → Results Targets Faults → Options Self.Found };
+
+    /// The aim after a slot at which nothing was found.
+    ghost next: { Self → Self };
+
+    /// Tests the slot at `at`, whose pointer has the target or the fault `named`: returns the find there, if there is
+    /// one.
+    fn test(&mut self, at: Place, named: Result<Target, Fault>) -> Option<Self::Found>
+        ensures found { result ≡ finds self.old at named }
+        ensures next { IfNone result (self.new ≡ next self.old) };
+}
