@@ -1,6 +1,6 @@
 //! The holder of a slot.
 
-ghost use Rattle.std.specs.Prelude.{◌≡◌, ℕ, ◌+◌, ◌<◌, ◌≤◌, ◌^◌, length, None, Some, IfNone, IfSome, MatchOption};
+ghost use Rattle.std.specs.Prelude.{◌≡◌, ℕ, ◌+◌, ◌*◌, ◌<◌, ◌≤◌, ◌^◌, length, None, Some, IfNone, IfSome, MatchOption};
 ghost use Rattle.capn_words.specs.Message.{segment_at, IsPlace};
 ghost use Rattle.capn_target.specs.Shapes.{IsContent, RowsFit, extent};
 ghost use Rattle.capn_walk.specs.Limits.{Bounds};
@@ -58,7 +58,7 @@ pub struct Spot {
 pub fn holder_of<S: Space>(space: &S, way: &[u32]) -> Option<Holder>
     // An answer holds the slot to which the way leads.
     ensures some { IfSome result (λ holder. (to : Place) × IsHolder (S.message space.now) way.now to holder) }
-    // Where there is no answer, nothing does.
+    // If there is no answer, nothing does.
     ensures none { IfNone result
         ((to : Place) (holder : Holder) → IsHolder (S.message space.now) way.now to holder → ⊥) }
     // Of the way to a visit, that at which a walk stopped among them, it is the holder of that visit's slot.
@@ -177,27 +177,48 @@ fn step_in<'w, S: Space>(
             words,
             slots,
             span: _,
-        } => {
-            let [row, others @ ..] = way else {
-                return None;
-            };
-            let row = *row;
-            if row >= count {
-                return None;
-            }
-            let word = start.word + 1 + row * (words as u32 + slots as u32);
-            let holder = Holder::Row {
-                row,
-                count,
-                at: Place { segment, word },
-            };
-            let first = Place {
-                segment,
-                word: word + words as u32,
-            };
-            step_among(space, holder, first, slots as u32, others)
-        }
+        } => step_in_rows(space, start, count, words, slots, way),
     }
+}
+
+/// Follows `way` one step among the slots of `count` rows of `words` words and `slots` slots each, behind the tag at
+/// `start`.
+fn step_in_rows<'w, S: Space>(
+    space: &S,
+    start: Place,
+    count: u32,
+    words: u16,
+    slots: u16,
+    way: &'w [u32],
+) -> Option<(Spot, &'w [u32])>
+    requires inside { start.word + 1 + count * (words + slots)
+        ≤ length (segment_at (S.message space.now) start.segment) }
+    ensures place { IfSome result (λ x. IsPlace (S.message space.now) x.0.place) }
+    ensures shorter { IfSome result (λ x. length x.1.now < length way.now) }
+    ensures exact { MatchOption result
+        (spec.step_in_rows start.segment start.word count words slots way.now ≡ None)
+        (λ x. spec.step_in_rows start.segment start.word count words slots way.now ≡ Some (x.0, x.1.now)) }
+{
+    let _bounds = space.segments();
+    let segment = start.segment;
+    let [row, others @ ..] = way else {
+        return None;
+    };
+    let row = *row;
+    if row >= count {
+        return None;
+    }
+    let word = start.word + 1 + row * (words as u32 + slots as u32);
+    let holder = Holder::Row {
+        row,
+        count,
+        at: Place { segment, word },
+    };
+    let first = Place {
+        segment,
+        word: word + words as u32,
+    };
+    step_among(space, holder, first, slots as u32, others)
 }
 
 /// Follows `way` one step among the `count` slots of one `holder`, which lie one after the other from `first` on.

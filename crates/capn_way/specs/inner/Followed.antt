@@ -23,16 +23,20 @@ step_among holder first n (i ∷ way) =
     then Some (record { holder = Some holder; place = place first.segment (first.word + i) }, way)
     else None
 
+-- the slot of a row that the first two numbers of a way say, of n rows of a words and b slots each
+abbrev pub step_in_rows : ℕ → ℕ → ℕ → ℕ → ℕ → List ℕ → Option (Spot × List ℕ)
+step_in_rows s start n a b [] = None
+step_in_rows s start n a b (row ∷ way) =
+    if nat_lt row n
+    then step_among (Row row n (place s (row_start start a b row))) (place s (row_start start a b row + a)) b way
+    else None
+
 -- the slot of an object that the first numbers of a way say
 abbrev pub step_in : ℕ → ℕ → Shape → List ℕ → Option (Spot × List ℕ)
 step_in s start (shapes.Node a b) way = step_among (Struct a b (place s start)) (place s (start + a)) b way
 step_in s start (shapes.Many Link n) way = step_among (Pointers n (place s start)) (place s start) n way
 step_in s start (shapes.Many width n) way = None
-step_in s start (shapes.Rows n a b span) [] = None
-step_in s start (shapes.Rows n a b span) (row ∷ way) =
-    if nat_lt row n
-    then step_among (Row row n (place s (row_start start a b row))) (place s (row_start start a b row + a)) b way
-    else None
+step_in s start (shapes.Rows n a b span) way = step_in_rows s start n a b way
 
 -- the step from a target
 abbrev pub step_by : Result Target Fault → List ℕ → Option (Spot × List ℕ)
