@@ -268,7 +268,7 @@ not_message m limits room (told.Trailing at) h v is free fits = h
 not_message m limits room (told.NoScratch n) h v is free fits = h
 
 -- the bytes take one number of words
-one_need : (form : Form) (bs : List ℕ) (n k : ℕ) → Needs form bs n → Needs form bs k → n ≡ k
+pub one_need : (form : Form) (bs : List ℕ) (n k : ℕ) → Needs form bs n → Needs form bs k → n ≡ k
 one_need forms.Bare bs n k h i = h ∙ sym i
 one_need forms.Stream bs n k h i = h ∙ sym i
 one_need forms.Packed bs n k (t, p, e) (u, q, f) =
@@ -282,7 +282,7 @@ not_read form bs limits scratch room e (m, is, has, h) v d free fits =
     let same = one_message form bs limits.message_words d.message m d.reads is in
     not_message m limits room e h v (subst (λ (x : List (List ℕ)). IsValueOf x limits v) same d.value) free fits
 
-not_short : (form : Form) (bs : List ℕ) (most scratch n : ℕ) → LacksText form bs most scratch n
+pub not_short : (form : Form) (bs : List ℕ) (most scratch n : ℕ) → LacksText form bs most scratch n
     → HasScratch form bs scratch → ⊥
 not_short forms.Bare bs most scratch n h has = h
 not_short forms.Stream bs most scratch n h has = h
@@ -290,7 +290,7 @@ not_short forms.Packed bs most scratch n (t, u, e, short) (k, (s, q, f), fits) =
     let same = one_reading bs t s u.packs q in
     omega (arith, e, short, f, fits, ap length same)
 
-not_refused : (form : Form) (bs : List ℕ) (limits : Bounds) (scratch room : ℕ) (e : FormRefusal)
+pub not_refused : (form : Form) (bs : List ℕ) (limits : Bounds) (scratch room : ℕ) (e : FormRefusal)
     → IsFormRefused form bs limits scratch room e → (v : Tree) → Denotes form bs limits v → first_cap v ≡ None
     → HasScratch form bs scratch → length (canon v) ≤ room → ⊥
 not_refused form bs limits scratch room (told.Bare e) h v d free has fits =

@@ -1,3 +1,4 @@
+mod Decided
 mod EndWords
 mod Forms
 mod Groups

@@ -3,3 +3,4 @@ pub mod Needs
 pub mod FormRefusal
 pub mod Theorem
 pub mod Display
+pub mod Laws

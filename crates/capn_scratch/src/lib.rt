@@ -3,7 +3,7 @@
 //! [`canonical_into_form`] writes the canonical bytes of the value that bytes denote, whichever of the three forms they
 //! are in, into a buffer that is there, as `capn_canon::canonical_into` does of a message. The caller lends the words
 //! that are needed on the way: those that a packed text unpacks to, and the ends of segments, if they are more than 64.
-//! A refusal for want of them says how many are needed; [`FormRefusal`] has no variant for memory.
+//! If they are too few, the refusal says how many are needed; [`FormRefusal`] has no variant for memory.
 //!
 //! ```text
 //! let mut scratch = [[0; 8]; 512];
@@ -18,7 +18,8 @@
 //! For any bytes, form, limits, scratch and buffer, it succeeds if and only if the bytes denote a value without
 //! capabilities within the limits, the scratch has as many words as they take, and the canonical bytes have room. It
 //! writes exactly these; else it names the first refusal, and the buffer is as it was. The clauses say so, in the
-//! definitions of `specs/Theorem.antt`, `specs/FormRefusal.antt` and `specs/Needs.antt`.
+//! definitions of `specs/Theorem.antt`, `specs/FormRefusal.antt` and `specs/Needs.antt`. They leave no second result,
+//! and no more words are needed than are enough for all bytes in a form: [`laws`].
 //!
 //! No call takes memory, or an allocator.
 #![tactic(auto)]
@@ -27,6 +28,7 @@ mod canonical_form;
 mod ends;
 mod framed;
 mod group;
+pub mod laws;
 mod refusal;
 mod scratch_segments;
 mod unpacked;

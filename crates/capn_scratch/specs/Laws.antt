@@ -1,0 +1,43 @@
+-- The laws of canonical bytes that are written with the caller's words. (Own.)
+use Rattle.std.specs.Prelude.{◌≡◌, ℕ, ◌+◌, ◌-◌, ◌<◌, ◌≤◌, List, length, Result, IfOk, IfErr, OnErr}
+use Rattle.capn_words.specs.Message.{most_segments}
+use Rattle.capn_stream.specs.Frames.{most_table_words}
+use Rattle.capn_walk.specs.Limits.{Bounds}
+use Rattle.capn_canon.specs.declared.form.Form.{Form}
+use Rattle.capn_canon.specs.declared.form.Form.TheVariants as forms
+use Rattle.capn_canon.specs.declared.length.CanonicalLength.{CanonicalLength}
+use Rattle.capn_scratch.specs.FormRefusal.{IsFormRefused}
+use Rattle.capn_scratch.specs.Needs.{HasScratch}
+use Rattle.capn_scratch.specs.Theorem.{WrittenForm}
+use Rattle.capn_scratch.specs.declared.refusal.FormRefusal.{FormRefusal}
+use Rattle.capn_scratch.specs.declared.refusal.FormRefusal.TheVariants as told
+
+-- an answer was written, or a refusal is true and left the buffer as it was
+pub record IsFormWrittenOrRefused (form : Form) (bs : List ℕ) (limits : Bounds) (scratch : ℕ) (old new : List ℕ)
+    (r : Result CanonicalLength FormRefusal) : Type 0 where
+  pub written : IfOk r (λ c. WrittenForm form bs limits scratch old new c)
+  pub refused : IfErr r (λ e. IsFormRefused form bs limits scratch (length old) e)
+  pub unchanged : OnErr r (new ≡ old)
+
+-- for the same bytes, form, limits, scratch and buffer there are not two results, nor two buffers after them
+abbrev pub FormIsDecided : Type 0
+FormIsDecided = (form : Form) (bs : List ℕ) (limits : Bounds) (scratch : ℕ) (old p q : List ℕ)
+    (r s : Result CanonicalLength FormRefusal) → IsFormWrittenOrRefused form bs limits scratch old p r
+    → IsFormWrittenOrRefused form bs limits scratch old q s → (r ≡ s) × (p ≡ q)
+
+-- the words of scratch that are enough for all bytes in a form, under a limit on message words
+abbrev pub most_scratch : Form → ℕ → ℕ
+most_scratch forms.Bare most = 0
+most_scratch forms.Stream most = most_segments - 1
+most_scratch forms.Packed most = most + most_table_words + (most_segments - 1)
+
+-- no more are ever asked for, and what is asked for is more than there was
+abbrev pub ScratchIsBounded : Type 0
+ScratchIsBounded = (form : Form) (bs : List ℕ) (limits : Bounds) (scratch room n : ℕ)
+    → IsFormRefused form bs limits scratch room (told.NoScratch n)
+    → (scratch < n) × (n ≤ most_scratch form limits.message_words)
+
+-- words are asked for only if the scratch has fewer than the bytes take
+abbrev pub LackingIsNotHaving : Type 0
+LackingIsNotHaving = (form : Form) (bs : List ℕ) (limits : Bounds) (scratch room n : ℕ)
+    → IsFormRefused form bs limits scratch room (told.NoScratch n) → HasScratch form bs scratch → ⊥
