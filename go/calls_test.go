@@ -68,6 +68,16 @@ func TestCalls(t *testing.T) {
 	}
 }
 
+// packedOf is the packed text of a message.
+func packedOf(t *testing.T, message []byte) []byte {
+	t.Helper()
+	text, err := Pack(message)
+	if err != nil {
+		t.Fatal(err)
+	}
+	return text
+}
+
 func TestSame(t *testing.T) {
 	bare := func(words ...uint64) []byte { return bytesOf([][]uint64{words})[0] }
 	stream := func(words ...uint64) []byte { return append(bare(uint64(len(words))<<32), bare(words...)...) }
@@ -81,15 +91,7 @@ func TestSame(t *testing.T) {
 			t.Errorf("%x: %v, %v", equal, same, err)
 		}
 	}
-	one, err := Pack(small)
-	if err != nil {
-		t.Fatal(err)
-	}
-	two, err := Pack(far)
-	if err != nil {
-		t.Fatal(err)
-	}
-	if same, err := Same(one, two, Packed, nil); err != nil || !same {
+	if same, err := Same(packedOf(t, small), packedOf(t, far), Packed, nil); err != nil || !same {
 		t.Error(same, err)
 	}
 	if same, err := Same(small[8:], tight[8:], Bare, nil); err != nil || !same {

@@ -83,11 +83,7 @@ func TestIndex(t *testing.T) {
 		if err != nil {
 			t.Fatal(err)
 		}
-		packed, err := Pack(message)
-		if err != nil {
-			t.Fatal(err)
-		}
-		for form, data := range map[Form][]byte{Stream: message, Packed: packed, Bare: segments[0]} {
+		for form, data := range map[Form][]byte{Stream: message, Packed: packedOf(t, message), Bare: segments[0]} {
 			if form == Bare && len(segments) > 1 {
 				continue
 			}

@@ -110,16 +110,9 @@ int main(void) {
     char text[64];
     uint8_t *pages = between_pages();
     while (fgets(line, sizeof line, stdin)) {
-        char *digits = strrchr(line, ' ');
-        digits = digits ? digits + 1 : line;
-        const size_t size = strspn(digits, "0123456789abcdef") / 2;
-        if (size > ALL_PAGES) continue;
-        uint8_t *bytes = at_end(pages, size);
-        for (size_t i = 0; i < size; i++) {
-            unsigned byte;
-            sscanf(digits + 2 * i, "%2x", &byte);
-            bytes[i] = (uint8_t)byte;
-        }
+        size_t size;
+        const uint8_t *bytes = bytes_at_end(line, pages, &size);
+        if (!bytes) continue;
         for (size_t call = 0; call < CALLS; call++)
             for (uint32_t form = 0; form < (calls[call].of_forms ? 4 : 1); form++) compare(call, form, bytes, size);
     }

@@ -209,17 +209,10 @@ static void order(void) {
 
 /* ---- stored bytes */
 
-static void store(char *line, uint8_t *pages) {
-    const char *digits = strrchr(line, ' ');
-    if (!digits || count == MOST) return;
-    const size_t size = strspn(++digits, "0123456789abcdef") / 2;
-    if (size > LONGEST) return;
-    uint8_t *bytes = at_end(pages, size);
-    for (size_t i = 0; i < size; i++) {
-        unsigned byte;
-        sscanf(digits + 2 * i, "%2x", &byte);
-        bytes[i] = (uint8_t)byte;
-    }
+static void store(const char *line, uint8_t *pages) {
+    size_t size;
+    const uint8_t *bytes = bytes_at_end(line, pages, &size);
+    if (!bytes || size > LONGEST || count == MOST) return;
     for (size_t i = 0; i < count; i++)
         if (inputs[i].size == size && (!size || !memcmp(inputs[i].bytes, bytes, size))) return;
     uint8_t *kept = malloc(size ? size : 1);

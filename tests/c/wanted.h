@@ -27,4 +27,20 @@ static inline uint8_t *between_pages(void) {
 
 /* The last `size` bytes of such pages. */
 static inline uint8_t *at_end(uint8_t *pages, size_t size) { return pages + ALL_PAGES - size; }
+
+/* The bytes that the digits at the end of a line give, in hexadecimal, at the end of such pages; null if they are more
+ * than these have. */
+static inline uint8_t *bytes_at_end(const char *line, uint8_t *pages, size_t *size) {
+    const char *digits = strrchr(line, ' ');
+    digits = digits ? digits + 1 : line;
+    *size = strspn(digits, "0123456789abcdef") / 2;
+    if (*size > ALL_PAGES) return NULL;
+    uint8_t *bytes = at_end(pages, *size);
+    for (size_t i = 0; i < *size; i++) {
+        unsigned byte;
+        sscanf(digits + 2 * i, "%2x", &byte);
+        bytes[i] = (uint8_t)byte;
+    }
+    return bytes;
+}
 #endif
