@@ -1,4 +1,4 @@
--- Whether two messages have the same value. (Own: the order in which they are judged.)
+-- The comparison of two messages by their values. (Own: the order in which they are judged.)
 use Rattle.std.specs.Prelude.{◌≡◌, ◌≢◌, ◌↔◌, ℕ, List, None, Bool, IsTrue, Result, IfOk, IfErr}
 use Rattle.capn_value.specs.Tree.{Tree}
 use Rattle.capn_value.specs.FirstCap.{first_cap}

@@ -1,4 +1,4 @@
-//! Whether two messages have the same value.
+//! The comparison of two messages by their values.
 
 ghost use Rattle.std.specs.Prelude.{◌≡◌, ◌↔◌, ◌+◌, ◌*◌, ◌≤◌, IsOk, IfOk, IfErr, IsTrue};
 ghost use Rattle.capn_value.specs.Tree.{Tree as Value};
