@@ -10,9 +10,10 @@ use Rattle.capn_serve.specs.declared.service.Run.{Run}
 use Rattle.capn_serve.specs.Fold.{AreParts, AreServed, Fold, IsFolded, Part}
 use Rattle.capn_serve.specs.Fold.{fold_until}
 use Rattle.capn_serve.specs.Pick.{AreAscending, IsEnough, IsTooFew, Picking, last_of, pick_fold}
-use Rattle.capn_serve.specs.PickRun.{EndsAs, HasWritten, IsPickedOf, IsShort, KeepsUp, PicksRanges, most_taken}
+use Rattle.capn_serve.specs.PickRun.{EndsAs, HasWritten, HasWrittenAll, IsPickedOf, IsShort, KeepsUp, PicksRanges}
+use Rattle.capn_serve.specs.PickRun.{most_taken}
 use Rattle.capn_serve.specs.StreamRun as streams
-use Rattle.capn_serve.specs.StreamRun.{IsNeeded, first_run}
+use Rattle.capn_serve.specs.StreamRun.{IsAhead, IsNeeded, first_run}
 use Rattle.capn_serve.specs.PackedRun as packings
 use Rattle.capn_serve.specs.inner.Picker.{done, refuses, serves}
 use Rattle.capn_serve.proofs.PackedMore.{begins_all}
@@ -24,6 +25,13 @@ Ending = Result (Unit {0}) RunFault
 
 abbrev stopped : RunFault → Ending
 stopped fault = Err fault
+
+-- what was written of the bytes before the last piece, said in other words
+ahead_as : (P Q : List ℕ → Option (List ℕ) → Option (List ℕ) → Type 0)
+    → ((bytes : List ℕ) (c d : Option (List ℕ)) → P bytes c d → Q bytes c d) → (bytes : List ℕ) (c d : Option (List ℕ))
+    → IsAhead P bytes c d → IsAhead Q bytes c d
+ahead_as P Q means bytes c d (front, piece, mid, more, is, small, all, wrote) =
+    (front, piece, mid, more, is, small, means front c mid all, wrote)
 
 module _ (most : ℕ) (ranges : List Range) (p : Picker) (same : p.rest.now ≡ ranges) (ascending : AreAscending ranges)
   where
@@ -173,15 +181,15 @@ module _ (most : ℕ) (ranges : List Range) (p : Picker) (same : p.rest.now ≡ 
       before y (on x y parts are.each starts) going,
     )
 
-    lazy_stream : (bytes : List ℕ) → IsNeeded (streams.IsShort until x most_taken) bytes
+    needed_stream : (bytes : List ℕ) → IsNeeded (streams.IsShort until x most_taken) bytes
         → IsNeeded (IsShort most ranges forms.Stream) bytes
-    lazy_stream bytes (inl none) = inl none
-    lazy_stream bytes (inr (front, piece, is, small, few)) = inr (front, piece, is, small, short front few)
+    needed_stream bytes (inl none) = inl none
+    needed_stream bytes (inr (front, piece, is, small, few)) = inr (front, piece, is, small, short front few)
 
-    lazy_packed : (bytes : List ℕ) → IsNeeded (packings.IsShortPacked until x most_taken) bytes
+    needed_packed : (bytes : List ℕ) → IsNeeded (packings.IsShortPacked until x most_taken) bytes
         → IsNeeded (IsShort most ranges forms.Packed) bytes
-    lazy_packed bytes (inl none) = inl none
-    lazy_packed bytes (inr (front, piece, is, small, (stream, group, offset, split, few))) =
+    needed_packed bytes (inl none) = inl none
+    needed_packed bytes (inr (front, piece, is, small, (stream, group, offset, split, few))) =
         inr (front, piece, is, small, (stream, group, offset, split, short stream few))
 
     -- ---- what was written
@@ -211,6 +219,16 @@ module _ (most : ℕ) (ranges : List Range) (p : Picker) (same : p.rest.now ≡ 
       parts_of y (streams.taken_of most_taken stream) rest parts are,
       wrote,
     )
+
+    all_stream : (bytes : List ℕ) (c d : Option (List ℕ)) → streams.HasWrittenAll until x most_taken bytes c d
+        → HasWrittenAll most ranges forms.Stream bytes c d
+    all_stream bytes c d (parts, rest, y, are, part, wrote) =
+        (parts, rest, view y, parts_of y bytes rest parts are, part, wrote)
+
+    all_packed : (bytes : List ℕ) (c d : Option (List ℕ)) → packings.HasWrittenAllPacked until x most_taken bytes c d
+        → HasWrittenAll most ranges forms.Packed bytes c d
+    all_packed bytes c d (stream, group, offset, split, fits, parts, rest, y, are, part, wrote) =
+        (stream, group, offset, split, fits, parts, rest, view y, parts_of y stream rest parts are, part, wrote)
 
     keeps_stream : (a b c d : Option (List ℕ)) → streams.KeepsUp until x most_taken a b c d
         → KeepsUp most ranges forms.Stream a b c d
@@ -257,7 +275,9 @@ module _ (most : ℕ) (ranges : List Range) (p : Picker) (same : p.rest.now ≡ 
         bytes = run.begun.bytes;
         read = run.begun.read;
         bounded = run.begun.bounded;
-        lazy = lazy_stream run.begun.bytes run.begun.needed;
+        ahead = ahead_as (streams.HasWrittenAll until x most_taken) (HasWrittenAll most ranges forms.Stream) all_stream
+            run.begun.bytes c d run.begun.lazy;
+        needed = needed_stream run.begun.bytes run.begun.needed;
         written = written_stream run.begun.bytes c d run.begun.written;
       };
       heard = λ h. keeps_stream a b c d (run.heard h);
@@ -274,7 +294,9 @@ module _ (most : ℕ) (ranges : List Range) (p : Picker) (same : p.rest.now ≡ 
         bytes = run.begun.bytes;
         read = run.begun.read;
         bounded = run.begun.bounded;
-        lazy = lazy_packed run.begun.bytes run.begun.needed;
+        ahead = ahead_as (packings.HasWrittenAllPacked until x most_taken) (HasWrittenAll most ranges forms.Packed)
+            all_packed run.begun.bytes c d run.begun.lazy;
+        needed = needed_packed run.begun.bytes run.begun.needed;
         written = written_packed run.begun.bytes c d run.begun.written;
       };
       heard = λ h. keeps_packed a b c d (run.heard h);

@@ -59,12 +59,22 @@ module _ (most : ℕ) (ranges : List Range) where
   HasWritten forms.Packed bytes old new =
       packings.HasWrittenPacked (pick_fold most) (first_run ranges) most_taken (taken_of most_taken bytes) old new
 
-  -- a reader gave some bytes, no more pieces than needed, and a writer took a beginning of what is picked of them
+  -- all that is picked of the whole messages in these bytes, or in what their whole groups unpack to, was written, and
+  -- what is left is no whole frame
+  abbrev pub HasWrittenAll : StreamForm → List ℕ → Option (List ℕ) → Option (List ℕ) → Type 0
+  HasWrittenAll forms.Stream bytes old new =
+      streams.HasWrittenAll (pick_fold most) (first_run ranges) most_taken bytes old new
+  HasWrittenAll forms.Packed bytes old new =
+      packings.HasWrittenAllPacked (pick_fold most) (first_run ranges) most_taken bytes old new
+
+  -- a reader gave some bytes, no more pieces than needed, and a writer took a beginning of what is picked of them, and
+  -- all that the bytes before the last piece decide before that was read
   pub record Begins (form : StreamForm) (a b c d : Option (List ℕ)) : Type 0 where
     pub bytes : List ℕ
     pub read : Consumes a b bytes
     pub bounded : length bytes ≤ most_taken + 1
-    pub lazy : streams.IsNeeded (IsShort form) bytes
+    pub ahead : streams.IsAhead (HasWrittenAll form) bytes c d
+    pub needed : streams.IsNeeded (IsShort form) bytes
     pub written : HasWritten form bytes c d
 
   -- all that is picked of the bytes that a reader gave was written

@@ -22,7 +22,8 @@ use std::io::{Read, Write};
 /// The ranges ascend: the first number of each is greater than all before it, and at least 1, and not greater than its
 /// last one. Of the limits the number of words of a message alone counts. No message is walked. What comes after the
 /// last number is not looked at: the run ends as done with the chunk that makes that message whole, and does not read
-/// again. Fewer messages than the ranges name are those that there are; without a range nothing is read.
+/// again. Before it reads again, all that is picked of the messages that are whole by then has been written. Fewer
+/// messages than the ranges name are those that there are; without a range nothing is read.
 ///
 /// It holds an unfinished message, less than 65,536 bytes of short frames, and of a packed stream what
 /// [`run_packed`](crate::run_packed) holds; a long frame is written where it lies. Each message costs the same, however
