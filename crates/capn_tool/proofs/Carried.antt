@@ -4,7 +4,7 @@ use Rattle.std.proofs.Common.{Ok, Err, IfSome, IsErrOf, refl, sym, subst, ◌∙
 use Rattle.std.specs.Io.KnownBytes.{Keeps}
 use Rattle.capn_tool.specs.Flushed.{CarriesOut, EndsByText, EndsFlushed}
 use Rattle.capn_tool.specs.Course.{course}
-use Rattle.capn_commands.specs.CommandRun.{KeepsUp, PlanKeepsUp}
+use Rattle.capn_commands.specs.CommandRun.{KeepsUp, MayNeedMemory, PlanIsAhead, PlanKeepsUp, StaysAhead, StaysAheadAs}
 use Rattle.capn_commands.specs.Plan.{plan_of}
 use Rattle.capn_commands.specs.Text.{Begins, EndsAs, EndsBy, HasEnded, IsDue}
 use Rattle.capn_commands.specs.declared.command.Command.{Command}
@@ -16,6 +16,9 @@ use Rattle.capn_tool.proofs.Written.{kept}
 
 abbrev Ending : Type 0
 Ending = Result (Unit {0}) ToolFault
+
+abbrev stopped : ToolFault → Ending
+stopped fault = Err fault
 
 -- how a run ends after the flush
 abbrev Flushed : Ending → Ending → Type 0
@@ -68,6 +71,25 @@ keeps_up (plans.Each piece limits) a b c m d k (bytes, text, due, read, is, writ
 keeps_up (plans.Packed piece limits) a b c m d k (bytes, text, due, read, is, written) =
     (bytes, text, due, read, is, kept c m d text k written)
 
+-- the flush writes nothing, so what was written before the last piece was read stays ahead
+stays : (Written : List ℕ → Option (List ℕ) → Option (List ℕ) → Type 0) (a b c m d : Option (List ℕ)) → Keeps m d
+    → StaysAhead Written a b c m → StaysAhead Written a b c d
+stays Written a b c m d k (bytes, read, (before, piece, mid, more, is, small, all, wrote)) =
+    (bytes, read, (before, piece, mid, more, is, small, all, kept mid m d more k wrote))
+
+ahead : (plan : Plan) (a b c m d : Option (List ℕ)) → Keeps m d → PlanIsAhead plan a b c m → PlanIsAhead plan a b c d
+ahead (plans.Whole whole) a b c m d k h = tt
+ahead (plans.Each piece limits) a b c m d k h = stays _ a b c m d k h
+ahead (plans.Packed piece limits) a b c m d k h = stays _ a b c m d k h
+
+-- it ends with Memory only where the run did
+memory : (r s : Ending) (old new : Bool) → EndsFlushed faults.Io r old new s → IsErrOf s faults.Memory
+    → IsErrOf r faults.Memory
+memory (Ok u) s old new (inl (is, same)) bad = absurd (let no : Ok u ≡ Err faults.Memory = sym is ∙ bad in cc)
+memory (Ok u) s old new (inr (is, failed)) bad =
+    absurd (let no : stopped faults.Io ≡ stopped faults.Memory = sym is ∙ bad in cc)
+memory (Err fault) s old new (is, failed) bad = sym is ∙ bad
+
 -- what a run ends with Io for, and what a flush of its output adds
 abbrev InRun : Bool → Bool → Type 0
 InRun unread old = (unread ≡ true) ⊎ (old ≡ true)
@@ -91,9 +113,10 @@ io (Err fault) s unread old new (is, failed) g = (
 pub carried : (command : Command) (a b c m d : Option (List ℕ)) (unread old new : Bool) (r s : Ending)
     → IfSome a (EndsAs command c m r) → IfSome a (EndsByText command c m r)
     → (IsErrOf r faults.Io ↔ ((unread ≡ true) ⊎ (old ≡ true)))
-    → Begins command a b c m → (unread ≡ true → KeepsUp command a b c m) → Keeps m d → EndsFlushed faults.Io r old new s
+    → Begins command a b c m → (unread ≡ true → KeepsUp command a b c m) → StaysAheadAs command a b c m
+    → (IsErrOf r faults.Memory → MayNeedMemory command a b) → Keeps m d → EndsFlushed faults.Io r old new s
     → CarriesOut command (course a b unread) (course c d new) s
-carried command a b c m d unread old new r s e o i g h k f = record {
+carried command a b c m d unread old new r s e o i g h before need k f = record {
   run = r;
   failed = old;
   ran = exact command a c m d r r k (inl refl) e;
@@ -104,4 +127,6 @@ carried command a b c m d unread old new r s e o i g h k f = record {
   io = io r s unread old new f i;
   begun = begun command a b c m d k g;
   heard = λ failed. keeps_up (plan_of command) a b c m d k (h failed);
+  ahead = ahead (plan_of command) a b c m d k before;
+  memory = λ bad. need (memory r s old new f bad);
 }

@@ -2,7 +2,7 @@
 use Rattle.std.specs.Prelude.{ℕ, ◌≡◌, ◌↔◌, ◌⊎◌, List, Bool, true, false, Option, IfSome, IsErrOf, Result, Ok, Err}
 use Rattle.std.specs.Io.KnownBytes.{Keeps}
 use Rattle.capn_endings.specs.Ending.{WritesEnding, status_of_ending}
-use Rattle.capn_commands.specs.CommandRun.{KeepsUp}
+use Rattle.capn_commands.specs.CommandRun.{KeepsUp, MayNeedMemory, StaysAheadAs}
 use Rattle.capn_commands.specs.Text.{Begins, EndsAs, EndsBy, IsText}
 use Rattle.capn_commands.specs.declared.command.Command.{Command}
 use Rattle.capn_commands.specs.declared.fault.ToolFault.{ToolFault}
@@ -45,6 +45,8 @@ pub record CarriesOut (command : Command) (input output : Course) (outcome : Res
       ↔ (((input.failed ≡ true) ⊎ (failed ≡ true)) ⊎ ((run ≡ Ok tt) × (output.failed ≡ true)))
   pub begun : Begins command input.before input.after output.before output.after
   pub heard : input.failed ≡ true → KeepsUp command input.before input.after output.before output.after
+  pub ahead : StaysAheadAs command input.before input.after output.before output.after
+  pub memory : IsErrOf outcome faults.Memory → MayNeedMemory command input.before input.after
 
 -- a statement about a run: its reader before and after it, its writer, whether each has failed, and how it ended
 abbrev pub RunOver : Type 0 → Type 1
