@@ -13,6 +13,7 @@ mod explain_refused;
 mod explain_run;
 mod fault;
 mod fault_lines;
+mod message_lines;
 mod outcome;
 mod refused_closing;
 mod refused_reporter;

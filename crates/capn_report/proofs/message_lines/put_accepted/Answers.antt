@@ -1,5 +1,5 @@
 use Rattle.capn_report.proofs.Accounts.{puts_account}
-use Rattle.capn_report.proofs.reporter.put_accepted.Goals as goal
+use Rattle.capn_report.proofs.message_lines.put_accepted.Goals as goal
 
 pub returns-in-Ok : goal.returns-in-Ok
 returns-in-Ok g c =
