@@ -2,34 +2,29 @@
 
 ghost use Rattle.std.specs.Prelude.{◌≡◌, [], true, codes, map};
 ghost use Rattle.std.specs.Prelude.{IfErr, IfOk, IfSome, IsSome, Some};
-ghost use Rattle.clap.specs.Words.{Text, fault_of, found_of, kind_of, rows_of, subcommand_of, takes};
+ghost use Rattle.clap.specs.Words.{fault_of, found_of, kind_of, rows_of, subcommand_of, takes};
 ghost use Rattle.capn_orders.specs.Usage.{error_of, IsReason, Orders};
 ghost use Rattle.capn_archive.specs.declared.filter_order.FilterOrder.{FilterOrder};
 ghost use Rattle.capn_cmp.specs.declared.cmp_order.CmpOrder.{CmpOrder};
 ghost use Rattle.capn_archive.specs.declared.task.ArchiveOrder.{ArchiveOrder};
 ghost use Rattle.capn_archive.specs.declared.uniq_order.UniqOrder.{UniqOrder};
-ghost use Rattle.capn_serve.specs.declared.pick.Pick.{Pick};
 ghost use Rattle.capn_orders.specs.CommandLine.{program_line};
-ghost use Rattle.capn_orders.specs.Meaning.{AreOptions, CmpIs, FilterIs, ListIs, MakeIs, MeansOrder, OnlyIs, PickIs};
-ghost use Rattle.capn_orders.specs.Meaning.{UniqIs};
+ghost use Rattle.capn_orders.specs.Meaning.{AreOptions, CmpIs, FilterIs, MakeIs, MeansOrder, UniqIs};
 ghost use Rattle.capn_orders.specs.declared.order.Make.{Make};
-ghost use Rattle.capn_orders.specs.declared.order.Only.{Only};
 ghost use Rattle.capn_orders.specs.declared.order.Order.{Order};
 
 use crate::explain_options::explain_of;
 use crate::input_options::{form_of, limits_of, unpacked_words_of};
 use crate::mistakes::meaningless;
-use crate::option_values::{flag_of, is_usual, limits_with, number_in, stream_form_of, text_in};
-use crate::order::{Flow, Make, Only, Order};
-use crate::range_list::is_range_list;
+use crate::option_values::{flag_of, is_usual, stream_form_of};
+use crate::order::{Flow, Make, Order};
+use crate::pick_options::pick_order;
 use crate::show_options::show_of;
 use crate::subcommands::program_command;
 use crate::usage::Usage;
 use capn_archive::{ArchiveOrder, FilterOrder, Task, UniqOrder};
 use capn_cmp::CmpOrder;
 use capn_commands::{Command, MessageText};
-use capn_serve::Pick;
-use capn_words::MOST_MESSAGE_WORDS;
 use clap::ArgMatches;
 use std::alloc::Global;
 use std::convert::AsStr;
@@ -111,66 +106,6 @@ fn make_of(matches: &ArgMatches) -> Option<Make>
         form: form_of(matches)?,
         quoted: flag_of(matches, "text")?,
     })
-}
-
-/// The run of `pick` that has these options, without `--only`, if they mean one.
-fn pick_of(matches: &ArgMatches) -> Option<Pick>
-    ensures are { IfSome result (PickIs (rows_of (found_of matches.now))) }
-    ensures served { (pick : Pick) → PickIs (rows_of (found_of matches.now)) pick → IsSome result }
-{
-    let form = stream_form_of(matches)?;
-    let words = number_in(matches, "message-words", 1, MOST_MESSAGE_WORDS as u64)?;
-    let from = number_in(matches, "from", 1, u64::MAX)?;
-    let to = number_in(matches, "to", 1, u64::MAX)?;
-    match text_in(matches, "only") {
-        Some(_) => None,
-        None => Some(Pick {
-            form,
-            limits: limits_with(words as u32),
-            from,
-            to,
-        }),
-    }
-}
-
-/// The list of `--only`, if it is one, and neither `--from` nor `--to` is given.
-fn list_of_only<'a>(matches: &ArgMatches<'a>) -> Option<&'a str>
-    ensures are { IfSome result (λ list. ListIs (rows_of (found_of matches.now)) list.now) }
-    ensures served { (list : Text) → ListIs (rows_of (found_of matches.now)) list → IsSome result }
-{
-    let list = text_in(matches, "only")?;
-    if is_range_list(list) && is_usual(matches, "from") && is_usual(matches, "to") {
-        return Some(list);
-    }
-    None
-}
-
-/// The run of `pick` that has these options, with `--only`, if they mean one.
-fn only_of<'a>(matches: &ArgMatches<'a>) -> Option<Only<'a>>
-    ensures are { IfSome result (OnlyIs (rows_of (found_of matches.now))) }
-    ensures served { (only : Only) → OnlyIs (rows_of (found_of matches.now)) only → IsSome result }
-{
-    let form = stream_form_of(matches)?;
-    let words = number_in(matches, "message-words", 1, MOST_MESSAGE_WORDS as u64)?;
-    let list = list_of_only(matches)?;
-    Some(Only {
-        form,
-        limits: limits_with(words as u32),
-        list,
-    })
-}
-
-/// Returns the order of `pick` with these options, if they mean one: with `--only` the messages of a list, and else
-/// those from one number to another.
-fn pick_order<'a>(matches: &ArgMatches<'a>) -> Option<Order<'a>>
-    ensures means { IfSome result (MeansOrder (Some (codes "pick", rows_of (found_of matches.now)))) }
-    ensures served { (order : Order) → MeansOrder (Some (codes "pick", rows_of (found_of matches.now))) order
-        → IsSome result }
-{
-    match only_of(matches) {
-        Some(only) => Some(Order::Only(only)),
-        None => Some(Order::Pick(pick_of(matches)?)),
-    }
 }
 
 /// Returns the order of `canonical` with these options, if they mean one: with `--framed` a run over an archive, and

@@ -4,7 +4,7 @@ ghost use Rattle.std.specs.Prelude.{◌≡◌, false};
 ghost use Rattle.clap.specs.Words.{rule_of};
 ghost use Rattle.capn_orders.specs.inner.Rows.{rule_of_row};
 
-use crate::rows::{OptionRow, Taken};
+use crate::option_row::{OptionRow, Taken};
 use clap::builder::ValueParser;
 use clap::{Arg, ArgAction};
 use std::alloc::Global;

@@ -1,44 +1,9 @@
 //! The commands and their options, a row for each.
 
 use crate::help::Page;
+use crate::option_row::{FORM, OptionRow, Taken, WORDS};
 use crate::{archives_help, bytes_help, messages_help};
 use capn_value::{MOST_COST, MOST_HEIGHT};
-use capn_words::MOST_MESSAGE_WORDS;
-
-/// The value that an option takes.
-#[derive(Clone, Copy)]
-pub enum Taken {
-    /// No value: it is given or not.
-    Flag,
-    /// A value of this name. Where it is not given it has none.
-    Asked(&'static str),
-    /// A value of this name, and this usual one. The parser takes any text, and [`crate::input_options`] reads it: a
-    /// list of names has no place in the statement of the command line.
-    Usual(&'static str, &'static str),
-    /// A number from the least to the most, after its usual value.
-    Number(&'static str, i64, i64),
-    /// The number of a message, and its usual value.
-    Place(&'static str),
-}
-
-/// An option of some commands.
-#[derive(Clone, Copy)]
-pub struct OptionRow {
-    /// The name that stands after `--`.
-    pub name: &'static str,
-    /// The value that it takes.
-    pub taken: Taken,
-    /// Its text in the help.
-    pub help: &'static str,
-    /// The commands that take it.
-    pub commands: &'static [&'static str],
-}
-
-/// The value of `--form`.
-const FORM: Taken = Taken::Usual("FORM", "stream");
-
-/// The value of `--message-words`.
-const WORDS: Taken = Taken::Number("8388608", 1, MOST_MESSAGE_WORDS as i64);
 
 /// The commands over messages that take limits.
 const LIMITED: &[&str] = &[

@@ -8,8 +8,9 @@ ghost use Rattle.capn_orders.specs.CommandLine.{HasLine, line_of, program_line, 
 ghost use Rattle.capn_orders.specs.inner.Rows.{is_taken, texts_of, with_rows};
 
 use crate::help::{self, Page};
+use crate::option_row::OptionRow;
 use crate::options::option_of;
-use crate::rows::{COMMANDS, OPTIONS, OptionRow, page_of};
+use crate::rows::{COMMANDS, OPTIONS, page_of};
 use clap::Command;
 use clap::error::ErrorKind;
 use std::alloc::{AllocError, Global};

@@ -5,9 +5,9 @@ use Rattle.std.specs.Borrow.{Bor}
 use Rattle.std.specs.Str.{bytes_eq}
 use Rattle.clap.specs.Words.{App, Rule, Text, with_rule}
 use Rattle.capn_orders.specs.CommandLine.{asked_rule, flag_rule, number_rule, place_rule, usual_rule}
-use Rattle.capn_orders.specs.declared.rows.OptionRow.{OptionRow}
-use Rattle.capn_orders.specs.declared.rows.Taken.{Taken}
-use Rattle.capn_orders.specs.declared.rows.Taken.TheVariants as taken
+use Rattle.capn_orders.specs.declared.option_row.OptionRow.{OptionRow}
+use Rattle.capn_orders.specs.declared.option_row.Taken.{Taken}
+use Rattle.capn_orders.specs.declared.option_row.Taken.TheVariants as taken
 
 -- the option of this name that takes this
 abbrev pub rule_for : Text → Taken → Rule
