@@ -1,7 +1,8 @@
--- The finding of a search in a message that has a capability. (For `first_capability`.)
-use Rattle.std.proofs.Common.{◌≡◌, ℕ, List, [], ◌∷◌, length, Option, Some, None, Ok, Err, Result, refl, ap, ap₂}
+-- The find of a search in a message that has a capability. (For `first_capability`.)
+use Rattle.std.proofs.Common.{◌≡◌, ℕ, List, [], ◌∷◌, ◌++◌, length, Option, Some, None, Ok, Err, Result, refl, ap, ap₂}
 use Rattle.std.proofs.Common.{sym, ◌∙◌}
 use Rattle.std.specs.Option.{option_or}
+use Rattle.capn_words.specs.declared.space.Place.{Place}
 use Rattle.capn_value.specs.Tree.{Tree}
 use Rattle.capn_value.specs.Cost.{base}
 use Rattle.capn_value.specs.FirstCap.{first_cap}
@@ -10,74 +11,43 @@ use Rattle.capn_target.specs.declared.target.Target.TheVariants as targets
 use Rattle.capn_target.specs.declared.target.Fault.{Fault}
 use Rattle.capn_target.specs.Target.{target}
 use Rattle.capn_walk.specs.Visits.{Visit, pays, fails, visits}
+use Rattle.capn_walk.specs.Index.{place_of}
 use Rattle.capn_walk.specs.Limits.{Bounds}
 use Rattle.capn_walk.specs.Accepted.{IsValueOf, AllPay, root}
 use Rattle.capn_walk.specs.Surveyed.{cap_of, first_cap_of}
+use Rattle.capn_walk.proofs.shared.CapsMet.{caps-at}
 use Rattle.capn_walk.proofs.shared.Costs.{all-front}
 use Rattle.capn_walk.proofs.shared.Fitting.{Root, root-of}
-use Rattle.capn_departure.specs.declared.sought.Found.{Found}
-use Rattle.capn_departure.specs.declared.sought.Found.TheVariants as found
-use Rattle.capn_departure.specs.declared.sought.Sought.TheVariants as sought
+use Rattle.capn_way.specs.Finds.{IsPassed, IsFirstFind, IsWithoutFind}
 use Rattle.capn_departure.specs.Capability.{IsFirstCapability}
-use Rattle.capn_departure.specs.inner.Search.{capability_there, found_at, first_found}
-use Rattle.capn_departure.specs.inner.Seeks.{Seeks}
-use Rattle.capn_walk.proofs.shared.CapsMet.{caps-at}
-use Rattle.capn_departure.proofs.FoundFirst.{found-append}
+use Rattle.capn_departure.specs.inner.Search.{capability, same}
 
--- a capability, as it is found
-abbrev told : Option ℕ → Option Found
-told None = None
-told (Some k) = Some (found.Capability k)
+-- a slot that is a capability
+names-cap : (r : Result Target Fault) (k : ℕ) → cap_of r ≡ Some k → r ≡ Ok (targets.Cap k)
+names-cap (Ok targets.Nil) k e = absurd cc
+names-cap (Ok (targets.Cap j)) k e = cc
+names-cap (Ok (targets.Content s start shape pads)) k e = absurd cc
+names-cap (Err f) k e = absurd cc
 
-told-none : (k : Option ℕ) → told k ≡ None → k ≡ None
-told-none None e = refl
-told-none (Some k) e = absurd cc
+module _ {G : Type 0} (m : List (List ℕ)) where
+  -- no capability is found at visits that pay: they have none
+  none-of : (aim after : G) (vs : List Visit) → AllPay vs → IsPassed m capability same aim vs after
+      → first_cap_of m vs ≡ None
+  none-of aim after [] all h = refl
+  none-of aim after (pays at n ∷ vs) all h = ap₂ option_or h.0 (none-of aim after vs all h.1)
+  none-of aim after (fails at e ∷ vs) all h = absurd all
 
-told-some : (k : Option ℕ) (index : ℕ) → told k ≡ Some (found.Capability index) → k ≡ Some index
-told-some None index e = absurd cc
-told-some (Some k) index e = cc
+  -- then the capability at the next visit is the first
+  next-is : (aim last : G) (before : List Visit) (here : Visit) (behind : List Visit) (k : ℕ)
+      → AllPay (before ++ here ∷ behind) → IsPassed m capability same aim before last
+      → cap_of (target m (place_of here)) ≡ Some k → first_cap_of m (before ++ here ∷ behind) ≡ Some k
+  next-is aim last [] (pays at n) behind k all h e = ap (λ (o : Option ℕ). option_or o (first_cap_of m behind)) e
+  next-is aim last [] (fails at f) behind k all h e = absurd all
+  next-is aim last (pays at n ∷ vs) here behind k all h e =
+      ap₂ option_or h.0 (next-is aim last vs here behind k all h.1 e)
+  next-is aim last (fails at f ∷ vs) here behind k all h e = absurd all
 
-told-or : (a b : Option ℕ) → told (option_or a b) ≡ option_or (told a) (told b)
-told-or None b = refl
-told-or (Some k) b = refl
-
-told-there : (r : Result Target Fault) → capability_there r ≡ told (cap_of r)
-told-there (Ok targets.Nil) = refl
-told-there (Ok (targets.Cap k)) = refl
-told-there (Ok (targets.Content s start shape pads)) = refl
-told-there (Err e) = refl
-
--- what is found is a capability that the slot names
-pub record Named (r : Result Target Fault) (x : Found) : Type 0 where
-  pub index : ℕ
-  pub is : x ≡ found.Capability index
-  pub names : r ≡ Ok (targets.Cap index)
-
-pub only-capability : (r : Result Target Fault) (x : Found) → capability_there r ≡ Some x → Named r x
-only-capability (Ok targets.Nil) x e = absurd cc
-only-capability (Ok (targets.Cap k)) x e = record { index = k; is = cc; names = refl }
-only-capability (Ok (targets.Content s start shape pads)) x e = absurd cc
-only-capability (Err f) x e = absurd cc
-
-pub no-pointer : (r : Result Target Fault) → Named r found.Pointer → ⊥
-no-pointer r n = let e = n.is in absurd cc
-
-pub no-tag : (r : Result Target Fault) → Named r found.Tag → ⊥
-no-tag r n = let e = n.is in absurd cc
-
-pub no-last_word : (r : Result Target Fault) → Named r found.LastWord → ⊥
-no-last_word r n = let e = n.is in absurd cc
-
-module _ (m : List (List ℕ)) where
-  -- where no visit is a fault, what is found first is the first capability
-  caps-found : (vs : List Visit) → AllPay vs → first_found m sought.Capability vs ≡ told (first_cap_of m vs)
-  caps-found [] h = refl
-  caps-found (pays at n ∷ vs) h =
-      ap₂ option_or (told-there (target m at)) (caps-found vs h)
-      ∙ sym (told-or (cap_of (target m at)) (first_cap_of m vs))
-  caps-found (fails at e ∷ vs) h = absurd h
-
-module _ (m : List (List ℕ)) (limits : Bounds) where
+module _ {G : Type 0} (m : List (List ℕ)) (limits : Bounds) (aim : G) where
   abbrev b : ℕ
   b = base limits.tariff
 
@@ -88,42 +58,33 @@ module _ (m : List (List ℕ)) (limits : Bounds) where
   at-root : (v : Tree) → IsValueOf m limits v → Root m b limits.depth v
   at-root v i = root-of m b limits.depth v i.is i.accepted.within.all
 
-  caps-are : (v : Tree) → IsValueOf m limits v → first_found m sought.Capability all ≡ told (first_cap v)
-  caps-are v i =
-      let r = at-root v i in
-      caps-found m all r.all ∙ ap told (caps-at m b v root limits.depth i.is r.all)
+  caps-are : (v : Tree) → IsValueOf m limits v → first_cap_of m all ≡ first_cap v
+  caps-are v i = caps-at m b v root limits.depth i.is (at-root v i).all
 
   -- a search through all visits finds something, where the value has a capability
   pub some-found : (v : Tree) (k : ℕ) → IsValueOf m limits v → first_cap v ≡ Some k
-      → first_found m sought.Capability all ≡ None → ⊥
-  some-found v k i e n = let c = told-none (first_cap v) (sym (caps-are v i) ∙ n) in absurd cc
+      → IsWithoutFind m capability same limits.depth root aim → ⊥
+  some-found v k i e f =
+      let h = f b in
+      let c = sym (caps-are v i) ∙ none-of m aim h.0 all (at-root v i).all h.1 in
+      absurd cc
 
-  module _ (x : Found) (new : List ℕ) (g : Seeks m b sought.Capability limits.depth root [] new (Some x)) where
-    found-first : first_found m sought.Capability all ≡ Some x
-    found-first =
-        ap (first_found m sought.Capability) g.visits
-        ∙ found-append m sought.Capability g.before (g.here ∷ g.behind)
-        ∙ ap₂ option_or g.none (ap (λ k. option_or k (first_found m sought.Capability g.behind))
-        (ap (found_at m sought.Capability) g.place ∙ g.finds))
-
-    -- it is a capability
-    pub is-capability : Named (target m g.to) x
-    is-capability = only-capability (target m g.to) x g.finds
-
-    -- the first of the value
-    pub index-is : (index : ℕ) → x ≡ found.Capability index → (v : Tree) → IsValueOf m limits v
-        → first_cap v ≡ Some index
-    index-is index e v i = told-some (first_cap v) index (sym (caps-are v i) ∙ found-first ∙ ap Some e)
-
-    same-index : (j index : ℕ) → x ≡ found.Capability j → x ≡ found.Capability index → j ≡ index
-    same-index j index e f = cc
+  module _ (way : List ℕ) (index : ℕ) (f : IsFirstFind m capability same limits.depth root aim way index) where
+    -- it is the first of the value
+    pub index-is : (v : Tree) → IsValueOf m limits v → first_cap v ≡ Some index
+    index-is v i =
+        let g = f b in
+        let r = (at-root v i).all in
+        sym (caps-are v i) ∙ ap (first_cap_of m) g.visits
+        ∙ next-is m aim g.last g.before g.here g.behind index (rw g.visits at r) g.passed
+        (ap (λ (p : Place). cap_of (target m p)) g.place ∙ g.found)
 
     -- and the first that the walk visits
-    pub is-first : (index : ℕ) → x ≡ found.Capability index → (v : Tree) → IsValueOf m limits v
-        → IsFirstCapability m limits index new
-    is-first index e v i =
+    pub is-first : (v : Tree) → IsValueOf m limits v → IsFirstCapability m limits index way
+    is-first v i =
+        let g = f b in
         let r = at-root v i in
-        let c = is-capability in
+        let a = r.all in
         record {
           number = length g.before;
           at = g.to;
@@ -134,9 +95,8 @@ module _ (m : List (List ℕ)) (limits : Bounds) where
             is = r.same ∙ g.visits;
             count = refl;
             place = g.place;
-            leads = let f = g.is in rw f g.leads;
+            leads = g.leads;
           };
-          names = c.names ∙ ap (λ (k : ℕ). Ok (targets.Cap k)) (same-index c.index index c.is e);
-          none = told-none (first_cap_of m g.before) (sym (caps-found m g.before
-              (all-front g.before (g.here ∷ g.behind) (let h = r.all in rw g.visits at h))) ∙ g.none);
+          names = names-cap (target m g.to) index g.found;
+          none = none-of m aim g.last g.before (all-front g.before (g.here ∷ g.behind) (rw g.visits at a)) g.passed;
         }

@@ -1,6 +1,3 @@
-mod Steps
-mod FoundFirst
-mod Searches
 mod Reaching
 mod FirstCapability
 mod Owning

@@ -15,7 +15,6 @@ use Rattle.capn_target.specs.declared.target.Fault.{Fault}
 use Rattle.capn_target.specs.Target.{target, content_words}
 use Rattle.capn_walk.specs.Accepted.{root}
 use Rattle.capn_walk.specs.Limits.{Bounds}
-use Rattle.capn_departure.specs.declared.sought.Sought.TheVariants.{Word}
 use Rattle.capn_departure.specs.declared.sought.Found.{Found}
 use Rattle.capn_departure.specs.declared.sought.Found.TheVariants as found
 use Rattle.capn_departure.specs.Owner.{place, IsTag, IsSmall, IsLastWord, LeadsTo}
@@ -28,7 +27,6 @@ abbrev pub Tells : ℕ → Place → Result Target Fault → Found → Type 0
 Tells word at r found.Pointer = at ≡ place word
 Tells word at r found.Tag = (t : Target) × (r ≡ Ok t) × IsTag word t
 Tells word at r found.LastWord = (t : Target) × (r ≡ Ok t) × IsLastWord word t
-Tells word at r (found.Capability k) = ⊥
 
 -- it is what a choice was made of
 chosen : (b : Bool) (x y : Found) → (if b then Some x else None) ≡ Some y → (b ≡ true) × (x ≡ y)
@@ -75,7 +73,6 @@ in-it word at (targets.Content s start (shapes.Rows n a b span) pads) x e =
     tagged found.Tag z a b = (targets.Content s start (shapes.Rows n _ _ span) pads, refl, (a, b))
     tagged found.Pointer z a b = absurd cc
     tagged found.LastWord z a b = absurd cc
-    tagged (found.Capability k) z a b = absurd cc
 in-it word at (targets.Content s start (shapes.Many width n) pads) x e =
     let c = chosen (is_small width && ends_at s start (content_words width n) (place word)) found.LastWord x e in
     let p = and_parts (is_small width) (ends_at s start (content_words width n) (place word)) c.0 in
@@ -88,14 +85,13 @@ in-it word at (targets.Content s start (shapes.Many width n) pads) x e =
     last found.LastWord z a q = (targets.Content s start (shapes.Many width n) pads, refl, (a, q.0, q.1, q.2))
     last found.Pointer z a q = absurd cc
     last found.Tag z a q = absurd cc
-    last (found.Capability k) z a q = absurd cc
 
 there : (word : ℕ) (at : Place) (r : Result Target Fault) (x : Found) → found_there (place word) r ≡ Some x
     → Tells word at r x
 there word at (Ok t) x e = in-it word at t x e
 there word at (Err f) x e = absurd cc
 
-pub tells : (word : ℕ) (at : Place) (r : Result Target Fault) (x : Found) → finds (Word (place word)) at r ≡ Some x
+pub tells : (word : ℕ) (at : Place) (r : Result Target Fault) (x : Found) → finds (place word) at r ≡ Some x
     → Tells word at r x
 tells word at r x =
     pick (λ (k : Option Found). k ≡ Some x → Tells word at r x) (is_at at.segment at.word (place word))
@@ -107,7 +103,6 @@ tells word at r x =
     pointer found.Pointer a z = a
     pointer found.Tag a z = absurd cc
     pointer found.LastWord a z = absurd cc
-    pointer (found.Capability k) a z = absurd cc
 
 module _ (words : List ℕ) (limits : Bounds) (word : ℕ) where
   abbrev pub Search : List ℕ → Found → Type 0
@@ -120,17 +115,17 @@ module _ (words : List ℕ) (limits : Bounds) (word : ℕ) where
   pub pointer-owned : (new : List ℕ) → Search new found.Pointer
       → (number : ℕ) × IsWayTo (words ∷ []) limits number new (place word)
   pointer-owned new g =
-      let t = tells word g.to (target (words ∷ []) g.to) found.Pointer g.finds in
+      let t = tells word g.to (target (words ∷ []) g.to) found.Pointer g.found in
       (g.number, rw t at (way new found.Pointer g))
 
   pub tag-owned : (new : List ℕ) → Search new found.Tag → LeadsTo (words ∷ []) limits new (IsTag word)
   tag-owned new g =
-      let t = tells word g.to (target (words ∷ []) g.to) found.Tag g.finds in
+      let t = tells word g.to (target (words ∷ []) g.to) found.Tag g.found in
       record { number = g.number; slot = g.to; leads = way new found.Tag g; found = t.0; names = t.1; is = t.2 }
 
   pub last-owned : (new : List ℕ) → Search new found.LastWord → LeadsTo (words ∷ []) limits new (IsLastWord word)
   last-owned new g =
-      let t = tells word g.to (target (words ∷ []) g.to) found.LastWord g.finds in
+      let t = tells word g.to (target (words ∷ []) g.to) found.LastWord g.found in
       record {
         number = g.number;
         slot = g.to;
@@ -139,6 +134,3 @@ module _ (words : List ℕ) (limits : Bounds) (word : ℕ) where
         names = t.1;
         is = t.2;
       }
-
-  pub no-capability : (new : List ℕ) (k : ℕ) → Search new (found.Capability k) → ⊥
-  no-capability new k g = tells word g.to (target (words ∷ []) g.to) (found.Capability k) g.finds

@@ -9,15 +9,17 @@ use Rattle.capn_target.specs.declared.target.Target.TheVariants as targets
 use Rattle.capn_target.specs.declared.target.Shape.{Shape}
 use Rattle.capn_target.specs.declared.target.Shape.TheVariants as shapes
 use Rattle.capn_target.specs.Target.{target}
-use Rattle.capn_walk.specs.Visits.{places, row_places, slots, visits_of}
+use Rattle.capn_walk.specs.Visits.{places, row_places, slots, visits, visits_of}
 use Rattle.capn_walk.proofs.shared.Walks.{slot, places-split}
-use Rattle.capn_departure.specs.declared.sought.Sought.TheVariants.{Word}
+use Rattle.capn_way.specs.Finds.{Meets}
+use Rattle.capn_way.specs.Steps.{AreNumbersIn}
+use Rattle.capn_way.specs.Ways.{Leads}
+use Rattle.capn_way.proofs.shared.Steps.{length-places, length-rows, row-split, middle, stays, goes-down}
+use Rattle.capn_departure.specs.declared.sought.Owner.{Owner}
 use Rattle.capn_departure.specs.declared.sought.Found.{Found}
-use Rattle.capn_departure.specs.inner.Search.{found_at}
-use Rattle.capn_departure.specs.inner.Seeks.{AreNumbersIn, Seeks}
+use Rattle.capn_departure.specs.inner.Search.{finds, owned, same}
 use Rattle.capn_departure.specs.inner.Reached.{rows_of, place_in, numbers, Reaches, ReachesBelow}
-use Rattle.capn_departure.proofs.Steps.{length-places, length-rows, stays, descends}
-use Rattle.capn_departure.proofs.Searches.{numbers-of, middle, row-split}
+use Rattle.capn_departure.proofs.Owned.{same-after}
 
 -- a slot of an object is one of its slots, of which the numbers say which
 pub record AreIn (s start : ℕ) (shape : Shape) (row number : ℕ) (at : Place) : Type 0 where
@@ -79,14 +81,14 @@ is-in (shapes.Rows n a b span) s start row i lt l =
     }
 
 module _ (m : List (List ℕ)) (base : ℕ) (word : Place) where
-  pub reaches-here : (d : ℕ) (at : Place) (way : List ℕ) (x : Found) → found_at m (Word word) at ≡ Some x
+  pub reaches-here : (d : ℕ) (at : Place) (way : List ℕ) (x : Found) → finds word at (target m at) ≡ Some x
       → Reaches m base word d at way way x
   reaches-here d at way x e = record {
     rest = [];
     is = sym (append-nil way);
     to = at;
     number = 0;
-    finds = e;
+    found = e;
     leads = stays m base d at;
   }
 
@@ -95,35 +97,13 @@ module _ (m : List (List ℕ)) (base : ℕ) (word : Place) where
       → target m at ≡ Ok (targets.Content s start shape pads) → 0 < d
       → ReachesBelow m base word (d - 1) (slot s start) shape old new x → Reaches m base word d at old new x
   reaches-object d at s start pads shape old new x e some h =
-      let g = h.leads in
-      let n = numbers-of shape s start pads (length g.before) g.numbers g.named in
-      let l = length-append g.numbers g.rest in
-      let le = ap length g.is in
-      let long = n.1 in
-      let c = g.count in
-      let deep : suc (d - 1) ≡ d = omega arith in
       record {
         rest = h.rest;
         is = h.is;
         to = h.to;
         number = suc h.number;
-        finds = h.finds;
-        leads = rw deep at (descends m base (d - 1) at h.rest h.to (suc h.number) (omega arith)
-            (record {
-              found = targets.Content s start shape pads;
-              names = e;
-              before = g.before;
-              slot = g.slot;
-              behind = g.behind;
-              slots = g.slots;
-              numbers = g.numbers;
-              are = n.0;
-              rest = g.rest;
-              is = g.is;
-              later = g.later;
-              onward = g.onward;
-              count = omega arith;
-            }));
+        found = h.found;
+        leads = goes-down m base d at s start pads shape h.rest h.to h.number e some h.leads;
       }
 
   -- from an object, by one of its slots
@@ -137,7 +117,7 @@ module _ (m : List (List ℕ)) (base : ℕ) (word : Place) where
         is = h.is ∙ ap (λ (l : List ℕ). l ++ h.rest) push ∙ append_assoc old ns h.rest;
         to = h.to;
         number = length (visits_of m base d among.before) + h.number;
-        finds = h.finds;
+        found = h.found;
         leads = record {
           before = among.before;
           slot = at;
@@ -154,13 +134,16 @@ module _ (m : List (List ℕ)) (base : ℕ) (word : Place) where
       }
 
   -- what a search among visits has found is reached
-  pub reaches-met : (d : ℕ) (at : Place) (old new : List ℕ) (x : Found)
-      → Seeks m base (Word word) d at old new (Some x) → Reaches m base word d at old new x
-  reaches-met d at old new x h = record {
-    rest = h.rest;
-    is = h.is;
-    to = h.to;
-    number = length h.before;
-    finds = h.finds;
-    leads = h.leads;
-  }
+  pub reaches-met : (d : ℕ) (at : Place) (way : List ℕ) (x : Found)
+      → Meets m owned same (visits m base d at) (Leads m base d at) (record { word = word }) way x
+      → Reaches m base word d at [] way x
+  reaches-met d at way x h =
+      let aim : Owner = record { word = word } in
+      record {
+        rest = way;
+        is = refl;
+        to = h.to;
+        number = length h.before;
+        found = rw (same-after m owned aim h.last h.before h.passed) at h.found;
+        leads = h.leads;
+      }

@@ -4,4 +4,3 @@ pub mod Made
 pub mod Owned
 pub mod Reached
 pub mod Search
-pub mod Seeks

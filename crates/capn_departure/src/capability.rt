@@ -6,11 +6,36 @@ ghost use Rattle.capn_value.specs.FirstCap.{first_cap};
 ghost use Rattle.capn_walk.specs.Accepted.{IsValueOf};
 ghost use Rattle.capn_departure.specs.Capability.{IsFirstCapability};
 
-use crate::seek::seek_slot;
-use crate::sought::{Found, Sought};
+use capn_target::{Fault, Target};
 use capn_walk::Limits;
+use capn_way::{Aim, seek};
 use capn_words::{Memory, Place, Space};
 use std::alloc::Allocator;
+
+/// The aim at a capability, which is found by its index.
+#[derive(Drop)]
+struct Capability;
+
+impl Aim for Capability {
+    ghost use Rattle.capn_departure.specs.inner.Search.{capability, same};
+
+    type Found = u32;
+
+    ghost finds = { capability };
+
+    ghost next = { same };
+
+    fn test(&mut self, _at: Place, named: Result<Target, Fault>) -> Option<u32> {
+        match named {
+            Ok(target) => match target {
+                Target::Cap(index) => Some(index),
+                Target::Nil => None,
+                Target::Content { .. } => None,
+            },
+            Err(_) => None,
+        }
+    }
+}
 
 /// Finds the first capability of the message `space`, whose value has one: returns its index, and the way to its slot.
 pub fn first_capability<S: Space, A: Allocator + Copy>(
@@ -23,15 +48,8 @@ pub fn first_capability<S: Space, A: Allocator + Copy>(
     ensures index { IfOk result (λ r. (v : Value) → IsValueOf (S.message space.now) limits v
         → first_cap v ≡ Some r.0) }
 {
-    let mut way = Vec::new(alloc);
-    let sought = Sought::Capability;
-    match seek_slot(space, Place::ROOT, limits.depth(), sought, &mut way)? {
-        Some(found) => match found {
-            Found::Capability(index) => Ok((index, way)),
-            Found::Pointer => unreachable!(),
-            Found::Tag => unreachable!(),
-            Found::LastWord => unreachable!(),
-        },
+    match seek(alloc, space, limits.depth(), Capability)? {
+        Some(found) => Ok(found),
         None => unreachable!(),
     }
 }

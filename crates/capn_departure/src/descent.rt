@@ -6,7 +6,7 @@ ghost use Rattle.capn_target.specs.Shapes.{IsContent, RowsFit, extent};
 ghost use Rattle.capn_departure.specs.inner.Reached.{Reaches, ReachesBelow, numbers};
 
 use crate::likely::likely_step;
-use crate::sought::{Found, Sought, finds};
+use crate::sought::{Found, finds};
 use capn_target::{Shape, Target, resolve};
 use capn_words::{Memory, Place, Space};
 use std::alloc::Allocator;
@@ -29,7 +29,7 @@ pub fn descend<S: Space, A: Allocator>(
         → Reaches (S.message space.now) base word depth at way.old.items way.new.items found)) }
 {
     let named = resolve(space, at);
-    match finds(Sought::Word(word), at, named) {
+    match finds(word, at, named) {
         Some(found) => return Ok(Some(found)),
         None => {}
     }

@@ -27,7 +27,6 @@ mod likely;
 mod message_departure;
 mod only_segment;
 mod owner;
-mod seek;
 mod slot_rows;
 mod sought;
 mod surveyed;

@@ -8,10 +8,10 @@ ghost use Rattle.capn_departure.specs.inner.Owned.{HasOwner};
 ghost use Rattle.capn_departure.specs.inner.Reached.{Reaches};
 
 use crate::descent::descend;
-use crate::seek::seek_slot;
-use crate::sought::{Found, Sought};
+use crate::sought::{Found, Owner};
 use crate::whose::Whose;
 use capn_walk::Limits;
+use capn_way::seek;
 use capn_words::{Bare, Memory, Place};
 use std::alloc::Allocator;
 
@@ -32,7 +32,6 @@ pub fn owner<A: Allocator + Copy>(
         Found::Pointer => Ok(Whose::Pointer(way)),
         Found::Tag => Ok(Whose::Tag(way)),
         Found::LastWord => Ok(Whose::LastWord(way)),
-        Found::Capability(_) => unreachable!(),
     }
 }
 
@@ -55,15 +54,8 @@ fn slot_of<A: Allocator + Copy>(
         Some(found) => return Ok((found, way)),
         None => {}
     }
-    way.clear();
-    match seek_slot(
-        canonical,
-        Place::ROOT,
-        limits.depth(),
-        Sought::Word(word),
-        &mut way,
-    )? {
-        Some(found) => Ok((found, way)),
+    match seek(alloc, canonical, limits.depth(), Owner { word })? {
+        Some(found) => Ok(found),
         None => unreachable!(),
     }
 }

@@ -1,62 +1,52 @@
-//! The aims and the finds of a search among visits.
+//! The find of a word at a slot.
 
 ghost use Rattle.std.specs.Prelude.{◌≡◌, ◌<◌, ◌^◌};
 ghost use Rattle.capn_departure.specs.inner.Search as search;
 
 use capn_target::{Fault, Shape, Target, content_words};
+use capn_way::Aim;
 use capn_words::{Place, Width};
 
-/// The aim of a search.
-#[derive(Clone, Copy)]
-pub enum Sought {
-    /// A capability.
-    Capability,
-    /// The slot whose pointer is the word at this place, or whose object it belongs to.
-    Word(Place),
+/// The aim at the slot that owns a word: the word is its pointer, or the tag or the last word of its object.
+#[derive(Drop)]
+pub struct Owner {
+    /// The place of the word.
+    pub word: Place,
 }
 
-/// The find at a slot.
+/// The kind of a word at the slot that owns it.
 #[derive(Clone, Copy)]
 pub enum Found {
-    /// It is a capability with this index.
-    Capability(u32),
-    /// The word is its pointer.
+    /// It is the slot's pointer.
     Pointer,
-    /// The word is the tag of the list of structs that it names.
+    /// It is the tag of the list of structs that the slot names.
     Tag,
-    /// The word is the last one of the list of small numbers that it names.
+    /// It is the last word of the list of small numbers that the slot names.
     LastWord,
 }
 
-/// Returns the find at the slot at `at` with the target `named`, if it is the one that is `sought`.
-pub fn finds(sought: Sought, at: Place, named: Result<Target, Fault>) -> Option<Found>
-    ensures { result ≡ search.finds sought at named }
-{
-    match sought {
-        Sought::Capability => match named {
-            Ok(target) => capability_in(target),
-            Err(_) => None,
-        },
-        Sought::Word(word) => {
-            if is_at(at.segment, at.word, word) {
-                return Some(Found::Pointer);
-            }
-            match named {
-                Ok(target) => found_in(word, target),
-                Err(_) => None,
-            }
-        }
+impl Aim for Owner {
+    type Found = Found;
+
+    ghost finds = { search.owned };
+
+    ghost next = { search.same };
+
+    fn test(&mut self, at: Place, named: Result<Target, Fault>) -> Option<Found> {
+        finds(self.word, at, named)
     }
 }
 
-/// Returns the capability that a slot names, if it names one.
-fn capability_in(target: Target) -> Option<Found>
-    ensures { result ≡ search.capability_in target }
+/// Returns the kind of `word` at the slot at `at` with the target or the fault `named`, if the slot owns the word.
+pub fn finds(word: Place, at: Place, named: Result<Target, Fault>) -> Option<Found>
+    ensures { result ≡ search.finds word at named }
 {
-    match target {
-        Target::Cap(index) => Some(Found::Capability(index)),
-        Target::Nil => None,
-        Target::Content { .. } => None,
+    if is_at(at.segment, at.word, word) {
+        return Some(Found::Pointer);
+    }
+    match named {
+        Ok(target) => found_in(word, target),
+        Err(_) => None,
     }
 }
 

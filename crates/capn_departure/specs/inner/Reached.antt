@@ -6,12 +6,12 @@ use Rattle.capn_words.specs.declared.pointer.Width.TheVariants.{Link}
 use Rattle.capn_target.specs.declared.target.Shape.{Shape}
 use Rattle.capn_target.specs.declared.target.Shape.TheVariants as shapes
 use Rattle.capn_walk.specs.Visits.{slots}
+use Rattle.capn_target.specs.Target.{target}
 use Rattle.capn_way.specs.Ways.{Leads}
+use Rattle.capn_way.specs.Steps.{AreNumbersIn, DescendsTo}
 use Rattle.capn_departure.specs.declared.slot_rows.SlotRows.{SlotRows}
-use Rattle.capn_departure.specs.declared.sought.Sought.TheVariants.{Word}
 use Rattle.capn_departure.specs.declared.sought.Found.{Found}
-use Rattle.capn_departure.specs.inner.Search.{found_at}
-use Rattle.capn_departure.specs.inner.Seeks.{AreNumbersIn, DescendsTo}
+use Rattle.capn_departure.specs.inner.Search.{finds}
 
 -- the slots of an object that begins at a place, in rows of one form
 abbrev pub rows_of : Place → Shape → SlotRows
@@ -49,7 +49,7 @@ module _ (m : List (List ℕ)) (base : ℕ) (word : Place) where
     pub is : new ≡ old ++ rest
     pub to : Place
     pub number : ℕ
-    pub finds : found_at m (Word word) to ≡ Some x
+    pub found : finds word to (target m to) ≡ Some x
     pub leads : Onward rest to number
 
   -- from a slot on
@@ -59,4 +59,4 @@ module _ (m : List (List ℕ)) (base : ℕ) (word : Place) where
   -- from an object on
   abbrev pub ReachesBelow : ℕ → Place → Shape → List ℕ → List ℕ → Found → Type 0
   ReachesBelow depth start shape =
-      ReachesIn (DescendsTo m base (Word word) depth (slots start.segment start.word shape) (AreNumbersIn shape))
+      ReachesIn (DescendsTo m base depth (slots start.segment start.word shape) (AreNumbersIn shape))

@@ -1,7 +1,6 @@
--- A search among the visits of a walk: for the first capability, or for the slot whose object a word belongs to.
-use Rattle.std.specs.Prelude.{ℕ, ◌+◌, ◌==◌, ◌&&◌, nat_lt, Bool, true, false, List, [], ◌∷◌}
+-- The finds of searches among the visits of a walk: the first capability, and the slot that owns a word.
+use Rattle.std.specs.Prelude.{ℕ, ◌+◌, ◌==◌, ◌&&◌, nat_lt, Bool, true, false}
 use Rattle.std.specs.Prelude.{Option, Some, None, Result, Ok, Err, if◌then◌else◌}
-use Rattle.std.specs.Option.{option_or}
 use Rattle.capn_words.specs.declared.space.Place.{Place}
 use Rattle.capn_words.specs.declared.pointer.Width.{Width}
 use Rattle.capn_words.specs.declared.pointer.Width.TheVariants.{W1, W8, W16, W32}
@@ -9,11 +8,9 @@ use Rattle.capn_target.specs.declared.target.Target.{Target}
 use Rattle.capn_target.specs.declared.target.Target.TheVariants as targets
 use Rattle.capn_target.specs.declared.target.Shape.TheVariants as shapes
 use Rattle.capn_target.specs.declared.target.Fault.{Fault}
-use Rattle.capn_target.specs.Target.{target, content_words}
-use Rattle.capn_walk.specs.Visits.{Visit}
-use Rattle.capn_walk.specs.Index.{place_of}
-use Rattle.capn_departure.specs.declared.sought.Sought.{Sought}
-use Rattle.capn_departure.specs.declared.sought.Sought.TheVariants as sought
+use Rattle.capn_target.specs.Target.{content_words}
+use Rattle.capn_walk.specs.Surveyed.{cap_of}
+use Rattle.capn_departure.specs.declared.sought.Owner.{Owner}
 use Rattle.capn_departure.specs.declared.sought.Found.{Found}
 use Rattle.capn_departure.specs.declared.sought.Found.TheVariants as found
 
@@ -46,27 +43,19 @@ abbrev pub found_there : Place → Result Target Fault → Option Found
 found_there word (Ok named) = found_in word named
 found_there word (Err e) = None
 
--- the capability that a slot names
-abbrev pub capability_in : Target → Option Found
-capability_in (targets.Cap index) = Some (found.Capability index)
-capability_in named = None
+-- the kind of a word at a slot, which owns it: its pointer, or a word of its target
+abbrev pub finds : Place → Place → Result Target Fault → Option Found
+finds word at named = if is_at at.segment at.word word then Some found.Pointer else found_there word named
 
--- the capability of a slot, if it has a target
-abbrev pub capability_there : Result Target Fault → Option Found
-capability_there (Ok named) = capability_in named
-capability_there (Err e) = None
+-- the find of a search for the owner
+abbrev pub owned : Owner → Place → Result Target Fault → Option Found
+owned aim = finds aim.word
 
--- the find at a slot with this target
-abbrev pub finds : Sought → Place → Result Target Fault → Option Found
-finds sought.Capability at named = capability_there named
-finds (sought.Word word) at named = if is_at at.segment at.word word then Some found.Pointer else found_there word named
+module _ {G : Type 0} where
+  -- the find of a search for a capability: its index
+  abbrev pub capability : G → Place → Result Target Fault → Option ℕ
+  capability aim at named = cap_of named
 
-module _ (m : List (List ℕ)) (what : Sought) where
-  -- the find at the slot of a visit
-  abbrev pub found_at : Place → Option Found
-  found_at at = finds what at (target m at)
-
-  -- the first that is found at the slots of visits
-  abbrev pub first_found : List Visit → Option Found
-  first_found [] = None
-  first_found (v ∷ vs) = option_or (found_at (place_of v)) (first_found vs)
+  -- an aim that no visit changes
+  abbrev pub same : G → G
+  same aim = aim

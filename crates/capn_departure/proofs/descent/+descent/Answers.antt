@@ -1,6 +1,5 @@
 use Rattle.std.proofs.Common.{Ok, ap, sym, ◌∙◌, arith}
 use Rattle.std.proofs.lemmas.Option.{IfSome_then}
-use Rattle.capn_departure.specs.declared.sought.Sought.TheVariants.{Word}
 use Rattle.capn_departure.specs.inner.Search.{finds}
 use Rattle.capn_departure.proofs.Reaching.{is-in, reaches-here, reaches-object, reaches-below}
 use Rattle.capn_departure.proofs.descent.+descent.Goals as goal
@@ -9,7 +8,7 @@ pub descend-returns-in-Some : goal.descend-returns-in-Some
 descend-returns-in-Some g t c base =
     let a = c.args in
     reaches-here (g.S.Space.message a.space.now) base a.word a.depth a.at a.way.now.items c.in-Some.found
-    (ap (finds (Word a.word) a.at) (sym c.resolve-named.ensures.exact) ∙ sym c.finds.ensures ∙ c.in-Some.is)
+    (ap (finds a.word a.at) (sym c.resolve-named.ensures.exact) ∙ sym c.finds.ensures ∙ c.in-Some.is)
 
 pub descend-returns-in_ok-found-in-Content : goal.descend-returns-in_ok-found-in-Content
 descend-returns-in_ok-found-in-Content g t c =

@@ -1,10 +1,5 @@
-use Rattle.capn_departure.proofs.Owning.{pointer-owned, tag-owned, last-owned, no-capability}
+use Rattle.capn_departure.proofs.Owning.{pointer-owned, tag-owned, last-owned}
 use Rattle.capn_departure.proofs.owner.owner.Goals as goal
-
-pub unreachable-requires : goal.unreachable-requires
-unreachable-requires g c =
-    let h = rw c.in-Capability.is at c.in_ok-found.ensures in
-    no-capability c.args.canonical.now c.args.limits c.args.word c.in_ok-found.way.items c.in-Capability.field-0 h
 
 pub returns-in-Pointer : goal.returns-in-Pointer
 returns-in-Pointer g c =

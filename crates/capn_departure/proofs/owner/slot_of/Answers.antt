@@ -12,11 +12,13 @@ returns-in-Some g c =
 
 pub unreachable-requires : goal.unreachable-requires
 unreachable-requires g c =
-    let h = rw (c.in-None-2.is, c.depth-2.ensures.value) at c.in_ok-found-2.ensures in
-    c.requires.owned (h (base c.args.limits.tariff)).1
+    let h = rw (c.in-None-2.is, c.depth-2.ensures.value) at c.in_ok-found-2.ensures.none in
+    let p = h (base c.args.limits.tariff) in
+    c.requires.owned p.0 p.1
 
 pub returns : goal.returns
 returns g c =
-    let h = rw (c.in-Some-2.is, c.depth-2.ensures.value, c.clear.ensures.items) at c.in_ok-found-2.ensures in
+    let h = rw (c.in-Some-2.is, c.depth-2.ensures.value) at c.in_ok-found-2.ensures.found in
+    let x = c.in-Some-2.found in
     reaches-met (c.args.canonical.now ∷ []) (base c.args.limits.tariff) (place c.args.word) c.args.limits.depth root
-    [] c.seek_slot.new.way.items c.in-Some-2.found (h (base c.args.limits.tariff))
+    x.1.items x.0 (h (base c.args.limits.tariff))
