@@ -7,23 +7,24 @@
  * The caller owes this too:
  *   - Each pointer leads to what its type and the size after it say. A pointer to no bytes may be null, and so may
  *     limits, which are then the usual ones, and a report or a `which` that is not wanted; no other may. (Code in C
- *     sees to that, which is tested, not proved.) Bytes may start at any address; limits, figures, entries, the numbers
- *     of a way, departures, a `which` and reports are aligned as their types are.
- *   - What a call writes (`out`, `digest`, `figures`, `entries`, `way`, `departed`, `which`, `report`) overlaps nothing
- *     else that it is given, and nothing else reads or writes it while the call runs.
+ *     sees to that, which is tested, not proved.) Bytes and a scratch may start at any address; limits, figures,
+ *     entries, the numbers of a way, departures, a `which` and reports are aligned as their types are.
+ *   - What a call writes (`out`, `scratch`, `digest`, `figures`, `entries`, `way`, `departed`, `which`, `report`)
+ *     overlaps nothing else that it is given, and nothing else reads or writes it while the call runs.
  *   - No call is made from a signal handler, nor from the child of a `fork` of a process with several threads.
  *   - malloc, realloc and free belong to one allocator, which aligns each block as C asks, up to 16 bytes.
  * Every number is tested: a form, a limit, a tariff or a style out of its range is refused.
  *
  * A call reads bytes, writes into a buffer of the caller's, and keeps nothing: no state, no handle, nothing to free.
  * Calls may run in any threads at once, also on the same input. A call that takes memory asks malloc for it, and gives
- * it back before it returns. Of bare words and of a stream of at most 64 segments, capn_canonical, capn_check,
- * capn_survey, capn_same, capn_index and capn_is_canonical ask for none, nor does a call whose name ends in `_segments`
- * but capn_hash_segments. Memory is asked for by a packed text, by a stream of more segments, for the bytes that are
- * hashed, packed or unpacked, for the text of capn_show, for a way and for the bytes that capn_departure compares; and
- * by capn_first and capn_show for the table of a stream of two segments or more. A call takes at most 16 KiB of stack,
- * and 304 bytes more for each level of depth that the limits allow, capn_show 432, capn_index 560, capn_same 576: 92
- * KiB at depth 256, capn_show 124 KiB, capn_index 156 KiB, capn_same 160 KiB.
+ * it back before it returns. capn_canonical_with_scratch asks for none, whatever the bytes. Of bare words and of a
+ * stream of at most 64 segments, capn_canonical, capn_check, capn_survey, capn_same, capn_index and capn_is_canonical
+ * ask for none, nor does a call whose name ends in `_segments` but capn_hash_segments. Memory is asked for by a packed
+ * text, by a stream of more segments, for the bytes that are hashed, packed or unpacked, for the text of capn_show, for
+ * a way and for the bytes that capn_departure compares; and by capn_first and capn_show for the table of a stream of
+ * two segments or more. A call takes at most 16 KiB of stack, and 304 bytes more for each level of depth that the
+ * limits allow, capn_show 432, capn_index 560, capn_same 576: 92 KiB at depth 256, capn_show 124 KiB, capn_index 156
+ * KiB, capn_same 160 KiB.
  *
  * Each call answers a status and fills its report in; a field that the status does not speak of is 0. */
 #ifndef CAPN_H
@@ -182,6 +183,7 @@ enum capn_status_code {
     CAPN_BAD_STYLE = 6,     /* of capn_show alone: the style is none of the four */
     CAPN_DIFFERENT = 7,     /* of capn_same alone: both messages have canonical bytes, and these differ */
     CAPN_MEMORY = 8,        /* memory was refused */
+    CAPN_NO_SCRATCH = 9,    /* of capn_canonical_with_scratch alone; at: how many words are needed */
 
     /* refusals of what was passed */
     /* the bytes are not whole words */
@@ -335,6 +337,26 @@ capn_status capn_departure(uint32_t form, const uint8_t *bytes, size_t size, con
  * is unpacked. It surveys both, and then walks them in step, up to the first difference. */
 capn_status capn_same(uint32_t form, const uint8_t *a, size_t size_a, const uint8_t *b, size_t size_b,
                       const capn_limits *limits, uint32_t *which, capn_report *report);
+
+/* The call that is lent its scratch is there. */
+#define CAPN_HAS_SCRATCH 1
+
+/* The words of scratch that are enough for every stream. */
+#define CAPN_STREAM_SCRATCH 4095
+/* The words that are enough for every packed text, under a limit on message words. */
+#define CAPN_PACKED_SCRATCH(message_words) ((size_t)(message_words) + 6144)
+
+/* The canonical bytes of one message, as capn_canonical writes them, and no memory is asked for: `scratch`, of `words`
+ * words of 8 bytes, is the room for what is kept meanwhile. It may start at any address, and if there are no words, it
+ * may be null. What it holds afterwards is not said.
+ * Bare words, and a stream of at most 64 segments, take none of it. Another stream takes a word for each segment but
+ * the last. A packed text takes the words that it unpacks to, and behind them those of that stream.
+ * CAPN_NO_SCRATCH: it has too few words, and `at` is how many are needed: lend that many, and call again. Of a packed
+ * text they are first those of the text alone, so that a second call may ask for more; a third one does not.
+ * With too little room for the answer, also with none, it returns CAPN_NO_ROOM with the exact length.
+ * Else it answers and refuses what capn_canonical does. Unless it answers CAPN_OK, `out` is as it was. */
+capn_status capn_canonical_with_scratch(uint32_t form, const uint8_t *bytes, size_t size, const capn_limits *limits,
+                                        void *scratch, size_t words, uint8_t *out, size_t room, capn_report *report);
 
 /* The calls for a message that is held in segments are there: those that end in `_segments`. */
 #define CAPN_HAS_SEGMENTS 1

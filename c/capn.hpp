@@ -225,6 +225,30 @@ inline buffer canonical(bytes message, form written = form::stream, const limits
     return detail::made(written == form::packed ? 0 : detail::first_room(message.size(), most), call);
 }
 
+/* What `canonical_into` answers, as capn.h has it. It is true if the canonical bytes are there. */
+struct [[nodiscard]] filled {
+    capn_status status; /* CAPN_OK, CAPN_NO_ROOM, CAPN_NO_SCRATCH, or why there are no canonical bytes */
+    capn_report report;
+    explicit operator bool() const noexcept { return status == CAPN_OK; }
+    /* The bytes that are there, or at CAPN_NO_ROOM those that are needed. */
+    std::size_t length() const noexcept { return static_cast<std::size_t>(report.length); }
+    /* The words of scratch that are needed, at CAPN_NO_SCRATCH; else 0. */
+    std::size_t scratch() const noexcept {
+        return status == CAPN_NO_SCRATCH ? static_cast<std::size_t>(report.at) : 0;
+    }
+};
+
+/* The canonical bytes of one message, at the start of `out`, with `words` words of 8 bytes that `scratch` lends: it
+ * takes no memory, and throws nothing. Bare words, and a stream of at most 64 segments, need no scratch; capn.h says
+ * how much others need. Unless it answers CAPN_OK, `out` is as it was. */
+inline filled canonical_into(bytes message, void *scratch, std::size_t words, void *out, std::size_t room,
+                             form written = form::stream, const limits &most = {}) noexcept {
+    filled told;
+    told.status = capn_canonical_with_scratch(detail::number(written), message.u8(), message.size(), &most, scratch,
+                                              words, static_cast<std::uint8_t *>(out), room, &told.report);
+    return told;
+}
+
 /* The SHA-256 of the canonical bytes of one message. */
 inline digest_bytes digest(bytes message, form written = form::stream, const limits &most = {}) {
     digest_bytes out;

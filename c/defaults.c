@@ -42,6 +42,10 @@ WITH_LIMITS(capn_canonical,
             (uint32_t form, const uint8_t *bytes, size_t size, const capn_limits *limits, uint8_t *out, size_t room,
              capn_report *report),
             (form, bytes, size, limits, out, room, report))
+WITH_LIMITS(capn_canonical_with_scratch,
+            (uint32_t form, const uint8_t *bytes, size_t size, const capn_limits *limits, void *scratch, size_t words,
+             uint8_t *out, size_t room, capn_report *report),
+            (form, bytes, size, limits, scratch, words, out, room, report))
 WITH_LIMITS(capn_is_canonical,
             (const uint8_t *bytes, size_t size, const capn_limits *limits, capn_report *report),
             (bytes, size, limits, report))

@@ -20,6 +20,7 @@ const char *capn_status_text(capn_status status) {
     case CAPN_BAD_STYLE: return "the style is none of the four";
     case CAPN_DIFFERENT: return "the canonical bytes of the two messages differ";
     case CAPN_MEMORY: return "memory was refused";
+    case CAPN_NO_SCRATCH: return "the scratch has too few words";
     case CAPN_NOT_WHOLE: return "the bytes are not whole words";
     case CAPN_BARE_TOO_LONG: return "more words than a bare message may have";
     case CAPN_PACKED_CUT: return "a group of the packed text is cut";
@@ -58,6 +59,7 @@ const char *capn_status_name(capn_status status) {
     case CAPN_BAD_STYLE: return "BadStyle";
     case CAPN_DIFFERENT: return "Different";
     case CAPN_MEMORY: return "Memory";
+    case CAPN_NO_SCRATCH: return "NoScratch";
     case CAPN_NOT_WHOLE: return "NotWhole";
     case CAPN_BARE_TOO_LONG: return "BareTooLong";
     case CAPN_PACKED_CUT: return "PackedCut";

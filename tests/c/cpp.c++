@@ -104,6 +104,32 @@ static void answers() {
     want("a longer answer", capn::canonical(shared).size() == 56 && shared.size() == 48);
 }
 
+/* Canonical bytes into a buffer, with scratch that is lent: few segments, a packed text, and many segments. */
+static void lent() {
+    using capn::form;
+    const std::string message = framed(words({1ull << 32, 5})), wanted(capn::bytes(capn::canonical(message)).chars());
+    char out[64] = {0}, scratch[8 * 80];
+    const capn::filled plain = capn::canonical_into(message, nullptr, 0, out, sizeof out);
+    want("canonical_into", plain && plain.length() == wanted.size() && std::string(out, plain.length()) == wanted);
+    const capn::filled less = capn::canonical_into(message, nullptr, 0, out, wanted.size() - 1);
+    want("too little room", !less && less.status == CAPN_NO_ROOM && less.length() == wanted.size());
+    const capn::buffer text = capn::pack(message);
+    const capn::filled none = capn::canonical_into(text, nullptr, 0, out, sizeof out, form::packed);
+    want("no scratch", !none && none.status == CAPN_NO_SCRATCH && none.scratch() == message.size() / 8);
+    want("no length", none.length() == 0 && plain.scratch() == 0);
+    const capn::filled packed = capn::canonical_into(text, scratch + 1, none.scratch(), out, sizeof out, form::packed);
+    want("packed", packed && std::string(out, packed.length()) == wanted);
+    std::string many(8 * 36, '\0');
+    many[0] = 69, many[4] = 1;
+    many.resize(8 * 36 + 8);
+    const capn::filled table = capn::canonical_into(many, scratch, 68, out, sizeof out);
+    want("a word less", table.scratch() == 69);
+    want("many segments", static_cast<bool>(capn::canonical_into(many, scratch, 69, out, sizeof out)));
+    want("refused", capn::canonical_into(message.substr(0, 20), nullptr, 0, out, sizeof out).status == CAPN_FRAME_CUT);
+    want("limits", capn::canonical_into(message, nullptr, 0, out, sizeof out, form::stream, {1, 1, 0}).status
+                       == CAPN_BAD_LIMITS);
+}
+
 /* Two messages: the same in other layouts, not the same, and one that is refused. */
 static void comparisons() {
     using capn::form;
@@ -333,6 +359,7 @@ static void fields() {
 
 int main() {
     answers();
+    lent();
     comparisons();
     ways();
     refusals();

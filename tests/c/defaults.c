@@ -14,6 +14,7 @@ struct given {
     const capn_limits *limits;
     capn_report *report;
     uint32_t *which;
+    uint8_t scratch[ROOM];
     union {
         uint8_t bytes[ROOM];
         char text[ROOM];
@@ -30,6 +31,7 @@ struct given {
 #define CALL(name, ...) static capn_status try_##name(struct given *g) { return capn_##name(__VA_ARGS__); }
 #define INPUT g->form, g->bytes, g->size, g->limits
 CALL(canonical, INPUT, g->out.bytes, ROOM, g->report)
+CALL(canonical_with_scratch, INPUT, g->scratch, ROOM / 8, g->out.bytes, ROOM, g->report)
 CALL(is_canonical, g->bytes, g->size, g->limits, g->report)
 CALL(hash, INPUT, g->out.bytes, g->report)
 CALL(check, INPUT, g->report)
@@ -69,9 +71,9 @@ static const struct {
     int of_forms;
 } calls[] = {
 #define ONE(name, of_forms) {#name, try_##name, of_forms}
-    ONE(canonical, 1), ONE(is_canonical, 0), ONE(hash, 1), ONE(check, 1), ONE(pack, 0), ONE(unpack, 0), ONE(first, 0),
-    ONE(unpack_some, 0), ONE(survey, 1), ONE(index, 1), ONE(show, 1), ONE(refusal_way, 1), ONE(departure, 1),
-    ONE(same, 1), ONE(same_as_itself, 1),
+    ONE(canonical, 1), ONE(canonical_with_scratch, 1), ONE(is_canonical, 0), ONE(hash, 1), ONE(check, 1), ONE(pack, 0),
+    ONE(unpack, 0), ONE(first, 0), ONE(unpack_some, 0), ONE(survey, 1), ONE(index, 1), ONE(show, 1),
+    ONE(refusal_way, 1), ONE(departure, 1), ONE(same, 1), ONE(same_as_itself, 1),
     ONE(canonical_segments, 1), ONE(hash_segments, 1), ONE(check_segments, 1), ONE(survey_segments, 1)
 };
 enum { CALLS = sizeof calls / sizeof *calls };

@@ -7,7 +7,7 @@
 #include <signal.h>
 #include <unistd.h>
 
-enum { ROOM = ALL_PAGES, LONGEST = PAGE * 8, FILL = 0x5a, LINE = 1 << 20, STORED = 4096, CALLS = 13 };
+enum { ROOM = ALL_PAGES, LONGEST = PAGE * 8, FILL = 0x5a, LINE = 1 << 20, STORED = 4096, CALLS = 14 };
 
 static unsigned long calls, inputs;
 static const char *doing = "nothing";
@@ -293,6 +293,18 @@ static size_t call(uint32_t which, const uint8_t *bytes, size_t size, size_t eno
         need(!told || *told < 2, "which of two");
         need(!told || !*told || status >= CAPN_MEMORY, "which is refused");
         return 0;
+    }
+    case 12: {
+        doing = "capn_canonical_with_scratch";
+        const size_t lent = any(3) ? any(ROOM / 8) : any(3);
+        uint8_t *scratch = filled(of_other, 8 * lent);
+        out = filled(of_out, room);
+        status = capn_canonical_with_scratch(form, bytes, size, limits, scratch, lent, out, room, r);
+        need(status != CAPN_MEMORY, "no memory is asked for");
+        need(status != CAPN_NO_SCRATCH || r->at > lent, "the words that are needed");
+        need(status != CAPN_NO_ROOM || r->length > room, "no room");
+        kept(out, status ? 0 : r->length, room);
+        return status == CAPN_OK || status == CAPN_NO_ROOM ? r->length : 0;
     }
     default: {
         doing = "capn_index";

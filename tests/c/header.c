@@ -36,6 +36,8 @@ int main(void) {
     uint32_t which = 2;
     if (CAPN_HAS_SAME != 1) return 25;
     if (capn_same(CAPN_BARE, out, 8, null + 8, 8, &limits, &which, &report) != CAPN_OK || which) return 26;
+    if (CAPN_HAS_SCRATCH != 1 || CAPN_STREAM_SCRATCH != 4095 || CAPN_PACKED_SCRATCH(1) != 6145) return 27;
+    if (capn_canonical_with_scratch(CAPN_BARE, null, 8, &limits, NULL, 0, out, 16, &report) != CAPN_RANGE) return 28;
     if (CAPN_HAS_SEGMENTS != 1 || capn_refusal_text(CAPN_FRAME_CUT, &report, text, 16) != 10) return 17;
     if (capn_status_name(CAPN_RANGE)[0] != 'R') return 18;
     if (!capn_version()[0] || !capn_status_text(CAPN_OK)[0]) return 10;

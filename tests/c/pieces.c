@@ -9,7 +9,7 @@ static uint8_t *guarded[2];
 static void texts(const char *version) {
     static const capn_status all[] = {
         /* c/statuses.txt: numbers */
-        0, 1, 2, 3, 4, 5, 6, 7, 8, 16, 17, 32, 33, 48, 49, 50, 51, 52, 64, 65, 66, 67, 68, 69, 70, 71, 72, 73, 74, 80
+        0, 1, 2, 3, 4, 5, 6, 7, 8, 9, 16, 17, 32, 33, 48, 49, 50, 51, 52, 64, 65, 66, 67, 68, 69, 70, 71, 72, 73, 74, 80
         /* c/statuses.txt ends */
     };
     const size_t count = sizeof all / sizeof *all;

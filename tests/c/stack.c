@@ -7,11 +7,11 @@
 #include <string.h>
 
 enum { ROOM = 1 << 20 };
-enum { MOST_SEGMENTS = 66, CALLS = 29, KINDS = 4 };
+enum { MOST_SEGMENTS = 66, CALLS = 30, KINDS = 4 };
 /* The calls that have a bound of their own, and the bytes of each level of depth. */
 static const char *const names[KINDS] = {"", "capn_show ", "capn_index ", "capn_same "};
 static const size_t levels[KINDS] = {304, 432, 560, 576};
-static uint8_t in[8 * 4096], framed[8 * 4096 + 1024], text[ROOM];
+static uint8_t in[8 * 4096], framed[8 * 4096 + 1024], text[ROOM], scratch[ROOM];
 static _Alignas(8) uint8_t out[ROOM];
 static capn_segment all[MOST_SEGMENTS];
 static size_t size, framed_size, packed_size;
@@ -79,6 +79,10 @@ static void *run(void *status) {
     case 25: *told = same(CAPN_BARE, in, size); break;
     case 26: *told = same(CAPN_STREAM, framed, framed_size); break;
     case 27: *told = same(CAPN_PACKED, text, packed_size); break;
+    case 28:
+        *told = capn_canonical_with_scratch(CAPN_PACKED, text, packed_size, &limits, scratch, ROOM / 8, out, ROOM,
+                                            &report);
+        break;
     default: *told = capn_unpack(text, packed_size, 1u << 20, out, ROOM, &report); break;
     }
     return NULL;

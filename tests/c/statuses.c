@@ -21,8 +21,9 @@ static void is(const char *what, capn_status status, capn_status wanted) {
     want(what, status, wanted);
 }
 
-/* What canonical, with room and without, hash, same, check, survey, show and the calls with ways answer of bytes, and
- * index, which doesn't take packed ones: all but canonical, hash and same say OK of a value with a capability. */
+/* What canonical, with room, without it and with scratch, hash, same, check, survey, show and the calls with ways
+ * answer of bytes, and index, which doesn't take packed ones: all but canonical, hash and same say OK of a value with a
+ * capability. */
 static capn_report each_call(const char *what, uint32_t form, const void *bytes, size_t size, const capn_limits *limits,
                              uint32_t wanted) {
     capn_report checked, report;
@@ -47,6 +48,10 @@ static capn_report each_call(const char *what, uint32_t form, const void *bytes,
     want("which is refused", which, 0);
     is(what, capn_canonical(form, bytes, size, limits, out, 64, &report), wanted);
     is(what, capn_canonical(form, bytes, size, limits, NULL, 0, &report), wanted == CAPN_OK ? CAPN_NO_ROOM : wanted);
+    /* With scratch that is enough for these, and no memory. */
+    uint64_t scratch[128];
+    const capn_status lent = wanted == CAPN_MEMORY ? CAPN_OK : wanted;
+    is(what, capn_canonical_with_scratch(form, bytes, size, limits, scratch, 128, out, 64, &report), lent);
     return wanted == CAPN_CAPABILITY ? report : checked;
 }
 
@@ -166,6 +171,10 @@ static void called(void) {
     want("its length", report.length, 8);
     is("room for no text", capn_pack(message, 24, out, 1, &report), CAPN_NO_ROOM);
     is("room for no words", capn_unpack(message, 2, 1, out, 7, &report), CAPN_NO_ROOM);
+    const uint8_t packed[2] = {0, 1};
+    is("no scratch", capn_canonical_with_scratch(CAPN_PACKED, packed, 2, &usual, NULL, 0, out, 16, &report),
+       CAPN_NO_SCRATCH);
+    want("the words that are needed", report.at, 2);
     is("two messages", capn_same(CAPN_BARE, message + 8, 16, message + 16, 8, &usual, NULL, &report), CAPN_DIFFERENT);
     is("a struct with a zero word", capn_is_canonical(message + 8, 16, &usual, &report), CAPN_NOT_CANONICAL);
 }

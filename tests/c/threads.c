@@ -9,7 +9,7 @@
 #define THREADS 4
 #define ROUNDS 100
 #endif
-enum { DEPTH = 200, WORDS = 2 * DEPTH, ROOM = 16 * WORDS, CALLS = 17 };
+enum { DEPTH = 200, WORDS = 2 * DEPTH, ROOM = 16 * WORDS, CALLS = 18 };
 static capn_limits limits;
 /* Structs of two pointers, each in the one before: as a stream of two segments, and packed. */
 static uint8_t stream[16 + 8 * WORDS], packed[10 * (WORDS + 2)];
@@ -20,6 +20,7 @@ typedef struct answers {
     capn_status status[CALLS];
     capn_report report[CALLS];
     uint8_t canonical[ROOM], digest[2][32], text[sizeof packed], words[sizeof stream], some[ROOM];
+    uint8_t lent[ROOM], scratch[sizeof stream];
     capn_figures figures;
     capn_entry entries[WORDS + 1];
     capn_departed departed;
@@ -51,6 +52,8 @@ static void make(answers *a) {
     a->status[14] = capn_departure(CAPN_BARE, bare, sizeof stream - 16, &limits, &a->departed, way, WORDS, &r[14]);
     a->status[15] = capn_same(CAPN_PACKED, packed, packed_size, packed, packed_size, &limits, &a->which[0], &r[15]);
     a->status[16] = capn_same(CAPN_BARE, bare, sizeof stream - 16, bare, 8, &limits, &a->which[1], &r[16]);
+    a->status[17] = capn_canonical_with_scratch(CAPN_PACKED, packed, packed_size, &limits, a->scratch, WORDS + 2,
+                                                a->lent, ROOM, &r[17]);
 }
 
 static void *run(void *number) {

@@ -6,6 +6,7 @@ pub mod Entered
 pub mod Figured
 pub mod Framed
 pub mod Least
+pub mod Lent
 pub mod Listed
 pub mod OfMessage
 pub mod OneBare

@@ -3,13 +3,14 @@
 //!
 //! Each export answers a status and fills in a [`CapnReport`]. Statuses up to 7 speak of the call: 0, the answer is
 //! there; 1, its buffer has no room; 2, 3, 4 and 6, the form, a limit, the tariff or the style is out of its range; 5,
-//! bytes are not canonical; 7, two messages differ. From 8 on they stand for a refusal, with its numbers in the report;
-//! what a status does not speak of is 0.
+//! bytes are not canonical; 7, two messages differ. 9 says that the scratch is too short. 8, and from 16 on, they stand
+//! for a refusal, with its numbers in the report; what a status does not speak of is 0.
 //! An export requires nothing but what its types say: memory that is there, and no overlap of what is written.
 #![tactic(auto)]
 
 mod canonical_call;
 mod canonical_fill;
+mod canonical_scratch_call;
 mod canonical_segments_call;
 mod check_call;
 mod check_segments_call;

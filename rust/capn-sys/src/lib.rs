@@ -103,6 +103,17 @@ extern "C" {
         room: usize,
         report: *mut capn_report,
     ) -> capn_status;
+    pub fn capn_canonical_with_scratch(
+        form: u32,
+        bytes: *const u8,
+        size: usize,
+        limits: *const capn_limits,
+        scratch: *mut c_void,
+        words: usize,
+        out: *mut u8,
+        room: usize,
+        report: *mut capn_report,
+    ) -> capn_status;
     pub fn capn_is_canonical(
         bytes: *const u8,
         size: usize,

@@ -10,7 +10,7 @@ use capn_sys::{
     capn_departed, capn_entry, capn_figures, capn_limits, capn_report, capn_segment, capn_status,
 };
 
-use crate::{Error, Form, Style};
+use crate::{Error, Form, ScratchError, Style};
 
 const OK: capn_status = 0;
 const NO_ROOM: capn_status = 1;
@@ -73,6 +73,33 @@ pub(crate) fn canonical(
         appended(out, hint, |at, room, report| {
             capn_sys::capn_canonical(form as u32, bytes, size, limits, at, room, report)
         })
+    }
+}
+
+#[inline]
+pub(crate) fn canonical_with_scratch(
+    form: Form,
+    message: &[u8],
+    limits: &capn_limits,
+    scratch: &mut [[u8; 8]],
+    out: &mut [u8],
+) -> Result<usize, ScratchError> {
+    const NO_SCRATCH: capn_status = 9;
+    let mut report = capn_report::default();
+    let (number, bytes, size) = (form as u32, message.as_ptr(), message.len());
+    let (lent, words) = (scratch.as_mut_ptr().cast(), scratch.len());
+    let (at, room) = (out.as_mut_ptr(), out.len());
+    let status = unsafe {
+        let told = &mut report;
+        capn_sys::capn_canonical_with_scratch(
+            number, bytes, size, limits, lent, words, at, room, told,
+        )
+    };
+    match status {
+        OK => Ok(report.length as usize),
+        NO_ROOM => Err(ScratchError::NoRoom(report.length as usize)),
+        NO_SCRATCH => Err(ScratchError::NoScratch(report.at as usize)),
+        status => Err(ScratchError::Error(Error::of(status, &report))),
     }
 }
 

@@ -43,6 +43,7 @@ mod message;
 #[cfg(feature = "std")]
 mod reader;
 mod same;
+mod scratch;
 pub mod segments;
 mod stream;
 mod ways;
@@ -58,5 +59,6 @@ pub use message::{
 #[cfg(feature = "std")]
 pub use reader::{ReadError, Reader};
 pub use same::{same, SameError, Which};
+pub use scratch::{canonical_with_scratch, ScratchError};
 pub use stream::{messages, Messages};
 pub use ways::{departure, refusal_way, Departure, Owner, Way};

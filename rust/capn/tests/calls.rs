@@ -1,7 +1,7 @@
 //! The calls by hand.
 use capn::{
-    segments, Error, Form, Index, Kind, Limits, Place, ReadError, Reader, SameError, Style, Tariff,
-    Value, Which,
+    segments, Error, Form, Index, Kind, Limits, Place, ReadError, Reader, SameError, ScratchError,
+    Style, Tariff, Value, Which,
 };
 use std::io::{self, Read, Write};
 use std::os::unix::net::UnixStream;
@@ -51,6 +51,42 @@ fn answers() {
             .capability,
         Some(7)
     );
+}
+
+#[test]
+fn canonical_bytes_with_scratch() {
+    let into = |message: &[u8], form, words: usize, room: usize| {
+        let (mut scratch, mut out) = (vec![[0x55; 8]; words], vec![0x55; room]);
+        let told = capn::canonical_with_scratch(message, form, &USUAL, &mut scratch, &mut out);
+        if told.is_err() {
+            assert_eq!(out, vec![0x55; room], "the room is as it was");
+        }
+        told.map(|length| out[..length].to_vec())
+    };
+    let (message, wanted) = (one(), words(&[1 << 32, 5]));
+    let packed = capn::pack(&message).unwrap();
+    assert_eq!(into(&message, Form::Stream, 0, 16), Ok(wanted.clone()));
+    assert_eq!(into(&message[8..], Form::Bare, 0, 20), Ok(wanted.clone()));
+    assert_eq!(into(&packed, Form::Packed, 4, 16), Ok(wanted));
+    let no_scratch = |needed| Err(ScratchError::NoScratch(needed));
+    assert_eq!(into(&packed, Form::Packed, 3, 16), no_scratch(4));
+    for room in [15, 0] {
+        assert_eq!(
+            into(&message, Form::Stream, 0, room),
+            Err(ScratchError::NoRoom(16))
+        );
+    }
+    // A table of 65 segments, of which the first has a word.
+    let mut many = words(&[64 | 1 << 32]);
+    many.resize(4 + 4 * 65 + 8, 0);
+    assert_eq!(into(&many, Form::Stream, 63, 8), no_scratch(64));
+    assert_eq!(into(&many, Form::Stream, 64, 8), Ok(vec![0; 8]));
+    let many = capn::pack(&many).unwrap();
+    assert_eq!(into(&many, Form::Packed, 0, 8), no_scratch(34));
+    assert_eq!(into(&many, Form::Packed, 34, 8), no_scratch(98));
+    assert_eq!(into(&many, Form::Packed, 98, 8), Ok(vec![0; 8]));
+    let refused = into(&message[..20], Form::Stream, 0, 16).unwrap_err();
+    assert_eq!(refused.to_string(), "frame: Cut");
 }
 
 #[test]

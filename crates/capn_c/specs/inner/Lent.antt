@@ -1,0 +1,59 @@
+-- The answers of private calls with the scratch that is lent.
+use Rattle.std.specs.Prelude.{IsTrue, ◌≡◌, ◌≢◌, ◌⊎◌, ℕ, ◌+◌, ◌*◌, ◌≤◌, List, None, take, Result, MatchResult}
+use Rattle.capn_value.specs.FirstCap.{first_cap}
+use Rattle.capn_value.specs.Tree.{Tree}
+use Rattle.capn_walk.specs.Accepted.{IsBounded}
+use Rattle.capn_walk.specs.Limits.{Bounds}
+use Rattle.capn_canon.specs.Canonicity.{IsCanonicalForm}
+use Rattle.capn_canon.specs.Denotes.{Answers, Denotes}
+use Rattle.capn_canon.specs.Layout.{canon}
+use Rattle.capn_canon.specs.Refusal.{IsRefused}
+use Rattle.capn_canon.specs.declared.form.Form.{Form}
+use Rattle.capn_canon.specs.declared.length.CanonicalLength.{CanonicalLength}
+use Rattle.capn_canon.specs.declared.refusal.Refusal.{Refusal}
+use Rattle.capn_canon.specs.declared.refusal.Refusal.TheVariants as refusals
+use Rattle.capn_scratch.specs.Laws.{most_scratch}
+use Rattle.capn_scratch.specs.Needs.{HasScratch}
+use Rattle.capn_scratch.specs.declared.refusal.FormRefusal.{FormRefusal}
+use Rattle.capn_scratch.specs.declared.refusal.FormRefusal.TheVariants as told
+use Rattle.capn_reports.specs.Calls.{Delivers}
+use Rattle.capn_reports.specs.StatusCodes.{Reports, answered, at_number}
+use Rattle.capn_reports.specs.declared.report.CapnReport.{CapnReport}
+use Rattle.capn_c.specs.Lent.{LacksScratch, is_lent_status}
+
+-- the status and the report of a refusal
+abbrev pub IsRefusalTold : FormRefusal → ℕ → CapnReport → Type 0
+IsRefusalTold (told.Bare e) status report = Reports status report (refusals.Bare e)
+IsRefusalTold (told.Packed e) status report = Reports status report (refusals.Packed e)
+IsRefusalTold (told.Frame e) status report = Reports status report (refusals.Frame e)
+IsRefusalTold (told.Trailing at) status report = Reports status report (refusals.Trailing at)
+IsRefusalTold (told.NoScratch n) status report = (status ≡ 9) × (report ≡ at_number n)
+IsRefusalTold (told.Walk s) status report = Reports status report (refusals.Walk s)
+IsRefusalTold (told.Capability k) status report = Reports status report (refusals.Capability k)
+IsRefusalTold (told.NoRoom n p) status report = (status ≡ 1) × (report ≡ answered n p 0)
+
+-- the status and the report of a result
+abbrev pub IsResultTold : Result CanonicalLength FormRefusal → ℕ → CapnReport → Type 0
+IsResultTold r status report = MatchResult r (λ c. (status ≡ 0) × (report ≡ answered c.length c.paid 0))
+    (λ e. IsRefusalTold e status report)
+
+-- the clauses of a call that is lent its scratch, of a form and limits
+pub record IsLent (form : Form) (bs : List ℕ) (limits : Bounds) (scratch : ℕ) (old new : List ℕ) (status : ℕ)
+    (report : CapnReport) : Type 0 where
+  pub possible : (status ≤ 1) ⊎ (9 ≤ status)
+  pub found : status ≤ 1 → (text : List ℕ) × Answers form bs limits text report.paid × HasScratch form bs scratch
+      × Delivers text status report.length old new
+  pub only : (v : Tree) → Denotes form bs limits v → first_cap v ≡ None → HasScratch form bs scratch
+      → Delivers (canon v) status report.length old new
+  pub rest : status ≤ 1 → report ≡ answered report.length report.paid 0
+  pub listed : IsTrue (is_lent_status status)
+  pub lacking : status ≡ 9 → (report ≡ at_number report.at)
+      × LacksScratch form bs limits.message_words scratch report.at
+  pub lacked : (n : ℕ) → LacksScratch form bs limits.message_words scratch n
+      → (status ≡ 9) × (report ≡ at_number n)
+  pub enough : status ≡ 9 → report.at ≤ most_scratch form limits.message_words
+  pub refused : 10 ≤ status → (e : Refusal) × Reports status report e × IsRefused form bs limits e
+  pub bounded : IsBounded limits.budget report.paid report.visits
+  pub short : status ≤ 1 → report.length ≤ 8 * (report.paid + 1)
+  pub kept : status ≢ 0 → new ≡ old
+  pub canonical : status ≡ 0 → (v : Tree) → Denotes form bs limits v → IsCanonicalForm (take report.length new) limits v

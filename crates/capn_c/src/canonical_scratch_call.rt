@@ -1,0 +1,157 @@
+//! Canonical bytes with the scratch that the caller lends.
+
+ghost use Rattle.std.specs.Prelude.{IsTrue, ◌≡◌, ◌≢◌, ◌↔◌, ◌≤◌, ◌+◌, ◌*◌, ℕ, List, None, length, take};
+ghost use Rattle.capn_value.specs.Tree.{Tree as Value};
+ghost use Rattle.capn_value.specs.FirstCap.{first_cap};
+ghost use Rattle.capn_walk.specs.Accepted.{IsBounded};
+ghost use Rattle.capn_canon.specs.Layout.{canon};
+ghost use Rattle.capn_canon.specs.Denotes.{Denotes, Answers};
+ghost use Rattle.capn_canon.specs.Canonicity.{IsCanonicalForm};
+ghost use Rattle.capn_canon.specs.Refusal.{IsRefused};
+ghost use Rattle.capn_canon.specs.declared.refusal.Refusal.{Refusal as Refusals};
+ghost use Rattle.capn_scratch.specs.Laws.{most_scratch};
+ghost use Rattle.capn_scratch.specs.Needs.{HasScratch};
+ghost use Rattle.capn_reports.specs.Calls.{IsForm, form_named, GiveLimits, IsTariff, bounds_of, Delivers};
+ghost use Rattle.capn_reports.specs.StatusCodes.{Reports, answered, at_number};
+ghost use Rattle.capn_c.specs.Lent.{LacksScratch, is_lent_status};
+ghost use Rattle.capn_c.specs.inner.Lent.{IsLent, IsRefusalTold, IsResultTold};
+
+use capn_canon::laws::denotation;
+use capn_canon::{CanonicalLength, Form, Refusal};
+use capn_reports::{
+    BAD_FORM, CapnLimits, CapnReport, DONE, NO_ROOM, answer_of, form_of, limits_of, refuse,
+    report_at,
+};
+use capn_scratch::laws::{decision, enough};
+use capn_scratch::{FormRefusal, canonical_into_form};
+use capn_walk::Limits;
+
+/// The scratch has too few words.
+const NO_SCRATCH: u32 = 9;
+
+/// Reports `refusal`: writes its numbers to `report`, and returns its status.
+fn tell_refusal(refusal: FormRefusal, report: &mut CapnReport) -> u32
+    ensures { IsRefusalTold refusal result report.new }
+{
+    match refusal {
+        FormRefusal::Bare(fault) => refuse(Refusal::Bare(fault), report),
+        FormRefusal::Packed(fault) => refuse(Refusal::Packed(fault), report),
+        FormRefusal::Frame(fault) => refuse(Refusal::Frame(fault), report),
+        FormRefusal::Trailing(at) => refuse(Refusal::Trailing(at), report),
+        FormRefusal::NoScratch { needed } => {
+            *report = report_at(needed as u64);
+            NO_SCRATCH
+        }
+        FormRefusal::Walk(stopped) => refuse(Refusal::Walk(stopped), report),
+        FormRefusal::Capability(index) => refuse(Refusal::Capability(index), report),
+        FormRefusal::NoRoom { needed, paid } => {
+            *report = answer_of(needed as u64, paid, 0);
+            NO_ROOM
+        }
+    }
+}
+
+/// Reports the result `written`: writes its numbers to `report`, and returns its status.
+fn tell(written: Result<CanonicalLength, FormRefusal>, report: &mut CapnReport) -> u32
+    ensures { IsResultTold written result report.new }
+{
+    match written {
+        Ok(written) => {
+            *report = answer_of(written.length as u64, written.paid, 0);
+            DONE
+        }
+        Err(refusal) => tell_refusal(refusal, report),
+    }
+}
+
+/// Writes the canonical bytes of the message that `bytes` encode in this `form` to `out`, and reports it.
+fn write_lent(
+    form: Form,
+    bytes: &[u8],
+    limits: Limits,
+    scratch: &mut [[u8; 8]],
+    out: &mut [u8],
+    report: &mut CapnReport,
+) -> u32
+    ensures { IsLent form bytes.now limits (length scratch.old) out.old out.new result report.new }
+{
+    // The clauses need the laws of canonical bytes, and what is promised of limits.
+    decision();
+    enough();
+    denotation();
+    let _words = limits.message_words();
+    let _budget = limits.budget();
+    let _depth = limits.depth();
+    let written = canonical_into_form(form, bytes, limits, scratch, out);
+    tell(written, report)
+}
+
+/// Writes the canonical bytes of the message that `bytes` encode in a `form` to `out`. It takes no memory: `scratch` is
+/// the room for what has to be kept on the way, and what it holds afterwards is not said.
+///
+/// 0: the answer is at the start of the buffer. 1: the buffer has no room for it, and is as it was; `length` is what it
+/// needs, exactly. 2, 3 and 4: the form, a limit or the tariff is out of its range. 9: the scratch has too few words;
+/// `at` is how many are needed. Others: the refusal, never that memory was refused.
+///
+/// Bare words, and a stream of at most 64 segments, take no scratch. Other streams take a word for each segment but the
+/// last: 4,095 are always enough. A packed text takes the words that it unpacks to, and then those of the stream: the
+/// limit on message words and 6,144 more are always enough. They are asked for one after the other.
+#[unsafe(no_mangle)]
+pub extern "C" fn capn_canonical_with_scratch(
+    form: u32,
+    bytes: &[u8],
+    limits: &CapnLimits,
+    scratch: &mut [[u8; 8]],
+    out: &mut [u8],
+    report: &mut CapnReport,
+) -> u32
+    // The form and the limits are tested first.
+    ensures form { (result ≡ 2) ↔ (IsForm form → ⊥) }
+    ensures limits { (result ≡ 3) ↔ (IsForm form × (GiveLimits limits.now → ⊥)) }
+    ensures tariff { (result ≡ 4) ↔ (IsForm form × GiveLimits limits.now × (IsTariff limits.now.tariff → ⊥)) }
+    // The answer: the canonical bytes of the one value that the bytes denote, and the words that the walk pays. The
+    // scratch has the words that the bytes take.
+    ensures found { result ≤ 1 → (text : List ℕ)
+        × Answers (form_named form) bytes.now (bounds_of limits.now) text report.new.paid
+        × HasScratch (form_named form) bytes.now (length scratch.old)
+        × Delivers text result report.new.length out.old out.new }
+    // A value without capabilities is answered, if the scratch has them.
+    ensures only { IsForm form → GiveLimits limits.now → IsTariff limits.now.tariff → (v : Value)
+        → Denotes (form_named form) bytes.now (bounds_of limits.now) v → first_cap v ≡ None
+        → HasScratch (form_named form) bytes.now (length scratch.old)
+        → Delivers (canon v) result report.new.length out.old out.new }
+    // The report of an answer has its length and its price; what no status speaks of is 0.
+    ensures rest { result ≤ 1 → report.new ≡ answered report.new.length report.new.paid 0 }
+    ensures blank { 2 ≤ result → result ≤ 4 → report.new ≡ at_number 0 }
+    ensures listed { IsTrue (is_lent_status result) }
+    // Scratch is asked for exactly if it lacks words, and the report has the number of those that are needed.
+    ensures lacking { result ≡ 9 → (report.new ≡ at_number report.new.at)
+        × LacksScratch (form_named form) bytes.now limits.now.message_words (length scratch.old) report.new.at }
+    ensures lacked { IsForm form → GiveLimits limits.now → IsTariff limits.now.tariff → (n : ℕ)
+        → LacksScratch (form_named form) bytes.now limits.now.message_words (length scratch.old) n
+        → (result ≡ 9) × (report.new ≡ at_number n) }
+    // So many are always enough.
+    ensures enough { result ≡ 9 → report.new.at ≤ most_scratch (form_named form) limits.now.message_words }
+    // The meaning of each refusal; no other status stands for it. There is none of memory.
+    ensures refused { 10 ≤ result → (e : Refusals) × Reports result report.new e
+        × IsRefused (form_named form) bytes.now (bounds_of limits.now) e }
+    ensures no_memory { result ≢ 8 }
+    // No walk reports more paid than its budget.
+    ensures bounded { IsBounded limits.now.budget report.new.paid report.new.visits }
+    ensures short { result ≤ 1 → report.new.length ≤ 8 * (report.new.paid + 1) }
+    // If nothing is answered, the buffer is as it was.
+    ensures kept { result ≢ 0 → out.new ≡ out.old }
+    // Read bare under the same limits, the answer denotes the trimmed value, which is the same value, and pays exactly
+    // its cost; its canonical bytes are the answer again; and a second value has these if and only if it is the same.
+    ensures canonical { result ≡ 0 → (v : Value) → Denotes (form_named form) bytes.now (bounds_of limits.now) v
+        → IsCanonicalForm (take report.new.length out.new) (bounds_of limits.now) v }
+{
+    *report = report_at(0);
+    let Some(form) = form_of(form) else {
+        return BAD_FORM;
+    };
+    match limits_of(limits) {
+        Ok(limits) => write_lent(form, bytes, limits, scratch, out, report),
+        Err(status) => status,
+    }
+}
