@@ -7,7 +7,7 @@ use Rattle.std.proofs.lemmas.List.Sums.{sum_by-cons}
 use Rattle.capn_words.specs.Message.{bytes, segment_at, total, IsBare}
 use Rattle.capn_words.proofs.shared.Words.{length-bytes}
 use Rattle.capn_words.specs.declared.space.Place.{Place}
-use Rattle.capn_stream.specs.Frames.{contents}
+use Rattle.capn_stream.specs.Frames.{segment_bytes}
 use Rattle.capn_stream.specs.FrameRefusal.{announced_segments, announced_words, head_length}
 use Rattle.capn_stream.proofs.shared.FrameLaws.{announces, stands_alone}
 use Rattle.capn_walk.specs.Index.{IndexesAreReadable, by_kind, entry_at, entry_of, entry_target, index_of}
@@ -42,30 +42,30 @@ within_all (ws ∷ m) (suc s) h =
 
 -- the words of a segment come after those of the segments before it
 in_contents : (m : List (List ℕ)) (s w n : ℕ) → s < length m → w + n ≤ length (segment_at m s)
-    → take (8 * n) (drop (8 * (sum_by length (take s m) + w)) (contents m))
+    → take (8 * n) (drop (8 * (sum_by length (take s m) + w)) (segment_bytes m))
     ≡ take (8 * n) (drop (8 * w) (bytes (segment_at m s)))
 in_contents [] s w n h k = absurd (omega (arith, h))
 in_contents (ws ∷ m) zero w n h k =
     let e : 8 * (sum_by length (take zero (ws ∷ m)) + w) ≡ 8 * w = omega arith in
     let long = length-bytes ws in
-    let front = drop-append-le (8 * w) (bytes ws) (contents m) (omega (arith, k, long)) in
-    let part = take-append-le (8 * n) (drop (8 * w) (bytes ws)) (contents m)
+    let front = drop-append-le (8 * w) (bytes ws) (segment_bytes m) (omega (arith, k, long)) in
+    let part = take-append-le (8 * n) (drop (8 * w) (bytes ws)) (segment_bytes m)
     (omega (arith, k, long, length-drop (8 * w) (bytes ws))) in
-    ap (λ (i : ℕ). take (8 * n) (drop i (bytes ws ++ contents m))) e
+    ap (λ (i : ℕ). take (8 * n) (drop i (bytes ws ++ segment_bytes m))) e
     ∙ (ap (λ (xs : List ℕ). take (8 * n) xs) front ∙ part)
 in_contents (ws ∷ m) (suc s) w n h k =
     let on = sum_by length (take s m) + w in
     let cons = sum_by-cons length ws (take s m) in
     let e : 8 * (sum_by length (take (suc s) (ws ∷ m)) + w) ≡ 8 * length ws + 8 * on = omega (arith, cons) in
-    let past = sym (drop-drop (8 * on) (8 * length ws) (bytes ws ++ contents m))
-    ∙ ap (λ (xs : List ℕ). drop (8 * on) xs) (drop_at (bytes ws) (contents m) (8 * length ws) (length-bytes ws)) in
-    ap (λ (i : ℕ). take (8 * n) (drop i (bytes ws ++ contents m))) e
+    let past = sym (drop-drop (8 * on) (8 * length ws) (bytes ws ++ segment_bytes m))
+    ∙ ap (λ (xs : List ℕ). drop (8 * on) xs) (drop_at (bytes ws) (segment_bytes m) (8 * length ws) (length-bytes ws)) in
+    ap (λ (i : ℕ). take (8 * n) (drop i (bytes ws ++ segment_bytes m))) e
     ∙ (ap (λ (xs : List ℕ). take (8 * n) xs) past ∙ in_contents m s w n (omega (arith, h)) k)
 
 -- ---- bytes that have these contents after a table
 
 record HasContents (table : ℕ) (bs : List ℕ) (m : List (List ℕ)) : Type 0 where
-  after : drop table bs ≡ contents m
+  after : drop table bs ≡ segment_bytes m
   long : table + 8 * total m ≡ length bs
 
 stand : (table : ℕ) (bs : List ℕ) (m : List (List ℕ)) → HasContents table bs m → (at : Place) (n : ℕ)
@@ -99,7 +99,7 @@ frame_contents bs most m h =
 -- bare words are the contents
 bare_contents : (bs ws : List ℕ) (m : List (List ℕ)) → IsBare bs ws → m ≡ ws ∷ [] → HasContents 0 bs m
 bare_contents bs ws m h e = record {
-  after = h.same ∙ (sym (append-nil (bytes ws)) ∙ ap (λ (x : List (List ℕ)). contents x) (sym e));
+  after = h.same ∙ (sym (append-nil (bytes ws)) ∙ ap (λ (x : List (List ℕ)). segment_bytes x) (sym e));
   long = omega (
     arith,
     ap (λ (x : List (List ℕ)). total x) e,

@@ -169,9 +169,10 @@ PageFormsAreWhatIsTold = (bs ds ws us : List ℕ) (v w : Tree) → IsBare bs ws 
 -- two answers, from any two forms, inputs and limits, are byte for byte equal if and only if the getters tell the same
 -- of the values denoted, along every path
 abbrev pub EqualToGetters : Form → List ℕ → Bounds → List ℕ → Type 0
-EqualToGetters form bs limits answer = (g : Form) (ds : List ℕ) (m : Bounds) (other : List ℕ) (price : ℕ) (v w : Tree)
-    → AreLimits m.message_words m.budget m.depth → Answers g ds m other price → Denotes form bs limits v
-    → Denotes g ds m w → (answer ≡ other) ↔ ((p : List Step) → get v p ≡ get w p)
+EqualToGetters form bs limits answer = (g : Form) (ds : List ℕ) (other_limits : Bounds) (other : List ℕ) (price : ℕ)
+    (v w : Tree) → AreLimits other_limits.message_words other_limits.budget other_limits.depth
+    → Answers g ds other_limits other price → Denotes form bs limits v → Denotes g ds other_limits w
+    → (answer ≡ other) ↔ ((p : List Step) → get v p ≡ get w p)
 
 -- so are any two answers
 abbrev pub AnswersAreEqualToGetters : Type 0 → Type 0

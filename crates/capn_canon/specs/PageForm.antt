@@ -16,7 +16,7 @@ use Rattle.capn_layout.specs.FirstBits.{element_bits}
 -- a pointer that is met: null, or at a word, to an object of a shape whose content starts at a word
 pub data Met : Type 0 where
   null : Met
-  object : ℕ → ℕ → Shape → Met
+  object : (pointer start : ℕ) (shape : Shape) → Met
 
 -- a struct of no words
 abbrev pub IsEmpty : Shape → Type 0
@@ -47,18 +47,18 @@ module _ (words : List ℕ) where
 
   -- the contents follow one another in this order, without a gap or an overlap, from a word to the end; one without
   -- words has its place too, unless it is a struct (Page: canonicalization.)
-  abbrev pub WithoutGaps : ℕ → List Met → Type 0
+  abbrev pub WithoutGaps : (next : ℕ) → List Met → Type 0
   WithoutGaps next [] = next ≡ length words
   WithoutGaps next (null ∷ rest) = WithoutGaps next rest
   WithoutGaps next (object pointer start shape ∷ rest) =
       ((IsEmpty shape → ⊥) → start ≡ next) × WithoutGaps (next + extent shape) rest
 
   -- of n words from a word on the last isn't zero, if there are any
-  abbrev pub EndsInSome : ℕ → ℕ → Type 0
+  abbrev pub EndsInSome : (from n : ℕ) → Type 0
   EndsInSome from n = 0 < n → slice_index words (from + (n - 1)) ≢ 0
 
   -- nor is it in one at least of `many` rows, the first of which starts there, each `step` words after the one before
-  abbrev pub OneEndsInSome : ℕ → ℕ → ℕ → ℕ → Type 0
+  abbrev pub OneEndsInSome : (many step from n : ℕ) → Type 0
   OneEndsInSome many step from n = 0 < n → (i : ℕ) × (i < many) × (slice_index words (from + i * step + (n - 1)) ≢ 0)
 
   -- no section of a struct, data words or pointers, ends in a zero word, and no section of the structs of a list ends

@@ -18,11 +18,11 @@ pub record Unpacks (bs : List ℕ) (most : ℕ) (text : List ℕ) : Type 0 where
   pub room : length text ≤ 8 * (most + most_table_words)
 
 -- the bytes, in a form, are those of the message; the limit on message words bounds framed messages alone
-abbrev pub Reads : Form → List ℕ → ℕ → List (List ℕ) → Type 0
+abbrev pub Reads : Form → List ℕ → (most : ℕ) → List (List ℕ) → Type 0
 Reads forms.Bare bs most message = (ws : List ℕ) × IsBare bs ws × (message ≡ ws ∷ [])
 Reads forms.Stream bs most message = IsFramed bs most message
 Reads forms.Packed bs most message = (text : List ℕ) × Unpacks bs most text × IsFramed text most message
 
 -- the frame of a message of at most `most` words comes first in the bytes, and more bytes follow from an offset on
-abbrev pub Trails : List ℕ → ℕ → ℕ → Type 0
+abbrev pub Trails : List ℕ → (most at : ℕ) → Type 0
 Trails bs most at = (message : List (List ℕ)) × StandsFirst bs most message at × (at < length bs)

@@ -18,13 +18,13 @@ use Rattle.capn_canon.specs.declared.refusal.Refusal.TheVariants as refusals
 use Rattle.capn_canon.specs.Reads.{Reads, Trails, Unpacks}
 
 -- the bytes are no frame of at most `most` words, or more than one
-abbrev pub IsMisframed : List ℕ → ℕ → Refusal → Type 0
+abbrev pub IsMisframed : List ℕ → (most : ℕ) → Refusal → Type 0
 IsMisframed bs most (refusals.Frame e) = (e ≢ frame_faults.Memory) × frames.IsFrameRefused bs most e
 IsMisframed bs most (refusals.Trailing at) = Trails bs most at
 IsMisframed bs most _ = ⊥
 
 -- the bytes are not read in the form
-abbrev pub IsMisread : Form → List ℕ → ℕ → Refusal → Type 0
+abbrev pub IsMisread : Form → List ℕ → (most : ℕ) → Refusal → Type 0
 IsMisread forms.Bare bs most (refusals.Bare e) = ReadsBare bs (Err e)
 IsMisread forms.Bare bs most _ = ⊥
 IsMisread forms.Stream bs most r = IsMisframed bs most r

@@ -23,7 +23,7 @@ use Rattle.capn_canon.specs.CanonicalLength.{IsCanonicalLength}
 
 -- For every message, limits and buffer, `canonical_into` answers if and only if the message denotes a value without
 -- capabilities within the limits, and the buffer has room for its canonical bytes.
-abbrev pub AnsweredInto : List (List ℕ) → Bounds → ℕ → Result CanonicalLength IntoRefusal → Type 0
+abbrev pub AnsweredInto : List (List ℕ) → Bounds → (room : ℕ) → Result CanonicalLength IntoRefusal → Type 0
 AnsweredInto message limits room r =
     IsOk r ↔ ((v : Tree) × IsValueOf message limits v × (first_cap v ≡ None) × (length (canon v) ≤ room))
 
@@ -37,7 +37,7 @@ pub record WrittenInto (message : List (List ℕ)) (limits : Bounds) (old new : 
 
 -- Else it refuses with the first of these: the walk of the message stops; its value has a capability, of which the
 -- first is named; its canonical bytes, whose length is given with the words that the walk pays, have no room.
-abbrev pub RefusedInto : List (List ℕ) → Bounds → ℕ → IntoRefusal → Type 0
+abbrev pub RefusedInto : List (List ℕ) → Bounds → (room : ℕ) → IntoRefusal → Type 0
 RefusedInto message limits room (intos.Walk s) = IsWalkRefused message limits s.fault s.place s.paid s.visits
 RefusedInto message limits room (intos.Capability k) =
     (v : Tree) × IsValueOf message limits v × (first_cap v ≡ Some k)
@@ -50,14 +50,16 @@ RefusedInto message limits room (intos.NoRoom n p) =
 -- For any bytes, form and limits, unless it answers that memory ran out, `canonicalise` succeeds if and only if the
 -- bytes denote a value without capabilities within the limits.
 abbrev pub Answered : {A : Type 0} → Form → List ℕ → Bounds → Result (Canonical A) Refusal → Type 0
-Answered form bs m r = (r ≢ Err refusals.Memory) → IsOk r ↔ ((v : Tree) × Denotes form bs m v × (first_cap v ≡ None))
+Answered form bs limits r =
+    (r ≢ Err refusals.Memory) → IsOk r ↔ ((v : Tree) × Denotes form bs limits v × (first_cap v ≡ None))
 
 -- Two answers, from any two forms, inputs and limits, are byte for byte equal if and only if the values denoted are the
 -- same up to trailing zero words and trailing null pointers of structs.
 abbrev pub EqualExactly : Form → List ℕ → Bounds → List ℕ → Type 0
-EqualExactly form bs limits answer = (g : Form) (ds : List ℕ) (m : Bounds) (other : List ℕ) (price : ℕ) (v w : Tree)
-    → AreLimits m.message_words m.budget m.depth → Answers g ds m other price → Denotes form bs limits v
-    → Denotes g ds m w → (answer ≡ other) ↔ Same v w
+EqualExactly form bs limits answer = (g : Form) (ds : List ℕ) (other_limits : Bounds) (other : List ℕ) (price : ℕ)
+    (v w : Tree) → AreLimits other_limits.message_words other_limits.budget other_limits.depth
+    → Answers g ds other_limits other price → Denotes form bs limits v → Denotes g ds other_limits w
+    → (answer ≡ other) ↔ Same v w
 
 -- Each answer, read bare under the same limits, denotes a value that is the same in this sense, and canonicalises to
 -- itself: the second call answers those bytes, or that memory ran out.

@@ -8,7 +8,7 @@ use Rattle.std.proofs.lemmas.Bool.Decides.{nat_tests}
 use Rattle.std.specs.Io.KnownBytes.{Appends}
 use Rattle.std.specs.List.{AllByRecursion}
 use Rattle.capn_walk.specs.Limits.{Bounds}
-use Rattle.capn_pack.specs.Packed.{Group, IsGroup, content, contents, text, texts}
+use Rattle.capn_pack.specs.Packed.{Group, IsGroup, group_bytes, contents, group_text, texts}
 use Rattle.capn_pack.specs.Packed.Group.{Zeros, Named, Raw}
 use Rattle.capn_serve.specs.Fold.{IsFolded, fold_of}
 use Rattle.capn_serve.specs.StreamRun as streams
@@ -32,7 +32,7 @@ use Rattle.capn_commands.proofs.Served.{Ending, IsOf, behind_of, due, ending_of,
 -- ---- a packed input unpacks to no more than a run takes
 
 -- a group has at most 1,024 times the bytes of its text
-spread : (g : Group) → IsGroup g → length (content g) ≤ 1024 * length (text g)
+spread : (g : Group) → IsGroup g → length (group_bytes g) ≤ 1024 * length (group_text g)
 spread (Zeros more) h = omega (arith, h, length-replicate {A = ℕ} (8 * (1 + more)) 0)
 spread (Named tag word) (some, small, size, named) = omega (arith, size)
 spread (Raw word count more) (size, few, rest) =
@@ -44,8 +44,8 @@ all_spread (g ∷ gs) (here, each) = omega (
   arith,
   spread g here,
   all_spread gs each,
-  length-append (content g) (contents gs),
-  length-append (text g) (texts gs),
+  length-append (group_bytes g) (contents gs),
+  length-append (group_text g) (texts gs),
 )
 
 -- the most bytes that are taken of what an input unpacks to

@@ -5,7 +5,7 @@ use Rattle.std.proofs.Common.{take-append-drop, length-take, Bool, true, false, 
 use Rattle.std.specs.Prelude.{◌==◌, if◌then◌else◌}
 use Rattle.std.proofs.lemmas.Grind.{flat_map-append}
 use Rattle.std.proofs.lemmas.List.{get_or_append_left}
-use Rattle.capn_pack.specs.Packed.{Group, text, content, Packs, texts, contents}
+use Rattle.capn_pack.specs.Packed.{Group, group_text, group_bytes, Packs, texts, contents}
 use Rattle.capn_pack.specs.UnpackRefusal.{HasHead, IsCut, IsTooLong, Stands, head_len, words_at}
 use Rattle.capn_pack.specs.WholeGroups.{StandsNext, UnpacksSome, most_group}
 use Rattle.capn_pack.proofs.shared.GroupLemmas.{count_append, each_append, length_contents}
@@ -84,7 +84,7 @@ module _ (most : ℕ) (seen words held piece : List ℕ) (at left : ℕ) (h : Ho
       ∙ ap (λ (xs : List ℕ). texts h.groups ++ xs) (sym (take-append-drop taken (held ++ piece)))
       ∙ ap (λ (xs : List ℕ). texts h.groups ++ (xs ++ drop taken (held ++ piece))) e
       ∙ sym (append_assoc (texts h.groups) (texts groups) (drop taken (held ++ piece)))
-      ∙ ap (λ (xs : List ℕ). xs ++ drop taken (held ++ piece)) (sym (flat_map-append text h.groups groups))
+      ∙ ap (λ (xs : List ℕ). xs ++ drop taken (held ++ piece)) (sym (flat_map-append group_text h.groups groups))
 
   -- the piece ends there, or a group is cut
   pub goes_on : (next : Next) (rest : List ℕ) (to room : ℕ)
@@ -98,7 +98,7 @@ module _ (most : ℕ) (seen words held piece : List ℕ) (at left : ℕ) (h : Ho
     content =
         u.content
         ∙ ap (λ (xs : List ℕ). xs ++ contents u.groups) h.content
-        ∙ sym (flat_map-append content h.groups u.groups);
+        ∙ sym (flat_map-append group_bytes h.groups u.groups);
     offset = omega (
       arith,
       further,
@@ -106,7 +106,7 @@ module _ (most : ℕ) (seen words held piece : List ℕ) (at left : ℕ) (h : Ho
       u.inside,
       ap length u.text,
       length-take taken (held ++ piece),
-      ap length (flat_map-append text h.groups u.groups),
+      ap length (flat_map-append group_text h.groups u.groups),
       length-append (texts h.groups) (texts u.groups),
     );
     counted = omega (arith, less, h.counted, u.counted, count_append h.groups u.groups);
@@ -128,7 +128,7 @@ module _ (most : ℕ) (seen words held piece : List ℕ) (at left : ℕ) (h : Ho
       u.inside,
       ap length u.text,
       length-take taken (held ++ piece),
-      ap length (flat_map-append text h.groups u.groups),
+      ap length (flat_map-append group_text h.groups u.groups),
       length-append (texts h.groups) (texts u.groups),
     );
     left = u.left;
@@ -143,8 +143,8 @@ all_unpacked most seen words held at left h none = (
   record {
     groups = h.groups;
     each = h.each;
-    text = h.text ∙ ap (λ (xs : List ℕ). texts h.groups ++ xs) (nothing held none) ∙ append-nil (texts h.groups);
-    content = h.content;
+    is_text = h.text ∙ ap (λ (xs : List ℕ). texts h.groups ++ xs) (nothing held none) ∙ append-nil (texts h.groups);
+    are_bytes = h.content;
   },
   omega (arith, h.counted, ap length h.content, length_contents h.groups h.each),
 )

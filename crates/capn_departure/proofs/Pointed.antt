@@ -17,7 +17,7 @@ use Rattle.capn_target.specs.declared.target.Fault.{Fault}
 use Rattle.capn_target.specs.declared.target.Fault.TheVariants as faults
 use Rattle.capn_words.proofs.shared.Choices.{pick, if-yes, if-no, same-yes}
 use Rattle.capn_words.proofs.shared.Pointers.{pointer_of-word_of}
-use Rattle.capn_target.specs.Target.{content_words, tagged, within, named, target}
+use Rattle.capn_target.specs.Target.{content_words, tagged, if_inside, target_of_pointer, target}
 use Rattle.capn_layout.specs.Layout.{struct_to, list_to}
 
 -- the place of a word of the one segment
@@ -41,15 +41,15 @@ module _ (ws : List ℕ) where
 
   -- what the pointer at a word names, by what is read there
   names : (from : ℕ) (p : Pointer) → pointer_of (slice_index ws from) ≡ p
-      → target only (here from) ≡ named only 0 from p
+      → target only (here from) ≡ target_of_pointer only 0 from p
   unfolding target
-  names from p e = ap (named only 0 from) e
+  names from p e = ap (target_of_pointer only 0 from) e
 
   -- content has room, or it is out of range
-  pub has-room : (start n : ℕ) (r : Result Target Fault) → start + n ≤ length ws → within only 0 start n r ≡ r
+  pub has-room : (start n : ℕ) (r : Result Target Fault) → start + n ≤ length ws → if_inside only 0 start n r ≡ r
   has-room start n r h = if-no (nat_lt (length ws) (start + n)) _ _ (le-ltb (length ws) (start + n) h)
 
-  pub had-room : (start n : ℕ) (r : Result Target Fault) (found : Target) → within only 0 start n r ≡ Ok found
+  pub had-room : (start n : ℕ) (r : Result Target Fault) (found : Target) → if_inside only 0 start n r ≡ Ok found
       → (start + n ≤ length ws) × (r ≡ Ok found)
   had-room start n r found =
       pick (λ (q : Result Target Fault). q ≡ Ok found → (start + n ≤ length ws) × (r ≡ Ok found))
@@ -59,17 +59,17 @@ module _ (ws : List ℕ) where
   -- a struct that isn't empty
   pub struct-named : (p to a b : ℕ) → p < to → to < 2 ^ 29 → a < 2 ^ 16 → b < 2 ^ 16 → 0 < a + b
       → slice_index ws p ≡ struct_to p to a b
-      → target only (here p) ≡ within only 0 to (a + b) (Ok (targets.Content 0 to (shapes.Node a b) 0))
+      → target only (here p) ≡ if_inside only 0 to (a + b) (Ok (targets.Content 0 to (shapes.Node a b) 0))
   struct-named p to a b order small ha hb some e =
       let o = to - suc p in
       let f = e ∙ struct-word p to a b some in
       let z : p + 1 + o ≡ to = omega arith in
       names p (Node (pos o) a b) (ap pointer_of f ∙ pointer_of-word_of (Node (pos o) a b)
       (omega arith, ha, hb, omega arith))
-      ∙ ap (λ (q : ℕ). within only 0 q (a + b) (Ok (targets.Content 0 q (shapes.Node a b) 0))) z
+      ∙ ap (λ (q : ℕ). if_inside only 0 q (a + b) (Ok (targets.Content 0 q (shapes.Node a b) 0))) z
 
   listed : (start n : ℕ) (k : Width) → IsFlat k → Rattle.capn_target.specs.Target.list only 0 start 0 k n
-      ≡ within only 0 start (content_words k n) (Ok (targets.Content 0 start (shapes.Many k n) 0))
+      ≡ if_inside only 0 start (content_words k n) (Ok (targets.Content 0 start (shapes.Many k n) 0))
   listed start n W0 p = refl
   listed start n W1 p = refl
   listed start n W8 p = refl
@@ -82,22 +82,22 @@ module _ (ws : List ℕ) where
   -- a list that is not of structs
   pub list-named : (p to n : ℕ) (k : Width) → IsFlat k → p < to → to < 2 ^ 29 → n < 2 ^ 29
       → slice_index ws p ≡ list_to p to k n
-      → target only (here p) ≡ within only 0 to (content_words k n) (Ok (targets.Content 0 to (shapes.Many k n) 0))
+      → target only (here p) ≡ if_inside only 0 to (content_words k n) (Ok (targets.Content 0 to (shapes.Many k n) 0))
   list-named p to n k flat order small hn e =
       let o = to - suc p in
       let z : p + 1 + o ≡ to = omega arith in
       names p (Many (pos o) k n) (ap pointer_of e ∙ pointer_of-word_of (Many (pos o) k n) (omega arith, hn))
       ∙ listed (p + 1 + o) n k flat
-      ∙ ap (λ (q : ℕ). within only 0 q (content_words k n) (Ok (targets.Content 0 q (shapes.Many k n) 0))) z
+      ∙ ap (λ (q : ℕ). if_inside only 0 q (content_words k n) (Ok (targets.Content 0 q (shapes.Many k n) 0))) z
 
   -- a list of structs
   pub rows-named : (p to d : ℕ) → p < to → to < 2 ^ 29 → d < 2 ^ 29 → slice_index ws p ≡ list_to p to Rows d
-      → target only (here p) ≡ within only 0 to (1 + d) (tagged only 0 to 0 d (slice_index ws to))
+      → target only (here p) ≡ if_inside only 0 to (1 + d) (tagged only 0 to 0 d (slice_index ws to))
   rows-named p to d order small hd e =
       let o = to - suc p in
       let z : p + 1 + o ≡ to = omega arith in
       names p (Many (pos o) Rows d) (ap pointer_of e ∙ pointer_of-word_of (Many (pos o) Rows d) (omega arith, hd))
-      ∙ ap (λ (q : ℕ). within only 0 q (1 + d) (tagged only 0 q 0 d (slice_index ws q))) z
+      ∙ ap (λ (q : ℕ). if_inside only 0 q (1 + d) (tagged only 0 q 0 d (slice_index ws q))) z
 
   -- its tag
   pub tag-named : (to c a b d w : ℕ) → w ≡ word_of (Node (pos c) a b) → c < 2 ^ 30 → a < 2 ^ 16 → b < 2 ^ 16

@@ -18,7 +18,7 @@ use Rattle.capn_target.specs.Target.{target}
 use Rattle.capn_walk.specs.Visits.{row_places, visits}
 use Rattle.capn_walk.specs.ValueAt.{RowsAt}
 use Rattle.capn_layout.specs.Layout.{list_to}
-use Rattle.capn_target.specs.Target.{within, tagged}
+use Rattle.capn_target.specs.Target.{if_inside, tagged}
 use Rattle.capn_layout.specs.Layout.{point, row_contents, lays_in_rows}
 use Rattle.capn_layout.proofs.shared.LayLengths.{length-row_contents}
 use Rattle.capn_layout.proofs.shared.Shaped.{found, inside-of}
@@ -77,7 +77,7 @@ module _ (ws cs : List ℕ) (base k : ℕ) (small : length cs ≤ 2 ^ 29)
     abbrev pub tagged-there : Result Target Fault
     tagged-there = tagged n 0 to 0 span (slice_index ws to)
 
-    pub rows-within : target n (here p) ≡ within n 0 to (1 + span) tagged-there
+    pub rows-within : target n (here p) ≡ if_inside n 0 to (1 + span) tagged-there
     rows-within =
         let o = h.sound in
         let r = h.room in

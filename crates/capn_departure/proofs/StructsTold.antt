@@ -17,7 +17,7 @@ use Rattle.capn_walk.specs.Visits.{places, visits}
 use Rattle.capn_walk.specs.ValueAt.{IsAt}
 use Rattle.capn_layout.specs.Layout.{struct_to, list_to}
 use Rattle.capn_layout.proofs.shared.KeptLengths.{kept_words-le, kept_slots-le}
-use Rattle.capn_target.specs.Target.{within}
+use Rattle.capn_target.specs.Target.{if_inside}
 use Rattle.capn_layout.specs.Layout.{size, sizes, point, points, lays}
 use Rattle.capn_layout.proofs.shared.LayLengths.{length-points}
 use Rattle.capn_layout.proofs.shared.Shaped.{found, inside-of}
@@ -61,8 +61,8 @@ module _ (ws cs : List ℕ) (base k : ℕ) (small : length cs ≤ 2 ^ 29)
     pub inside : to + size ≤ length ws
 
   pub both-within : (t : Tree) (p to size : ℕ) (shape : Shape) → IsAt n (here p) t
-      → target n (here p) ≡ within n 0 to size (Ok (targets.Content 0 to shape 0))
-      → target m (here p) ≡ within m 0 to size (Ok (targets.Content 0 to shape 0)) → to + size ≤ length cs
+      → target n (here p) ≡ if_inside n 0 to size (Ok (targets.Content 0 to shape 0))
+      → target m (here p) ≡ if_inside m 0 to size (Ok (targets.Content 0 to shape 0)) → to + size ≤ length cs
       → Both p to size shape
   both-within t p to size shape is e f room =
       let x = found n (here p) t is in

@@ -13,7 +13,7 @@ use Rattle.capn_target.specs.declared.target.Target.TheVariants as targets
 use Rattle.capn_target.specs.declared.target.Shape.{Shape}
 use Rattle.capn_target.specs.Target.{target}
 use Rattle.capn_walk.specs.Visits.{Visit, pays, price, places, row_places, slots, visits}
-use Rattle.capn_walk.specs.ValueAt.{IsAt, AreAt, RowsAt, StandAt}
+use Rattle.capn_walk.specs.ValueAt.{IsAt, AreAt, RowsAt, AreWordsAt}
 use Rattle.capn_walk.proofs.shared.Walks.{visits-object}
 use Rattle.capn_layout.specs.Layout.{size, sizes, sizes_in_rows, point, points, lay, lays, row_contents, lays_in_rows}
 use Rattle.capn_layout.specs.Sound.{Sound, Sounds, SoundRows}
@@ -46,7 +46,7 @@ module _ (ws cs : List ℕ) (base k : ℕ) where
   told vs us f (lt, inr o) = (lt, inr (f o))
 
   -- a word of an object is the same
-  pub same-word : (at : ℕ) (xs : List ℕ) → StandAt n 0 at xs → Lies cs at xs → at ≤ k → k < at + length xs → Same
+  pub same-word : (at : ℕ) (xs : List ℕ) → AreWordsAt n 0 at xs → Lies cs at xs → at ≤ k → k < at + length xs → Same
   same-word at xs s h le lt =
       let j = k - at in
       let e : at + j ≡ k = omega arith in

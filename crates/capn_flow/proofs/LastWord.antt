@@ -8,7 +8,8 @@ use Rattle.std.proofs.lemmas.Bool.{cases_lt, ne_eqb}
 use Rattle.std.proofs.lemmas.List.{drop-replicate, get_or-drop, length-replicate}
 use Rattle.std.proofs.lemmas.Grind.{flat_map-append}
 use Rattle.std.specs.List.{AllByRecursion}
-use Rattle.capn_pack.specs.Packed.{Group, IsGroup, text, content, words, tag_of, texts, contents, word_count}
+use Rattle.capn_pack.specs.Packed.{Group, IsGroup, group_text, group_bytes, group_words, tag_of, texts, contents}
+use Rattle.capn_pack.specs.Packed.{word_count}
 use Rattle.capn_pack.specs.Packed.Group.{Zeros, Named, Raw}
 use Rattle.capn_pack.specs.Chosen.{AllDense, Chosen, IsChoice, IsChosenRow, zero_count}
 use Rattle.capn_pack.proofs.shared.ChosenLaws.{chosen_whole}
@@ -82,12 +83,12 @@ raw_last word (suc n) more size long full dense =
     subst (λ (l : List ℕ). zero_count l ≤ 1) (sym (last_append word more (omega (arith, long))))
     (dense_last n more dense long)
 
-zeros_last : (more : ℕ) → zero_count (last_word (content (Zeros more))) ≡ 8
+zeros_last : (more : ℕ) → zero_count (last_word (group_bytes (Zeros more))) ≡ 8
 zeros_last more =
     let size = length-replicate {A = ℕ} (8 * (1 + more)) 0 in
-    let at : 8 * (1 + more) - (length (content (Zeros more)) - 8) ≡ 8 = omega (arith, size) in
+    let at : 8 * (1 + more) - (length (group_bytes (Zeros more)) - 8) ≡ 8 = omega (arith, size) in
     ap zero_count
-    (drop-replicate (length (content (Zeros more)) - 8) (8 * (1 + more)) 0
+    (drop-replicate (length (group_bytes (Zeros more)) - 8) (8 * (1 + more)) 0
     ∙ ap (λ (k : ℕ). replicate {A = ℕ} k 0) at)
 
 -- ---- the last group
@@ -116,17 +117,17 @@ module _ (t bs : List ℕ) (count : ℕ) (c : Chosen t bs) (size : length bs ≡
   front_each : AllByRecursion IsGroup r.front
   front_each = each_front r.front (r.last ∷ []) last_row
 
-  text_whole : t ≡ texts r.front ++ text r.last
+  text_whole : t ≡ texts r.front ++ group_text r.last
   text_whole = c.text
       ∙ ap texts r.whole
-      ∙ flat_map-append text r.front (r.last ∷ [])
-      ∙ ap (λ (l : List ℕ). texts r.front ++ l) (append-nil (text r.last))
+      ∙ flat_map-append group_text r.front (r.last ∷ [])
+      ∙ ap (λ (l : List ℕ). texts r.front ++ l) (append-nil (group_text r.last))
 
-  content_whole : bs ≡ contents r.front ++ content r.last
+  content_whole : bs ≡ contents r.front ++ group_bytes r.last
   content_whole = c.content
       ∙ ap contents r.whole
-      ∙ flat_map-append content r.front (r.last ∷ [])
-      ∙ ap (λ (l : List ℕ). contents r.front ++ l) (append-nil (content r.last))
+      ∙ flat_map-append group_bytes r.front (r.last ∷ [])
+      ∙ ap (λ (l : List ℕ). contents r.front ++ l) (append-nil (group_bytes r.last))
 
   last_is : Last t bs count (length (texts r.front)) (word_count r.front)
   last_is = record {
@@ -134,14 +135,14 @@ module _ (t bs : List ℕ) (count : ℕ) (c : Chosen t bs) (size : length bs ≡
     last = r.last;
     each = front_each;
     row = last_row;
-    front = ap (take (length (texts r.front))) text_whole ∙ take-append_seam (texts r.front) (text r.last);
-    behind = ap (drop (length (texts r.front))) text_whole ∙ drop-append_seam (texts r.front) (text r.last);
+    front = ap (take (length (texts r.front))) text_whole ∙ take-append_seam (texts r.front) (group_text r.last);
+    behind = ap (drop (length (texts r.front))) text_whole ∙ drop-append_seam (texts r.front) (group_text r.last);
     counted = refl;
     words_are = omega (
       arith,
       size,
       ap length content_whole,
-      length-append (contents r.front) (content r.last),
+      length-append (contents r.front) (group_bytes r.last),
       length_contents r.front front_each,
       length_content r.last (row_after r.front (r.last ∷ []) last_row).0,
     );
@@ -156,7 +157,8 @@ EndsBy (Zeros more) nulls = nulls ≡ 8
 EndsBy (Named tag word) nulls = nulls < 8
 EndsBy (Raw word count more) nulls = nulls < 2
 
-ends_by : (g : Group) (behind : List ℕ) → IsGroup g → IsChoice g behind → EndsBy g (zero_count (last_word (content g)))
+ends_by : (g : Group) (behind : List ℕ) → IsGroup g → IsChoice g behind
+    → EndsBy g (zero_count (last_word (group_bytes g)))
 ends_by (Zeros more) behind is choice = zeros_last more
 ends_by (Named tag word) behind is choice =
     let all : last_word word ≡ word = last_alone word is.2 in
@@ -174,7 +176,7 @@ ends_by (Raw word count more) behind is choice =
     omega (arith, few)
 
 full_by : (g : Group) (nulls : ℕ) → IsGroup g → EndsBy g nulls → 2 ≤ nulls → nulls < 8
-    → (0 < get_or (text g) 0 0) × (get_or (text g) 0 0 < 255)
+    → (0 < get_or (group_text g) 0 0) × (get_or (group_text g) 0 0 < 255)
 full_by (Zeros more) nulls is kind some few = absurd (omega (arith, kind, few))
 full_by (Named tag word) nulls is kind some few = (is.0, is.1)
 full_by (Raw word count more) nulls is kind some few = absurd (omega (arith, kind, some))
@@ -186,20 +188,20 @@ zeros_by (Raw word count more) nulls kind all = absurd (omega (arith, kind, all)
 
 -- a group that may go on, by its tag, is open
 pub open_group : (g : Group) (behind : List ℕ) → IsGroup g → IsChoice g behind
-    → (get_or (text g) 0 0 ≡ 0) ⊎ (get_or (text g) 0 0 ≡ 255) → AreOpen (content g)
-open_group (Zeros more) behind is choice tag = open_zeros more (content (Zeros more)) refl
+    → (get_or (group_text g) 0 0 ≡ 0) ⊎ (get_or (group_text g) 0 0 ≡ 255) → AreOpen (group_bytes g)
+open_group (Zeros more) behind is choice tag = open_zeros more (group_bytes (Zeros more)) refl
 open_group (Named tag word) behind is choice (inl none) = absurd (omega (arith, is.0, none))
 open_group (Named tag word) behind is choice (inr full) = absurd (omega (arith, is.1, full))
 open_group (Raw word count more) behind is choice tag =
     let none : zero_count word ≡ 0 = full_tag 8 word is.0 (omega (arith, choice.0)) in
-    open_raw word more count (content (Raw word count more)) (is.0, omega (arith, none)) choice.1 refl
+    open_raw word more count (group_bytes (Raw word count more)) (is.0, omega (arith, none)) choice.1 refl
 
 -- the same, by the byte where the last group of a text begins
 pub open_last : (t bs : List ℕ) (count taken known tag : ℕ) (l : Last t bs count taken known)
-    → get_or t taken 0 ≡ tag → (tag ≡ 0) ⊎ (tag ≡ 255) → AreOpen (content l.last)
+    → get_or t taken 0 ≡ tag → (tag ≡ 0) ⊎ (tag ≡ 255) → AreOpen (group_bytes l.last)
 open_last t bs count taken known tag l is kind =
     let at : taken + 0 ≡ taken = omega arith in
-    let same : get_or (text l.last) 0 0 ≡ tag = ap (λ (x : List ℕ). get_or x 0 0) (sym l.behind)
+    let same : get_or (group_text l.last) 0 0 ≡ tag = ap (λ (x : List ℕ). get_or x 0 0) (sym l.behind)
     ∙ get_or-drop taken t 0 0 ∙ ap (λ (k : ℕ). get_or t k 0) at ∙ is in
     let group_is = row_after l.groups (l.last ∷ []) l.row in
     open_group l.last [] group_is.0 group_is.1
@@ -220,9 +222,9 @@ module _ (t bs : List ℕ) (count taken known : ℕ) (l : Last t bs count taken 
   group_is : IsChosenRow (l.last ∷ [])
   group_is = row_after l.groups (l.last ∷ []) l.row
 
-  word_is : last_word bs ≡ last_word (content l.last)
+  word_is : last_word bs ≡ last_word (group_bytes l.last)
   word_is = ap last_word l.content_is
-      ∙ last_append (contents l.groups) (content l.last)
+      ∙ last_append (contents l.groups) (group_bytes l.last)
       (omega (arith, length_content l.last group_is.0, words_some l.last))
 
   kind : EndsBy l.last (zero_count (last_word bs))
@@ -241,8 +243,8 @@ module _ (t bs : List ℕ) (count taken known : ℕ) (l : Last t bs count taken 
   zeros_end : Chosen t bs → length bs ≡ 8 * count → zero_count (last_word bs) ≡ 8 → ZerosEnd t bs
   zeros_end c size nulls =
       let (more, is) = zeros_by l.last (zero_count (last_word bs)) kind nulls in
-      let words_are : known + (1 + more) ≡ count = sym (ap (λ (g : Group). known + words g) is) ∙ l.words_are in
-      let behind : drop taken t ≡ 0 ∷ more ∷ [] = l.behind ∙ ap text is in
+      let words_are : known + (1 + more) ≡ count = sym (ap (λ (g : Group). known + group_words g) is) ∙ l.words_are in
+      let behind : drop taken t ≡ 0 ∷ more ∷ [] = l.behind ∙ ap group_text is in
       let long : length t - taken ≡ 2 = sym (length-drop taken t) ∙ ap length behind in
       let at : length t - 1 ≡ taken + 1 = omega (arith, long) in
       let first : taken ≡ length t - 2 = omega (arith, long) in
@@ -258,7 +260,7 @@ module _ (t bs : List ℕ) (count taken known : ℕ) (l : Last t bs count taken 
             subst (λ (k : ℕ). IsSettled t bs (length t - 2) k) front
             (subst (λ (k : ℕ). IsSettled t bs k (8 * known)) first
             (settled_front t bs count taken known l size (omega (arith, words_are, less))
-            (open_zeros more (content l.last) (ap content is))));
+            (open_zeros more (group_bytes l.last) (ap group_bytes is))));
         full = λ all.
             settled_whole t bs count taken known l c (λ less. absurd (omega (arith, words_are, less, all)));
       }

@@ -8,7 +8,7 @@ use Rattle.std.proofs.lemmas.List.{drop-append-le, drop_all, get_or-drop, take-a
 use Rattle.std.proofs.lemmas.Bool.{cases_lt}
 use Rattle.std.proofs.lemmas.Grind.{flat_map-append}
 use Rattle.std.specs.List.{AllByRecursion}
-use Rattle.capn_pack.specs.Packed.{Group, IsGroup, text, content, words, texts, contents, word_count}
+use Rattle.capn_pack.specs.Packed.{Group, IsGroup, group_text, group_bytes, group_words, texts, contents, word_count}
 use Rattle.capn_pack.specs.Packed.Group.{Zeros, Named, Raw}
 use Rattle.capn_pack.specs.Chosen.{AllDense, Chosen, IsChoice, IsChosenRow, IsDense}
 use Rattle.capn_pack.specs.WholeGroups.{StandsNext, UnpacksSome}
@@ -56,12 +56,12 @@ row_join : (gs us vs : List Group) (more : List ℕ) → IsChosenRow (gs ++ us) 
 row_join [] us vs more row same long next = next
 row_join (g ∷ gs) us vs more row same long next =
     let front : contents (gs ++ us) ++ more ≡ contents (gs ++ vs) =
-    ap (λ (l : List ℕ). l ++ more) (flat_map-append content gs us)
+    ap (λ (l : List ℕ). l ++ more) (flat_map-append group_bytes gs us)
     ∙ append_assoc (contents gs) (contents us) more
     ∙ ap (λ (l : List ℕ). contents gs ++ l) (sym same)
-    ∙ sym (flat_map-append content gs vs) in
+    ∙ sym (flat_map-append group_bytes gs vs) in
     let size : 8 ≤ length (contents (gs ++ us)) =
-    omega (arith, long, ap length (flat_map-append content gs us), length-append (contents gs) (contents us)) in (
+    omega (arith, long, ap length (flat_map-append group_bytes gs us), length-append (contents gs) (contents us)) in (
       row.0,
       subst (IsChoice g) front (choice_longer g (contents (gs ++ us)) more size row.1),
       row_join gs us vs more row.2 same long next,
@@ -72,7 +72,7 @@ row_after [] us row = row
 row_after (g ∷ gs) us row = row_after gs us row.2
 
 -- a group has a word
-pub words_some : (g : Group) → 1 ≤ words g
+pub words_some : (g : Group) → 1 ≤ group_words g
 words_some (Zeros more) = omega arith
 words_some (Named tag word) = omega arith
 words_some (Raw word count more) = omega arith
@@ -83,9 +83,9 @@ row_full : (gs : List Group) (h : Group) (vs : List Group) → IsFull h → IsCh
 row_full gs h vs full row next =
     let last = row_after gs (h ∷ []) row in
     let same : contents (h ∷ vs) ≡ contents (h ∷ []) ++ contents vs =
-    ap (λ (l : List ℕ). l ++ contents vs) (sym (append-nil (content h))) in
+    ap (λ (l : List ℕ). l ++ contents vs) (sym (append-nil (group_bytes h))) in
     let size : 8 ≤ length (contents (h ∷ [])) =
-    omega (arith, length_content h last.0, length-append (content h) [], words_some h) in
+    omega (arith, length_content h last.0, length-append (group_bytes h) [], words_some h) in
     row_join gs (h ∷ []) (h ∷ vs) (contents vs) row same size (last.0, choice_full h [] (contents vs) full last.1, next)
 
 -- ---- what a row settles
@@ -106,28 +106,28 @@ settles_row gs rest each law = record {
   settled = λ next t c. record {
     groups = gs ++ c.groups;
     chosen = law next c.groups (sym c.content) c.chosen;
-    text = ap (λ (l : List ℕ). texts gs ++ l) c.text ∙ sym (flat_map-append text gs c.groups);
+    text = ap (λ (l : List ℕ). texts gs ++ l) c.text ∙ sym (flat_map-append group_text gs c.groups);
     content =
         ap whole_of (append_assoc (contents gs) rest next)
         ∙ whole_after (contents gs) (rest ++ next) (word_count gs) (length_contents gs each)
         ∙ ap (λ (l : List ℕ). contents gs ++ l) c.content
-        ∙ sym (flat_map-append content gs c.groups);
+        ∙ sym (flat_map-append group_bytes gs c.groups);
   };
 }
 
 -- all but the last group
 settles_front : (gs : List Group) (h : Group) (more : List ℕ) → AllByRecursion IsGroup gs → IsChosenRow (gs ++ h ∷ [])
-    → Settles (contents gs ++ (content h ++ more)) (texts gs) (content h ++ more)
+    → Settles (contents gs ++ (group_bytes h ++ more)) (texts gs) (group_bytes h ++ more)
 settles_front gs h more each row =
     let last = row_after gs (h ∷ []) row in
-    let size : length (content h) ≡ 8 * words h = length_content h last.0 in
-    let long : 8 ≤ length (contents (h ∷ [])) = omega (arith, size, length-append (content h) [], words_some h) in
-    settles_row gs (content h ++ more) each
+    let size : length (group_bytes h) ≡ 8 * group_words h = length_content h last.0 in
+    let long : 8 ≤ length (contents (h ∷ [])) = omega (arith, size, length-append (group_bytes h) [], words_some h) in
+    settles_row gs (group_bytes h ++ more) each
     (λ next vs e rows. row_join gs (h ∷ []) vs (whole_of (more ++ next)) row
     (e
-    ∙ ap whole_of (append_assoc (content h) more next)
-    ∙ whole_after (content h) (more ++ next) (words h) size
-    ∙ ap (λ (l : List ℕ). l ++ whole_of (more ++ next)) (sym (append-nil (content h)))) long rows)
+    ∙ ap whole_of (append_assoc (group_bytes h) more next)
+    ∙ whole_after (group_bytes h) (more ++ next) (group_words h) size
+    ∙ ap (λ (l : List ℕ). l ++ whole_of (more ++ next)) (sym (append-nil (group_bytes h)))) long rows)
 
 -- all, where the last group is settled
 settles_all : (gs : List Group) (h : Group) (more : List ℕ) → IsFull h → IsChosenRow (gs ++ h ∷ [])
@@ -145,17 +145,17 @@ pub record Last (text_of words_of : List ℕ) (count taken known : ℕ) : Type 0
   pub each : AllByRecursion IsGroup groups
   pub row : IsChosenRow (groups ++ last ∷ [])
   pub front : take taken text_of ≡ texts groups
-  pub behind : drop taken text_of ≡ text last
+  pub behind : drop taken text_of ≡ group_text last
   pub counted : word_count groups ≡ known
-  pub words_are : known + words last ≡ count
-  pub content_is : words_of ≡ contents groups ++ content last
+  pub words_are : known + group_words last ≡ count
+  pub content_is : words_of ≡ contents groups ++ group_bytes last
 
 -- no second group is left
-one_left : (next : Next) (left : ℕ) (h : Group) (more : List ℕ) → IsGroup h → words h ≤ left
-    → StandsNext next left (text h ++ more) → ⊥
+one_left : (next : Next) (left : ℕ) (h : Group) (more : List ℕ) → IsGroup h → group_words h ≤ left
+    → StandsNext next left (group_text h ++ more) → ⊥
 one_left nexts.End left h more is fits none =
-    omega (arith, ap length none, text_some h, length-append (text h) more)
-one_left nexts.Cut left h more is fits (cut, short) = no_group left (text h ++ more) cut h more is refl
+    omega (arith, ap length none, text_some h, length-append (group_text h) more)
+one_left nexts.Cut left h more is fits (cut, short) = no_group left (group_text h ++ more) cut h more is refl
 one_left nexts.TooLong left h more is fits long = omega (arith, long.2, (head_of h more is).count, fits)
 
 module _ (t bs : List ℕ) (count taken known : ℕ) (old new : List ℕ) (next : Next) (c : Chosen t bs)
@@ -181,17 +181,17 @@ module _ (t bs : List ℕ) (count taken known : ℕ) (old new : List ℕ) (next 
     each = u.each;
     row = subst IsChosenRow whole c.chosen;
     front = u.text;
-    behind = is ∙ append-nil (text h);
+    behind = is ∙ append-nil (group_text h);
     counted = sym u.counted;
     words_are =
-        let all : word_count u.groups + (words h + 0) ≡ count = sym (count_append u.groups (h ∷ []))
+        let all : word_count u.groups + (group_words h + 0) ≡ count = sym (count_append u.groups (h ∷ []))
         ∙ words_all (u.groups ++ h ∷ []) (sym whole) in
         omega (arith, all, u.counted);
-    content_is = c.content ∙ ap contents whole ∙ flat_map-append content u.groups (h ∷ [])
-        ∙ ap (λ (l : List ℕ). contents u.groups ++ l) (append-nil (content h));
+    content_is = c.content ∙ ap contents whole ∙ flat_map-append group_bytes u.groups (h ∷ [])
+        ∙ ap (λ (l : List ℕ). contents u.groups ++ l) (append-nil (group_bytes h));
   }
   last_among (h ∷ k ∷ ks) whole each is =
-      let all : word_count u.groups + (words h + (words k + word_count ks)) ≡ count =
+      let all : word_count u.groups + (group_words h + (group_words k + word_count ks)) ≡ count =
       sym (count_append u.groups (h ∷ k ∷ ks)) ∙ words_all (u.groups ++ h ∷ k ∷ ks) (sym whole) in
       absurd
       (one_left next u.left h (texts (k ∷ ks)) each.0 (omega (arith, all, u.counted, u.fits, words_some k))
@@ -224,13 +224,13 @@ module _ (t bs : List ℕ) (count taken known : ℕ) (l : Last t bs count taken 
   front_size : length (contents l.groups) ≡ 8 * known
   front_size = length_contents l.groups l.each ∙ ap (λ (k : ℕ). 8 * k) l.counted
 
-  rest_of : drop (8 * known) bs ≡ content l.last
+  rest_of : drop (8 * known) bs ≡ group_bytes l.last
   rest_of = ap (drop (8 * known)) l.content_is
-      ∙ ap (λ (k : ℕ). drop k (contents l.groups ++ content l.last)) (sym front_size)
-      ∙ drop-append_seam (contents l.groups) (content l.last)
+      ∙ ap (λ (k : ℕ). drop k (contents l.groups ++ group_bytes l.last)) (sym front_size)
+      ∙ drop-append_seam (contents l.groups) (group_bytes l.last)
 
   -- its last group may go on
-  pub settled_front : length bs ≡ 8 * count → count - known < 256 → AreOpen (content l.last)
+  pub settled_front : length bs ≡ 8 * count → count - known < 256 → AreOpen (group_bytes l.last)
       → IsSettled t bs taken (8 * known)
   settled_front size less is_open = record {
     inside = omega (arith, size, l.words_are);
@@ -238,15 +238,16 @@ module _ (t bs : List ℕ) (count taken known : ℕ) (l : Last t bs count taken 
         let law = settles_front l.groups l.last more l.each l.row in
         subst (λ (first : List ℕ). Settles (bs ++ more) first (drop (8 * known) bs ++ more)) (sym l.front)
         (subst (λ (rest : List ℕ). Settles (bs ++ more) (texts l.groups) (rest ++ more)) (sym rest_of)
-        (subst (λ (all : List ℕ). Settles all (texts l.groups) (content l.last ++ more))
-        (sym (ap (λ (x : List ℕ). x ++ more) l.content_is ∙ append_assoc (contents l.groups) (content l.last) more))
+        (subst (λ (all : List ℕ). Settles all (texts l.groups) (group_bytes l.last ++ more))
+        (sym (ap (λ (x : List ℕ). x ++ more) l.content_is ∙ append_assoc (contents l.groups) (group_bytes l.last) more))
         law));
     short = omega (arith, size, l.words_are, less);
     open_words = subst AreOpen (sym rest_of) is_open;
   }
 
   -- its last group is settled, by its tag and its number of words
-  full_last : (h : Group) → IsGroup h → (words h < 256 → (0 < get_or (text h) 0 0) × (get_or (text h) 0 0 < 255))
+  full_last : (h : Group) → IsGroup h
+      → (group_words h < 256 → (0 < get_or (group_text h) 0 0) × (get_or (group_text h) 0 0 < 255))
       → IsFull h
   full_last (Zeros more) is closed = elim (cases_lt (1 + more) 256) [
     | inl less ↦ absurd (let c = closed less in omega (arith, c.0))
@@ -267,11 +268,11 @@ module _ (t bs : List ℕ) (count taken known : ℕ) (l : Last t bs count taken 
       (λ less. subst (λ (x : List ℕ). (0 < get_or x 0 0) × (get_or x 0 0 < 255)) l.behind
       (closed (omega (arith, l.words_are, less)))) in
       let all : bs ≡ contents rows = l.content_is
-      ∙ ap (λ (x : List ℕ). contents l.groups ++ x) (sym (append-nil (content l.last)))
-      ∙ sym (flat_map-append content l.groups (l.last ∷ [])) in
+      ∙ ap (λ (x : List ℕ). contents l.groups ++ x) (sym (append-nil (group_bytes l.last)))
+      ∙ sym (flat_map-append group_bytes l.groups (l.last ∷ [])) in
       let text_is : t ≡ texts rows = sym (take-append-drop taken t) ∙ (λ i. l.front i ++ l.behind i)
-      ∙ ap (λ (x : List ℕ). texts l.groups ++ x) (sym (append-nil (text l.last)))
-      ∙ sym (flat_map-append text l.groups (l.last ∷ [])) in
+      ∙ ap (λ (x : List ℕ). texts l.groups ++ x) (sym (append-nil (group_text l.last)))
+      ∙ sym (flat_map-append group_text l.groups (l.last ∷ [])) in
       record {
         inside = omega arith;
         settled = λ more.

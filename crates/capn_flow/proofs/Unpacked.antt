@@ -8,7 +8,7 @@ use Rattle.std.proofs.lemmas.Grind.{flat_map-append}
 use Rattle.std.specs.Io.KnownBytes.{Appends}
 use Rattle.std.proofs.KnownBytes.{Appends-nil, Appends-trans}
 use Rattle.capn_words.specs.Watched.{HasBegun}
-use Rattle.capn_pack.specs.Packed.{Group, text, content, texts, contents, word_count}
+use Rattle.capn_pack.specs.Packed.{Group, group_text, group_bytes, texts, contents, word_count}
 use Rattle.capn_pack.specs.PackedPieces as packing
 use Rattle.capn_pack.specs.PackedPieces.{NoGroupFirst, Splits}
 use Rattle.capn_pack.specs.UnpackRefusal.{words_at}
@@ -48,8 +48,8 @@ row_then bytes words more at taken s t = record {
   within = omega (arith, s.within, t.within, length-drop at bytes);
   text = take-add at taken bytes
       ∙ (λ i. s.text i ++ t.text i)
-      ∙ sym (flat_map-append text s.groups t.groups);
-  content = (λ i. s.content i ++ t.content i) ∙ sym (flat_map-append content s.groups t.groups);
+      ∙ sym (flat_map-append group_text s.groups t.groups);
+  content = (λ i. s.content i ++ t.content i) ∙ sym (flat_map-append group_bytes s.groups t.groups);
 }
 
 pub row_more : (bytes words more : List ℕ) (at max taken count : ℕ) (next : Next) → TakesRow bytes at [] words
@@ -90,7 +90,7 @@ few_words rest fits = grind (arith, nat_tests, fits 1, fits 9)
 
 no_words : (gs : List Group) → [] ≡ texts gs → word_count gs ≡ 0
 no_words [] e = refl
-no_words (g ∷ gs) e = absurd (omega (arith, text_some g, ap length e, length-append (text g) (texts gs)))
+no_words (g ∷ gs) e = absurd (omega (arith, text_some g, ap length e, length-append (group_text g) (texts gs)))
 
 -- with room for a group one call unpacks some of them, where it says that there was no room for the next
 grows : (bytes words : List ℕ) (max taken count : ℕ) → ((k : ℕ) → get_or bytes k 0 < 2 ^ 8) → 256 ≤ max
@@ -148,8 +148,8 @@ begins_row bytes words next at s b = record {
       sym (take-append-drop at bytes)
       ∙ (λ i. s.text i ++ b.text i)
       ∙ sym (append_assoc (texts s.groups) (texts b.groups) b.rest)
-      ∙ ap (λ (l : List ℕ). l ++ b.rest) (sym (flat_map-append text s.groups b.groups));
-  content = (λ i. s.content i ++ b.content i) ∙ sym (flat_map-append content s.groups b.groups);
+      ∙ ap (λ (l : List ℕ). l ++ b.rest) (sym (flat_map-append group_text s.groups b.groups));
+  content = (λ i. s.content i ++ b.content i) ∙ sym (flat_map-append group_bytes s.groups b.groups);
 }
 
 -- words were written, and then the run stopped

@@ -20,7 +20,7 @@ row_size bs = kept_words_of_rows bs + kept_slots_of_rows bs
 -- structs, lists)
 abbrev pub own : Tree → ℕ
 own (node ws ss) = kept_words ws + kept_slots ss
-own (numbers a xs) = content_words (list_width a) (length xs)
+own (numbers width xs) = content_words (list_width width) (length xs)
 own (links ts) = count ts
 own (rows bs) = 1 + count_rows bs * row_size bs
 own _ = 0
@@ -43,26 +43,27 @@ abbrev mutual
 
 -- the pointer, at word `from`, to a list whose content starts at word `to`; its offset counts from the next word
 -- (Page: lists.)
-abbrev pub list_to : ℕ → ℕ → Width → ℕ → ℕ
+abbrev pub list_to : (from to : ℕ) → Width → (n : ℕ) → ℕ
 list_to from to width n = word_of (Many (pos (to - suc from)) width n)
 
 -- the pointer to a struct: offset -1 if it has no words, so that it isn't null (Page: canonicalization.)
-abbrev pub struct_to : ℕ → ℕ → ℕ → ℕ → ℕ
-struct_to from to a b = word_of (if (a == 0) && (b == 0) then Node (negsuc 0) 0 0 else Node (pos (to - suc from)) a b)
+abbrev pub struct_to : (from to data_words pointers : ℕ) → ℕ
+struct_to from to data_words pointers = word_of (if (data_words == 0) && (pointers == 0) then Node (negsuc 0) 0 0
+    else Node (pos (to - suc from)) data_words pointers)
 
 -- the pointer, at word `from`, to the value whose content starts at word `to` (pages: structs, lists, capabilities)
-unfoldable pub point : Tree → ℕ → ℕ → ℕ
+unfoldable pub point : Tree → (from to : ℕ) → ℕ
 point nil from to = 0
 point (node ws ss) from to = struct_to from to (kept_words ws) (kept_slots ss)
 point (voids n) from to = list_to from to W0 n
-point (numbers a xs) from to = list_to from to (list_width a) (length xs)
+point (numbers width xs) from to = list_to from to (list_width width) (length xs)
 point (links ts) from to = list_to from to Link (count ts)
 point (rows bs) from to = list_to from to Rows (count_rows bs * row_size bs)
 point (cap k) from to = word_of (Cap k)
 
 -- the pointers to values whose contents follow one another, each with all below it (Page: canonicalization,
 -- preorder.)
-abbrev pub points : Trees → ℕ → ℕ → List ℕ
+abbrev pub points : Trees → (from to : ℕ) → List ℕ
 points no_trees from to = []
 points (tree t ts) from to = point t from to ∷ points ts (suc from) (to + size t)
 
@@ -71,16 +72,18 @@ abbrev pub number : ℕ → List ℕ → ℕ
 number base [] = 0
 number base (x ∷ xs) = x + base * number base xs
 
--- n words, each of `many` elements of `width` bits; missing bits of the last one are 0 (Own.)
-abbrev pub packed : ℕ → ℕ → ℕ → List ℕ → List ℕ
-packed many width zero xs = []
-packed many width (suc n) xs = number (2 ^ width) (take many xs) ∷ packed many width n (drop many xs)
+-- n words, each of `many` elements of `bits` bits; missing bits of the last one are 0 (Own.)
+abbrev pub packed : (many bits n : ℕ) → List ℕ → List ℕ
+packed many bits zero xs = []
+packed many bits (suc n) xs = number (2 ^ bits) (take many xs) ∷ packed many bits n (drop many xs)
 
--- the own content of rows, cut to a words and b slots, whose children start at word `to` (Page: lists, composite.)
-abbrev pub row_contents : ℕ → ℕ → Bodies → ℕ → ℕ → List ℕ
-row_contents a b no_bodies from to = []
-row_contents a b (body ws ss bs) from to =
-    take a ws ++ (take b (points ss (from + a) to) ++ row_contents a b bs (from + a + b) (to + sizes ss))
+-- the own content of rows, cut to these sizes, whose children start at word `to` (Page: lists, composite.)
+abbrev pub row_contents : (data_words pointers : ℕ) → Bodies → (from to : ℕ) → List ℕ
+row_contents data_words pointers no_bodies from to = []
+row_contents data_words pointers (body ws ss bs) from to =
+    take data_words ws
+    ++ (take pointers (points ss (from + data_words) to)
+    ++ row_contents data_words pointers bs (from + data_words + pointers) (to + sizes ss))
 
 -- a value's content at word `at`, and after it the content of what is below (Page: canonicalization, preorder.)
 abbrev mutual
@@ -95,7 +98,7 @@ abbrev mutual
       ∷ (row_contents (kept_words_of_rows bs) (kept_slots_of_rows bs) bs (suc at) (at + own (rows bs))
       ++ lays_in_rows bs (at + own (rows bs)))
   lay (numbers oct xs) at = xs
-  lay (numbers a xs) at = packed (per_word a) (bits_in a) (own (numbers a xs)) xs
+  lay (numbers width xs) at = packed (per_word width) (bits_in width) (own (numbers width xs)) xs
   lay _ at = []
 
   pub lays : Trees → ℕ → List ℕ

@@ -14,8 +14,8 @@ use std::sync::ledger::Ledger;
 /// Returns the word to which `offset` leads from the pointer at `word`.
 #[inline(always)]
 fn start_of(word: u32, offset: i32) -> u32
-    requires { (start : ℕ) × (spec.moved word offset ≡ Ok start) × (start < 2 ^ 32) }
-    ensures { spec.moved word offset ≡ Ok result }
+    requires { (start : ℕ) × (spec.content_start word offset ≡ Ok start) × (start < 2 ^ 32) }
+    ensures { spec.content_start word offset ≡ Ok result }
 {
     let start = word as i64 + 1 + offset as i64;
     if start < 0 { 0 } else { start as u32 }
@@ -154,8 +154,8 @@ fn content_of<S: Space, L: Ledger>(
 ) -> Target
     requires message { IsMessage space.now }
     requires place { word < length (segment_at space.now segment) }
-    requires found { (t : Targets) × (spec.near space.now segment word pads pointer ≡ Ok t) }
-    ensures found { spec.near space.now segment word pads pointer ≡ Ok result }
+    requires found { (t : Targets) × (spec.target_from space.now segment word pads pointer ≡ Ok t) }
+    ensures found { spec.target_from space.now segment word pads pointer ≡ Ok result }
     ensures reads { reads.new ≤ reads.old + 1 }
 {
     match pointer {
@@ -232,9 +232,9 @@ fn behind_one<S: Space, L: Ledger>(
 ) -> Target
     requires message { IsMessage space.now }
     requires found { (t : Targets) × (spec.landing space.now segment word 1
-        (spec.near space.now segment word 1 (spec.pointer_in space.now segment word)) ≡ Ok t) }
+        (spec.target_from space.now segment word 1 (spec.pointer_in space.now segment word)) ≡ Ok t) }
     ensures found { spec.landing space.now segment word 1
-        (spec.near space.now segment word 1 (spec.pointer_in space.now segment word)) ≡ Ok result }
+        (spec.target_from space.now segment word 1 (spec.pointer_in space.now segment word)) ≡ Ok result }
     ensures reads { reads.new ≤ reads.old + 2 }
 {
     let pointer = pointer_at(space, segment, word, reads);

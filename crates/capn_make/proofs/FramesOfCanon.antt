@@ -5,7 +5,7 @@ use Rattle.std.proofs.lemmas.List.{append-nil}
 use Rattle.std.specs.Int.{to_le_bytes, w32}
 use Rattle.capn_words.specs.Message.{segment_at, IsBare, AreBytes, bytes as joined}
 use Rattle.capn_words.proofs.shared.Words.{length-bytes}
-use Rattle.capn_stream.specs.Frames.{Frames, entry, table, contents}
+use Rattle.capn_stream.specs.Frames.{Frames, entry, table, segment_bytes}
 use Rattle.capn_canon.specs.Layout.{canon}
 use Rattle.capn_canon.specs.Laws.{CanonIsForm}
 use Rattle.capn_make.specs.Laws.{FramedAreFrames}
@@ -21,7 +21,7 @@ module _ (bytes ws : List ℕ) (bare : IsBare bytes ws) where
   each zero k = bare.each k
   each (suc s) k = omega arith
 
-  text : framed bytes ≡ table (ws ∷ []) ++ ([] ++ contents (ws ∷ []))
+  text : framed bytes ≡ table (ws ∷ []) ++ ([] ++ segment_bytes (ws ∷ []))
   unfolding entry
   text =
       let e = ap length bare.same in

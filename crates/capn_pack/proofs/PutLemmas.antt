@@ -3,7 +3,7 @@ use Rattle.std.proofs.Common.{◌≡◌, ℕ, ◌+◌, ◌-◌, ◌*◌, ◌<◌
 use Rattle.std.proofs.Common.{replicate, sym, ap, ◌∙◌, subst, arith, append_assoc, take-append-drop, drop-drop}
 use Rattle.std.proofs.Common.{length-take, length-drop}
 use Rattle.std.proofs.lemmas.List.{replicate-append-replicate, append-nil, drop_all}
-use Rattle.capn_pack.specs.Packed.{text, content, texts, contents, tag_of, named_bytes}
+use Rattle.capn_pack.specs.Packed.{group_text, group_bytes, texts, contents, tag_of, named_bytes}
 use Rattle.capn_pack.specs.Chosen.{IsChoice, IsChosenRow, Chosen, IsDense, AllDense}
 use Rattle.capn_pack.specs.inner.Steps.{Puts, PutsRow}
 use Rattle.capn_pack.specs.Packed.Group.{Zeros, Named, Raw}
@@ -90,15 +90,15 @@ pub puts_more : (bytes : List ℕ) (at mid next : ℕ) (old out new : List ℕ) 
 puts_more bytes at mid next old out new r p = record {
   groups = r.groups ++ p.group ∷ [];
   chosen = λ more e row.
-      let here : contents (p.group ∷ more) ≡ drop mid bytes = ap (λ l. content p.group ++ l) e ∙ sym p.content in
+      let here : contents (p.group ∷ more) ≡ drop mid bytes = ap (λ l. group_bytes p.group ++ l) e ∙ sym p.content in
       subst IsChosenRow (sym (append_assoc r.groups (p.group ∷ []) more))
       (r.chosen (p.group ∷ more) here (p.is_group, subst (IsChoice p.group) (sym e) p.choice, row));
   span = omega (arith, r.span, p.span, count_more r.groups p.group);
   inside = p.inside;
   content = r.content ∙ ap (λ l. contents r.groups ++ l) p.content
-      ∙ sym (append_assoc (contents r.groups) (content p.group) (drop next bytes))
+      ∙ sym (append_assoc (contents r.groups) (group_bytes p.group) (drop next bytes))
       ∙ ap (λ l. l ++ drop next bytes) (sym (contents_more r.groups p.group));
-  text = p.text ∙ ap (λ l. l ++ text p.group) r.text ∙ append_assoc old (texts r.groups) (text p.group)
+  text = p.text ∙ ap (λ l. l ++ group_text p.group) r.text ∙ append_assoc old (texts r.groups) (group_text p.group)
       ∙ ap (λ l. old ++ l) (sym (texts_more r.groups p.group));
 }
 
@@ -108,7 +108,7 @@ pub puts_join : (bytes : List ℕ) (at mid next : ℕ) (old out block new : List
 puts_join bytes at mid next old out block new r s grown = record {
   groups = r.groups ++ s.groups;
   chosen = λ more e row.
-      let here : contents (s.groups ++ more) ≡ drop mid bytes = flat_map-append content s.groups more
+      let here : contents (s.groups ++ more) ≡ drop mid bytes = flat_map-append group_bytes s.groups more
       ∙ ap (λ l. contents s.groups ++ l) e ∙ sym s.content in
       subst IsChosenRow (sym (append_assoc r.groups s.groups more))
       (r.chosen (s.groups ++ more) here (s.chosen more e row));
@@ -116,9 +116,9 @@ puts_join bytes at mid next old out block new r s grown = record {
   inside = s.inside;
   content = r.content ∙ ap (λ l. contents r.groups ++ l) s.content
       ∙ sym (append_assoc (contents r.groups) (contents s.groups) (drop next bytes))
-      ∙ ap (λ l. l ++ drop next bytes) (sym (flat_map-append content r.groups s.groups));
+      ∙ ap (λ l. l ++ drop next bytes) (sym (flat_map-append group_bytes r.groups s.groups));
   text = grown ∙ (λ i. r.text i ++ s.text i) ∙ append_assoc old (texts r.groups) (texts s.groups)
-      ∙ ap (λ l. old ++ l) (sym (flat_map-append text r.groups s.groups));
+      ∙ ap (λ l. old ++ l) (sym (flat_map-append group_text r.groups s.groups));
 }
 
 -- all of the words

@@ -4,7 +4,7 @@ use Rattle.std.proofs.Common.{◌≡◌, ℕ, ◌+◌, ◌-◌, ◌*◌, ◌≤�
 use Rattle.std.proofs.Common.{sym, ap, ◌∙◌, subst, arith, append_assoc, length-append, take-add, take-append-drop}
 use Rattle.std.proofs.Common.{length-take, length-drop, take_all}
 use Rattle.std.proofs.lemmas.Grind.{flat_map-append}
-use Rattle.capn_pack.specs.Packed.{text, content, Packs, texts, contents, word_count}
+use Rattle.capn_pack.specs.Packed.{group_text, group_bytes, Packs, texts, contents, word_count}
 use Rattle.capn_pack.specs.UnpackRefusal.{Stands}
 use Rattle.capn_pack.specs.inner.Steps.{Takes, TakesRow}
 use Rattle.capn_pack.proofs.shared.GroupLemmas.{texts_more, contents_more, each_more, rest_is, length_content}
@@ -22,8 +22,8 @@ row_more bytes at old out room taken count new u t =
       within = omega (arith, t.within, ap length rest, length-drop at bytes, u.within);
       text = take-add at taken bytes ∙ ap (λ l. l ++ take taken (drop at bytes)) u.text
           ∙ ap (λ l. texts u.groups ++ l) (ap (take taken) (sym rest) ∙ t.text) ∙ sym (texts_more u.groups t.group);
-      content = t.content ∙ ap (λ l. l ++ content t.group) u.content
-          ∙ append_assoc old (contents u.groups) (content t.group)
+      content = t.content ∙ ap (λ l. l ++ group_bytes t.group) u.content
+          ∙ append_assoc old (contents u.groups) (group_bytes t.group)
           ∙ ap (λ l. old ++ l) (sym (contents_more u.groups t.group));
     }
 
@@ -46,10 +46,10 @@ row_join bytes at old out taken new u t =
       within = omega (arith, t.within, ap length rest, length-drop at bytes, u.within);
       text = take-add at taken bytes ∙ ap (λ l. l ++ take taken (drop at bytes)) u.text
           ∙ ap (λ l. texts u.groups ++ l) (ap (take taken) (sym rest) ∙ t.text)
-          ∙ sym (flat_map-append text u.groups t.groups);
+          ∙ sym (flat_map-append group_text u.groups t.groups);
       content = t.content ∙ ap (λ l. l ++ contents t.groups) u.content
           ∙ append_assoc old (contents u.groups) (contents t.groups)
-          ∙ ap (λ l. old ++ l) (sym (flat_map-append content u.groups t.groups));
+          ∙ ap (λ l. old ++ l) (sym (flat_map-append group_bytes u.groups t.groups));
     }
 
 -- a row whose words were gathered apart and then appended
@@ -86,7 +86,7 @@ unpacked_more bytes at out room max taken count new u t = record {
     t.counted,
     t.fits,
     ap length t.content,
-    length-append out (content t.group),
+    length-append out (group_bytes t.group),
     length_content t.group t.is_group,
   );
 }
@@ -106,8 +106,8 @@ unpacked_all bytes at out room max u end = (
   record {
     groups = u.row.groups;
     each = u.row.each;
-    text = sym (take_all at bytes end) ∙ u.row.text;
-    content =
+    is_text = sym (take_all at bytes end) ∙ u.row.text;
+    are_bytes =
         u.row.content;
   },
   omega (arith, u.counted),

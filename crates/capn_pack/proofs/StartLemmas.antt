@@ -5,7 +5,7 @@ use Rattle.std.proofs.Common.{take-append-drop, Result, IsErrAnd}
 use Rattle.std.proofs.lemmas.Bool.{cases_lt}
 use Rattle.std.proofs.lemmas.Result.{err_from_is_err_and}
 use Rattle.std.specs.List.{AllByRecursion}
-use Rattle.capn_pack.specs.Packed.{Group, IsGroup, text, words, texts, word_count}
+use Rattle.capn_pack.specs.Packed.{Group, IsGroup, group_text, group_words, texts, word_count}
 use Rattle.capn_pack.specs.Packed.Group.{Zeros, Named, Raw}
 use Rattle.capn_pack.specs.inner.Joins.{Joins}
 use Rattle.capn_pack.specs.declared.text_piece.Joined.TheVariants as joins
@@ -20,7 +20,7 @@ use Rattle.capn_pack.proofs.RowLemmas.{Unpacked}
 
 -- memory is refused where the first n bytes are a group's
 pub memory_gives : (rest : List ℕ) (n room : ℕ) (g : Group) (old new : List ℕ) (r : Result Taken Stop) → IsGroup g
-    → take n rest ≡ text g → words g ≤ room → new ≡ old → IsErrAnd r (λ (e : Stop). e ≡ Memory)
+    → take n rest ≡ group_text g → group_words g ≤ room → new ≡ old → IsErrAnd r (λ (e : Stop). e ≡ Memory)
     → TakeGives rest room old r new
 memory_gives rest n room g old new r is e fits same refused =
     let error = err_from_is_err_and r refused in
@@ -44,7 +44,7 @@ first_of bytes at room (g ∷ gs) each e some fits = record {
   text =
       sym (take-append-drop at bytes)
       ∙ ap (λ (xs : List ℕ). xs ++ drop at bytes) e
-      ∙ append_assoc (text g) (texts gs) (drop at bytes);
+      ∙ append_assoc (group_text g) (texts gs) (drop at bytes);
   fits = omega (arith, fits);
 }
 
@@ -92,7 +92,7 @@ row_open bytes at [] each within e none = omega (arith, within, ap length e, len
 row_open bytes at (g ∷ gs) each within e none =
     absurd (none g (texts gs ++ drop at bytes) each.0
     (sym (take-append-drop at bytes) ∙ ap (λ (xs : List ℕ). xs ++ drop at bytes) e
-    ∙ append_assoc (text g) (texts gs) (drop at bytes)))
+    ∙ append_assoc (group_text g) (texts gs) (drop at bytes)))
 
 -- after a row
 pub row_started : (bytes : List ℕ) (at room : ℕ) (old out : List ℕ) → TakesRow bytes at old out
@@ -110,7 +110,7 @@ joined_started rest piece joined more room e s none =
     (ap (λ (xs : List ℕ). rest ++ xs) (sym (take-append-drop more piece))
     ∙ sym (append_assoc rest (take more piece) (drop more piece))
     ∙ ap (λ (xs : List ℕ). xs ++ drop more piece) (sym e ∙ s.text)
-    ∙ append_assoc (text s.group) s.more (drop more piece))
+    ∙ append_assoc (group_text s.group) s.more (drop more piece))
 
 -- a rest that the front of a piece made whole
 pub whole_started : (rest piece held : List ℕ) (at : ℕ) (old mid : List ℕ)

@@ -5,7 +5,7 @@ use Rattle.std.proofs.Common.{refl, sym, ap, ◌∙◌, subst, arith, append_ass
 use Rattle.std.proofs.Common.{length-take}
 use Rattle.std.proofs.lemmas.List.{append-nil}
 use Rattle.std.specs.List.{AllByRecursion}
-use Rattle.capn_pack.specs.Packed.{Group, IsGroup, text, content, texts, contents, word_count}
+use Rattle.capn_pack.specs.Packed.{Group, IsGroup, group_text, group_bytes, texts, contents, word_count}
 use Rattle.capn_pack.specs.UnpackRefusal.{IsCut, IsTooLong, StartsWithin}
 use Rattle.capn_pack.specs.WholeGroups.{UnpacksSome, AppendsSome, StandsNext, most_group}
 use Rattle.capn_pack.specs.inner.Steps.{Takes, TakesRow}
@@ -38,7 +38,7 @@ appended_more bytes at old out room max taken count new u t = record {
     t.counted,
     t.fits,
     ap length t.content,
-    length-append out (content t.group),
+    length-append out (group_bytes t.group),
     length_content t.group t.is_group,
   );
 }
@@ -138,7 +138,7 @@ starts_from bytes at (g ∷ gs) room max each within e size s = record {
   text =
       sym (take-append-drop at bytes)
       ∙ ap (λ (xs : List ℕ). xs ++ drop at bytes) e
-      ∙ append_assoc (text g) (texts gs) (drop at bytes);
+      ∙ append_assoc (group_text g) (texts gs) (drop at bytes);
   fits = omega (arith, size);
 }
 

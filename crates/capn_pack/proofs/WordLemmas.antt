@@ -6,7 +6,8 @@ use Rattle.std.proofs.lemmas.Bool.{cases_lt}
 use Rattle.std.proofs.lemmas.Nat.{le_bytes_8}
 use Rattle.std.specs.Int.{w64, to_le_bytes, from_le_bytes}
 use Rattle.std.specs.List.{AllByRecursion}
-use Rattle.capn_pack.specs.Packed.{named_bytes, IsNamedBy, Group, IsGroup, text, content, Packs, texts, contents}
+use Rattle.capn_pack.specs.Packed.{named_bytes, IsNamedBy, Group, IsGroup, group_text, group_bytes, Packs, texts}
+use Rattle.capn_pack.specs.Packed.{contents}
 use Rattle.capn_pack.specs.Packed.{word_count}
 use Rattle.capn_pack.specs.Packed.Group.{Zeros, Named, Raw}
 use Rattle.capn_pack.proofs.shared.SpreadLemmas.{parity, named_one, named_none}
@@ -82,7 +83,7 @@ small_named tag (x ∷ xs) by h =
       | inr odd ↦ let named = rw (named_one tag x xs odd) at h in (named.0, small_named (tag / 2) xs by.1 named.1)
     ]
 
-small_content : (g : Group) → IsGroup g → Small (text g) → Small (content g)
+small_content : (g : Group) → IsGroup g → Small (group_text g) → Small (group_bytes g)
 small_content (Zeros more) is h = small_zeros (8 * (1 + more))
 small_content (Named tag word) is h = small_named tag word is.3 h.1
 small_content (Raw word count more) is h = let parts = small_split word (count ∷ more) h.1 in
@@ -91,12 +92,12 @@ small_content (Raw word count more) is h = let parts = small_split word (count �
 small_contents : (gs : List Group) → AllByRecursion IsGroup gs → Small (texts gs) → Small (contents gs)
 small_contents [] each h = tt
 small_contents (g ∷ gs) each h =
-    let parts = small_split (text g) (texts gs) h in
-    small_join (content g) (contents gs) (small_content g each.0 parts.0) (small_contents gs each.1 parts.1)
+    let parts = small_split (group_text g) (texts gs) h in
+    small_join (group_bytes g) (contents gs) (small_content g each.0 parts.0) (small_contents gs each.1 parts.1)
 
 -- what bytes pack is whole words
 pub packs_words : (b bs : List ℕ) → Packs b bs → AreBytes b → HasWords bs
 packs_words b bs p fits =
     let small : Small bs =
-    subst Small (sym p.content) (small_contents p.groups p.each (subst Small p.text (small_bytes b fits))) in
-    has_words (word_count p.groups) bs (ap length p.content ∙ length_contents p.groups p.each) (are_bytes bs small)
+    subst Small (sym p.are_bytes) (small_contents p.groups p.each (subst Small p.is_text (small_bytes b fits))) in
+    has_words (word_count p.groups) bs (ap length p.are_bytes ∙ length_contents p.groups p.each) (are_bytes bs small)

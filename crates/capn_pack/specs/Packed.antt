@@ -30,48 +30,49 @@ pub data Group : Type 0 where
   -- one word written whole, and this many more, copied
   Raw : (word : List ℕ) (count : ℕ) (more : List ℕ) → Group
 
--- The numbers of a group fit: counts are bytes, words have eight bytes, and bytes that no tag names are zero.
+-- The numbers of a group fit: counts are bytes, words have eight bytes, and bytes that no tag names are zero. A tag may
+-- name bytes that are zero, and a run may end early. (Own: both.)
 abbrev pub IsGroup : Group → Type 0
 IsGroup (Zeros more) = more < 256
 IsGroup (Named tag word) = (0 < tag) × (tag < 255) × (length word ≡ 8) × IsNamedBy tag word
 IsGroup (Raw word count more) = (length word ≡ 8) × (count < 256) × (length more ≡ 8 * count)
 
 -- The text of a group: its tag, then the bytes for which the tag asks.
-abbrev pub text : Group → List ℕ
-text (Zeros more) = 0 ∷ more ∷ []
-text (Named tag word) = tag ∷ named_bytes tag word
-text (Raw word count more) = 255 ∷ word ++ count ∷ more
+abbrev pub group_text : Group → List ℕ
+group_text (Zeros more) = 0 ∷ more ∷ []
+group_text (Named tag word) = tag ∷ named_bytes tag word
+group_text (Raw word count more) = 255 ∷ word ++ count ∷ more
 
 -- The bytes of a group's words.
-abbrev pub content : Group → List ℕ
-content (Zeros more) = replicate (8 * (1 + more)) 0
-content (Named tag word) = word
-content (Raw word count more) = word ++ more
+abbrev pub group_bytes : Group → List ℕ
+group_bytes (Zeros more) = replicate (8 * (1 + more)) 0
+group_bytes (Named tag word) = word
+group_bytes (Raw word count more) = word ++ more
 
 -- The number of words of a group.
-abbrev pub words : Group → ℕ
-words (Zeros more) = 1 + more
-words (Named tag word) = 1
-words (Raw word count more) = 1 + count
+abbrev pub group_words : Group → ℕ
+group_words (Zeros more) = 1 + more
+group_words (Named tag word) = 1
+group_words (Raw word count more) = 1 + count
 
 -- ---- packed texts: rows of groups. (Page: packing.)
 
 -- The groups, written one after another.
 abbrev pub texts : List Group → List ℕ
-texts groups = flat_map text groups
+texts groups = flat_map group_text groups
 
 -- The bytes of all their words, joined.
 abbrev pub contents : List Group → List ℕ
-contents groups = flat_map content groups
+contents groups = flat_map group_bytes groups
 
 -- The number of words of a row of groups.
 abbrev pub word_count : List Group → ℕ
 word_count [] = 0
-word_count (g ∷ gs) = words g + word_count gs
+word_count (g ∷ gs) = group_words g + word_count gs
 
 -- The text b packs the words whose bytes are bs: it is a row of groups, and bs are their words joined.
 pub record Packs (b bs : List ℕ) : Type 0 where
   pub groups : List Group
   pub each : AllByRecursion IsGroup groups
-  pub text : b ≡ texts groups
-  pub content : bs ≡ contents groups
+  pub is_text : b ≡ texts groups
+  pub are_bytes : bs ≡ contents groups

@@ -1,11 +1,11 @@
 -- A packed text that comes in pieces. (Own.)
 use Rattle.std.specs.Prelude.{ℕ, ◌≡◌, ◌+◌, ◌-◌, ◌^◌, ◌++◌, List, Bool, false, length, min}
 use Rattle.std.specs.List.{AllByRecursion}
-use Rattle.capn_pack.specs.Packed.{Group, IsGroup, text, texts, contents}
+use Rattle.capn_pack.specs.Packed.{Group, IsGroup, group_text, texts, contents}
 
 -- No whole group is at the front of these bytes.
 abbrev pub NoGroupFirst : List ℕ → Type 0
-NoGroupFirst rest = (group : Group) (more : List ℕ) → IsGroup group → rest ≡ text group ++ more → ⊥
+NoGroupFirst rest = (group : Group) (more : List ℕ) → IsGroup group → rest ≡ group_text group ++ more → ⊥
 
 -- The stream is whole groups of len bytes, whose words were appended, and then a rest that no group begins.
 pub record Splits (stream rest old new : List ℕ) (len : ℕ) : Type 0 where

@@ -4,7 +4,7 @@ use Rattle.std.specs.Prelude.{count_ones, ⊤}
 use Rattle.std.specs.List.{AllByRecursion}
 use Rattle.capn_pack.specs.declared.fault.UnpackFault.{UnpackFault}
 use Rattle.capn_pack.specs.declared.fault.UnpackFault.TheVariants.{Memory, Cut, TooLong, Failed}
-use Rattle.capn_pack.specs.Packed.{Group, IsGroup, text, words, texts, word_count}
+use Rattle.capn_pack.specs.Packed.{Group, IsGroup, group_text, group_words, texts, word_count}
 
 -- The length of the head of a group with this tag: the tag, then a count, the named bytes, or a word and a count.
 abbrev pub head_len : ℕ → ℕ
@@ -51,8 +51,8 @@ pub record StartsWithin (rest : List ℕ) (room : ℕ) : Type 0 where
   pub group : Group
   pub more : List ℕ
   pub is_group : IsGroup group
-  pub text : rest ≡ text group ++ more
-  pub fits : words group ≤ room
+  pub text : rest ≡ group_text group ++ more
+  pub fits : group_words group ≤ room
 
 -- The text b is refused like this under a maximum of words. Nothing is said of running out of memory.
 abbrev pub IsUnpackRefused : List ℕ → ℕ → UnpackFault → Type 0

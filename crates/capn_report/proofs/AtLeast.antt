@@ -3,7 +3,7 @@ use Rattle.std.proofs.Common.{◌≡◌, ℕ, zero, suc, ◌+◌, ◌≤◌, Lis
 use Rattle.std.proofs.Common.{slice_index, ap, arith}
 use Rattle.std.proofs.lemmas.List.{append-nil, get_or-drop}
 use Rattle.std.proofs.lemmas.List.Sums.{sum_by-cons}
-use Rattle.capn_pack.specs.Packed.{text}
+use Rattle.capn_pack.specs.Packed.{group_text}
 use Rattle.capn_pack.specs.UnpackRefusal.{len_at}
 use Rattle.capn_pack.proofs.shared.GroupLaws.{head_of}
 use Rattle.capn_stream.specs.FrameRefusal.{announced_segments, entries, entry_number, frame_length}
@@ -55,4 +55,4 @@ pub least_of_group : (came : List ℕ) (least : ℕ) → least ≡ len_at came �
 least_of_group [] least is some group more fits begins = absurd (omega arith)
 least_of_group (tag ∷ came) least is some group more fits begins =
     let whole = head_of group [] fits in
-    omega (arith, is, less-group tag came more, ap len_at begins, ap len_at (append-nil (text group)), whole.long)
+    omega (arith, is, less-group tag came more, ap len_at begins, ap len_at (append-nil (group_text group)), whole.long)

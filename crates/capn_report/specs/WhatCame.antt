@@ -2,7 +2,7 @@
 use Rattle.std.specs.Prelude.{◌≡◌, ℕ, ◌+◌, ◌-◌, ◌*◌, ◌^◌, ◌<◌, ◌≤◌, nat_lt, min, List, [], ◌∷◌, ◌++◌, length}
 use Rattle.std.specs.Prelude.{drop, replicate, slice_index, Option, Some, None, if◌then◌else◌, refl}
 use Rattle.capn_words.specs.Message.{most_segments}
-use Rattle.capn_pack.specs.Packed.{Group, IsGroup, text}
+use Rattle.capn_pack.specs.Packed.{Group, IsGroup, group_text}
 use Rattle.capn_pack.specs.UnpackRefusal.{len_at}
 use Rattle.capn_stream.specs.FrameRefusal.{announced_segments, announced_words, entries, entry_number, frame_length}
 use Rattle.capn_stream.specs.FrameRefusal.{head_length}
@@ -26,7 +26,7 @@ IsLeastOfFrame rest least = (more : List ℕ) → least ≤ frame_length (rest +
 -- no group that begins with these bytes, of which the first is its tag, has fewer
 abbrev pub IsLeastOfGroup : List ℕ → ℕ → Type 0
 IsLeastOfGroup came least = 0 < length came → (group : Group) (more : List ℕ) → IsGroup group
-    → text group ≡ came ++ more → least ≤ length (text group)
+    → group_text group ≡ came ++ more → least ≤ length (group_text group)
 
 -- the bytes that came of a frame, and those that it has at least
 abbrev pub there : List ℕ → FrameKey

@@ -3,7 +3,7 @@
 ghost use Rattle.std.specs.Prelude.{◌≡◌, ◌↔◌, ℕ, ◌+◌, ◌*◌, ◌<◌, ◌≤◌, List, length, IsTrue};
 ghost use Rattle.capn_words.specs.Message.{IsMessage, segment_at};
 ghost use Rattle.capn_value.specs.Same.{SameWords};
-ghost use Rattle.capn_walk.specs.ValueAt.{StandAt};
+ghost use Rattle.capn_walk.specs.ValueAt.{AreWordsAt};
 ghost use Rattle.capn_target.specs.Shapes.{IsContent};
 ghost use Rattle.capn_same.specs.inner.Runs.{AreEqual, AreZeros};
 
@@ -76,8 +76,8 @@ pub fn are_same<S: Space, T: Space, L: Ledger, M: Ledger>(
     requires two { IsMessage b.now }
     requires here { IsContent a.now one.start one.count }
     requires there { IsContent b.now two.start two.count }
-    ensures same { (ws vs : List ℕ) → StandAt a.now one.start.segment one.start.word ws → length ws ≡ one.count
-        → StandAt b.now two.start.segment two.start.word vs → length vs ≡ two.count
+    ensures same { (ws vs : List ℕ) → AreWordsAt a.now one.start.segment one.start.word ws → length ws ≡ one.count
+        → AreWordsAt b.now two.start.segment two.start.word vs → length vs ≡ two.count
         → IsTrue result ↔ SameWords ws vs }
     ensures first { first.new ≤ first.old + 2 * one.count }
     ensures second { second.new ≤ second.old + 2 * two.count }

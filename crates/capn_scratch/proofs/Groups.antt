@@ -6,7 +6,7 @@ use Rattle.std.proofs.Common.{take-append-drop, length-take, length-drop, take_a
 use Rattle.std.proofs.lemmas.Bool.{cases_eq, ne_eqb, eq-eqb}
 use Rattle.std.specs.Prelude.{count_ones}
 use Rattle.std.specs.List.{AllByRecursion}
-use Rattle.capn_pack.specs.Packed.{Group, IsGroup, content, Packs, texts, contents, word_count}
+use Rattle.capn_pack.specs.Packed.{Group, IsGroup, group_bytes, Packs, texts, contents, word_count}
 use Rattle.capn_pack.specs.Packed.Group.{Zeros, Named, Raw}
 use Rattle.capn_pack.specs.UnpackRefusal.{Stands, len_at, words_at}
 use Rattle.capn_pack.proofs.shared.GroupLemmas.{contents_more, each_more, length_contents, rest_is}
@@ -24,7 +24,7 @@ Has rest taken count old = (new : List ℕ) × Takes rest taken count old new
 zeros_there : (rest old : List ℕ) → 2 ≤ length rest → get_or rest 0 0 ≡ 0 → get_or rest 1 0 < 256
     → Has rest 2 (1 + get_or rest 1 0) old
 zeros_there rest old inside tag small = (
-  old ++ content (Zeros (get_or rest 1 0)),
+  old ++ group_bytes (Zeros (get_or rest 1 0)),
   record {
     group = Zeros (get_or rest 1 0);
     is_group = small;
@@ -41,7 +41,7 @@ raw_there rest old inside tag small =
     let more : ℕ = get_or rest 9 0 in
     let word : List ℕ = slice_range rest 1 9 in
     let copied : List ℕ = slice_range rest 10 (10 + 8 * more) in (
-      old ++ content (Raw word more copied),
+      old ++ group_bytes (Raw word more copied),
       record {
         group = Raw word more copied;
         is_group = raw_is_group rest more inside small;
@@ -57,7 +57,7 @@ named_there : (rest old : List ℕ) → 1 + count_ones (get_or rest 0 0) ≤ len
 named_there rest old inside above below =
     let tag : ℕ = get_or rest 0 0 in
     let s = spread_from 8 tag (drop 1 rest) (omega arith) (omega (arith, length-drop 1 rest)) in (
-      old ++ content (Named tag s.word),
+      old ++ group_bytes (Named tag s.word),
       record {
         group = Named tag s.word;
         is_group = (above, below, s.long, s.named);
@@ -132,7 +132,7 @@ unpacked_more bytes at out room max taken count new u t fits =
       within = omega (arith, t.within, ap length rest, length-drop at bytes, u.within);
       text = take-add at taken bytes ∙ ap (λ l. l ++ take taken (drop at bytes)) u.text
           ∙ ap (λ l. texts u.groups ++ l) (ap (take taken) (sym rest) ∙ t.text) ∙ sym (texts_more u.groups t.group);
-      content = t.content ∙ ap (λ l. l ++ content t.group) u.content ∙ sym (contents_more u.groups t.group);
+      content = t.content ∙ ap (λ l. l ++ group_bytes t.group) u.content ∙ sym (contents_more u.groups t.group);
       counted = omega (arith, u.counted, t.counted, fits, count_more u.groups t.group);
     }
 
@@ -147,8 +147,8 @@ pub unpacked_all : (bytes : List ℕ) (at : ℕ) (out : List ℕ) (room max : �
 unpacked_all bytes at out room max u end = record {
   groups = u.groups;
   each = u.each;
-  text = sym (take_all at bytes end) ∙ u.text;
-  content = u.content;
+  is_text = sym (take_all at bytes end) ∙ u.text;
+  are_bytes = u.content;
 }
 
 -- a fault at the group that comes

@@ -8,7 +8,7 @@ use Rattle.std.proofs.lemmas.List.{take-append-le}
 use Rattle.std.proofs.lemmas.Grind.{flat_map-append}
 use Rattle.std.specs.Io.KnownBytes.{Appends, Consumes, IsAtEnd, Keeps}
 use Rattle.std.proofs.KnownBytes.{Appends-nil, Consumes-nil, Consumes-trans, Consumes-kept}
-use Rattle.capn_pack.specs.Packed.{text, content, texts, contents}
+use Rattle.capn_pack.specs.Packed.{group_text, group_bytes, texts, contents}
 use Rattle.capn_pack.specs.PackedPieces as packing
 use Rattle.capn_pack.specs.PackedPieces.{Splits}
 use Rattle.capn_pack.proofs.shared.GroupLemmas.{each_append}
@@ -70,9 +70,9 @@ split_after s tail words b =
             ∙ append_assoc (texts b.groups) b.rest tail
             ∙ ap (λ (l : List ℕ). texts b.groups ++ l) q.text
             ∙ sym (append_assoc (texts b.groups) (texts q.groups) r.rest)
-            ∙ ap (λ (l : List ℕ). l ++ r.rest) (sym (flat_map-append text b.groups q.groups));
+            ∙ ap (λ (l : List ℕ). l ++ r.rest) (sym (flat_map-append group_text b.groups q.groups));
         content = ap (λ (l : List ℕ). l ++ contents q.groups) b.content
-            ∙ sym (flat_map-append content b.groups q.groups);
+            ∙ sym (flat_map-append group_bytes b.groups q.groups);
         size = refl;
         open_rest = q.open_rest;
       },

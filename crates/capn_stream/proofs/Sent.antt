@@ -4,7 +4,7 @@ use Rattle.std.proofs.Common.{Option, ap, sym, subst, ◌∙◌, arith}
 use Rattle.std.specs.List.{flat_map}
 use Rattle.std.proofs.lemmas.Grind.{flat_map-append}
 use Rattle.capn_words.specs.Message.{bytes, segment_at}
-use Rattle.capn_stream.specs.Frames.{contents, entry}
+use Rattle.capn_stream.specs.Frames.{segment_bytes, entry}
 use Rattle.capn_words.specs.Watched.{HasBegun}
 use Rattle.std.proofs.Math.Seq.{take-append-add, take-length}
 use Rattle.std.proofs.lemmas.List.{flat_map_more, take-append-drop, take-append-le, take_all, take_more}
@@ -52,11 +52,11 @@ sizes_more message s size here is =
 
 -- the bytes of one segment more, and those after it
 pub contents_more : (message : List (List ℕ)) (s : ℕ) → s < length message
-    → contents (take (s + 1) message) ≡ contents (take s message) ++ bytes (segment_at message s)
-contents_more message s here = ap contents (take_more message s [] here)
+    → segment_bytes (take (s + 1) message) ≡ segment_bytes (take s message) ++ bytes (segment_at message s)
+contents_more message s here = ap segment_bytes (take_more message s [] here)
     ∙ sym (flat_map_more bytes [] (take s message) (segment_at message s))
 
 pub contents_split : (message : List (List ℕ)) (s : ℕ)
-    → contents message ≡ contents (take s message) ++ contents (drop s message)
-contents_split message s = ap contents (sym (take-append-drop s message))
+    → segment_bytes message ≡ segment_bytes (take s message) ++ segment_bytes (drop s message)
+contents_split message s = ap segment_bytes (sym (take-append-drop s message))
     ∙ flat_map-append bytes (take s message) (drop s message)

@@ -23,8 +23,8 @@ abbrev pub padding : ℕ → ℕ
 padding count = if count % 2 == 0 then 4 else 0
 
 -- the bytes of the segments, one after another
-abbrev pub contents : List (List ℕ) → List ℕ
-contents message = flat_map bytes message
+abbrev pub segment_bytes : List (List ℕ) → List ℕ
+segment_bytes message = flat_map bytes message
 
 -- a table that is accepted can announce this message: 1 to 4,096 segments (own: no more), each of fewer than 2^32
 -- words, which are below 2^64
@@ -34,17 +34,17 @@ pub record FitsTable (message : List (List ℕ)) : Type 0 where
   pub sizes : (s : ℕ) → length (segment_at message s) < 2 ^ 32
   pub each : (s k : ℕ) → slice_index (segment_at message s) k < 2 ^ 64
 
--- the bytes are the message's table, padding of any bytes, and the message's contents
+-- the bytes are the message's table, padding of any bytes (Own: any.), and the message's contents
 pub record Frames (bs : List ℕ) (message : List (List ℕ)) : Type 0 where
   pub fits : FitsTable message
   pub gap : List ℕ
   pub gap_bytes : AreBytes gap
   pub gap_length : length gap ≡ padding (length message)
-  pub text : bs ≡ table message ++ (gap ++ contents message)
+  pub text : bs ≡ table message ++ (gap ++ segment_bytes message)
 
 -- the frame of the message whose padding is zero (own: what is written)
 abbrev pub frame_text : List (List ℕ) → List ℕ
-frame_text message = table message ++ (replicate (padding (length message)) 0 ++ contents message)
+frame_text message = table message ++ (replicate (padding (length message)) 0 ++ segment_bytes message)
 
 -- the first `taken` bytes are a frame of the message, which has at most `most` words
 pub record StandsFirst (bs : List ℕ) (most : ℕ) (message : List (List ℕ)) (taken : ℕ) : Type 0 where

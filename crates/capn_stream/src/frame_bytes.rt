@@ -3,7 +3,7 @@
 ghost use Rattle.std.specs.Prelude.{◌≡◌, ℕ, ◌+◌, ◌-◌, ◌≤◌, ◌++◌, length, replicate, Some, IfOk, OnOk};
 ghost use Rattle.std.specs.List.{flat_map};
 ghost use Rattle.capn_words.specs.Message.{bytes, segment_at, total, words_of};
-ghost use Rattle.capn_stream.specs.Frames.{Frames, StandsFirst, contents, entry, frame_text, padding, table};
+ghost use Rattle.capn_stream.specs.Frames.{Frames, StandsFirst, segment_bytes, entry, frame_text, padding, table};
 
 use crate::table::head_of;
 use capn_words::{Memory, Place, Space, total_words};
@@ -52,7 +52,7 @@ pub(crate) fn bytes_of<S: Space>(space: &S, segment: u32, words: u32) -> &[u8]
 
 /// Appends the bytes of the segments of the message `space` to `text`.
 fn put_contents<S: Space, A: Allocator>(text: &mut Vec<u8, A>, space: &S) -> Result<(), AllocError>
-    ensures { OnOk result (text.new.items ≡ text.old.items ++ contents (S.message space.now)) }
+    ensures { OnOk result (text.new.items ≡ text.old.items ++ segment_bytes (S.message space.now)) }
 {
     for segment in 0..space.segments() {
         if let Some(words) = space.words(segment) {

@@ -14,20 +14,20 @@ use Rattle.capn_target.specs.Target.{content_words}
 
 -- the number of slots of an object
 abbrev pub slot_count : Shape → ℕ
-slot_count (shapes.Node a b) = b
+slot_count (shapes.Node data_words pointers) = pointers
 slot_count (shapes.Many Link n) = n
 slot_count (shapes.Many width n) = 0
-slot_count (shapes.Rows n a b span) = n * b
+slot_count (shapes.Rows n data_words pointers span) = n * pointers
 
 -- the words that an object takes
 abbrev pub extent : Shape → ℕ
-extent (shapes.Node a b) = a + b
+extent (shapes.Node data_words pointers) = data_words + pointers
 extent (shapes.Many width n) = content_words width n
-extent (shapes.Rows n a b span) = 1 + span
+extent (shapes.Rows n data_words pointers span) = 1 + span
 
 -- the rows of a composite list, which has a tag, are within its words
 abbrev pub RowsFit : Shape → Type 0
-RowsFit (shapes.Rows n a b span) = n * (a + b) ≤ span
+RowsFit (shapes.Rows n data_words pointers span) = n * (data_words + pointers) ≤ span
 RowsFit (shapes.Many Rows n) = ⊥
 RowsFit _ = ⊤
 

@@ -38,61 +38,64 @@ content_words W64 n = n
 content_words Link n = n
 content_words Rows n = 1 + n
 
--- the word to which an offset leads from the word after a pointer, if not before word 0
-abbrev pub moved : ℕ → ℤ → Result ℕ Fault
-moved w (pos n) = Ok (w + 1 + n)
-moved w (negsuc n) = if nat_lt w n then Err faults.Range else Ok (w - n)
+-- the word to which an offset leads from the word after a pointer; before word 0 it is a fault (Own.)
+abbrev pub content_start : (word : ℕ) (offset : ℤ) → Result ℕ Fault
+content_start w (pos n) = Ok (w + 1 + n)
+content_start w (negsuc n) = if nat_lt w n then Err faults.Range else Ok (w - n)
 
 module _ (message : List (List ℕ)) where
-  -- a struct list whose content starts with the tag t
-  abbrev pub tagged : ℕ → ℕ → ℕ → ℕ → ℕ → Result Target Fault
-  tagged s start pads span t =
-      if field 0 2 t == 0
-      then if nat_lt span (field 2 30 t * (field 32 16 t + field 48 16 t)) then Err faults.TagOverrun
-      else Ok (targets.Content s start (shapes.Rows (field 2 30 t) (field 32 16 t) (field 48 16 t) span) pads)
+  -- a struct list whose content starts with this tag; its count is unsigned, its rows may leave words free (Own: both.)
+  abbrev pub tagged : (segment start pads span tag : ℕ) → Result Target Fault
+  tagged s start pads span tag =
+      if field 0 2 tag == 0
+      then if nat_lt span (field 2 30 tag * (field 32 16 tag + field 48 16 tag)) then Err faults.TagOverrun
+      else Ok (targets.Content s start (shapes.Rows (field 2 30 tag) (field 32 16 tag) (field 48 16 tag) span) pads)
       else Err faults.BadTag
 
-  -- content of n words
-  abbrev pub within : ℕ → ℕ → ℕ → Result Target Fault → Result Target Fault
-  within s start n found = if nat_lt (length (segment_at message s)) (start + n) then Err faults.Range else found
+  -- this, if content of n words is inside its segment; n may be 0 (Own.)
+  abbrev pub if_inside : (segment start n : ℕ) → Result Target Fault → Result Target Fault
+  if_inside s start n found = if nat_lt (length (segment_at message s)) (start + n) then Err faults.Range else found
 
   -- a list whose content starts here: rows after their tag, or elements of one width
-  abbrev pub list : ℕ → ℕ → ℕ → Width → ℕ → Result Target Fault
-  list s start pads Rows n = within s start (1 + n) (tagged s start pads n (slice_index (segment_at message s) start))
+  abbrev pub list : (segment start pads : ℕ) → Width → (n : ℕ) → Result Target Fault
+  list s start pads Rows n =
+      if_inside s start (1 + n) (tagged s start pads n (slice_index (segment_at message s) start))
   list s start pads width n =
-      within s start (content_words width n) (Ok (targets.Content s start (shapes.Many width n) pads))
+      if_inside s start (content_words width n) (Ok (targets.Content s start (shapes.Many width n) pads))
 
-  -- a struct of a words and b slots whose content starts here
-  abbrev pub struct : ℕ → ℕ → ℕ → ℕ → ℕ → Result Target Fault
-  struct s start pads a b = within s start (a + b) (Ok (targets.Content s start (shapes.Node a b) pads))
+  -- a struct whose content starts here, by the sizes of its sections
+  abbrev pub struct : (segment start pads data_words pointers : ℕ) → Result Target Fault
+  struct s start pads data_words pointers =
+      if_inside s start (data_words + pointers) (Ok (targets.Content s start (shapes.Node data_words pointers) pads))
 
-  -- a pointer to content from a start that is known, if it has one
-  abbrev pub struct_from : ℕ → Result ℕ Fault → ℕ → ℕ → ℕ → Result Target Fault
-  struct_from s (Ok start) pads a b = struct s start pads a b
-  struct_from s (Err e) pads a b = Err e
+  -- a struct's pointer to content from a start that is known, if it has one
+  abbrev pub struct_from : (segment : ℕ) → Result ℕ Fault → (pads data_words pointers : ℕ) → Result Target Fault
+  struct_from s (Ok start) pads data_words pointers = struct s start pads data_words pointers
+  struct_from s (Err e) pads data_words pointers = Err e
 
   -- a list's pointer to content from a start that is known, if it has one
-  abbrev pub list_from : ℕ → Result ℕ Fault → ℕ → Width → ℕ → Result Target Fault
+  abbrev pub list_from : (segment : ℕ) → Result ℕ Fault → (pads : ℕ) → Width → (n : ℕ) → Result Target Fault
   list_from s (Ok start) pads width n = list s start pads width n
   list_from s (Err e) pads width n = Err e
 
   -- the struct or list whose pointer, or pad of one word, is at word w of the segment
-  abbrev pub near : ℕ → ℕ → ℕ → Pointer → Result Target Fault
-  near s w pads (Node o a b) = struct_from s (moved w o) pads a b
-  near s w pads (Many o width n) = list_from s (moved w o) pads width n
-  near s w pads _ = Err faults.BadPad
+  abbrev pub target_from : (segment word pads : ℕ) → Pointer → Result Target Fault
+  target_from s w pads (Node o data_words pointers) = struct_from s (content_start w o) pads data_words pointers
+  target_from s w pads (Many o width n) = list_from s (content_start w o) pads width n
+  target_from s w pads _ = Err faults.BadPad
 
-  -- the second word of a pad of two, whose first names where the content starts
-  abbrev pub second_pad : ℕ → ℕ → Pointer → Result Target Fault
+  -- the second word of a pad of two, whose first names where the content starts: zero is a struct without words, and
+  -- the offset is ignored (Own: both.)
+  abbrev pub second_pad : (segment start : ℕ) → Pointer → Result Target Fault
   second_pad s start Nil = struct s start 2 0 0
-  second_pad s start (Node o a b) = struct s start 2 a b
+  second_pad s start (Node o data_words pointers) = struct s start 2 data_words pointers
   second_pad s start (Many o width n) = list s start 2 width n
   second_pad s start _ = Err faults.BadPad
 
   -- true if this may be such a word: null, or a pointer to a struct or a list
   abbrev pub is_second_pad : Pointer → Bool
   is_second_pad Nil = true
-  is_second_pad (Node o a b) = true
+  is_second_pad (Node o data_words pointers) = true
   is_second_pad (Many o width n) = true
   is_second_pad _ = false
 
@@ -105,28 +108,28 @@ module _ (message : List (List ℕ)) where
   two_pads _ tag = Err faults.BadPad
 
   -- the pointer that a word of a segment holds
-  abbrev pub pointer_in : ℕ → ℕ → Pointer
+  abbrev pub pointer_in : (segment word : ℕ) → Pointer
   pointer_in s w = pointer_of (slice_index (segment_at message s) w)
 
-  -- a far pointer to a pad of n words
-  abbrev pub landing : {A : Type 0} → ℕ → ℕ → ℕ → Result A Fault → Result A Fault
+  -- this, if a pad of n words is there
+  abbrev pub landing : (segment word n : ℕ) → Result Target Fault → Result Target Fault
   landing s w n found =
       if nat_lt s (length message)
       then if nat_lt (length (segment_at message s)) (w + n) then Err faults.PadRange else found
       else Err faults.NoSegment
 
-  -- the target of a pointer at word w of segment s
-  abbrev pub named : ℕ → ℕ → Pointer → Result Target Fault
-  named s w Nil = Ok targets.Nil
-  named s w (Cap k) = Ok (targets.Cap k)
-  named s w (Reserved n) = Err faults.Reserved
-  named s w (Far false v t) = landing t v 1 (near t v 1 (pointer_in t v))
-  named s w (Far true v t) = landing t v 2 (two_pads (pointer_in t v) (pointer_in t (v + 1)))
-  named s w near_pointer = near s w 0 near_pointer
+  -- the target of a pointer at word w of segment s (Own: the order of the faults.)
+  abbrev pub target_of_pointer : (segment word : ℕ) → Pointer → Result Target Fault
+  target_of_pointer s w Nil = Ok targets.Nil
+  target_of_pointer s w (Cap k) = Ok (targets.Cap k)
+  target_of_pointer s w (Reserved n) = Err faults.Reserved
+  target_of_pointer s w (Far false v t) = landing t v 1 (target_from t v 1 (pointer_in t v))
+  target_of_pointer s w (Far true v t) = landing t v 2 (two_pads (pointer_in t v) (pointer_in t (v + 1)))
+  target_of_pointer s w near_pointer = target_from s w 0 near_pointer
 
   -- the target of the pointer at a place
   unfoldable pub target : Place → Result Target Fault
-  target at = named at.segment at.word (pointer_in at.segment at.word)
+  target at = target_of_pointer at.segment at.word (pointer_in at.segment at.word)
 
 -- ---- read to here for the theorem
 

@@ -9,12 +9,12 @@ use Rattle.capn_words.specs.declared.pointer.Pointer.TheVariants.{Nil, Node, Man
 use Rattle.capn_words.specs.declared.pointer.Width.TheVariants.{Rows}
 use Rattle.capn_target.specs.declared.target.Shape.{Shape}
 use Rattle.capn_target.specs.declared.target.Shape.TheVariants as shapes
-use Rattle.capn_target.specs.Target.{content_words, moved, pointer_in}
+use Rattle.capn_target.specs.Target.{content_words, content_start, pointer_in}
 
 -- the offset of a pointer at word w, counted from the word after it, leads to the start
 abbrev pub LeadsTo : ℕ → Pointer → ℕ → Type 0
-LeadsTo w (Node offset words slots) start = moved w offset ≡ Ok start
-LeadsTo w (Many offset width n) start = moved w offset ≡ Ok start
+LeadsTo w (Node offset words slots) start = content_start w offset ≡ Ok start
+LeadsTo w (Many offset width n) start = content_start w offset ≡ Ok start
 LeadsTo w _ start = ⊥
 
 -- a tag word counts rows of these sizes, which are within n words

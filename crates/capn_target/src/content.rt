@@ -54,7 +54,7 @@ pub fn place(segment: u32, word: u32) -> Place
 /// Returns the word to which `offset` leads from the pointer at `word`; `Range` if it is before word 0.
 #[inline(always)]
 pub fn start_of(word: u32, offset: i32) -> Result<u64, Fault>
-    ensures { result ≡ spec.moved word offset }
+    ensures { result ≡ spec.content_start word offset }
 {
     let start = word as i64 + 1 + offset as i64;
     if start < 0 {

@@ -4,7 +4,7 @@ ghost use Rattle.std.specs.Prelude.{◌≡◌, ℕ, ◌<◌, ◌≤◌, ◌+◌,
 ghost use Rattle.capn_words.specs.Message.{segment_at, IsPlace};
 ghost use Rattle.capn_target.specs.Target as spec;
 ghost use Rattle.capn_target.specs.Shapes.{IsInMessage};
-ghost use Rattle.capn_target.specs.declared.target.Fault.TheVariants.{NoSegment};
+ghost use Rattle.capn_target.specs.declared.target.Fault.TheVariants.{NoSegment, PadRange};
 
 use crate::content::{many_at, node_at, segment_length, start_of};
 use crate::reader::{CountedSpace, Reads};
@@ -44,7 +44,7 @@ fn named<S: Space, L: Ledger>(
     pointer: Pointer,
     reads: &mut Reads<L>,
 ) -> Result<Target, Fault>
-    ensures named { result ≡ spec.named space.now segment word pointer }
+    ensures named { result ≡ spec.target_of_pointer space.now segment word pointer }
     ensures reads { reads.new ≤ reads.old + 7 }
 {
     match pointer {
@@ -97,7 +97,7 @@ pub fn near<S: Space, L: Ledger>(
     reads: &mut Reads<L>,
 ) -> Result<Target, Fault>
     requires { size ≡ length (segment_at space.now segment) }
-    ensures near { result ≡ spec.near space.now segment word pads pointer }
+    ensures near { result ≡ spec.target_from space.now segment word pads pointer }
     ensures reads { reads.new ≤ reads.old + 1 }
 {
     match pointer {
@@ -130,7 +130,7 @@ fn behind_one<S: Space, L: Ledger>(
     reads: &mut Reads<L>,
 ) -> Result<Target, Fault>
     ensures landed { result ≡ spec.landing space.now segment word 1
-        (spec.near space.now segment word 1
+        (spec.target_from space.now segment word 1
         (spec.pointer_in space.now segment word)) }
     ensures reads { reads.new ≤ reads.old + 5 }
 {
@@ -216,7 +216,9 @@ fn landing<S: Space, L: Ledger>(
     reads: &mut Reads<L>,
 ) -> Result<(), Fault>
     requires { pads ≤ 2 }
-    ensures exact { result ≡ spec.landing space.now segment word pads (Ok tt) }
+    ensures exact { result ≡ (if nat_lt segment (length space.now)
+        then if nat_lt (length (segment_at space.now segment)) (word + pads) then Err PadRange else Ok tt
+        else Err NoSegment) }
     ensures small { OnOk result (word + pads < 2 ^ 32) }
     ensures reads { reads.new ≤ reads.old + 2 }
 {

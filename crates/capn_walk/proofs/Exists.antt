@@ -19,7 +19,7 @@ use Rattle.capn_target.specs.declared.target.Fault.{Fault}
 use Rattle.capn_target.specs.Target.{target, list_width}
 use Rattle.capn_walk.specs.Visits.{places, row_places, slots, visits}
 use Rattle.capn_walk.specs.Accepted.{AllPay}
-use Rattle.capn_walk.specs.ValueAt.{IsAt, AreAt, RowsAt, StandAt, element, words_from}
+use Rattle.capn_walk.specs.ValueAt.{IsAt, AreAt, RowsAt, AreWordsAt, element, words_from}
 use Rattle.capn_walk.proofs.shared.Costs.{all-front, all-back}
 use Rattle.capn_target.proofs.shared.Inside.{inside}
 use Rattle.capn_walk.proofs.shared.Listed.{listed, length-listed, elements-listed}
@@ -30,7 +30,7 @@ module _ (m : List (List ℕ)) where
   length-words : (s w n : ℕ) → w + n ≤ length (segment_at m s) → length (take n (words_from m s w)) ≡ n
   length-words s w n h = let l = length-drop w (segment_at m s) in length-take-le n (words_from m s w) (omega arith)
 
-  are-words : (s w n : ℕ) → w + n ≤ length (segment_at m s) → StandAt m s w (take n (words_from m s w))
+  are-words : (s w n : ℕ) → w + n ≤ length (segment_at m s) → AreWordsAt m s w (take n (words_from m s w))
   are-words s w n h = ap (λ (k : ℕ). take k (words_from m s w)) (length-words s w n h)
 
   of-numbers : (a : NumberWidth) (at : Place) (s start pads n : ℕ)
@@ -76,7 +76,7 @@ module _ (m : List (List ℕ)) where
 
   as-node : (at : Place) (s start pads a b : ℕ) (ws : List ℕ) (ts : Trees)
       → target m at ≡ Ok (targets.Content s start (shapes.Node a b) pads) →
-      length ws ≡ a → count ts ≡ b → StandAt m s start ws → AreAt m s (start + a) ts → (v : Tree) × IsAt m at v
+      length ws ≡ a → count ts ≡ b → AreWordsAt m s start ws → AreAt m s (start + a) ts → (v : Tree) × IsAt m at v
   as-node at s start pads a b ws ts e l k words is =
       (node ws ts, record { segment = s; start = start; pads = pads; is = rw (l, k) e; inside = (words, rw l is) })
 

@@ -7,25 +7,25 @@ use Rattle.capn_words.specs.declared.space.Place.{Place}
 use Rattle.capn_words.specs.declared.pointer.Pointer.{Pointer}
 use Rattle.capn_words.specs.declared.pointer.Pointer.TheVariants.{Node, Many}
 use Rattle.capn_words.specs.declared.pointer.Width.{Width}
-use Rattle.capn_target.specs.Target.{named, near, pointer_in, target}
+use Rattle.capn_target.specs.Target.{target_of_pointer, target_from, pointer_in, target}
 
 pub by-pointer : (m : List (List ℕ)) (at : Place) (p : Pointer) → p ≡ pointer_in m at.segment at.word
-    → named m at.segment at.word p ≡ target m at
+    → target_of_pointer m at.segment at.word p ≡ target m at
 unfolding target
-by-pointer m at p e = ap (named m at.segment at.word) e
+by-pointer m at p e = ap (target_of_pointer m at.segment at.word) e
 
 -- a pointer to what is near
 module _ (m : List (List ℕ)) (at : Place) (w : ℕ) (p : Pointer) where
   pub near-struct : (o : ℤ) (a b : ℕ) → w ≡ word_at m at → p ≡ pointer_of w → p ≡ Node o a b
-      → near m at.segment at.word 0 p ≡ target m at
+      → target_from m at.segment at.word 0 p ≡ target m at
   unfolding target
   near-struct o a b e f h =
       let r : pointer_in m at.segment at.word ≡ Node o a b = sym (f ∙ ap pointer_of e) ∙ h in
-      ap (near m at.segment at.word 0) h ∙ sym (ap (named m at.segment at.word) r)
+      ap (target_from m at.segment at.word 0) h ∙ sym (ap (target_of_pointer m at.segment at.word) r)
 
   pub near-list : (o : ℤ) (width : Width) (n : ℕ) → w ≡ word_at m at → p ≡ pointer_of w → p ≡ Many o width n
-      → near m at.segment at.word 0 (Many o width n) ≡ target m at
+      → target_from m at.segment at.word 0 (Many o width n) ≡ target m at
   unfolding target
   near-list o width n e f h =
       let r : pointer_in m at.segment at.word ≡ Many o width n = sym (f ∙ ap pointer_of e) ∙ h in
-      sym (ap (named m at.segment at.word) r)
+      sym (ap (target_of_pointer m at.segment at.word) r)

@@ -8,18 +8,18 @@ use Rattle.capn_words.proofs.shared.Choices.{if-yes, if-no, less-yes, less-no}
 use Rattle.capn_target.specs.declared.target.Target.{Target}
 use Rattle.capn_target.specs.declared.target.Fault.{Fault}
 use Rattle.capn_target.specs.declared.target.Fault.TheVariants as faults
-use Rattle.capn_target.specs.Target.{landing, near, named, pointer_in, target}
+use Rattle.capn_target.specs.Target.{landing, target_from, target_of_pointer, pointer_in, target}
 
 module _ (m : List (List ℕ)) (at : Place) (s w : ℕ) (far : pointer_in m at.segment at.word ≡ Far false w s) where
   abbrev found : Result Target Fault
-  found = near m s w 1 (pointer_in m s w)
+  found = target_from m s w 1 (pointer_in m s w)
 
   abbrev in-range : Result Target Fault
   in-range = if nat_lt (length (segment_at m s)) (w + 1) then Err faults.PadRange else found
 
   behind : target m at ≡ landing m s w 1 found
   unfolding target
-  behind = ap (named m at.segment at.word) far
+  behind = ap (target_of_pointer m at.segment at.word) far
 
   present : s < length m → target m at ≡ in-range
   present h = behind ∙ if-yes (nat_lt s (length m)) in-range _ (less-yes s (length m) h)
@@ -35,7 +35,7 @@ module _ (m : List (List ℕ)) (at : Place) (s w : ℕ) (far : pointer_in m at.s
       (less-yes (length (segment_at m s)) (w + 1) (omega arith))
 
   -- the pad is there
-  pub pad-there : s < length m → w < length (segment_at m s) → target m at ≡ near m s w 1 (pointer_in m s w)
+  pub pad-there : s < length m → w < length (segment_at m s) → target m at ≡ target_from m s w 1 (pointer_in m s w)
   pad-there h l =
       present h ∙ if-no (nat_lt (length (segment_at m s)) (w + 1)) (Err faults.PadRange) found
       (less-no (length (segment_at m s)) (w + 1) (omega arith))

@@ -27,9 +27,9 @@ use Rattle.capn_walk.proofs.shared.Fitting.{root-costs, fits-root}
 pub stops-at-once : (b : ℕ) (at : Place) (e : Fault) (vs : List Visit) → vs ≡ fails at e ∷ [] → IsStop b vs e at 0 1
 stops-at-once b at e vs h = record {
   before = [];
-  here = fails at e;
-  behind = [];
-  is = h;
+  stop = fails at e;
+  after = [];
+  split = h;
   within = record { all = tt; paid = omega arith };
   ends = (refl, refl);
   sum = refl;

@@ -11,7 +11,7 @@ use Rattle.capn_target.specs.declared.target.Target.{Target}
 use Rattle.capn_target.specs.declared.target.Target.TheVariants as targets
 use Rattle.capn_target.specs.declared.target.Shape.TheVariants as shapes
 use Rattle.capn_target.specs.Target.{target, list_width}
-use Rattle.capn_walk.specs.ValueAt.{IsAt, AreAt, RowsAt, StandAt, AreNumbers, words_from}
+use Rattle.capn_walk.specs.ValueAt.{IsAt, AreAt, RowsAt, AreWordsAt, AreNumbers, words_from}
 use Rattle.capn_walk.specs.ShownValue.{Shows, ShowsStruct, ShowsNumbers, words_of_row, slots_of_row}
 use Rattle.capn_walk.specs.View.{kind_of_list}
 use Rattle.capn_walk.proofs.shared.Walks.{slot}
@@ -25,12 +25,12 @@ module _ (m : List (List ℕ)) where
       rw e (slot-at ts s (suc w) i a.1 (omega arith))
 
   -- one of several words
-  word-at : (s w : ℕ) (ws : List ℕ) (i : ℕ) → StandAt m s w ws → i < length ws
+  word-at : (s w : ℕ) (ws : List ℕ) (i : ℕ) → AreWordsAt m s w ws → i < length ws
       → slice_index (words_from m s w) i ≡ slice_index ws i
   word-at s w ws i a h = sym (get_or-take (length ws) (words_from m s w) i 0 h)
       ∙ ap (λ (xs : List ℕ). slice_index xs i) a
 
-  of-struct : (s start a b pads : ℕ) (ws : List ℕ) (ss : Trees) → length ws ≡ a → count ss ≡ b → StandAt m s start ws
+  of-struct : (s start a b pads : ℕ) (ws : List ℕ) (ss : Trees) → length ws ≡ a → count ss ≡ b → AreWordsAt m s start ws
       → AreAt m s (start + a) ss →
       ShowsStruct m (targets.Content s start (shapes.Node a b) pads) ws ss
   of-struct s start a b pads ws ss la lb words are = record {

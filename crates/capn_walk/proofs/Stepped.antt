@@ -13,7 +13,7 @@ use Rattle.capn_words.specs.Message.{segment_at}
 use Rattle.capn_words.specs.declared.pointer.Pointer.{Pointer}
 use Rattle.capn_words.specs.declared.pointer.Pointer.TheVariants.{Nil, Node, Many, Far, Cap, Reserved}
 use Rattle.capn_words.specs.declared.pointer.Width.TheVariants.{W0, W1, W8, W16, W32, W64, Link, Rows}
-use Rattle.capn_target.specs.Target.{near, target}
+use Rattle.capn_target.specs.Target.{target_from, target}
 use Rattle.capn_target.specs.Ways.{Describes}
 use Rattle.capn_target.proofs.shared.Ways.{Told, told-near}
 use Rattle.capn_target.specs.Shapes.{AreNumbers}
@@ -126,10 +126,10 @@ module _ (m : List (List ℕ)) where
   capless (Ok (targets.Content s start shape pads)) h = refl
   capless (Err e) h = refl
 
-  pub capless-near : (at : Place) (p : Pointer) → near m at.segment at.word 0 p ≡ target m at
+  pub capless-near : (at : Place) (p : Pointer) → target_from m at.segment at.word 0 p ≡ target m at
       → cap_of (target m at) ≡ None
   capless-near at p h = rw h at
-      (capless (near m at.segment at.word 0 p) (told-near m _ _ at.segment at.word 0 p (λ start shape l d. tt)))
+      (capless (target_from m at.segment at.word 0 p) (told-near m _ _ at.segment at.word 0 p (λ start shape l d. tt)))
 
   -- a list of numbers has no slots
   number-slots : (p : Pointer) (s start : ℕ) (shape : Shape) → AreNumbers p → Describes m p s start shape
@@ -148,7 +148,7 @@ module _ (m : List (List ℕ)) where
   number-slots (Cap k) s start shape h d = absurd h
   number-slots (Reserved n) s start shape h d = absurd h
 
-  pub numbers-below : (s w pads : ℕ) (p : Pointer) (t : Target) → AreNumbers p → near m s w pads p ≡ Ok t
+  pub numbers-below : (s w pads : ℕ) (p : Pointer) (t : Target) → AreNumbers p → target_from m s w pads p ≡ Ok t
       → slots_below t ≡ []
   numbers-below s w pads p targets.Nil h e = refl
   numbers-below s w pads p (targets.Cap k) h e = refl
@@ -156,20 +156,21 @@ module _ (m : List (List ℕ)) where
       let k = rw e at (told-near m (λ s start shape pads. slots s start shape ≡ []) (λ k. ⊤) s w pads p
       (λ start shape l d. number-slots p s start shape h d)) in k
 
-  none-of : (at : Place) (p : Pointer) → AreNumbers p → (r : Result Target Fault) → near m at.segment at.word 0 p ≡ r
+  none-of : (at : Place) (p : Pointer) → AreNumbers p → (r : Result Target Fault)
+      → target_from m at.segment at.word 0 p ≡ r
       → below_of r ≡ []
   none-of at p h (Ok t) e = numbers-below at.segment at.word 0 p t h e
   none-of at p h (Err f) e = refl
 
   -- nothing is below such a list
-  pub numbers-none : (at : Place) (p : Pointer) → AreNumbers p → near m at.segment at.word 0 p ≡ target m at
+  pub numbers-none : (at : Place) (p : Pointer) → AreNumbers p → target_from m at.segment at.word 0 p ≡ target m at
       → below_of (target m at) ≡ []
   numbers-none at p h e = none-of at p h (target m at) e
 
   -- a visit of such a list, where its target is known
   module _ (base : ℕ) (at : Place) (depth left : ℕ) (p : Pointer) where
-    pub numbers-paid : (t : Target) → AreNumbers p → near m at.segment at.word 0 p ≡ Ok t
-        → near m at.segment at.word 0 p ≡ target m at →
+    pub numbers-paid : (t : Target) → AreNumbers p → target_from m at.segment at.word 0 p ≡ Ok t
+        → target_from m at.segment at.word 0 p ≡ target m at →
         (r : Result ℕ Fault)
         → MatchResult r (λ n. stepped base depth left (Ok t) ≡ Ok t) (λ e. stepped base depth left (Ok t) ≡ Err e) →
         IfOk r (λ n. n ≡ toll base t) → IfOk r (λ n. visits m base depth at ≡ pays at n ∷ [])
@@ -181,7 +182,8 @@ module _ (m : List (List ℕ)) where
         rw (← x, empty) at w
     numbers-paid t k h e (Err n) f x = tt
 
-    pub numbers-stop : (t : Target) → near m at.segment at.word 0 p ≡ Ok t → near m at.segment at.word 0 p ≡ target m at
+    pub numbers-stop : (t : Target) → target_from m at.segment at.word 0 p ≡ Ok t
+        → target_from m at.segment at.word 0 p ≡ target m at
         →
         (r : Result ℕ Fault)
         → MatchResult r (λ n. stepped base depth left (Ok t) ≡ Ok t) (λ e. stepped base depth left (Ok t) ≡ Err e) →
@@ -189,7 +191,7 @@ module _ (m : List (List ℕ)) where
     numbers-stop t h e (Ok n) f = tt
     numbers-stop t h e (Err n) f = step-stops m base at depth left n (ap (stepped base depth left) (sym e ∙ h) ∙ f)
 
-    pub numbers-fault : (x : Fault) → near m at.segment at.word 0 p ≡ Err x
-        → near m at.segment at.word 0 p ≡ target m at →
+    pub numbers-fault : (x : Fault) → target_from m at.segment at.word 0 p ≡ Err x
+        → target_from m at.segment at.word 0 p ≡ target m at →
         judge left (visits m base depth at) ≡ refused x at 0 1
     numbers-fault x h e = ap (judge left) (visits-fault m base at depth x (sym e ∙ h))

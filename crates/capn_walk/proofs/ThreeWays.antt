@@ -14,16 +14,16 @@ use Rattle.capn_target.specs.declared.target.Target.{Target}
 use Rattle.capn_target.specs.declared.target.Target.TheVariants as targets
 use Rattle.capn_target.specs.declared.target.Shape.{Shape}
 use Rattle.capn_target.specs.declared.target.Fault.{Fault}
-use Rattle.capn_target.specs.Target.{within, list, struct_from, list_from, near, second_pad, is_second_pad}
-use Rattle.capn_target.specs.Target.{two_pads, pointer_in, landing, named, target}
+use Rattle.capn_target.specs.Target.{if_inside, list, struct_from, list_from, target_from, second_pad, is_second_pad}
+use Rattle.capn_target.specs.Target.{two_pads, pointer_in, landing, target_of_pointer, target}
 use Rattle.capn_target.specs.Ways.{LeadsTo, Describes, Lies, IsPad, OneOfThree}
 
 module _ (m : List (List ℕ)) where
-  within-yes : (s start n : ℕ) (r : Result Target Fault) → Lies m s start n → within m s start n r ≡ r
+  within-yes : (s start n : ℕ) (r : Result Target Fault) → Lies m s start n → if_inside m s start n r ≡ r
   within-yes s start n r l = if-no (nat_lt (length (segment_at m s)) (start + n)) _ _ (grind (arith, nat_tests))
 
   content-yes : (s start pads n : ℕ) (x shape : Shape) → shape ≡ x → Lies m s start n
-      → within m s start n (Ok (targets.Content s start x pads)) ≡ Ok (targets.Content s start shape pads)
+      → if_inside m s start n (Ok (targets.Content s start x pads)) ≡ Ok (targets.Content s start shape pads)
   content-yes s start pads n x shape e l =
       within-yes s start n _ l ∙ ap (λ (y : Shape). Ok (targets.Content s start y pads)) (sym e)
 
@@ -46,7 +46,7 @@ module _ (m : List (List ℕ)) where
       ∙ ap (λ (x : Shape). Ok (targets.Content s start x pads)) (sym d.1.1)
 
   near-yes : (s w pads start : ℕ) (p : Pointer) (shape : Shape) → LeadsTo w p start → Describes m p s start shape
-      → near m s w pads p ≡ Ok (targets.Content s start shape pads)
+      → target_from m s w pads p ≡ Ok (targets.Content s start shape pads)
   near-yes s w pads start (Node o a b) shape l d = ap (λ (r : Result ℕ Fault). struct_from m s r pads a b) l
       ∙ content-yes s start pads _ _ shape d.0 d.1
   near-yes s w pads start (Many o width n) shape l d = ap (λ (r : Result ℕ Fault). list_from m s r pads width n) l
@@ -56,7 +56,7 @@ module _ (m : List (List ℕ)) where
   near-yes s w pads start (Cap k) shape l d = absurd l
   near-yes s w pads start (Reserved n) shape l d = absurd l
 
-  named-near : (s w start : ℕ) (p : Pointer) → LeadsTo w p start → named m s w p ≡ near m s w 0 p
+  named-near : (s w start : ℕ) (p : Pointer) → LeadsTo w p start → target_of_pointer m s w p ≡ target_from m s w 0 p
   named-near s w start (Node o a b) l = refl
   named-near s w start (Many o width n) l = refl
   named-near s w start Nil l = absurd l
@@ -95,11 +95,11 @@ module _ (m : List (List ℕ)) where
       rw (n.here, n.none) (named-near at.segment at.word start (pointer_in m at.segment at.word) l
       ∙ near-yes at.segment at.word 0 start (pointer_in m at.segment at.word) shape l (rw n.here at d))
   back at s start pads shape (inr (inl n)) =
-      rw n.one (ap (λ (p : Pointer). named m at.segment at.word p) n.far
+      rw n.one (ap (λ (p : Pointer). target_of_pointer m at.segment at.word p) n.far
       ∙ landing-yes s n.word 1 _ n.pad
       ∙ near-yes s n.word 1 start (pointer_in m s n.word) shape n.offset n.content)
   back at s start pads shape (inr (inr n)) =
-      rw n.two (ap (λ (p : Pointer). named m at.segment at.word p) n.far
+      rw n.two (ap (λ (p : Pointer). target_of_pointer m at.segment at.word p) n.far
       ∙ landing-yes n.segment n.word 2 _ n.pad
       ∙ ap (λ (p : Pointer). two_pads m p (pointer_in m n.segment (n.word + 1))) n.first
       ∙ two-yes s start (pointer_in m n.segment (n.word + 1)) shape n.there n.content)

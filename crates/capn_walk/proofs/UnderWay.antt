@@ -13,7 +13,7 @@ use Rattle.capn_words.specs.Message.{word_at}
 use Rattle.capn_words.specs.Pointers.{pointer_of}
 use Rattle.capn_words.specs.declared.pointer.Pointer.TheVariants.{Nil}
 use Rattle.capn_walk.proofs.shared.Walks.{visits-null}
-use Rattle.capn_target.specs.Target.{named, target}
+use Rattle.capn_target.specs.Target.{target_of_pointer, target}
 use Rattle.capn_walk.specs.Visits.{Visit, pays, visits, visits_of}
 use Rattle.capn_walk.specs.inner.Verdict.{refused, after, judge}
 use Rattle.capn_walk.specs.inner.SlotsLeft.{places_of, owed, owed_by, Lies, AllLie, AreShallow, visits_left}
@@ -115,8 +115,8 @@ null_pointer = refl
 -- the word 0 is null
 pub null-target : (m : List (List ℕ)) (at : Place) → word_at m at ≡ 0 → target m at ≡ Ok targets.Nil
 unfolding target
-null-target m at h = ap (λ (w : ℕ). named m at.segment at.word (pointer_of w)) h
-    ∙ ap (named m at.segment at.word) null_pointer
+null-target m at h = ap (λ (w : ℕ). target_of_pointer m at.segment at.word (pointer_of w)) h
+    ∙ ap (target_of_pointer m at.segment at.word) null_pointer
 
 module _ (m : List (List ℕ)) (base : ℕ) where
   -- the visits to come: of the object in hand, then of those that wait

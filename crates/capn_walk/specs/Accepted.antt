@@ -36,18 +36,18 @@ pub record IsWithin (budget : ℕ) (vs : List Visit) : Type 0 where
   pub paid : paid_of vs ≤ budget
 
 -- a visit at a place that is a fault, or that brings the sum above the budget, after visits that paid `before` words
-abbrev pub Ends : ℕ → ℕ → Visit → Place → Fault → Type 0
-Ends budget before (fails p e) at fault = (p ≡ at) × (e ≡ fault)
-Ends budget before (pays p n) at fault = (p ≡ at) × (faults.OverBudget ≡ fault) × (budget < before + n)
+abbrev pub IsStopHere : (budget before : ℕ) → Visit → Place → Fault → Type 0
+IsStopHere budget before (fails p e) at fault = (p ≡ at) × (e ≡ fault)
+IsStopHere budget before (pays p n) at fault = (p ≡ at) × (faults.OverBudget ≡ fault) × (budget < before + n)
 
 -- the first such visit: its place, the sum before it, and its number, counted from 1
 pub record IsStop (budget : ℕ) (vs : List Visit) (fault : Fault) (at : Place) (paid visits : ℕ) : Type 0 where
   pub before : List Visit
-  pub here : Visit
-  pub behind : List Visit
-  pub is : vs ≡ before ++ here ∷ behind
+  pub stop : Visit
+  pub after : List Visit
+  pub split : vs ≡ before ++ stop ∷ after
   pub within : IsWithin budget before
-  pub ends : Ends budget (paid_of before) here at fault
+  pub ends : IsStopHere budget (paid_of before) stop at fault
   pub sum : paid ≡ paid_of before
   pub number : visits ≡ 1 + length before
 
@@ -95,7 +95,7 @@ pub record IsValueOf (message : List (List ℕ)) (limits : Bounds) (v : Tree) : 
   pub is : IsAt message root v
 
 -- the message isn't accepted: it has no root, or the walk stops at the first visit that is a fault or above the budget
-abbrev pub IsWalkRefused : List (List ℕ) → Bounds → Fault → Place → ℕ → ℕ → Type 0
+abbrev pub IsWalkRefused : List (List ℕ) → Bounds → Fault → Place → (paid visits : ℕ) → Type 0
 IsWalkRefused message limits fault at paid visits =
     ((length (segment_at message 0) ≡ 0) × (fault ≡ faults.NoRoot) × (at ≡ root) × (paid ≡ 0) × (visits ≡ 0))
     ⊎ ((0 < length (segment_at message 0)) × IsStop limits.budget (visits_within message limits) fault at paid visits)

@@ -12,7 +12,7 @@ use Rattle.capn_target.specs.declared.target.Shape.TheVariants as shapes
 use Rattle.capn_target.specs.Target.{target, list_width}
 use Rattle.capn_walk.specs.Limits.{Bounds}
 use Rattle.capn_walk.specs.Accepted.{IsAccepted, IsValueOf}
-use Rattle.capn_walk.specs.ValueAt.{IsAt, StandAt, AreNumbers, words_from}
+use Rattle.capn_walk.specs.ValueAt.{IsAt, AreWordsAt, AreNumbers, words_from}
 use Rattle.capn_walk.specs.Index.{index_of, entry_target, entry_at, beside, kept_of}
 
 module _ (message : List (List ℕ)) (es : List Entry) where
@@ -29,7 +29,7 @@ module _ (message : List (List ℕ)) (es : List Entry) where
     IsReadAt i nil = entry_target (entry_at es i) ≡ targets.Nil
     IsReadAt i (cap k) = entry_target (entry_at es i) ≡ targets.Cap k
     IsReadAt i (node ws ss) =
-        EntryNames i (shapes.Node (length ws) (count ss)) (λ s w. StandAt message s w ws × AreReadAt (i + 1) ss)
+        EntryNames i (shapes.Node (length ws) (count ss)) (λ s w. AreWordsAt message s w ws × AreReadAt (i + 1) ss)
     IsReadAt i (voids n) = EntryNames i (shapes.Many W0 n) (λ s w. ⊤)
     IsReadAt i (numbers a xs) =
         EntryNames i (shapes.Many (list_width a) (length xs)) (λ s w. AreNumbers a (words_from message s w) xs)
@@ -45,7 +45,7 @@ module _ (message : List (List ℕ)) (es : List Entry) where
     -- rows of a words and b slots from a word on, one after the other; the first of all their slots has entry i
     pub RowsReadAt : ℕ → ℕ → ℕ → ℕ → ℕ → Bodies → Type 0
     RowsReadAt a b s w i no_bodies = ⊤
-    RowsReadAt a b s w i (body ws ss bs) = (length ws ≡ a) × (count ss ≡ b) × StandAt message s w ws × AreReadAt i ss
+    RowsReadAt a b s w i (body ws ss bs) = (length ws ≡ a) × (count ss ≡ b) × AreWordsAt message s w ws × AreReadAt i ss
         × RowsReadAt a b s (w + a + b) (beside es i b) bs
 
 -- the value of an accepted message is the one that its index says

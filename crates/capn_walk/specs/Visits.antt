@@ -17,29 +17,30 @@ pub data Visit : Type 0 where
   fails : Place → Fault → Visit
 
 -- the cost of an object beside its pads: `base` and its size, where a void counts as a word, and so does a row that has
--- none
-abbrev pub price : ℕ → Shape → ℕ
-price base (shapes.Node a b) = base + a + b
+-- none (Own.)
+abbrev pub price : (base : ℕ) → Shape → ℕ
+price base (shapes.Node data_words pointers) = base + data_words + pointers
 price base (shapes.Many W0 n) = base + n
 price base (shapes.Many width n) = base + content_words width n
-price base (shapes.Rows n a b span) = base + 1 + span + (if a + b == 0 then n else 0)
+price base (shapes.Rows n data_words pointers span) = base + 1 + span + (if data_words + pointers == 0 then n else 0)
 
 -- n places, one word after the other
-abbrev pub places : ℕ → ℕ → ℕ → List Place
+abbrev pub places : (segment word n : ℕ) → List Place
 places s w zero = []
 places s w (suc n) = (record { segment = s; word = w }) ∷ places s (w + 1) n
 
--- the slots of n rows, each of a words and b slots
-abbrev pub row_places : ℕ → ℕ → ℕ → ℕ → ℕ → List Place
-row_places s w a b zero = []
-row_places s w a b (suc n) = places s (w + a) b ++ row_places s (w + a + b) a b n
+-- the slots of n rows, each with sections of these sizes
+abbrev pub row_places : (segment word data_words pointers n : ℕ) → List Place
+row_places s w data_words pointers zero = []
+row_places s w data_words pointers (suc n) =
+    places s (w + data_words) pointers ++ row_places s (w + data_words + pointers) data_words pointers n
 
 -- the places of the slots of an object, in order
-abbrev pub slots : ℕ → ℕ → Shape → List Place
-slots s start (shapes.Node a b) = places s (start + a) b
+abbrev pub slots : (segment start : ℕ) → Shape → List Place
+slots s start (shapes.Node data_words pointers) = places s (start + data_words) pointers
 slots s start (shapes.Many Link n) = places s start n
 slots s start (shapes.Many width n) = []
-slots s start (shapes.Rows n a b span) = row_places s (start + 1) a b n
+slots s start (shapes.Rows n data_words pointers span) = row_places s (start + 1) data_words pointers n
 
 module _ (message : List (List ℕ)) (base : ℕ) where
   -- a visit of a slot, if none may have content

@@ -111,7 +111,7 @@ fn index_near<S: Space, L: Ledger, F: EntryForm>(
     requires message { IsMessage space.now }
     requires size { size ≡ length (segment_at space.now at.segment) }
     requires place { IsPlace space.now at }
-    requires pointer { spec.near space.now at.segment at.word 0 pointer
+    requires pointer { spec.target_from space.now at.segment at.word 0 pointer
         ≡ spec.target space.now at }
     requires left { left ≤ most_cost }
     requires fits { first + 1 + left < 2 ^ 32 }

@@ -46,7 +46,7 @@ pub fn visit_struct<S: Space, L: Ledger>(
     requires message { IsMessage space.now }
     requires size { size ≡ length (segment_at space.now at.segment) }
     requires place { IsPlace space.now at }
-    requires pointer { spec.near space.now at.segment at.word 0 pointer
+    requires pointer { spec.target_from space.now at.segment at.word 0 pointer
         ≡ spec.target space.now at }
     requires left { left ≤ most_cost }
     ensures visits { Visits space.now base depth left at result }
@@ -70,7 +70,7 @@ pub fn visit_numbers<S: Space, L: Ledger>(
     reads: &mut Reads<L>,
 ) -> Result<u32, Fault>
     requires size { size ≡ length (segment_at space.now at.segment) }
-    requires pointer { spec.near space.now at.segment at.word 0 pointer
+    requires pointer { spec.target_from space.now at.segment at.word 0 pointer
         ≡ spec.target space.now at }
     requires numbers { AreNumbers pointer }
     ensures visits { IfOk result (λ p. visits space.now base depth at ≡ pays at p ∷ []) }

@@ -72,7 +72,7 @@ fn walk_near<S: Space, A: Allocator + Copy, L: Ledger>(
 ) -> Result<Found<A>, Stopped>
     requires message { IsMessage space.now }
     requires place { IsPlace space.now at }
-    requires pointer { spec.near space.now at.segment at.word 0 pointer
+    requires pointer { spec.target_from space.now at.segment at.word 0 pointer
         ≡ spec.target space.now at }
     requires left { left ≤ most_cost }
     ensures answer { Walks space.now base depth left at result }

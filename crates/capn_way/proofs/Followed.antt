@@ -9,7 +9,7 @@ use Rattle.capn_target.specs.declared.target.Target.{Target}
 use Rattle.capn_target.specs.declared.target.Target.TheVariants as targets
 use Rattle.capn_target.specs.declared.target.Shape.{Shape}
 use Rattle.capn_target.specs.declared.target.Fault.{Fault}
-use Rattle.capn_target.specs.Target.{target, named}
+use Rattle.capn_target.specs.Target.{target, target_of_pointer}
 use Rattle.capn_words.specs.Pointers.{pointer_of}
 use Rattle.capn_value.specs.Cost.{base}
 use Rattle.capn_walk.specs.Visits.{visits_of}
@@ -337,7 +337,7 @@ first-word (w ∷ ws) e = absurd (omega arith)
 
 pub rootless : (m : List (List ℕ)) → length (segment_at m 0) ≡ 0 → target m root ≡ Ok targets.Nil
 unfolding target pointer_of
-rootless m e = ap (λ (w : ℕ). named m 0 0 (pointer_of w)) (first-word (segment_at m 0) e)
+rootless m e = ap (λ (w : ℕ). target_of_pointer m 0 0 (pointer_of w)) (first-word (segment_at m 0) e)
 
 -- ---- the law
 

@@ -17,7 +17,7 @@ use Rattle.capn_walk.specs.Visits.{Visit, pays, fails, visits}
 use Rattle.capn_walk.specs.Index.{place_of}
 use Rattle.capn_walk.specs.Limits.{Bounds}
 use Rattle.capn_walk.specs.Accepted.{root, root_visits, visits_at_root, visits_within}
-use Rattle.capn_walk.specs.Accepted.{Ends, IsStop, IsWalkRefused}
+use Rattle.capn_walk.specs.Accepted.{IsStopHere, IsStop, IsWalkRefused}
 use Rattle.capn_walk.proofs.shared.Walks.{visits-cap}
 use Rattle.capn_way.specs.declared.visit.Numbered.{Numbered}
 use Rattle.capn_way.specs.Finds.{IsPassed, IsFirstFind, IsWithoutFind}
@@ -141,7 +141,8 @@ same-at (a ∷ zs) (b ∷ bs) x y cs ds e l =
     let t : zs ++ x ∷ cs ≡ bs ++ y ∷ ds = cc in
     same-at zs bs x y cs ds t (omega arith)
 
-ends-at : (budget before : ℕ) (v : Visit) (at : Place) (fault : Fault) → Ends budget before v at fault → place_of v ≡ at
+ends-at : (budget before : ℕ) (v : Visit) (at : Place) (fault : Fault) → IsStopHere budget before v at fault
+    → place_of v ≡ at
 ends-at budget before (fails p e) at fault h = h.0
 ends-at budget before (pays p n) at fault h = h.0
 
@@ -153,8 +154,8 @@ module _ (m : List (List ℕ)) (limits : Bounds) (stopped : Stopped) (some : sto
   stop-place way p s v =
       let n = s.number in
       let c = v.count in
-      let same = same-at v.before s.before v.here s.here v.behind s.behind (sym v.is ∙ s.is) (omega arith) in
-      sym v.place ∙ ap place_of same ∙ ends-at limits.budget _ s.here stopped.place stopped.fault s.ends
+      let same = same-at v.before s.before v.here s.stop v.behind s.after (sym v.is ∙ s.split) (omega arith) in
+      sym v.place ∙ ap place_of same ∙ ends-at limits.budget _ s.stop stopped.place stopped.fault s.ends
 
   pub refused-at : (way : List ℕ) (p : Place)
       → IsWalkRefused m limits stopped.fault stopped.place stopped.paid stopped.visits

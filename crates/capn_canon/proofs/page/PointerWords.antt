@@ -13,7 +13,7 @@ use Rattle.capn_words.proofs.shared.Choices.{pick, if-yes, if-no}
 use Rattle.capn_target.specs.declared.target.Target.TheVariants as targets
 use Rattle.capn_target.specs.declared.target.Shape.{Shape}
 use Rattle.capn_target.specs.declared.target.Shape.TheVariants as shapes
-use Rattle.capn_target.specs.Target.{moved, target}
+use Rattle.capn_target.specs.Target.{content_start, target}
 use Rattle.capn_target.specs.declared.target.Fault.TheVariants as faults
 use Rattle.std.specs.Prelude.{Err}
 use Rattle.capn_target.specs.Ways.{LeadsTo, Describes, HasRows, OneOfThree}
@@ -74,7 +74,7 @@ word-of-pointer w h =
 -- ---- where an offset leads
 
 -- an offset that leads to a later word is the number of words between
-ahead : (from to : ℕ) (o : ℤ) → from < to → moved from o ≡ Ok to → o ≡ pos (to - suc from)
+ahead : (from to : ℕ) (o : ℤ) → from < to → content_start from o ≡ Ok to → o ≡ pos (to - suc from)
 ahead from to (pos n) lt e = let f : from + 1 + n ≡ to = cc in let g : n ≡ to - suc from = omega arith in ap pos g
 ahead from to (negsuc n) lt e = absurd (back (nat_lt from n) e)
   where
@@ -83,7 +83,7 @@ ahead from to (negsuc n) lt e = absurd (back (nat_lt from n) e)
     back false f = let g : from - n ≡ to = cc in omega arith
 
 -- one that leads to the pointer itself is -1
-itself : (from : ℕ) (o : ℤ) → moved from o ≡ Ok from → o ≡ negsuc 0
+itself : (from : ℕ) (o : ℤ) → content_start from o ≡ Ok from → o ≡ negsuc 0
 itself from (pos n) e = absurd (let f : from + 1 + n ≡ from = cc in omega arith)
 itself from (negsuc n) e = back (nat_lt from n) refl e
   where
@@ -96,7 +96,7 @@ itself from (negsuc n) e = back (nat_lt from n) refl e
 
 -- a pointer leads from a word to a struct, by an offset
 abbrev Leads : ℕ → ℕ → (ℤ → Pointer) → Pointer → Type 0
-Leads from start made p = (o : ℤ) × (p ≡ made o) × (moved from o ≡ Ok start)
+Leads from start made p = (o : ℤ) × (p ≡ made o) × (content_start from o ≡ Ok start)
 
 module _ (all : List ℕ) (from start : ℕ) where
   abbrev only : List (List ℕ)

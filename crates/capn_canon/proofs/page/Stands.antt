@@ -22,7 +22,7 @@ use Rattle.capn_target.specs.declared.target.Shape.TheVariants as shapes
 use Rattle.capn_target.specs.Target.{target, list_width, content_words}
 use Rattle.capn_target.specs.Shapes.{extent, IsPlain}
 use Rattle.capn_target.proofs.shared.Inside.{inside}
-use Rattle.capn_walk.specs.ValueAt.{IsAt, AreAt, RowsAt, StandAt, IsInside}
+use Rattle.capn_walk.specs.ValueAt.{IsAt, AreAt, RowsAt, AreWordsAt, IsInside}
 use Rattle.capn_walk.specs.Visits.{places, row_places, slots}
 use Rattle.capn_layout.specs.FirstBits.{element_bits}
 use Rattle.capn_layout.specs.Layout.{size, sizes, sizes_in_rows, struct_to, list_to, lays}
@@ -122,7 +122,7 @@ module _ (all : List ℕ) (message : IsMessage (all ∷ [])) where
   -- ---- a struct
 
   module _ (from to start : ℕ) (ws : List ℕ) (ss : Trees) (others : List Place) (rest : List Met)
-      (h : Here from to start (shapes.Node (length ws) (count ss)) others rest) (own : StandAt only 0 start ws)
+      (h : Here from to start (shapes.Node (length ws) (count ss)) others rest) (own : AreWordsAt only 0 start ws)
       (below : AreAt only 0 (start + length ws) ss) (o : Sound (node ws ss)) (order : from < to)
       (fits : to ≤ length all) where
     abbrev a : ℕ

@@ -12,7 +12,7 @@ use Rattle.capn_value.specs.Trim.{kept_words, kept_slots}
 use Rattle.capn_target.specs.declared.target.Target.TheVariants as targets
 use Rattle.capn_target.specs.declared.target.Shape.TheVariants as shapes
 use Rattle.capn_target.specs.Target.{target}
-use Rattle.capn_walk.specs.ValueAt.{AreAt, StandAt, words_from}
+use Rattle.capn_walk.specs.ValueAt.{AreAt, AreWordsAt, words_from}
 use Rattle.capn_walk.specs.ValueAt.{IsInside}
 use Rattle.capn_layout.specs.Layout.{size, sizes, point, points, lay, lays, struct_to, list_to}
 use Rattle.capn_layout.specs.Sound.{Sound}
@@ -169,8 +169,8 @@ module _ (all : List ℕ) (a b s w from to pads : ℕ)
 
     words-here : Stand all to struct-is.words
     words-here =
-        let h : StandAt (all ∷ []) 0 w struct-is.words =
-        subst (λ (k : ℕ). StandAt (all ∷ []) k w struct-is.words) first-segment
+        let h : AreWordsAt (all ∷ []) 0 w struct-is.words =
+        subst (λ (k : ℕ). AreWordsAt (all ∷ []) k w struct-is.words) first-segment
         (subst (λ (k : ℕ). take k (words_from (all ∷ []) s w) ≡ struct-is.words) (sym struct-is.number)
         struct-is.own) in
         elim in-place as (λ _. Stand all to struct-is.words) [

@@ -18,7 +18,7 @@ use Rattle.capn_target.specs.declared.target.Shape.{Shape}
 use Rattle.capn_target.specs.declared.target.Shape.TheVariants as shapes
 use Rattle.capn_target.specs.Target.{target}
 use Rattle.capn_walk.specs.Accepted.{paid_of, AllPay}
-use Rattle.capn_walk.specs.ValueAt.{RowsAt, StandAt, IsInside}
+use Rattle.capn_walk.specs.ValueAt.{RowsAt, AreWordsAt, IsInside}
 use Rattle.capn_walk.specs.Visits.{Visit, pays, fails, price, places, row_places, slots, visits, visits_of}
 use Rattle.capn_walk.proofs.shared.Costs.{paid-append}
 use Rattle.capn_walk.proofs.shared.Walks.{visits-null, visits-object, is-inside, inside-struct, inside-links}
@@ -257,7 +257,7 @@ module _ (all : List ℕ) (base : ℕ) where
       let ws = take a (drop from all) in
       let l = length-drop from all in
       let long : length ws ≡ a = length-take-le a (drop from all) (omega arith) in
-      let own : StandAt only 0 from ws = ap (λ (x : ℕ). take x (drop from all)) long in
+      let own : AreWordsAt only 0 from ws = ap (λ (x : ℕ). take x (drop from all)) long in
       let f = visits only base d in
       let here_places = places 0 (from + a) b in
       let rest_places = row_places 0 (from + a + b) a b (count_rows bs) in

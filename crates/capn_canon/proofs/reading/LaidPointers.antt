@@ -11,7 +11,7 @@ use Rattle.capn_value.specs.Tree.{node, Trees, no_trees, tree, count}
 use Rattle.capn_target.specs.declared.target.Target.TheVariants as targets
 use Rattle.capn_target.specs.declared.target.Shape.TheVariants as shapes
 use Rattle.capn_target.specs.Target.{content_words, target}
-use Rattle.capn_walk.specs.ValueAt.{StandAt, AreElements, words_from}
+use Rattle.capn_walk.specs.ValueAt.{AreWordsAt, AreElements, words_from}
 use Rattle.capn_canon.proofs.reading.Tight.{Close, TightAt, AreTight}
 use Rattle.capn_layout.specs.Layout.{struct_to, list_to, packed}
 use Rattle.capn_words.proofs.shared.Choices.{if-no}
@@ -48,9 +48,9 @@ module _ (all : List ℕ) (small : length all ≤ 2 ^ 29) where
       )
 
   -- words or slots that are at a place are also at any other, if there are none of them
-  moved-words : (start at : ℕ) (xs : List ℕ) → (start ≡ at) ⊎ (length xs ≡ 0) → StandAt only 0 at xs
-      → StandAt only 0 start xs
-  moved-words start at xs (inl e) h = subst (λ (p : ℕ). StandAt only 0 p xs) (sym e) h
+  moved-words : (start at : ℕ) (xs : List ℕ) → (start ≡ at) ⊎ (length xs ≡ 0) → AreWordsAt only 0 at xs
+      → AreWordsAt only 0 start xs
+  moved-words start at xs (inl e) h = subst (λ (p : ℕ). AreWordsAt only 0 p xs) (sym e) h
   moved-words start at [] (inr e) h = refl
   moved-words start at (x ∷ xs) (inr e) h = absurd (omega arith)
 
@@ -62,7 +62,7 @@ module _ (all : List ℕ) (small : length all ≤ 2 ^ 29) where
   -- a struct with its content at a place is read from the pointer that names that place
   pub struct-at : (from at a b : ℕ) (xs : List ℕ) (ts : Trees) → length xs ≡ a → count ts ≡ b → from < at
       → at + (a + b) ≤ length all → a < 2 ^ 16 → b < 2 ^ 16 →
-      slice_index all from ≡ struct_to from at a b → StandAt only 0 at xs → AreTight only 0 (at + a) ts
+      slice_index all from ≡ struct_to from at a b → AreWordsAt only 0 at xs → AreTight only 0 (at + a) ts
       → TightAt only (here from) (node xs ts)
   struct-at from at a b xs ts la lb lt room ha hb e ws ss =
       let (start, is, is_at) = struct-names from at a b lt room ha hb e in

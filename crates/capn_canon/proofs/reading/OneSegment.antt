@@ -13,7 +13,8 @@ use Rattle.capn_target.specs.declared.target.Shape.TheVariants as shapes
 use Rattle.capn_target.specs.declared.target.Fault.{Fault}
 use Rattle.capn_words.proofs.shared.Choices.{if-yes, if-no, same-yes}
 use Rattle.capn_words.proofs.shared.Pointers.{pointer_of-word_of}
-use Rattle.capn_target.specs.Target.{content_words, moved, tagged, within, list, struct, named, target}
+use Rattle.capn_target.specs.Target.{content_words, content_start, tagged, if_inside, list, struct, target_of_pointer}
+use Rattle.capn_target.specs.Target.{target}
 use Rattle.std.proofs.lemmas.Bool.{le-ltb}
 
 -- the place of a word of the one segment
@@ -28,11 +29,11 @@ IsPlain k = Unit {0}
 module _ (ws : List ℕ) where
   -- what the pointer at a word names, by what is read there
   pub names : (from : ℕ) (p : Pointer) → pointer_of (slice_index ws from) ≡ p
-      → target (ws ∷ []) (here from) ≡ named (ws ∷ []) 0 from p
+      → target (ws ∷ []) (here from) ≡ target_of_pointer (ws ∷ []) 0 from p
   unfolding target
-  names from p e = ap (named (ws ∷ []) 0 from) e
+  names from p e = ap (target_of_pointer (ws ∷ []) 0 from) e
 
-  in-reach : (start n : ℕ) (r : Result Target Fault) → start + n ≤ length ws → within (ws ∷ []) 0 start n r ≡ r
+  in-reach : (start n : ℕ) (r : Result Target Fault) → start + n ≤ length ws → if_inside (ws ∷ []) 0 start n r ≡ r
   in-reach start n r h = if-no (nat_lt (length ws) (start + n)) _ _ (le-ltb (length ws) (start + n) h)
 
   -- a word of zeros names nothing

@@ -16,7 +16,7 @@ use Rattle.capn_value.specs.Trim.{trimmed_rows}
 use Rattle.capn_target.specs.declared.target.Target.TheVariants as targets
 use Rattle.capn_target.specs.declared.target.Shape.TheVariants as shapes
 use Rattle.capn_target.specs.Target.{list_width}
-use Rattle.capn_walk.specs.ValueAt.{IsAt, StandAt}
+use Rattle.capn_walk.specs.ValueAt.{IsAt, AreWordsAt}
 use Rattle.capn_walk.specs.Visits.{visits}
 use Rattle.capn_value.specs.Cost.{height, cost}
 use Rattle.capn_canon.proofs.reading.Tight.{TightAt, AreTight, TightRows, loosen, Pays, exact}
@@ -43,7 +43,7 @@ module _ (all : List ℕ) (small : length all ≤ 2 ^ 29) where
   only = all ∷ []
 
   row-at : (a b from : ℕ) (xs : List ℕ) (ts : Trees) (bs : Bodies) → length xs ≡ a → count ts ≡ b
-      → StandAt only 0 from xs → AreTight only 0 (from + a) ts →
+      → AreWordsAt only 0 from xs → AreTight only 0 (from + a) ts →
       TightRows only a b 0 (from + a + b) bs → TightRows only a b 0 from (body xs ts bs)
   row-at a b from xs ts bs la lb ws ss h = (la, lb, ws, ss, h)
 

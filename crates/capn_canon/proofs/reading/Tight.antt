@@ -17,7 +17,7 @@ use Rattle.capn_target.specs.declared.target.Shape.TheVariants as shapes
 use Rattle.capn_target.specs.Target.{target, list_width}
 use Rattle.capn_walk.specs.Visits.{Visit, pays, fails, price, places, row_places, slots, visits}
 use Rattle.capn_walk.specs.Accepted.{paid_of, AllPay}
-use Rattle.capn_walk.specs.ValueAt.{IsAt, AreAt, RowsAt, StandAt, AreNumbers, words_from}
+use Rattle.capn_walk.specs.ValueAt.{IsAt, AreAt, RowsAt, AreWordsAt, AreNumbers, words_from}
 use Rattle.capn_words.proofs.shared.Choices.{pick}
 use Rattle.capn_walk.proofs.shared.Walks.{slot, visits-null, visits-cap, visits-object}
 use Rattle.capn_walk.proofs.shared.Costs.{paid-append}
@@ -38,7 +38,7 @@ module _ (m : List (List ℕ)) where
     TightAt at nil = target m at ≡ Ok targets.Nil
     TightAt at (cap k) = target m at ≡ Ok (targets.Cap k)
     TightAt at (node ws ss) =
-        Close at (shapes.Node (length ws) (count ss)) (λ s w. StandAt m s w ws × AreTight s (w + length ws) ss)
+        Close at (shapes.Node (length ws) (count ss)) (λ s w. AreWordsAt m s w ws × AreTight s (w + length ws) ss)
     TightAt at (voids n) = Close at (shapes.Many W0 n) (λ s w. ⊤)
     TightAt at (numbers a xs) =
         Close at (shapes.Many (list_width a) (length xs)) (λ s w. AreNumbers a (words_from m s w) xs)
@@ -53,7 +53,7 @@ module _ (m : List (List ℕ)) where
     pub TightRows : ℕ → ℕ → ℕ → ℕ → Bodies → Type 0
     TightRows a b s w no_bodies = ⊤
     TightRows a b s w (body ws ss bs) =
-        (length ws ≡ a) × (count ss ≡ b) × StandAt m s w ws × AreTight s (w + a) ss × TightRows a b s (w + a + b) bs
+        (length ws ≡ a) × (count ss ≡ b) × AreWordsAt m s w ws × AreTight s (w + a) ss × TightRows a b s (w + a + b) bs
 
   -- such a value is at the place
   mutual

@@ -2,7 +2,7 @@
 use Rattle.std.proofs.Common.{◌≡◌, ℕ, ◌+◌, ◌*◌, ◌<◌, ◌≤◌, inr, List, [], ◌∷◌, length, arith, ap}
 use Rattle.std.specs.List.{AllByRecursion}
 use Rattle.std.proofs.lemmas.List.{length-append}
-use Rattle.capn_pack.specs.Packed.{Group, IsGroup, content, Packs, contents, texts}
+use Rattle.capn_pack.specs.Packed.{Group, IsGroup, group_bytes, Packs, contents, texts}
 use Rattle.capn_pack.specs.UnpackRefusal.{StartsWithin}
 use Rattle.capn_pack.proofs.shared.GroupLemmas.{length_content}
 use Rattle.capn_stream.specs.Frames.{most_table_words}
@@ -21,13 +21,13 @@ starts (g ∷ gs) b text max each is same some fits = record {
   is_group = each.0;
   text = is;
   fits =
-      omega (arith, length_content g each.0, ap length same, length-append (content g) (contents gs));
+      omega (arith, length_content g each.0, ap length same, length-append (group_bytes g) (contents gs));
 }
 
 -- a text that packs bytes begins with a whole group
 pub starts_within : (b text : List ℕ) (max : ℕ) → Packs b text → 0 < length text → length text ≤ 8 * max
     → StartsWithin b max
-starts_within b text max p some fits = starts p.groups b text max p.each p.text p.content some fits
+starts_within b text max p some fits = starts p.groups b text max p.each p.is_text p.are_bytes some fits
 
 -- memory is needed for a packed text if it is for what it unpacks to
 pub packed_wanted : (bs text : List ℕ) (limits : Bounds) → Unpacks bs limits.message_words text

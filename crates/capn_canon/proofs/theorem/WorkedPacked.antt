@@ -51,8 +51,8 @@ packs = record {
     (omega arith, omega arith, refl, named_fifth 3),
     ((omega arith, omega arith, refl, named_fifth 2), ((refl, omega arith, refl), (omega arith, tt))),
   );
-  text = refl;
-  content = refl;
+  is_text = refl;
+  are_bytes = refl;
 }
 
 abbrev framed_words : List ℕ

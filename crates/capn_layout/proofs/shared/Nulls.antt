@@ -14,7 +14,7 @@ use Rattle.capn_value.specs.Tree.{Tree, nil, node, voids, numbers, links, rows, 
 use Rattle.capn_value.specs.Tree.{no_trees, tree, count, is_null}
 use Rattle.capn_value.specs.Trim.{kept_behind, kept_words, kept_slots}
 use Rattle.capn_target.specs.declared.target.Target.TheVariants as targets
-use Rattle.capn_target.specs.Target.{pointer_in, named, target}
+use Rattle.capn_target.specs.Target.{pointer_in, target_of_pointer, target}
 use Rattle.capn_target.proofs.shared.NeverNull.{IsThere, there-named}
 use Rattle.capn_walk.specs.ValueAt.{IsAt, AreAt, words_from}
 
@@ -40,7 +40,7 @@ module _ (m : List (List ℕ)) where
   -- a word of zeros names nothing
   pub zero-target : (at : Place) → word_at m at ≡ 0 → target m at ≡ Ok targets.Nil
   unfolding target
-  zero-target at e = ap (named m at.segment at.word) (pointer-zero (word_at m at) e)
+  zero-target at e = ap (target_of_pointer m at.segment at.word) (pointer-zero (word_at m at) e)
 
   -- any other word names something, if it isn't a fault
   pub other-than-nil : (at : Place) → target m at ≡ Ok targets.Nil → word_at m at ≡ 0

@@ -10,7 +10,7 @@ use Rattle.capn_target.specs.declared.target.Target.TheVariants as targets
 use Rattle.capn_target.specs.declared.target.Shape.{Shape}
 use Rattle.capn_target.specs.declared.target.Shape.TheVariants as shapes
 use Rattle.capn_target.specs.Target.{target, list_width}
-use Rattle.capn_walk.specs.ValueAt.{IsAt, AreAt, RowsAt, StandAt, AreNumbers, words_from}
+use Rattle.capn_walk.specs.ValueAt.{IsAt, AreAt, RowsAt, AreWordsAt, AreNumbers, words_from}
 use Rattle.capn_walk.specs.ValueAt.{IsInside}
 use Rattle.capn_walk.proofs.shared.Numbers.{no-number_width}
 
@@ -65,7 +65,7 @@ module _ (m : List (List ℕ)) where
       inside-of (cap k) h = cc
       inside-of (node ws ss) h = (
         same-shape h.segment h.start h.pads (shapes.Node (length ws) (count ss)) h.is,
-        both (λ (t u : ℕ). StandAt m t u ws) h.segment s h.start start (same-segment h.segment h.start h.pads _ h.is)
+        both (λ (t u : ℕ). AreWordsAt m t u ws) h.segment s h.start start (same-segment h.segment h.start h.pads _ h.is)
             (same-start h.segment h.start h.pads _ h.is) h.inside.0,
         both (λ (t u : ℕ). AreAt m t (u + length ws) ss) h.segment s h.start start
             (same-segment h.segment h.start h.pads _ h.is) (same-start h.segment h.start h.pads _ h.is) h.inside.1,

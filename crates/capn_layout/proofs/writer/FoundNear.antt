@@ -15,21 +15,21 @@ use Rattle.capn_target.specs.declared.target.Shape.{Shape}
 use Rattle.capn_target.specs.declared.target.Shape.TheVariants as shapes
 use Rattle.capn_target.specs.declared.target.Fault.{Fault}
 use Rattle.capn_target.specs.declared.target.Fault.TheVariants as faults
-use Rattle.capn_target.specs.Target.{content_words, moved, within, struct_from, list_from, pointer_in}
-use Rattle.capn_target.specs.Target.{list, tagged, landing, near, two_pads, named, target}
+use Rattle.capn_target.specs.Target.{content_words, content_start, if_inside, struct_from, list_from, pointer_in}
+use Rattle.capn_target.specs.Target.{list, tagged, landing, target_from, two_pads, target_of_pointer, target}
 
 abbrev pub IsComposite : Width → Type 0
 IsComposite Rows = ⊤
 IsComposite _ = ⊥
 
 module _ (m : List (List ℕ)) where
-  within-found : (s start n : ℕ) (x t : Target) → within m s start n (Ok x) ≡ Ok t
-      → (start + n ≤ length (segment_at m s)) × (within m s start n (Ok x) ≡ Ok x)
+  within-found : (s start n : ℕ) (x t : Target) → if_inside m s start n (Ok x) ≡ Ok t
+      → (start + n ≤ length (segment_at m s)) × (if_inside m s start n (Ok x) ≡ Ok x)
   within-found s start n x t e = by_test (nat_lt (length (segment_at m s)) (start + n)) refl e
     where
       by_test : (b : Bool) → nat_lt (length (segment_at m s)) (start + n) ≡ b
           → (if b then Err faults.Range else Ok x) ≡ Ok t →
-          (start + n ≤ length (segment_at m s)) × (within m s start n (Ok x) ≡ Ok x)
+          (start + n ≤ length (segment_at m s)) × (if_inside m s start n (Ok x) ≡ Ok x)
       by_test true q f = absurd (cc)
       by_test false q f = (grind (arith, nat_tests), ap (λ (b : Bool). if b then Err faults.Range else Ok x) q)
 
@@ -47,9 +47,9 @@ module _ (m : List (List ℕ)) where
   struct-found (Err f) s pads a b t e = absurd (cc)
 
   plain-found : (s start pads n k : ℕ) (width : Width) (t : Target)
-      → within m s start k (Ok (targets.Content s start (shapes.Many width n) pads)) ≡ Ok t →
+      → if_inside m s start k (Ok (targets.Content s start (shapes.Many width n) pads)) ≡ Ok t →
       Found s pads (shapes.Many width n) (Ok start)
-      (within m s start k (Ok (targets.Content s start (shapes.Many width n) pads)))
+      (if_inside m s start k (Ok (targets.Content s start (shapes.Many width n) pads)))
   plain-found s start pads n k width t e =
       let w = within-found s start k (targets.Content s start (shapes.Many width n) pads) t e in
       record { start = start; moved_to = refl; inside = (let i = w.0 in omega arith); is = w.1 }
@@ -78,15 +78,15 @@ module _ (m : List (List ℕ)) where
           absurd (omega arith)
 
   -- the struct that the pointer of a slot or of a pad is known to name
-  pub struct-near : (s w pads : ℕ) (o : ℤ) (a b : ℕ) (t : Target) → near m s w pads (Node o a b) ≡ Ok t
-      → Found s pads (shapes.Node a b) (moved w o) (near m s w pads (Node o a b))
-  struct-near s w pads o a b t e = struct-found (moved w o) s pads a b t e
+  pub struct-near : (s w pads : ℕ) (o : ℤ) (a b : ℕ) (t : Target) → target_from m s w pads (Node o a b) ≡ Ok t
+      → Found s pads (shapes.Node a b) (content_start w o) (target_from m s w pads (Node o a b))
+  struct-near s w pads o a b t e = struct-found (content_start w o) s pads a b t e
 
   -- the list of one width that it is known to name
   pub plain-near : (s w pads : ℕ) (o : ℤ) (width : Width) (n : ℕ) (t : Target) → (IsComposite width → ⊥)
-      → near m s w pads (Many o width n) ≡ Ok t
-      → Found s pads (shapes.Many width n) (moved w o) (near m s w pads (Many o width n))
-  plain-near s w pads o width n t p e = list-found (moved w o) s pads width n t p e
+      → target_from m s w pads (Many o width n) ≡ Ok t
+      → Found s pads (shapes.Many width n) (content_start w o) (target_from m s w pads (Many o width n))
+  plain-near s w pads o width n t p e = list-found (content_start w o) s pads width n t p e
 
   -- a list that is known to be one of rows has its tag in range
   tag-inside : (s start pads n : ℕ) (t : Target) → list m s start pads Rows n ≡ Ok t → start < length (segment_at m s)
@@ -106,9 +106,9 @@ module _ (m : List (List ℕ)) where
   rows-from (Err f) s pads n t e = absurd (cc)
 
   -- the tag of the rows that it is known to name
-  pub rows-near : (s w pads : ℕ) (o : ℤ) (n : ℕ) (t : Target) → near m s w pads (Many o Rows n) ≡ Ok t
-      → (start : ℕ) × (moved w o ≡ Ok start) × (start < length (segment_at m s))
-  rows-near s w pads o n t e = rows-from (moved w o) s pads n t e
+  pub rows-near : (s w pads : ℕ) (o : ℤ) (n : ℕ) (t : Target) → target_from m s w pads (Many o Rows n) ≡ Ok t
+      → (start : ℕ) × (content_start w o ≡ Ok start) × (start < length (segment_at m s))
+  rows-near s w pads o n t e = rows-from (content_start w o) s pads n t e
 
   -- a pad that is known to lead to a target lies inside its segment
   pub landing-found : (s w n : ℕ) (found : Result Target Fault) (t : Target) → landing m s w n found ≡ Ok t
@@ -133,49 +133,51 @@ module _ (m : List (List ℕ)) where
 
   module _ (at : Place) (t : Target) (e : target m at ≡ Ok t) where
     pub near-any : (o : ℤ) (width : Width) (n : ℕ) → pointer_in m at.segment at.word ≡ Many o width n
-        → target m at ≡ near m at.segment at.word 0 (Many o width n)
+        → target m at ≡ target_from m at.segment at.word 0 (Many o width n)
     unfolding target
-    near-any o width n q = ap (named m at.segment at.word) q
+    near-any o width n q = ap (target_of_pointer m at.segment at.word) q
 
     pub behind-one : (w s : ℕ) → pointer_in m at.segment at.word ≡ Far false w s
-        → target m at ≡ landing m s w 1 (near m s w 1 (pointer_in m s w))
+        → target m at ≡ landing m s w 1 (target_from m s w 1 (pointer_in m s w))
     unfolding target
-    behind-one w s q = ap (named m at.segment at.word) q
+    behind-one w s q = ap (target_of_pointer m at.segment at.word) q
 
     pub behind-two : (w s : ℕ) → pointer_in m at.segment at.word ≡ Far true w s
         → target m at ≡ landing m s w 2 (two_pads m (pointer_in m s w) (pointer_in m s (w + 1)))
     unfolding target
-    behind-two w s q = ap (named m at.segment at.word) q
+    behind-two w s q = ap (target_of_pointer m at.segment at.word) q
 
     pub near-null : pointer_in m at.segment at.word ≡ Nil → target m at ≡ Ok targets.Nil
     unfolding target
-    near-null q = ap (named m at.segment at.word) q
+    near-null q = ap (target_of_pointer m at.segment at.word) q
 
     pub named-cap : (k : ℕ) → pointer_in m at.segment at.word ≡ Cap k → target m at ≡ Ok (targets.Cap k)
     unfolding target
-    named-cap k q = ap (named m at.segment at.word) q
+    named-cap k q = ap (target_of_pointer m at.segment at.word) q
 
     pub never-reserved : (n : ℕ) → pointer_in m at.segment at.word ≡ Reserved n → ⊥
     unfolding target
     never-reserved n q =
-        let f : target m at ≡ Err faults.Reserved = ap (named m at.segment at.word) q in
+        let f : target m at ≡ Err faults.Reserved = ap (target_of_pointer m at.segment at.word) q in
         absurd cc
 
     pub near-struct : (o : ℤ) (a b : ℕ) → pointer_in m at.segment at.word ≡ Node o a b
-        → Found at.segment 0 (shapes.Node a b) (moved at.word o) (target m at)
+        → Found at.segment 0 (shapes.Node a b) (content_start at.word o) (target m at)
     unfolding target
     near-struct o a b q =
-        let f : target m at ≡ struct_from m at.segment (moved at.word o) 0 a b = ap (named m at.segment at.word) q in
-        let r = struct-found (moved at.word o) at.segment 0 a b t (sym f ∙ e) in
+        let f : target m at ≡ struct_from m at.segment (content_start at.word o) 0 a b =
+        ap (target_of_pointer m at.segment at.word) q in
+        let r = struct-found (content_start at.word o) at.segment 0 a b t (sym f ∙ e) in
         record { start = r.start; moved_to = r.moved_to; inside = r.inside; is = f ∙ r.is }
 
     pub near-list : (o : ℤ) (width : Width) (n : ℕ) → (IsComposite width → ⊥)
         → pointer_in m at.segment at.word ≡ Many o width n
-        → Found at.segment 0 (shapes.Many width n) (moved at.word o) (target m at)
+        → Found at.segment 0 (shapes.Many width n) (content_start at.word o) (target m at)
     unfolding target
     near-list o width n p q =
-        let f : target m at ≡ list_from m at.segment (moved at.word o) 0 width n = ap (named m at.segment at.word) q in
-        let r = list-found (moved at.word o) at.segment 0 width n t p (sym f ∙ e) in
+        let f : target m at ≡ list_from m at.segment (content_start at.word o) 0 width n =
+        ap (target_of_pointer m at.segment at.word) q in
+        let r = list-found (content_start at.word o) at.segment 0 width n t p (sym f ∙ e) in
         record { start = r.start; moved_to = r.moved_to; inside = r.inside; is = f ∙ r.is }
 
 pub not-composite : (w : Width) → (w ≡ Rows → ⊥) → IsComposite w → ⊥

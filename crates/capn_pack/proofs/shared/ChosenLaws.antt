@@ -4,7 +4,7 @@ use Rattle.std.proofs.Common.{length, take, drop, replicate, refl, sym, ap, ◌�
 use Rattle.std.proofs.Common.{length-append, take_all, take-append-drop, drop-drop, length-drop, length-take}
 use Rattle.std.proofs.lemmas.Bool.{cases_lt}
 use Rattle.std.proofs.lemmas.List.{append_cancel_left, replicate-append-replicate, length-replicate, take-append-le}
-use Rattle.capn_pack.specs.Packed.{Group, content, IsGroup, texts, contents, Packs, tag_of}
+use Rattle.capn_pack.specs.Packed.{Group, group_bytes, IsGroup, texts, contents, Packs, tag_of}
 use Rattle.capn_pack.specs.Chosen.{IsChoice, IsChosenRow, Chosen, IsDense, AllDense}
 use Rattle.capn_pack.specs.Packed.Group.{Zeros, Named, Raw}
 use Rattle.std.specs.List.{AllByRecursion}
@@ -59,7 +59,7 @@ same_number m n p q =
     ]
 
 -- zero words before others
-zero_first : (more : ℕ) (a : List ℕ) → take 8 (content (Zeros more) ++ a) ≡ replicate 8 0
+zero_first : (more : ℕ) (a : List ℕ) → take 8 (group_bytes (Zeros more) ++ a) ≡ replicate 8 0
 zero_first more a =
     let size : 8 + 8 * more ≡ 8 * (1 + more) = omega arith in
     ap (take 8) (ap (λ l. l ++ a) (ap (λ j. replicate j 0) (sym size) ∙ sym (replicate-append-replicate 8 (8 * more) 0))
@@ -71,7 +71,7 @@ word_first word rest long = take-append-le 8 word rest (omega arith) ∙ take_al
 
 -- the same bytes begin with one chosen group
 pub choice_same : (g h : Group) (a b : List ℕ) → IsGroup g → IsGroup h → IsChoice g a → IsChoice h b
-    → content g ++ a ≡ content h ++ b → g ≡ h
+    → group_bytes g ++ a ≡ group_bytes h ++ b → g ≡ h
 choice_same (Zeros m) (Zeros n) a b p q c d e =
     ap Zeros (same_number m n (not_shorter m n a b q c e) (not_shorter n m b a p d (sym e)))
 choice_same (Zeros m) (Named t w) a b p q c d e =
@@ -104,7 +104,7 @@ choice_same (Raw v m f) (Raw w n g) a b p q c d e =
     let s = append_same f g a b (p.2 ∙ ap (λ k. 8 * k) count ∙ sym q.2) r.1 in
     (λ i. Raw (r.0 i) (count i) (s.0 i))
 
-content_some : (g : Group) → IsGroup g → 0 < length (content g)
+content_some : (g : Group) → IsGroup g → 0 < length (group_bytes g)
 content_some (Zeros m) p = omega (arith, length-replicate {A = ℕ} (8 * (1 + m)) 0)
 content_some (Named t w) p = omega (arith, p.2)
 content_some (Raw w n f) p = omega (arith, p.0, length-append w f)
@@ -112,14 +112,14 @@ content_some (Raw w n f) p = omega (arith, p.0, length-append w f)
 row_same : (gs hs : List Group) → IsChosenRow gs → IsChosenRow hs → contents gs ≡ contents hs → gs ≡ hs
 row_same [] [] p q e = refl
 row_same [] (h ∷ hs) p q e =
-    absurd (omega (arith, content_some h q.0, ap length e, length-append (content h) (contents hs)))
+    absurd (omega (arith, content_some h q.0, ap length e, length-append (group_bytes h) (contents hs)))
 row_same (g ∷ gs) [] p q e =
-    absurd (omega (arith, content_some g p.0, ap length e, length-append (content g) (contents gs)))
+    absurd (omega (arith, content_some g p.0, ap length e, length-append (group_bytes g) (contents gs)))
 row_same (g ∷ gs) (h ∷ hs) p q e =
     let first : g ≡ h = choice_same g h (contents gs) (contents hs) p.0 q.0 p.1 q.1 e in
     let rest : contents gs ≡ contents hs =
-    append_cancel_left (content g) (contents gs) (contents hs) (e
-    ∙ ap (λ k. content k ++ contents hs) (sym first)) in
+    append_cancel_left (group_bytes g) (contents gs) (contents hs) (e
+    ∙ ap (λ k. group_bytes k ++ contents hs) (sym first)) in
     (λ i. first i ∷ row_same gs hs p.2 q.2 rest i)
 
 -- the words have one packer's text
@@ -134,7 +134,7 @@ each_chosen (g ∷ gs) h = (h.0, each_chosen gs h.2)
 -- the packer's text is a packed text
 pub packs_from_chosen : (b bs : List ℕ) → Chosen b bs → Packs b bs
 packs_from_chosen b bs c =
-    record { groups = c.groups; each = each_chosen c.groups c.chosen; text = c.text; content = c.content }
+    record { groups = c.groups; each = each_chosen c.groups c.chosen; is_text = c.text; are_bytes = c.content }
 
 -- two of the packer's texts are equal if and only if their words are
 pub texts_same : (a b vs ws : List ℕ) → Chosen a vs → Chosen b ws → (a ≡ b) ↔ (vs ≡ ws)

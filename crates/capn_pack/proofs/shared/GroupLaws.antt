@@ -6,7 +6,8 @@ use Rattle.std.proofs.lemmas.Bool.{ne_eqb}
 use Rattle.std.proofs.lemmas.List.{append-nil}
 use Rattle.std.specs.Prelude.{count_ones}
 use Rattle.std.specs.List.{AllByRecursion}
-use Rattle.capn_pack.specs.Packed.{Group, text, words, IsGroup, texts, contents, word_count, Packs, named_bytes}
+use Rattle.capn_pack.specs.Packed.{Group, group_text, group_words, IsGroup, texts, contents, word_count, Packs}
+use Rattle.capn_pack.specs.Packed.{named_bytes}
 use Rattle.capn_pack.specs.Packed.{IsNamedBy}
 use Rattle.capn_pack.specs.UnpackRefusal.{words_at, len_at, HasHead, IsCut, IsTooLong, Stands}
 use Rattle.capn_pack.specs.Packed.Group.{Zeros, Named, Raw}
@@ -38,11 +39,11 @@ middle tag above below = (ne_eqb tag 0 (λ e. absurd (omega arith)), ne_eqb tag 
 -- the bytes have a head that gives the length of the group's text and its words
 pub record HeadOf (g : Group) (b : List ℕ) : Type 0 where
   pub head : HasHead b
-  pub long : len_at b ≡ length (text g)
-  pub count : words_at b ≡ words g
+  pub long : len_at b ≡ length (group_text g)
+  pub count : words_at b ≡ group_words g
 
 -- a group's text begins with its head
-pub head_of : (g : Group) (more : List ℕ) → IsGroup g → HeadOf g (text g ++ more)
+pub head_of : (g : Group) (more : List ℕ) → IsGroup g → HeadOf g (group_text g ++ more)
 head_of (Zeros n) more is = record { head = omega arith; long = refl; count = refl }
 head_of (Named tag word) more is =
     let tests = middle tag is.0 is.1 in
@@ -61,11 +62,11 @@ head_of (Raw _ n further) more is = absurd (omega (arith, is.0))
 
 -- no group begins where one is cut
 pub no_group : (room : ℕ) (rest : List ℕ) → IsCut room rest → (g : Group) (more : List ℕ) → IsGroup g
-    → rest ≡ text g ++ more → ⊥
+    → rest ≡ group_text g ++ more → ⊥
 no_group room rest cut g more is e =
     let h = head_of g more is in
     let head = subst HasHead (sym e) h.head in
-    grind (arith, cut, head, ap length e, ap len_at e, h.long, length-append (text g) more)
+    grind (arith, cut, head, ap length e, ap len_at e, h.long, length-append (group_text g) more)
 
 -- ---- two readings of one text
 
@@ -94,7 +95,8 @@ head_is : (a b : ℕ) (x y : List ℕ) → a ∷ x ≡ b ∷ y → (a ≡ b) × 
 head_is a b x y e = (cc, cc)
 
 -- no group's text begins another's
-pub group_same : (g h : Group) (x y : List ℕ) → IsGroup g → IsGroup h → text g ++ x ≡ text h ++ y → (g ≡ h) × (x ≡ y)
+pub group_same : (g h : Group) (x y : List ℕ) → IsGroup g → IsGroup h → group_text g ++ x ≡ group_text h ++ y
+    → (g ≡ h) × (x ≡ y)
 group_same (Zeros m) (Zeros n) x y p q e = let a = head_is _ _ _ _ e in let b = head_is _ _ _ _ a.1 in
     (ap Zeros b.0, b.1)
 group_same (Zeros m) (Named t w) x y p q e = let a = head_is _ _ _ _ e in absurd (omega (arith, a.0, q.0))
@@ -133,24 +135,25 @@ goes_on [] (h ∷ hs) rest p q e =
       arith,
       text_some h,
       ap length e,
-      length-append (text h) (texts hs),
-      length-append (text h ++ texts hs) rest,
+      length-append (group_text h) (texts hs),
+      length-append (group_text h ++ texts hs) rest,
     ))
 goes_on (g ∷ gs) (h ∷ hs) rest p q e =
-    let r = group_same g h (texts gs) (texts hs ++ rest) p.0 q.0 (e ∙ append_assoc (text h) (texts hs) rest) in
+    let r = group_same g h (texts gs) (texts hs ++ rest) p.0 q.0 (e ∙ append_assoc (group_text h) (texts hs) rest) in
     let s = goes_on gs hs rest p.1 q.1 r.1 in
     record { more = s.more; whole = (λ i. r.0 i ∷ s.whole i); each = s.each; text = s.text }
 
 no_texts : (gs : List Group) → [] ≡ texts gs → gs ≡ []
 no_texts [] e = refl
-no_texts (g ∷ gs) e = absurd (omega (arith, text_some g, ap length e, length-append (text g) (texts gs)))
+no_texts (g ∷ gs) e = absurd (omega (arith, text_some g, ap length e, length-append (group_text g) (texts gs)))
 
 -- a packed text has one reading
 pub one_reading : (b cs bs : List ℕ) → Packs b cs → Packs b bs → cs ≡ bs
 one_reading b cs bs p q =
-    let r = goes_on p.groups q.groups [] p.each q.each (sym p.text ∙ q.text ∙ sym (append-nil (texts q.groups))) in
-    p.content ∙ ap contents (r.whole ∙ ap (λ l. q.groups ++ l) (no_texts r.more r.text) ∙ append-nil q.groups)
-    ∙ sym q.content
+    let r = goes_on p.groups q.groups [] p.each q.each
+    (sym p.is_text ∙ q.is_text ∙ sym (append-nil (texts q.groups))) in
+    p.are_bytes ∙ ap contents (r.whole ∙ ap (λ l. q.groups ++ l) (no_texts r.more r.text) ∙ append-nil q.groups)
+    ∙ sym q.are_bytes
 
 -- what is read within the maximum isn't refused
 not_cut : (room : ℕ) (rest : List ℕ) (more : List Group) → AllByRecursion IsGroup more → rest ≡ texts more
@@ -171,11 +174,11 @@ pub not_refused : (Q : ℕ → List ℕ → Type 0)
     → word_count more ≤ room → Q room rest → ⊥)
     → (b bs : List ℕ) (max at : ℕ) → Packs b bs → length bs ≤ 8 * max → Stands Q b max at → ⊥
 not_refused Q never b bs max at p fits s =
-    let r = goes_on p.groups s.groups s.rest p.each s.each (sym p.text ∙ s.text) in
+    let r = goes_on p.groups s.groups s.rest p.each s.each (sym p.is_text ∙ s.text) in
     never s.left s.rest r.more r.each r.text
     (omega (
       arith,
-      ap length p.content,
+      ap length p.are_bytes,
       length_contents p.groups p.each,
       ap word_count r.whole,
       count_append s.groups r.more,

@@ -5,7 +5,7 @@ use Rattle.std.proofs.Common.{drop-cons, take_all, replicate, length-append, get
 use Rattle.std.proofs.lemmas.List.{length-replicate, append-nil}
 use Rattle.std.proofs.lemmas.Grind.{flat_map-append}
 use Rattle.std.specs.List.{AllByRecursion}
-use Rattle.capn_pack.specs.Packed.{Group, text, content, words, IsGroup, texts, contents, word_count}
+use Rattle.capn_pack.specs.Packed.{Group, group_text, group_bytes, group_words, IsGroup, texts, contents, word_count}
 use Rattle.capn_pack.specs.Packed.Group.{Zeros, Named, Raw}
 
 -- the first item, and those after it
@@ -61,7 +61,7 @@ raw_is_group xs m h small = (
 )
 
 -- a group's words have 8 bytes each
-pub length_content : (g : Group) → IsGroup g → length (content g) ≡ 8 * words g
+pub length_content : (g : Group) → IsGroup g → length (group_bytes g) ≡ 8 * group_words g
 length_content (Zeros more) h = length-replicate (8 * (1 + more)) 0
 length_content (Named tag word) h = h.2
 length_content (Raw word count more) h = length-append word more ∙ omega (arith, h.0, h.2)
@@ -80,12 +80,12 @@ pub byte_of_rest : (bytes : List ℕ) (at i : ℕ) → ((k : ℕ) → get_or byt
 byte_of_rest bytes at i fits = rw (rest_is bytes at, get_or-drop) (fits (at + i))
 
 -- a row of groups and one more
-pub texts_more : (gs : List Group) (g : Group) → texts (gs ++ g ∷ []) ≡ texts gs ++ text g
-texts_more gs g = flat_map-append text gs (g ∷ []) ∙ ap (λ l. texts gs ++ l) (append-nil (text g))
+pub texts_more : (gs : List Group) (g : Group) → texts (gs ++ g ∷ []) ≡ texts gs ++ group_text g
+texts_more gs g = flat_map-append group_text gs (g ∷ []) ∙ ap (λ l. texts gs ++ l) (append-nil (group_text g))
 
 -- the words of groups and one more
-pub contents_more : (gs : List Group) (g : Group) → contents (gs ++ g ∷ []) ≡ contents gs ++ content g
-contents_more gs g = flat_map-append content gs (g ∷ []) ∙ ap (λ l. contents gs ++ l) (append-nil (content g))
+pub contents_more : (gs : List Group) (g : Group) → contents (gs ++ g ∷ []) ≡ contents gs ++ group_bytes g
+contents_more gs g = flat_map-append group_bytes gs (g ∷ []) ∙ ap (λ l. contents gs ++ l) (append-nil (group_bytes g))
 
 -- groups and one more are groups
 pub each_more : (gs : List Group) (g : Group) → AllByRecursion IsGroup gs → IsGroup g
@@ -94,14 +94,14 @@ each_more [] g h is = (is, tt)
 each_more (x ∷ gs) g h is = (h.0, each_more gs g h.1 is)
 
 -- the number of words of groups and one more
-pub count_more : (gs : List Group) (g : Group) → word_count (gs ++ g ∷ []) ≡ word_count gs + words g
+pub count_more : (gs : List Group) (g : Group) → word_count (gs ++ g ∷ []) ≡ word_count gs + group_words g
 count_more [] g = omega arith
 count_more (x ∷ gs) g = omega (arith, count_more gs g)
 
 -- the words of groups have 8 bytes each
 pub length_contents : (gs : List Group) → AllByRecursion IsGroup gs → length (contents gs) ≡ 8 * word_count gs
 length_contents [] h = omega arith
-length_contents (g ∷ gs) h = length-append (content g) (contents gs)
+length_contents (g ∷ gs) h = length-append (group_bytes g) (contents gs)
     ∙ omega (arith, length_content g h.0, length_contents gs h.1)
 
 -- the number of words of groups joined
@@ -116,7 +116,7 @@ each_append [] hs p q = q
 each_append (g ∷ gs) hs p q = (p.0, each_append gs hs p.1 q)
 
 -- a group's text has bytes
-pub text_some : (g : Group) → 0 < length (text g)
+pub text_some : (g : Group) → 0 < length (group_text g)
 text_some (Zeros n) = omega arith
 text_some (Named t w) = omega arith
 text_some (Raw w n f) = omega arith

@@ -2,7 +2,7 @@
 use Rattle.std.proofs.Common.{◌≡◌, ℕ, ◌+◌, ◌≤◌, List, [], ◌∷◌, ◌++◌, length, refl, ap, sym, subst, ◌∙◌}
 use Rattle.std.proofs.Common.{append_assoc, arith}
 use Rattle.std.specs.List.{AllByRecursion}
-use Rattle.capn_pack.specs.Packed.{Group, IsGroup, text, words, texts, word_count}
+use Rattle.capn_pack.specs.Packed.{Group, IsGroup, group_text, group_words, texts, word_count}
 use Rattle.capn_pack.specs.UnpackRefusal.{words_at, IsCut, IsUnpackRefused, IsTooLong, Stands}
 use Rattle.capn_pack.specs.declared.fault.UnpackFault.{UnpackFault}
 use Rattle.capn_pack.specs.declared.fault.UnpackFault.TheVariants as fault
@@ -11,7 +11,7 @@ use Rattle.capn_pack.proofs.shared.GroupLaws.{no_group, head_of, group_same}
 -- a rest with this fault begins with no whole group for which there is room
 abbrev NoneFits : (ℕ → List ℕ → Type 0) → Type 0
 NoneFits Fault = (room : ℕ) (rest more : List ℕ) (g : Group)
-    → IsGroup g → rest ≡ text g ++ more → words g ≤ room → Fault room rest → ⊥
+    → IsGroup g → rest ≡ group_text g ++ more → group_words g ≤ room → Fault room rest → ⊥
 
 cut-no_group : NoneFits IsCut
 cut-no_group room rest more g h e fits cut = no_group room rest cut g more h e
@@ -33,16 +33,18 @@ same_row : (P Q : ℕ → List ℕ → Type 0) → NoneFits P → NoneFits Q
 same_row P Q first also [] [] rest other left right p q e n f h =
     record { texts_are = refl; rest_is = e; left_is = omega arith }
 same_row P Q first also [] (k ∷ ks) rest other left right p q e n f h =
-    absurd (first left rest (texts ks ++ other) k q.0 (e ∙ append_assoc (text k) (texts ks) other) (omega arith) f)
+    absurd (first left rest (texts ks ++ other) k q.0 (e ∙ append_assoc (group_text k) (texts ks) other)
+    (omega arith) f)
 same_row P Q first also (g ∷ gs) [] rest other left right p q e n f h =
-    absurd (also right other (texts gs ++ rest) g p.0 (sym e ∙ append_assoc (text g) (texts gs) rest) (omega arith) h)
+    absurd (also right other (texts gs ++ rest) g p.0 (sym e ∙ append_assoc (group_text g) (texts gs) rest)
+    (omega arith) h)
 same_row P Q first also (g ∷ gs) (k ∷ ks) rest other left right p q e n f h =
-    let whole = sym (append_assoc (text g) (texts gs) rest) ∙ e ∙ append_assoc (text k) (texts ks) other in
+    let whole = sym (append_assoc (group_text g) (texts gs) rest) ∙ e ∙ append_assoc (group_text k) (texts ks) other in
     let r = group_same g k (texts gs ++ rest) (texts ks ++ other) p.0 q.0 whole in
-    let w : words g ≡ words k = ap words r.0 in
+    let w : group_words g ≡ group_words k = ap group_words r.0 in
     let count : left + word_count gs ≡ right + word_count ks = omega arith in
     let s = same_row P Q first also gs ks rest other left right p.1 q.1 r.1 count f h in
-    record { texts_are = λ i. text (r.0 i) ++ s.texts_are i; rest_is = s.rest_is; left_is = s.left_is }
+    record { texts_are = λ i. group_text (r.0 i) ++ s.texts_are i; rest_is = s.rest_is; left_is = s.left_is }
 
 module _ (b : List ℕ) (max : ℕ) where
   same_stand : (P Q : ℕ → List ℕ → Type 0) → NoneFits P → NoneFits Q

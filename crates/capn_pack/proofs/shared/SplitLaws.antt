@@ -7,7 +7,7 @@ use Rattle.std.proofs.lemmas.Bool.{cases_lt}
 use Rattle.std.proofs.lemmas.Bool.Decides.{nat_tests}
 use Rattle.std.specs.Prelude.{count_ones}
 use Rattle.std.specs.List.{AllByRecursion}
-use Rattle.capn_pack.specs.Packed.{Group, IsGroup, text, content, texts, contents, named_bytes, IsNamedBy}
+use Rattle.capn_pack.specs.Packed.{Group, IsGroup, group_text, group_bytes, texts, contents, named_bytes, IsNamedBy}
 use Rattle.capn_pack.specs.Packed.Group.{Zeros, Named, Raw}
 use Rattle.capn_pack.specs.PackedPieces.{Splits, NoGroupFirst}
 use Rattle.capn_pack.proofs.shared.GroupLaws.{group_same, no_group}
@@ -68,10 +68,10 @@ record First (bs : List ℕ) : Type 0 where
   group : Group
   more : List ℕ
   is : IsGroup group
-  text_is : bs ≡ text group ++ more
+  text_is : bs ≡ group_text group ++ more
 
 -- the first bytes are a group's
-first_of : (bs : List ℕ) (n : ℕ) (g : Group) → IsGroup g → take n bs ≡ text g → First bs
+first_of : (bs : List ℕ) (n : ℕ) (g : Group) → IsGroup g → take n bs ≡ group_text g → First bs
 first_of bs n g is e =
     record {
       group = g;
@@ -82,7 +82,8 @@ first_of bs n g is e =
     }
 
 -- the first number of a group is its tag
-tag_of_first : (bs : List ℕ) (g : Group) (more : List ℕ) → bs ≡ text g ++ more → get_or bs 0 0 ≡ get_or (text g) 0 0
+tag_of_first : (bs : List ℕ) (g : Group) (more : List ℕ) → bs ≡ group_text g ++ more
+    → get_or bs 0 0 ≡ get_or (group_text g) 0 0
 tag_of_first bs (Zeros n) more e = ap (λ (l : List ℕ). get_or l 0 0) e
 tag_of_first bs (Named tag word) more e = ap (λ (l : List ℕ). get_or l 0 0) e
 tag_of_first bs (Raw word n further) more e = ap (λ (l : List ℕ). get_or l 0 0) e
@@ -157,19 +158,19 @@ pub record Split (bs old : List ℕ) : Type 0 where
   pub splits : Splits bs rest old new len
 
 -- one group more in front
-split_more : (bs old : List ℕ) (g : Group) (more : List ℕ) → IsGroup g → bs ≡ text g ++ more
-    → Split more (old ++ content g) → Split bs old
+split_more : (bs old : List ℕ) (g : Group) (more : List ℕ) → IsGroup g → bs ≡ group_text g ++ more
+    → Split more (old ++ group_bytes g) → Split bs old
 split_more bs old g more is e s = record {
   rest = s.rest;
   new = s.new;
-  len = length (text g) + s.len;
+  len = length (group_text g) + s.len;
   splits = record {
     groups = g ∷ s.splits.groups;
     each = (is, s.splits.each);
-    text = e ∙ ap (λ (l : List ℕ). text g ++ l) s.splits.text
-        ∙ sym (append_assoc (text g) (texts s.splits.groups) s.rest);
-    content = s.splits.content ∙ append_assoc old (content g) (contents s.splits.groups);
-    size = omega (arith, s.splits.size, length-append (text g) (texts s.splits.groups));
+    text = e ∙ ap (λ (l : List ℕ). group_text g ++ l) s.splits.text
+        ∙ sym (append_assoc (group_text g) (texts s.splits.groups) s.rest);
+    content = s.splits.content ∙ append_assoc old (group_bytes g) (contents s.splits.groups);
+    size = omega (arith, s.splits.size, length-append (group_text g) (texts s.splits.groups));
     open_rest = s.splits.open_rest;
   };
 }
@@ -192,8 +193,8 @@ split_all zero bs old short = absurd (omega arith)
 split_all (suc n) [] old short = split_open [] old nothing_first
 split_all (suc n) (b ∷ bs) old short = elim (first_or_none (b ∷ bs) (omega arith)) [
   | inl f ↦ split_more (b ∷ bs) old f.group f.more f.is f.text_is
-      (split_all n f.more (old ++ content f.group)
-      (omega (arith, short, ap length f.text_is, length-append (text f.group) f.more, text_some f.group)))
+      (split_all n f.more (old ++ group_bytes f.group)
+      (omega (arith, short, ap length f.text_is, length-append (group_text f.group) f.more, text_some f.group)))
   | inr none ↦ split_open (b ∷ bs) old none
 ]
 
@@ -207,11 +208,12 @@ splits_all bs old = split_all (suc (length bs)) bs old (omega arith)
 pub one_row : (gs hs : List Group) (r s : List ℕ) → AllByRecursion IsGroup gs → AllByRecursion IsGroup hs
     → NoGroupFirst r → NoGroupFirst s → texts gs ++ r ≡ texts hs ++ s → (gs ≡ hs) × (r ≡ s)
 one_row [] [] r s f g n m e = (refl, e)
-one_row [] (h ∷ hs) r s f g n m e = absurd (n h (texts hs ++ s) g.0 (e ∙ append_assoc (text h) (texts hs) s))
-one_row (g ∷ gs) [] r s f k n m e = absurd (m g (texts gs ++ r) f.0 (sym e ∙ append_assoc (text g) (texts gs) r))
+one_row [] (h ∷ hs) r s f g n m e = absurd (n h (texts hs ++ s) g.0 (e ∙ append_assoc (group_text h) (texts hs) s))
+one_row (g ∷ gs) [] r s f k n m e = absurd (m g (texts gs ++ r) f.0 (sym e ∙ append_assoc (group_text g) (texts gs) r))
 one_row (g ∷ gs) (h ∷ hs) r s f k n m e =
-    let same = group_same g h (texts gs ++ r) (texts hs ++ s) f.0 k.0 (sym (append_assoc (text g) (texts gs) r) ∙ e
-    ∙ append_assoc (text h) (texts hs) s) in
+    let same = group_same g h (texts gs ++ r) (texts hs ++ s) f.0 k.0
+    (sym (append_assoc (group_text g) (texts gs) r) ∙ e
+    ∙ append_assoc (group_text h) (texts hs) s) in
     let ih = one_row gs hs r s f.1 k.1 n m same.1 in
     (rw (same.0, ih.0) refl, ih.1)
 

@@ -6,7 +6,7 @@ use Rattle.std.proofs.lemmas.Bool.{cases_lt}
 use Rattle.std.proofs.lemmas.List.{append-nil, take-append-le, take-take}
 use Rattle.std.proofs.Math.Seq.{take-append-add}
 use Rattle.std.proofs.lemmas.Grind.{flat_map-append}
-use Rattle.capn_pack.specs.Packed.{text, content, texts, contents}
+use Rattle.capn_pack.specs.Packed.{group_text, group_bytes, texts, contents}
 use Rattle.capn_pack.specs.inner.Steps.{Takes, TakesRow}
 use Rattle.capn_pack.specs.PackedPieces.{Splits, Begins, NoGroupFirst}
 use Rattle.capn_pack.specs.UnpackRefusal.{IsCut}
@@ -49,16 +49,16 @@ begins_then stream rest more words next len s b = record {
       ∙ append_assoc (texts s.groups) rest more
       ∙ ap (λ (l : List ℕ). texts s.groups ++ l) b.text
       ∙ sym (append_assoc (texts s.groups) (texts b.groups) b.rest)
-      ∙ ap (λ (l : List ℕ). l ++ b.rest) (sym (flat_map-append text s.groups b.groups));
+      ∙ ap (λ (l : List ℕ). l ++ b.rest) (sym (flat_map-append group_text s.groups b.groups));
   content =
       ap (λ (l : List ℕ). l ++ next) s.content
       ∙ ap (λ (l : List ℕ). contents s.groups ++ l) b.content
-      ∙ sym (flat_map-append content s.groups b.groups);
+      ∙ sym (flat_map-append group_bytes s.groups b.groups);
 }
 
 -- no group begins with nothing
 pub nothing_first : NoGroupFirst []
-nothing_first g more is e = omega (arith, text_some g, ap length e, length-append (text g) more)
+nothing_first g more is e = omega (arith, text_some g, ap length e, length-append (group_text g) more)
 
 -- it splits so, where what is left is cut
 pub splits_cut : (bytes : List ℕ) (at : ℕ) (old out : List ℕ) (room : ℕ) → TakesRow bytes at old out
@@ -75,7 +75,7 @@ past_rest rest piece joined more room taken count old new e none t =
     elim (cases_lt taken (length rest)) [
       | inl less ↦
           let le : taken ≤ length rest = omega arith in
-          let front : take taken rest ≡ text t.group = sym (take-append-le taken rest (take more piece) le)
+          let front : take taken rest ≡ group_text t.group = sym (take-append-le taken rest (take more piece) le)
           ∙ ap (take taken) (sym e) ∙ t.text in
           absurd (none t.group (drop taken rest) t.is_group (sym (take-append-drop taken rest)
           ∙ ap (λ l. l ++ drop taken rest) front))
@@ -101,7 +101,7 @@ join_whole held piece joined kept len more room taken count old new le short e n
     let most : taken - len ≤ more =
     omega (arith, t.within, ap length e, length-append rest (take more piece), length-take more piece) in
     let sum : taken ≡ length rest + (taken - len) = omega arith in
-    let text_is : rest ++ take (taken - len) piece ≡ text t.group =
+    let text_is : rest ++ take (taken - len) piece ≡ group_text t.group =
     ap (λ l. rest ++ l) (sym (take-take (taken - len) more piece most))
     ∙ sym (take-append-add rest (take more piece) (taken - len))
     ∙ ap (λ n. take n (rest ++ take more piece)) (sym sum) ∙ ap (take taken) (sym e) ∙ t.text in
@@ -142,8 +142,9 @@ splits_more rest piece held at old mid new after taken j s =
       each = (j.2, s.each);
       text = ap (λ l. rest ++ l) (sym (take-append-drop at piece))
           ∙ sym (append_assoc rest (take at piece) (drop at piece))
-          ∙ (λ i. j.3 i ++ (sym (rest_is piece at) ∙ s.text) i) ∙ sym (append_assoc (text g) (texts s.groups) after);
-      content = s.content ∙ ap (λ l. l ++ contents s.groups) j.4 ∙ append_assoc old (content g) (contents s.groups);
+          ∙ (λ i. j.3 i ++ (sym (rest_is piece at) ∙ s.text) i)
+          ∙ sym (append_assoc (group_text g) (texts s.groups) after);
+      content = s.content ∙ ap (λ l. l ++ contents s.groups) j.4 ∙ append_assoc old (group_bytes g) (contents s.groups);
       size = omega (
         arith,
         s.size,
@@ -151,7 +152,7 @@ splits_more rest piece held at old mid new after taken j s =
         ap length j.3,
         length-append rest (take at piece),
         length-take at piece,
-        length-append (text g) (texts s.groups),
+        length-append (group_text g) (texts s.groups),
       );
       open_rest = s.open_rest;
     }
@@ -168,8 +169,9 @@ begins_more rest piece held at old mid new j s =
       each = (j.2, s.each);
       text = ap (λ l. rest ++ l) (sym (take-append-drop at piece))
           ∙ sym (append_assoc rest (take at piece) (drop at piece))
-          ∙ (λ i. j.3 i ++ (sym (rest_is piece at) ∙ s.text) i) ∙ sym (append_assoc (text g) (texts s.groups) s.rest);
-      content = s.content ∙ ap (λ l. l ++ contents s.groups) j.4 ∙ append_assoc old (content g) (contents s.groups);
+          ∙ (λ i. j.3 i ++ (sym (rest_is piece at) ∙ s.text) i)
+          ∙ sym (append_assoc (group_text g) (texts s.groups) s.rest);
+      content = s.content ∙ ap (λ l. l ++ contents s.groups) j.4 ∙ append_assoc old (group_bytes g) (contents s.groups);
     }
 
 -- a stream with which no group begins splits into nothing and itself
@@ -182,7 +184,7 @@ pub splits_then : (stream rest piece after : List ℕ) (old mid new : List ℕ) 
     → Splits stream rest old mid len → Splits (rest ++ piece) after mid new more
     → Splits (stream ++ piece) after old new (len + more)
 splits_then stream rest piece after old mid new len more s t =
-    let texts_are = flat_map-append text s.groups t.groups in
+    let texts_are = flat_map-append group_text s.groups t.groups in
     record {
       groups = s.groups ++ t.groups;
       each = each_append s.groups t.groups s.each t.each;
@@ -191,7 +193,7 @@ splits_then stream rest piece after old mid new len more s t =
           ∙ ap (λ l. l ++ after) (sym texts_are);
       content = t.content ∙ ap (λ l. l ++ contents t.groups) s.content
           ∙ append_assoc old (contents s.groups) (contents t.groups)
-          ∙ ap (λ l. old ++ l) (sym (flat_map-append content s.groups t.groups));
+          ∙ ap (λ l. old ++ l) (sym (flat_map-append group_bytes s.groups t.groups));
       size = omega (arith, s.size, t.size, ap length texts_are, length-append (texts s.groups) (texts t.groups));
       open_rest = t.open_rest;
     }

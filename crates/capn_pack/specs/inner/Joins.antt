@@ -1,6 +1,6 @@
 -- An unfinished group and the piece that came, and the bytes that are held then.
 use Rattle.std.specs.Prelude.{ℕ, ◌≡◌, ◌<◌, ◌≤◌, ◌++◌, List, length, take, Result, Ok, Err}
-use Rattle.capn_pack.specs.Packed.{Group, IsGroup, text, content}
+use Rattle.capn_pack.specs.Packed.{Group, IsGroup, group_text, group_bytes}
 use Rattle.capn_pack.specs.PackedPieces.{Begins, NoGroupFirst, Splits}
 use Rattle.capn_pack.specs.declared.unpack_group.TheConstants.{GROUP}
 use Rattle.capn_pack.specs.declared.text_piece.Fed.{Fed}
@@ -12,7 +12,7 @@ abbrev pub Joins : List ℕ → List ℕ → List ℕ → List ℕ → List ℕ 
 Joins rest piece held old new (Open len) = (len < GROUP) × (take len held ≡ rest ++ piece)
     × NoGroupFirst (rest ++ piece) × (new ≡ old)
 Joins rest piece held old new (Whole at) = (at ≤ length piece) × (group : Group) × IsGroup group
-    × (rest ++ take at piece ≡ text group) × (new ≡ old ++ content group)
+    × (rest ++ take at piece ≡ group_text group) × (new ≡ old ++ group_bytes group)
 
 -- The answer of a feed, for the bytes that were held and the piece: they split, and their rest is held; or a whole
 -- group comes first, memory was refused, and a beginning of their words was appended.

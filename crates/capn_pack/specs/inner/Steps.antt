@@ -1,7 +1,7 @@
 -- Single steps of the code.
 use Rattle.std.specs.Prelude.{ℕ, ◌≡◌, ◌+◌, ◌*◌, ◌<◌, ◌≤◌, ◌++◌, List, length, take, drop, Result, Ok, Err}
 use Rattle.std.specs.List.{AllByRecursion}
-use Rattle.capn_pack.specs.Packed.{Group, IsGroup, text, content, words, texts, contents, word_count}
+use Rattle.capn_pack.specs.Packed.{Group, IsGroup, group_text, group_bytes, group_words, texts, contents, word_count}
 use Rattle.capn_pack.specs.Chosen.{IsChoice, IsChosenRow}
 use Rattle.capn_pack.specs.UnpackRefusal.{IsCut, IsTooLong, StartsWithin}
 use Rattle.capn_pack.specs.declared.unpack_group.TheConstants.{GROUP}
@@ -14,10 +14,10 @@ pub record Takes (rest : List ℕ) (room taken count : ℕ) (old new : List ℕ)
   pub group : Group
   pub is_group : IsGroup group
   pub within : taken ≤ length rest
-  pub text : take taken rest ≡ text group
-  pub counted : count ≡ words group
+  pub text : take taken rest ≡ group_text group
+  pub counted : count ≡ group_words group
   pub fits : count ≤ room
-  pub content : new ≡ old ++ content group
+  pub content : new ≡ old ++ group_bytes group
 
 -- The answer of reading the next group: what it takes; or nothing was appended, and memory was refused for a whole
 -- group within the room, or the group is cut and shorter than the longest, or it has more words than there is room for.
@@ -40,10 +40,10 @@ pub record Puts (bytes : List ℕ) (at next : ℕ) (old new : List ℕ) : Type 0
   pub group : Group
   pub is_group : IsGroup group
   pub choice : IsChoice group (drop next bytes)
-  pub span : next ≡ at + 8 * words group
+  pub span : next ≡ at + 8 * group_words group
   pub inside : next ≤ length bytes
-  pub content : drop at bytes ≡ content group ++ drop next bytes
-  pub text : new ≡ old ++ text group
+  pub content : drop at bytes ≡ group_bytes group ++ drop next bytes
+  pub text : new ≡ old ++ group_text group
 
 -- The groups that the packer chooses for the words from one offset to the next were appended.
 pub record PutsRow (bytes : List ℕ) (at next : ℕ) (old new : List ℕ) : Type 0 where

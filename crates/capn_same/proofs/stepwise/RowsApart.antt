@@ -5,7 +5,7 @@ use Rattle.capn_value.specs.Tree.{Trees, Bodies, no_bodies, body, count, count_r
 use Rattle.capn_words.specs.declared.space.Place.{Place}
 use Rattle.capn_value.specs.Same.{SameWords, SameSlots, SameRows}
 use Rattle.capn_value.specs.Cost.{greatest, greatest_in_rows}
-use Rattle.capn_walk.specs.ValueAt.{AreAt, RowsAt, StandAt}
+use Rattle.capn_walk.specs.ValueAt.{AreAt, RowsAt, AreWordsAt}
 use Rattle.capn_layout.specs.LayoutSteps.{rows_past, slots_at}
 use Rattle.capn_layout.specs.Weight.{weights, weights_in_rows}
 use Rattle.capn_layout.proofs.shared.Counted.{rows-words}
@@ -21,7 +21,7 @@ words_at (body ws ss bs) (suc i) = words_at bs i
 pub record IsRowAt (m : List (List ℕ)) (s w a b : ℕ) (ws : List ℕ) (ss : Trees) : Type 0 where
   pub long : length ws ≡ a
   pub number : count ss ≡ b
-  pub own : StandAt m s w ws
+  pub own : AreWordsAt m s w ws
   pub below : AreAt m s (w + a) ss
 
 pub row-at : (m : List (List ℕ)) (a b s w : ℕ) (bs : Bodies) (i : ℕ) → RowsAt m a b s w bs → i < count_rows bs

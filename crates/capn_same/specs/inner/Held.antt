@@ -6,7 +6,7 @@ use Rattle.capn_value.specs.Tree.{Tree, Trees, Bodies, count, count_rows}
 use Rattle.capn_value.specs.Cost.{height, greatest, greatest_in_rows}
 use Rattle.capn_target.specs.declared.target.Shape.{Shape}
 use Rattle.capn_target.specs.Shapes.{IsContent, RowsFit, extent}
-use Rattle.capn_walk.specs.ValueAt.{AreAt, RowsAt, StandAt, IsInside}
+use Rattle.capn_walk.specs.ValueAt.{AreAt, RowsAt, AreWordsAt, IsInside}
 use Rattle.capn_layout.specs.MessageSlots.{HasSlot}
 
 module _ (m : List (List ℕ)) where
@@ -35,7 +35,7 @@ module _ (m : List (List ℕ)) where
     pub content : IsContent m at (a + b)
     pub long : length ws ≡ a
     pub number : count ss ≡ b
-    pub own : StandAt m at.segment at.word ws
+    pub own : AreWordsAt m at.segment at.word ws
     pub below : AreAt m at.segment (at.word + a) ss
 
   -- the values in its slots are at most `depth` objects high (Own.)

@@ -1,6 +1,6 @@
 -- One group of a packed text, read.
 use Rattle.std.specs.Prelude.{ℕ, ◌≡◌, ◌<◌, ◌≤◌, ◌++◌, List, length, take, Result, Ok, Err}
-use Rattle.capn_pack.specs.Packed.{Group, IsGroup, text, content, words}
+use Rattle.capn_pack.specs.Packed.{Group, IsGroup, group_text, group_bytes, group_words}
 use Rattle.capn_pack.specs.UnpackRefusal.{IsCut, IsTooLong, len_at, words_at}
 use Rattle.capn_scratch.specs.declared.group.Size.{Size}
 use Rattle.capn_scratch.specs.declared.group.Stop.{Stop}
@@ -20,6 +20,6 @@ pub record Takes (rest : List ℕ) (taken count : ℕ) (old new : List ℕ) : Ty
   pub group : Group
   pub is_group : IsGroup group
   pub within : taken ≤ length rest
-  pub text : take taken rest ≡ text group
-  pub counted : count ≡ words group
-  pub content : new ≡ old ++ content group
+  pub text : take taken rest ≡ group_text group
+  pub counted : count ≡ group_words group
+  pub content : new ≡ old ++ group_bytes group

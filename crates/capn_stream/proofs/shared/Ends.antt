@@ -7,7 +7,7 @@ use Rattle.std.proofs.lemmas.List.{append-nil, drop-drop, drop_at, take-append-d
 use Rattle.std.proofs.lemmas.List.Sums.{sum_by-cons}
 use Rattle.capn_words.specs.Message.{bytes, word_bytes}
 use Rattle.capn_stream.specs.Cuts.{AreRising, cut, ends_from}
-use Rattle.capn_stream.specs.Frames.{contents}
+use Rattle.capn_stream.specs.Frames.{segment_bytes}
 
 -- a segment has one end
 pub length-ends_from : (from : ℕ) (sizes : List ℕ) → length (ends_from from sizes) ≡ length sizes
@@ -45,7 +45,7 @@ lengths-cut from (size ∷ sizes) last ws h =
 
 -- the bytes of the segments are those of the words
 pub contents-cut : (from : ℕ) (ends ws : List ℕ) → AreRising from ends (length ws)
-    → contents (cut from ends ws) ≡ bytes (drop from ws)
+    → segment_bytes (cut from ends ws) ≡ bytes (drop from ws)
 contents-cut from [] ws r = append-nil (bytes (drop from ws))
 contents-cut from (end ∷ ends) ws r =
     let e : from + (end - from) ≡ end = omega (arith, r.0) in

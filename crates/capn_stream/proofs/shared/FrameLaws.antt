@@ -11,7 +11,7 @@ use Rattle.std.proofs.lemmas.List.Sums.{sum-map, sum_by-cons}
 use Rattle.capn_words.specs.Message.{bytes, segment_at, total, IsMessage, word_bytes, AreBytes, AreWords}
 use Rattle.capn_words.proofs.shared.Words.{bytes-injective, length-bytes}
 use Rattle.capn_stream.specs.Cuts.{cut, ends_from}
-use Rattle.capn_stream.specs.Frames.{FitsTable, Frames, StandsFirst, contents, entry, padding}
+use Rattle.capn_stream.specs.Frames.{FitsTable, Frames, StandsFirst, segment_bytes, entry, padding}
 use Rattle.capn_stream.specs.FrameRefusal.{IsFrameRefused, IsWhole, announced_segments, announced_words, entries}
 use Rattle.capn_stream.specs.FrameRefusal.{entry_number, frame_length, head_length}
 use Rattle.capn_stream.specs.declared.fault.FrameFault.{FrameFault}
@@ -35,19 +35,19 @@ sizes_below [] h k = omega arith
 sizes_below (ws ∷ message) h zero = h 0
 sizes_below (ws ∷ message) h (suc k) = sizes_below message (λ s. h (suc s)) k
 
-length-contents : (message : List (List ℕ)) → length (contents message) ≡ 8 * total message
+length-contents : (message : List (List ℕ)) → length (segment_bytes message) ≡ 8 * total message
 length-contents [] = refl
 length-contents (ws ∷ message) =
     omega (
       arith,
       length-contents message,
-      length-append (bytes ws) (contents message),
+      length-append (bytes ws) (segment_bytes message),
       length-bytes ws,
       sum_by-cons length ws message,
     )
 
 -- the contents are the bytes of all words
-bytes-joined : (message : List (List ℕ)) → bytes (joined message) ≡ contents message
+bytes-joined : (message : List (List ℕ)) → bytes (joined message) ≡ segment_bytes message
 bytes-joined [] = refl
 bytes-joined (ws ∷ message) = flat_map-append word_bytes ws (joined message)
     ∙ ap (λ (bs : List ℕ). bytes ws ++ bs) (bytes-joined message)
@@ -84,32 +84,34 @@ pub record Announces (bs : List ℕ) (message : List (List ℕ)) (taken : ℕ) :
   pub sizes : entries (announced_segments bs) (drop 4 bs) ≡ map length message
   pub words : announced_words bs ≡ total message
   pub length_is : taken ≡ frame_length bs
-  pub contents_are : take (8 * announced_words bs) (drop (head_length (announced_segments bs)) bs) ≡ contents message
+  pub contents_are : take (8 * announced_words bs) (drop (head_length (announced_segments bs)) bs)
+      ≡ segment_bytes message
 
 announces_parts : (message : List (List ℕ)) (gap rest bs : List ℕ) → FitsTable message
     → length gap ≡ padding (length message)
-    → bs ≡ entry (length message - 1) ++ (flat_map entry (map length message) ++ (gap ++ (contents message ++ rest)))
+    → bs ≡ entry (length message - 1)
+    ++ (flat_map entry (map length message) ++ (gap ++ (segment_bytes message ++ rest)))
     → Announces bs message (4 + 4 * length message + length gap + 8 * total message)
 announces_parts message gap rest bs fits room e =
     let all : List ℕ = flat_map entry (map length message) in
     let number : entry_number bs ≡ length message - 1 =
     ap entry_number e
-    ∙ entry_number-entry (length message - 1) (all ++ (gap ++ (contents message ++ rest)))
+    ∙ entry_number-entry (length message - 1) (all ++ (gap ++ (segment_bytes message ++ rest)))
     (omega (arith, fits.few)) in
     let count : announced_segments bs ≡ length message = omega (arith, number, fits.some) in
-    let behind : drop 4 bs ≡ all ++ (gap ++ (contents message ++ rest)) =
+    let behind : drop 4 bs ≡ all ++ (gap ++ (segment_bytes message ++ rest)) =
     ap (λ (xs : List ℕ). drop 4 xs) e
-    ∙ drop_at (entry (length message - 1)) (all ++ (gap ++ (contents message ++ rest))) 4
+    ∙ drop_at (entry (length message - 1)) (all ++ (gap ++ (segment_bytes message ++ rest))) 4
     (length-entry (length message - 1)) in
     let many : length (map length message) ≡ length message = length-map message length in
     let sizes : entries (announced_segments bs) (drop 4 bs) ≡ map length message =
     ap (λ (n : ℕ). entries n (drop 4 bs)) (count ∙ sym many)
     ∙ ap (λ (xs : List ℕ). entries (length (map length message)) xs) behind
-    ∙ entries-entry (map length message) (gap ++ (contents message ++ rest)) (sizes_below message fits.sizes) in
+    ∙ entries-entry (map length message) (gap ++ (segment_bytes message ++ rest)) (sizes_below message fits.sizes) in
     let words : announced_words bs ≡ total message = ap sum sizes ∙ sum-map length message in
     let pad : padding (announced_segments bs) ≡ length gap = ap padding count ∙ sym room in
     let front : List ℕ = entry (length message - 1) ++ (all ++ gap) in
-    let split : bs ≡ front ++ (contents message ++ rest) = e ∙ simp append_assoc in
+    let split : bs ≡ front ++ (segment_bytes message ++ rest) = e ∙ simp append_assoc in
     let head : length front ≡ head_length (announced_segments bs) =
     omega (
       arith,
@@ -121,17 +123,18 @@ announces_parts message gap rest bs fits room e =
       count,
       pad,
     ) in
-    let after : drop (head_length (announced_segments bs)) bs ≡ contents message ++ rest =
+    let after : drop (head_length (announced_segments bs)) bs ≡ segment_bytes message ++ rest =
     ap (λ (xs : List ℕ). drop (head_length (announced_segments bs)) xs) split
-    ∙ drop_at front (contents message ++ rest) (head_length (announced_segments bs)) head in
-    let size : length (contents message) ≡ 8 * announced_words bs = omega (arith, length-contents message, words) in
+    ∙ drop_at front (segment_bytes message ++ rest) (head_length (announced_segments bs)) head in
+    let size : length (segment_bytes message)
+    ≡ 8 * announced_words bs = omega (arith, length-contents message, words) in
     record {
       count = count;
       sizes = sizes;
       words = words;
       length_is = omega (arith, count, pad, words);
       contents_are = ap (λ (xs : List ℕ). take (8 * announced_words bs) xs) after
-          ∙ take_at (contents message) rest (8 * announced_words bs) size;
+          ∙ take_at (segment_bytes message) rest (8 * announced_words bs) size;
     }
 
 -- the bytes that a frame begins announce its message
@@ -141,20 +144,23 @@ announces bs most message taken h =
     let f = h.frame in
     let rest : List ℕ = drop taken bs in
     let split : bs ≡ entry (length message - 1)
-    ++ (flat_map entry (map length message) ++ (f.gap ++ (contents message ++ rest))) =
+    ++ (flat_map entry (map length message) ++ (f.gap ++ (segment_bytes message ++ rest))) =
     sym (take-append-drop taken bs)
     ∙ ap (λ (xs : List ℕ). xs ++ rest) (f.text
-    ∙ ap (λ (xs : List ℕ). (entry (length message - 1) ++ xs) ++ (f.gap ++ contents message)) (table_sizes message))
+    ∙ ap (λ (xs : List ℕ). (entry (length message - 1) ++ xs) ++ (f.gap ++ segment_bytes message))
+    (table_sizes message))
     ∙ simp append_assoc in
     let size : taken ≡ 4 + 4 * length message + length f.gap + 8 * total message =
     sym (length-take-le taken bs h.inside)
     ∙ ap length (f.text
-    ∙ ap (λ (xs : List ℕ). (entry (length message - 1) ++ xs) ++ (f.gap ++ contents message)) (table_sizes message))
+    ∙ ap (λ (xs : List ℕ). (entry (length message - 1) ++ xs) ++ (f.gap ++ segment_bytes message))
+    (table_sizes message))
     ∙ omega (
       arith,
-      length-append (entry (length message - 1) ++ flat_map entry (map length message)) (f.gap ++ contents message),
+      length-append (entry (length message - 1) ++ flat_map entry (map length message))
+          (f.gap ++ segment_bytes message),
       length-append (entry (length message - 1)) (flat_map entry (map length message)),
-      length-append f.gap (contents message),
+      length-append f.gap (segment_bytes message),
       length-entry (length message - 1),
       length-entry_all (map length message),
       length-map message length,

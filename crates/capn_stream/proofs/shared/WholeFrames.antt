@@ -5,7 +5,7 @@ use Rattle.std.specs.List.{flat_map}
 use Rattle.std.proofs.lemmas.List.{length-take-le, take_rest}
 use Rattle.capn_words.specs.Message.{bytes, AreBytes, AreWords, IsBare}
 use Rattle.capn_stream.specs.Cuts.{AreEnds, cut, ends_from}
-use Rattle.capn_stream.specs.Frames.{StandsFirst, contents, entry, padding, table}
+use Rattle.capn_stream.specs.Frames.{StandsFirst, segment_bytes, entry, padding, table}
 use Rattle.capn_stream.specs.FrameRefusal.{IsWhole, announced_segments, entries, entry_number, frame_length}
 use Rattle.capn_stream.specs.FrameRefusal.{head_length}
 use Rattle.capn_stream.specs.FrameRefusal.{announced_words}
@@ -76,7 +76,7 @@ module _ (bs : List ℕ) (most : ℕ) (ws : List ℕ) (small : most ≤ 2 ^ 28) 
       ∙ entry-entries (announced_segments bs) (drop 4 bs) (below-drop 256 4 bs below) room in
       rw (first, rest) (take_then 4 (4 * announced_segments bs) bs)
 
-  contents_is : contents here ≡ take (8 * announced_words bs) (drop (head_length (announced_segments bs)) bs)
+  contents_is : segment_bytes here ≡ take (8 * announced_words bs) (drop (head_length (announced_segments bs)) bs)
   unfolding here
   contents_is = contents-cut 0 (ends_from 0 (sizes_before bs)) ws ends_are.rising ∙ sym are
 
@@ -90,8 +90,8 @@ module _ (bs : List ℕ) (most : ℕ) (ws : List ℕ) (small : most ≤ 2 ^ 28) 
       let head : table here ++ gap ≡ take (head_length (announced_segments bs)) bs =
       ap (λ (xs : List ℕ). xs ++ gap) table_is
       ∙ take_then (4 + 4 * announced_segments bs) (padding (announced_segments bs)) bs in
-      let all : (table here ++ gap) ++ contents here ≡ take (frame_length bs) bs =
-      ap (λ (xs : List ℕ). xs ++ contents here) head
+      let all : (table here ++ gap) ++ segment_bytes here ≡ take (frame_length bs) bs =
+      ap (λ (xs : List ℕ). xs ++ segment_bytes here) head
       ∙ ap (λ (xs : List ℕ). take (head_length (announced_segments bs)) bs ++ xs) contents_is
       ∙ take_then (head_length (announced_segments bs)) (8 * announced_words bs) bs in
       record {
@@ -104,7 +104,7 @@ module _ (bs : List ℕ) (most : ℕ) (ws : List ℕ) (small : most ≤ 2 ^ 28) 
               (below-drop 256 (4 + 4 * announced_segments bs) bs below);
           gap_length = length-take-le (padding (announced_segments bs)) (drop (4 + 4 * announced_segments bs) bs) space
               ∙ sym pad;
-          text = sym all ∙ append_assoc (table here) gap (contents here);
+          text = sym all ∙ append_assoc (table here) gap (segment_bytes here);
         };
         room = omega (arith, total-cut 0 (ends_from 0 (sizes_before bs)) ws ends_are.rising, words_are, whole.1);
       }

@@ -13,8 +13,8 @@ use Rattle.capn_words.proofs.shared.Choices.{pick}
 use Rattle.capn_target.specs.declared.target.Target.{Target}
 use Rattle.capn_target.specs.declared.target.Target.TheVariants as targets
 use Rattle.capn_target.specs.declared.target.Fault.{Fault}
-use Rattle.capn_target.specs.Target.{within, list, struct_from, list_from, near, second_pad, is_second_pad}
-use Rattle.capn_target.specs.Target.{moved, two_pads, pointer_in, landing, named, target}
+use Rattle.capn_target.specs.Target.{if_inside, list, struct_from, list_from, target_from, second_pad, is_second_pad}
+use Rattle.capn_target.specs.Target.{content_start, two_pads, pointer_in, landing, target_of_pointer, target}
 
 -- what is named, if anything is, isn't null
 abbrev pub IsThere : Result Target Fault → Type 0
@@ -22,7 +22,7 @@ IsThere (Ok targets.Nil) = ⊥
 IsThere _ = ⊤
 
 module _ (m : List (List ℕ)) where
-  there-within : (s start n : ℕ) (r : Result Target Fault) → IsThere r → IsThere (within m s start n r)
+  there-within : (s start n : ℕ) (r : Result Target Fault) → IsThere r → IsThere (if_inside m s start n r)
   there-within s start n r h =
       pick IsThere (nat_lt (length (segment_at m s)) (start + n)) _ _ (λ e. tt) (λ e. h)
 
@@ -50,9 +50,9 @@ module _ (m : List (List ℕ)) where
   there-list_from s (Ok start) pads width n = there-list s start pads width n
   there-list_from s (Err e) pads width n = tt
 
-  there-near : (s w pads : ℕ) (p : Pointer) → IsThere (near m s w pads p)
-  there-near s w pads (Node o a b) = there-struct_from s (moved w o) pads a b
-  there-near s w pads (Many o width n) = there-list_from s (moved w o) pads width n
+  there-near : (s w pads : ℕ) (p : Pointer) → IsThere (target_from m s w pads p)
+  there-near s w pads (Node o a b) = there-struct_from s (content_start w o) pads a b
+  there-near s w pads (Many o width n) = there-list_from s (content_start w o) pads width n
   there-near s w pads Nil = tt
   there-near s w pads (Far d v t) = tt
   there-near s w pads (Cap k) = tt
@@ -84,7 +84,7 @@ module _ (m : List (List ℕ)) where
       (λ e. pick IsThere (nat_lt (length (segment_at m s)) (w + n)) _ _ (λ f. tt) (λ f. h))
       (λ e. tt)
 
-  pub there-named : (s w : ℕ) (p : Pointer) → (p ≡ Nil → ⊥) → IsThere (named m s w p)
+  pub there-named : (s w : ℕ) (p : Pointer) → (p ≡ Nil → ⊥) → IsThere (target_of_pointer m s w p)
   there-named s w Nil h = absurd (h refl)
   there-named s w (Cap k) h = tt
   there-named s w (Reserved n) h = tt
@@ -101,5 +101,5 @@ module _ (m : List (List ℕ)) where
   there at w p e f j h =
       let is : pointer_in m at.segment at.word ≡ p = sym (f ∙ ap pointer_of e) in
       let some : p ≡ Nil → ⊥ = λ z. h (sym j ∙ ap word_of z) in
-      subst (λ (q : Pointer). IsThere (named m at.segment at.word q)) (sym is)
+      subst (λ (q : Pointer). IsThere (target_of_pointer m at.segment at.word q)) (sym is)
       (there-named at.segment at.word p some)

@@ -18,9 +18,10 @@ use Rattle.capn_target.specs.declared.target.Shape.{Shape}
 use Rattle.capn_target.specs.declared.target.Shape.TheVariants as shapes
 use Rattle.capn_target.specs.declared.target.Fault.{Fault}
 use Rattle.capn_target.specs.declared.target.Fault.TheVariants as faults
-use Rattle.capn_target.specs.Target.{moved, within, list, struct, struct_from, list_from, near, second_pad}
+use Rattle.capn_target.specs.Target.{content_start, if_inside, list, struct, struct_from, list_from, target_from}
+use Rattle.capn_target.specs.Target.{second_pad}
 use Rattle.capn_target.specs.Target.{is_second_pad}
-use Rattle.capn_target.specs.Target.{two_pads, pointer_in, landing, named, target}
+use Rattle.capn_target.specs.Target.{two_pads, pointer_in, landing, target_of_pointer, target}
 use Rattle.capn_target.specs.Ways.{LeadsTo, Describes, Lies, IsPad, OneOfThree}
 
 -- a refusal that isn't because memory runs out
@@ -28,7 +29,7 @@ abbrev IsPlain : Result ℕ Fault → Type 0
 IsPlain (Ok n) = ⊤
 IsPlain (Err e) = e ≢ faults.Memory
 
-plain-moved : (w : ℕ) (o : ℤ) → IsPlain (moved w o)
+plain-moved : (w : ℕ) (o : ℤ) → IsPlain (content_start w o)
 plain-moved w (pos n) = tt
 plain-moved w (negsuc n) = pick IsPlain (nat_lt w n) _ _ (λ e f. absurd cc) (λ e. tt)
 
@@ -41,7 +42,8 @@ module _ (m : List (List ℕ)) where
     Told (Ok targets.Nil) = ⊤
     Told (Err e) = e ≢ faults.Memory
 
-    told-within : (s start n : ℕ) (r : Result Target Fault) → (Lies m s start n → Told r) → Told (within m s start n r)
+    told-within : (s start n : ℕ) (r : Result Target Fault) → (Lies m s start n → Told r)
+        → Told (if_inside m s start n r)
     told-within s start n r h =
         pick Told (nat_lt (length (segment_at m s)) (start + n)) _ _ (λ e f. absurd cc)
         (λ e. h (grind (arith, nat_tests)))
@@ -81,12 +83,12 @@ module _ (m : List (List ℕ)) where
     -- of a struct or a list that is near, or that a pad of one word names
     pub told-near : (s w pads : ℕ) (p : Pointer)
         → ((start : ℕ) (shape : Shape) → LeadsTo w p start → Describes m p s start shape → P s start shape pads)
-        → Told (near m s w pads p)
+        → Told (target_from m s w pads p)
     told-near s w pads (Node o a b) h =
-        told-struct_from s (moved w o) pads a b (plain-moved w o)
+        told-struct_from s (content_start w o) pads a b (plain-moved w o)
         (λ start e. told-struct s start pads a b (λ l. h start _ e (refl, l)))
     told-near s w pads (Many o width n) h =
-        told-list_from s (moved w o) pads width n (plain-moved w o)
+        told-list_from s (content_start w o) pads width n (plain-moved w o)
         (λ start e. told-list s start pads width n o (λ shape d. h start shape e d))
     told-near s w pads Nil h = λ e. absurd cc
     told-near s w pads (Far d v t) h = λ e. absurd cc
@@ -129,7 +131,7 @@ module _ (m : List (List ℕ)) where
   ToldAt at = Told (OneOfThree m at) (λ k. pointer_in m at.segment at.word ≡ Cap k)
 
   told-named : (at : Place) (p : Pointer) → pointer_in m at.segment at.word ≡ p
-      → ToldAt at (named m at.segment at.word p)
+      → ToldAt at (target_of_pointer m at.segment at.word p)
   told-named at Nil is = tt
   told-named at (Cap k) is = is
   told-named at (Reserved n) is = λ e. absurd cc

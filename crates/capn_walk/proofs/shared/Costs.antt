@@ -13,7 +13,7 @@ use Rattle.capn_target.specs.declared.target.Shape.{Shape}
 use Rattle.capn_target.specs.declared.target.Shape.TheVariants as shapes
 use Rattle.capn_walk.specs.Visits.{Visit, pays, fails, price, places, row_places, slots, visits}
 use Rattle.capn_walk.specs.Accepted.{paid_of, AllPay}
-use Rattle.capn_walk.specs.ValueAt.{IsAt, AreAt, RowsAt, Names}
+use Rattle.capn_walk.specs.ValueAt.{IsAt, AreAt, RowsAt, NamesObject}
 use Rattle.capn_words.proofs.shared.Choices.{pick}
 use Rattle.capn_target.proofs.shared.Inside.{inside}
 use Rattle.capn_walk.proofs.shared.Numbers.{numbers-paid}
@@ -63,7 +63,7 @@ module _ (m : List (List ℕ)) (base : ℕ) where
     sum : paid_of (visits m base d at) ≡ price base shape + pads
         + paid_of (flat_map (visits m base (d - 1)) (slots s start shape))
 
-  object : {x : Shape} {Inside : ℕ → ℕ → Type 0} (at : Place) (d : ℕ) (i : Names m at x Inside)
+  object : {x : Shape} {Inside : ℕ → ℕ → Type 0} (at : Place) (d : ℕ) (i : NamesObject m at x Inside)
       → AllPay (visits m base d at) → Object at d i.segment i.start i.pads x
   object {x = x} at zero i h =
       absurd (let f = rw (visits-deep m base at i.segment i.start i.pads x i.is 0 refl) at h in f)
@@ -78,7 +78,7 @@ module _ (m : List (List ℕ)) (base : ℕ) where
   with-slots o below cheap = let deep = o.deep in let sum = o.sum in (omega arith, omega arith)
 
   -- a value that costs no more than its object, and is one high
-  without-slots : {c : ℕ} {x : Shape} {Inside : ℕ → ℕ → Type 0} (at : Place) (d : ℕ) → Names m at x Inside
+  without-slots : {c : ℕ} {x : Shape} {Inside : ℕ → ℕ → Type 0} (at : Place) (d : ℕ) → NamesObject m at x Inside
       → AllPay (visits m base d at) → c ≤ price base x → (c ≤ paid_of (visits m base d at)) × (1 ≤ d)
   without-slots at d i h cheap = with-slots {q = 0} {n = 0} (object at d i h) (omega arith, omega arith) (omega arith)
 

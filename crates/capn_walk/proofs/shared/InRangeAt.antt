@@ -12,7 +12,7 @@ use Rattle.capn_value.specs.Tree.{no_trees, tree, Bodies, no_bodies, body}
 use Rattle.capn_value.specs.InRange.{AllBelow, InRange, EachInRange, RowsInRange}
 use Rattle.capn_value.proofs.shared.Ranges.{below_from, below-take}
 use Rattle.capn_target.specs.declared.target.Shape.TheVariants as shapes
-use Rattle.capn_walk.specs.ValueAt.{AreElements, StandAt, words_from, IsAt, AreAt, RowsAt, AreNumbers}
+use Rattle.capn_walk.specs.ValueAt.{AreElements, AreWordsAt, words_from, IsAt, AreAt, RowsAt, AreNumbers}
 use Rattle.capn_target.proofs.shared.Ranges.{room-of, cap-of}
 
 below-drop : (most n : ℕ) (xs : List ℕ) → AllBelow most xs → AllBelow most (drop n xs)
@@ -33,7 +33,7 @@ elements-below each width ws xs p h =
     (mod-lt (slice_index ws (i / each) / (2 ^ width) ^ (i % each)) p))
 
 module _ (m : List (List ℕ)) (each : (s k : ℕ) → slice_index (segment_at m s) k < 2 ^ 64) where
-  words-below : (s w : ℕ) (ws : List ℕ) → StandAt m s w ws → AllBelow (2 ^ 64) ws
+  words-below : (s w : ℕ) (ws : List ℕ) → AreWordsAt m s w ws → AllBelow (2 ^ 64) ws
   words-below s w ws h =
       subst (AllBelow (2 ^ 64)) h
       (below-take (2 ^ 64) (length ws) (drop w (segment_at m s))

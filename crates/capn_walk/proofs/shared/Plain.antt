@@ -12,7 +12,7 @@ use Rattle.capn_target.specs.declared.target.Fault.{Fault}
 use Rattle.capn_target.specs.declared.target.Fault.TheVariants as faults
 use Rattle.capn_target.specs.Target.{target}
 use Rattle.capn_walk.specs.Visits.{Visit, pays, fails, last_visit, visit, visits, slots}
-use Rattle.capn_walk.specs.Accepted.{Ends, paid_of, root, may_be_root, visits_at_root, root_visits, IsWalkRefused}
+use Rattle.capn_walk.specs.Accepted.{IsStopHere, paid_of, root, may_be_root, visits_at_root, root_visits, IsWalkRefused}
 use Rattle.capn_walk.specs.Limits.{Bounds}
 use Rattle.capn_target.proofs.shared.Ways.{never-memory}
 
@@ -65,7 +65,7 @@ module _ (m : List (List ℕ)) (base : ℕ) where
   unfolding root_visits
   plain-root depth = plain-at_root (target m root) (visits m base depth root) (plain-visits depth root)
 
-plain-end : (budget before : ℕ) (v : Visit) (at : Place) (e : Fault) → IsPlainVisit v → Ends budget before v at e
+plain-end : (budget before : ℕ) (v : Visit) (at : Place) (e : Fault) → IsPlainVisit v → IsStopHere budget before v at e
     → e ≢ faults.Memory
 plain-end budget before (fails p f) at e h k = λ x. h (k.1 ∙ x)
 plain-end budget before (pays p n) at e h k = λ x. let y = k.1 ∙ x in absurd cc
@@ -76,5 +76,5 @@ pub plain-refusal : (m : List (List ℕ)) (limits : Bounds) (e : Fault) (at : Pl
 plain-refusal m limits e at paid visits (inl h) = λ x. let y = sym h.1 ∙ x in absurd cc
 plain-refusal m limits e at paid visits (inr h) =
     let s = h.1 in
-    let all = subst ArePlain s.is (plain-root m (base limits.tariff) limits.depth) in
-    plain-end limits.budget (paid_of s.before) s.here at e (plain-among s.before s.behind s.here all) s.ends
+    let all = subst ArePlain s.split (plain-root m (base limits.tariff) limits.depth) in
+    plain-end limits.budget (paid_of s.before) s.stop at e (plain-among s.before s.after s.stop all) s.ends

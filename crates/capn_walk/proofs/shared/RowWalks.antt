@@ -13,7 +13,7 @@ use Rattle.capn_target.specs.declared.target.Fault.TheVariants as faults
 use Rattle.capn_walk.specs.declared.walk_answer.Stopped.{Stopped}
 use Rattle.capn_walk.specs.Visits.{Visit, places, row_places}
 use Rattle.capn_walk.specs.inner.Verdict.{accepted, refused, after, judge}
-use Rattle.capn_walk.specs.ValueAt.{AreAt, RowsAt, StandAt, words_from}
+use Rattle.capn_walk.specs.ValueAt.{AreAt, RowsAt, AreWordsAt, words_from}
 use Rattle.capn_walk.specs.inner.Verdict.{Gives, Refuses}
 use Rattle.capn_walk.proofs.shared.Judge.{judge-more, judge-stops}
 
@@ -109,7 +109,7 @@ module _ (m : List (List ℕ)) where
   -- one more row that comes after the others
   pub rows_at-next : {A : Type 0} (a b s w : ℕ) (bs : List (Body A)) (c : Body A) → RowsAt m a b s w (rows_of bs)
       → length c.words ≡ a → count (trees_of c.slots) ≡ b →
-      StandAt m s (w + count_rows (rows_of bs) * (a + b)) c.words
+      AreWordsAt m s (w + count_rows (rows_of bs) * (a + b)) c.words
       → AreAt m s (w + count_rows (rows_of bs) * (a + b) + a) (trees_of c.slots) →
       RowsAt m a b s w (rows_of (bs ++ c ∷ []))
   rows_at-next a b s w [] c h la lb ws ss =
@@ -136,7 +136,7 @@ module _ (m : List (List ℕ)) where
       → AreAt m s (next + a) (trees_of c.slots) → RowsAt m a b s w (rows_of (bs ++ c ∷ []))
   rows_at-step a b s w next n bs c h l e la ws lb ss =
       let p : next ≡ w + count_rows (rows_of bs) * (a + b) = e ∙ ap (λ (k : ℕ). w + k * (a + b)) (sym l) in
-      let words : StandAt m s next c.words = ap (λ (k : ℕ). take k (words_from m s next)) la ∙ ws in
+      let words : AreWordsAt m s next c.words = ap (λ (k : ℕ). take k (words_from m s next)) la ∙ ws in
       rows_at-next a b s w bs c h la lb
-      (subst (λ (q : ℕ). StandAt m s q c.words) p words)
+      (subst (λ (q : ℕ). AreWordsAt m s q c.words) p words)
       (subst (λ (q : ℕ). AreAt m s q (trees_of c.slots)) (ap (λ (q : ℕ). q + a) p) ss)

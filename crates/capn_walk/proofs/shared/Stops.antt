@@ -6,7 +6,7 @@ use Rattle.capn_words.specs.declared.space.Place.{Place}
 use Rattle.capn_target.specs.declared.target.Fault.{Fault}
 use Rattle.capn_target.specs.declared.target.Fault.TheVariants as faults
 use Rattle.capn_walk.specs.Visits.{Visit, pays, fails}
-use Rattle.capn_walk.specs.Accepted.{paid_of, AllPay, IsWithin, IsStop, Ends}
+use Rattle.capn_walk.specs.Accepted.{paid_of, AllPay, IsWithin, IsStop, IsStopHere}
 use Rattle.capn_walk.specs.inner.Verdict.{accepted, refused, after, judge}
 use Rattle.capn_walk.proofs.shared.Judge.{judge-pays, judge-over, judge-more}
 
@@ -21,7 +21,7 @@ within-accepted b (pays at n ∷ vs) h l =
     judge-pays b n at vs (omega arith) ∙ ap (after n 1) rest ∙ ap (accepted (n + paid_of vs)) e
 
 -- the first visit that ends the walk is where it is refused
-ends-refused : (b p : ℕ) (v : Visit) (vs : List Visit) (at : Place) (e : Fault) → p ≤ b → Ends b p v at e
+ends-refused : (b p : ℕ) (v : Visit) (vs : List Visit) (at : Place) (e : Fault) → p ≤ b → IsStopHere b p v at e
     → judge (b - p) (v ∷ vs) ≡ refused e at 0 1
 ends-refused b p (fails x f) vs at e l h = let a = h.0 in let c = h.1 in cc
 ends-refused b p (pays x n) vs at e l h = let a = h.0 in let c = h.1 in let d =
@@ -32,11 +32,11 @@ pub stop-refused : (b : ℕ) (vs : List Visit) (e : Fault) (at : Place) (p k : �
     → judge b vs ≡ refused e at p k
 stop-refused b vs e at p k h =
     let one = within-accepted b h.before h.within.all h.within.paid in
-    let two = judge-more b h.before (h.here ∷ h.behind) (paid_of h.before) (length h.before) one in
-    let three = ends-refused b (paid_of h.before) h.here h.behind at e h.within.paid h.ends in
+    let two = judge-more b h.before (h.stop ∷ h.after) (paid_of h.before) (length h.before) one in
+    let three = ends-refused b (paid_of h.before) h.stop h.after at e h.within.paid h.ends in
     let x : paid_of h.before + 0 ≡ p = let s = h.sum in omega arith in
     let y : length h.before + 1 ≡ k = let s = h.number in omega arith in
-    ap (judge b) h.is ∙ two ∙ ap (after (paid_of h.before) (length h.before)) three ∙ ap₂ (refused e at) x y
+    ap (judge b) h.split ∙ two ∙ ap (after (paid_of h.before) (length h.before)) three ∙ ap₂ (refused e at) x y
 
 -- one of the two always holds
 one-more : (b n : ℕ) (at : Place) (vs : List Visit) → n ≤ b → IsWithin (b - n) vs → IsWithin b (pays at n ∷ vs)
@@ -46,16 +46,16 @@ stop-more : (b n : ℕ) (x : Place) (vs : List Visit) (e : Fault) (at : Place) (
     → IsStop (b - n) vs e at p k → IsStop b (pays x n ∷ vs) e at (n + p) (1 + k)
 stop-more b n x vs e at p k l h = record {
   before = pays x n ∷ h.before;
-  here = h.here;
-  behind = h.behind;
-  is = ap (λ (r : List Visit). pays x n ∷ r) h.is;
+  stop = h.stop;
+  after = h.after;
+  split = ap (λ (r : List Visit). pays x n ∷ r) h.split;
   within = one-more b n x h.before l h.within;
-  ends = later h.here h.ends;
+  ends = later h.stop h.ends;
   sum = ap (λ (q : ℕ). n + q) h.sum;
   number = let a = h.number in omega arith;
 }
   where
-    later : (v : Visit) → Ends (b - n) (paid_of h.before) v at e → Ends b (n + paid_of h.before) v at e
+    later : (v : Visit) → IsStopHere (b - n) (paid_of h.before) v at e → IsStopHere b (n + paid_of h.before) v at e
     later (fails y f) g = g
     later (pays y m) g = (g.0, g.1, let a = g.2 in omega arith)
 
@@ -71,9 +71,9 @@ decided b (fails x f ∷ vs) =
       1,
       record {
         before = [];
-        here = fails x f;
-        behind = vs;
-        is = refl;
+        stop = fails x f;
+        after = vs;
+        split = refl;
         within =
             record { all = tt; paid = omega arith };
         ends = (refl, refl);
@@ -93,9 +93,9 @@ decided b (pays x n ∷ vs) = fits (nat_lt b n) refl (decided (b - n) vs)
       1,
       record {
         before = [];
-        here = pays x n;
-        behind = vs;
-        is = refl;
+        stop = pays x n;
+        after = vs;
+        split = refl;
         within = record { all = tt; paid = omega arith };
         ends = (refl, refl, grind (arith, nat_tests));
         sum = refl;

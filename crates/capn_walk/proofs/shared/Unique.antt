@@ -11,7 +11,7 @@ use Rattle.capn_target.specs.declared.target.Target.{Target}
 use Rattle.capn_target.specs.declared.target.Target.TheVariants as targets
 use Rattle.capn_target.specs.declared.target.Shape.{Shape}
 use Rattle.capn_target.specs.Target.{target}
-use Rattle.capn_walk.specs.ValueAt.{IsAt, AreAt, RowsAt, IsInside, StandAt, AreElements, words_from, AreNumbers}
+use Rattle.capn_walk.specs.ValueAt.{IsAt, AreAt, RowsAt, IsInside, AreWordsAt, AreElements, words_from, AreNumbers}
 use Rattle.capn_walk.proofs.shared.Numbers.{no-number_width, same-list_width}
 
 module _ (m : List (List ℕ)) where
@@ -19,7 +19,7 @@ module _ (m : List (List ℕ)) where
       → AreElements many width (words_from m s w) xs → AreElements many width (words_from m s w) ys → xs ≡ ys
   same-elements many width s w xs ys l h k = same_number_lists xs ys l (λ i b. h i b ∙ sym (k i (omega arith)))
 
-  same-words : (s w : ℕ) (xs ys : List ℕ) → length xs ≡ length ys → StandAt m s w xs → StandAt m s w ys → xs ≡ ys
+  same-words : (s w : ℕ) (xs ys : List ℕ) → length xs ≡ length ys → AreWordsAt m s w xs → AreWordsAt m s w ys → xs ≡ ys
   same-words s w xs ys l h k = sym h ∙ ap (λ (n : ℕ). take n (words_from m s w)) l ∙ k
 
   same-numbers : (a : NumberWidth) (s w : ℕ) (xs ys : List ℕ) → length xs ≡ length ys

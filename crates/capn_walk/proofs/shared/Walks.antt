@@ -20,7 +20,7 @@ use Rattle.capn_walk.specs.declared.walk_answer.Stopped.{Stopped}
 use Rattle.capn_target.specs.Target.{target}
 use Rattle.capn_walk.specs.Visits.{Visit, pays, fails, price, places, slots, visits, visit, last_visit}
 use Rattle.capn_walk.specs.inner.Verdict.{accepted, refused, after, judge}
-use Rattle.capn_walk.specs.ValueAt.{IsAt, AreAt, RowsAt, IsInside, Names, words_from}
+use Rattle.capn_walk.specs.ValueAt.{IsAt, AreAt, RowsAt, IsInside, NamesObject, words_from}
 use Rattle.capn_walk.specs.inner.Verdict.{Gives, Refuses}
 use Rattle.capn_target.specs.Shapes.{slot_count}
 use Rattle.capn_target.proofs.shared.Inside.{inside}
@@ -205,7 +205,7 @@ module _ (m : List (List ℕ)) where
 
   -- what is said of the content that a pointer names, by an equal shape
   names : {at : Place} {s start pads : ℕ} {shape x : Shape} {Inside : ℕ → ℕ → Type 0}
-      → target m at ≡ Ok (targets.Content s start shape pads) → shape ≡ x → Inside s start → Names m at x Inside
+      → target m at ≡ Ok (targets.Content s start shape pads) → shape ≡ x → Inside s start → NamesObject m at x Inside
   names {s = s} {start = start} {pads = pads} e h i = record {
     segment = s;
     start = start;

@@ -3,7 +3,7 @@ use Rattle.std.proofs.Common.{arith, w32}
 use Rattle.std.proofs.lemmas.Int.{to_z-of_z}
 use Rattle.std.specs.Int.RustNames.{FitsSigned}
 use Rattle.capn_words.specs.Pointers.{pointer_of}
-use Rattle.capn_target.specs.Target.{moved}
+use Rattle.capn_target.specs.Target.{content_start}
 use Rattle.capn_target.specs.declared.target.Target.TheVariants as targets
 use Rattle.capn_target.specs.declared.target.Shape.TheVariants as shapes
 use Rattle.capn_target.proofs.shared.Segments.{segment-room}
@@ -27,7 +27,7 @@ start_of-requires g c =
     let i = f.inside in
     let r = segment-room m c.args.at.segment c.requires.message
     (present m c.args.at c.args.at.segment f.start 0 (shapes.Node x.words x.slots) c.requires.place f.is) in
-    (f.start, ap (moved c.args.at.word) z ∙ f.moved_to, omega arith)
+    (f.start, ap (content_start c.args.at.word) z ∙ f.moved_to, omega arith)
 
 pub returns-in-Node-clause-found : goal.returns-in-Node-clause-found
 returns-in-Node-clause-found g c =
@@ -37,7 +37,7 @@ returns-in-Node-clause-found g c =
     let z = to_z-of_z w32 x.offset fits in
     let f = near-struct m c.args.at c.requires.found.0 c.requires.found.1 x.offset x.words x.slots
     (ap pointer_of (sym c.word.ensures.word) ∙ sym c.split.ensures.read ∙ x.is) in
-    let e = sym c.start_of.ensures ∙ ap (moved c.args.at.word) z ∙ f.moved_to in
+    let e = sym c.start_of.ensures ∙ ap (content_start c.args.at.word) z ∙ f.moved_to in
     let same : f.start ≡ c.start_of.result = cc in
     f.is ∙ ap (λ (s : ℕ). Ok (targets.Content c.args.at.segment s (shapes.Node x.words x.slots) 0)) same
 
@@ -53,7 +53,7 @@ start_of-requires-in_default-width g c =
     let i = f.inside in
     let r = segment-room m c.args.at.segment c.requires.message
     (present m c.args.at c.args.at.segment f.start 0 (shapes.Many x.width x.count) c.requires.place f.is) in
-    (f.start, ap (moved c.args.at.word) z ∙ f.moved_to, omega arith)
+    (f.start, ap (content_start c.args.at.word) z ∙ f.moved_to, omega arith)
 
 pub returns-in_default-width-clause-found : goal.returns-in_default-width-clause-found
 returns-in_default-width-clause-found g c =
@@ -64,6 +64,6 @@ returns-in_default-width-clause-found g c =
     let f = near-list m c.args.at c.requires.found.0 c.requires.found.1 x.offset x.width x.count
     (not-composite x.width c.in_default-width.not-Rows) (ap pointer_of (sym c.word.ensures.word)
     ∙ sym c.split.ensures.read ∙ x.is) in
-    let e = sym c.start_of-in_default-width.ensures ∙ ap (moved c.args.at.word) z ∙ f.moved_to in
+    let e = sym c.start_of-in_default-width.ensures ∙ ap (content_start c.args.at.word) z ∙ f.moved_to in
     let same : f.start ≡ c.start_of-in_default-width.result = cc in
     f.is ∙ ap (λ (s : ℕ). Ok (targets.Content c.args.at.segment s (shapes.Many x.width x.count) 0)) same

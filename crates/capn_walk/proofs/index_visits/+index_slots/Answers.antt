@@ -3,7 +3,7 @@ use Rattle.capn_words.specs.declared.space.Place.{Place}
 use Rattle.capn_walk.specs.declared.entry.Entry.{Entry}
 use Rattle.capn_target.specs.declared.target.Target.TheVariants as targets
 use Rattle.capn_walk.specs.declared.walk_answer.Stopped.{Stopped}
-use Rattle.capn_target.specs.Target.{near}
+use Rattle.capn_target.specs.Target.{target_from}
 use Rattle.capn_walk.specs.Visits.{pays, visits, visits_of}
 use Rattle.capn_walk.specs.inner.SlotsLeft.{places_of, owed, Lies}
 use Rattle.capn_walk.specs.View.{stepped}
@@ -168,7 +168,7 @@ index_slot-index_near-requires-in-Many g t c κs within =
     let m = c.args.space.now in
     let p = c.split-pointer in
     let x = c.in-Many in
-    let e = ap (near m c.args.at.segment c.args.at.word 0) x.is
+    let e = ap (target_from m c.args.at.segment c.args.at.word 0) x.is
     ∙ near-list m c.args.at c.word-word.result p.result x.offset x.width x.count c.word-word.ensures.word p.ensures.read
     x.is in
     search rules

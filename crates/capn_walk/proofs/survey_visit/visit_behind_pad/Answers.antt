@@ -1,5 +1,5 @@
 use Rattle.std.proofs.Common.{ap, sym, ◌∙◌, arith}
-use Rattle.capn_target.specs.Target.{near}
+use Rattle.capn_target.specs.Target.{target_from}
 use Rattle.capn_walk.proofs.Pads.{pad-nowhere, pad-past, pad-there}
 use Rattle.capn_walk.proofs.survey_visit.visit_behind_pad.Goals as goal
 
@@ -25,7 +25,8 @@ visit_found-requires-in-Node-clause-found g c =
     let l = c.segment_length-size.ensures.length in
     let inside = c.if-word-size.false in
     let p = pad-there m c.args.at c.args.segment c.args.word c.requires.far (omega arith) (omega arith) in
-    c.near-found.ensures.near ∙ ap (near m c.args.segment c.args.word 1) c.pointer_at-pointer.ensures.pointer ∙ sym p
+    c.near-found.ensures.near ∙ ap (target_from m c.args.segment c.args.word 1) c.pointer_at-pointer.ensures.pointer
+    ∙ sym p
 
 pub visit_found-requires-in_default : goal.visit_found-requires-in_default
 visit_found-requires-in_default g c =
@@ -39,6 +40,6 @@ visit_found-requires-in_default g c =
       message = c.requires.message;
       place = c.requires.place;
       found = c.near-found-in_default.ensures.near
-          ∙ ap (near m c.args.segment c.args.word 1) c.pointer_at-pointer.ensures.pointer ∙ sym p;
+          ∙ ap (target_from m c.args.segment c.args.word 1) c.pointer_at-pointer.ensures.pointer ∙ sym p;
       left = c.requires.left;
     }

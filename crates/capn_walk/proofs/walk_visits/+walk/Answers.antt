@@ -4,7 +4,7 @@ use Rattle.capn_value.specs.Views.{tree_of-Nil, tree_of-Cap}
 use Rattle.capn_words.specs.declared.pointer.Width.{Width}
 use Rattle.capn_target.specs.declared.target.Shape.TheVariants as shapes
 use Rattle.capn_words.specs.Message.{word_at}
-use Rattle.capn_target.specs.Target.{named, near, target}
+use Rattle.capn_target.specs.Target.{target_of_pointer, target_from, target}
 use Rattle.capn_walk.specs.Visits.{visits}
 use Rattle.capn_walk.specs.View.{stepped, IsEntered}
 use Rattle.capn_target.specs.declared.target.Target.{Target}
@@ -32,7 +32,7 @@ pub walk_slot-returns-in-Nil-clause-answer : goal.walk_slot-returns-in-Nil-claus
 walk_slot-returns-in-Nil-clause-answer g t c =
     let m = c.args.space.now in
     let e = sym (by-pointer m c.args.at c.pointer_at-pointer.result c.pointer_at-pointer.ensures.pointer)
-    ∙ ap (named m c.args.at.segment c.args.at.word) c.in-Nil.is in
+    ∙ ap (target_of_pointer m c.args.at.segment c.args.at.word) c.in-Nil.is in
     let none = c.without_content.ensures in (
       rw (none.paid, none.visits)
           (gives-nothing m c.args.base c.args.at c.args.left c.args.depth
@@ -54,7 +54,7 @@ walk_slot-walk_near-requires-in-Many g t c κs within =
     let m = c.args.space.now in
     let p = c.pointer_at-pointer in
     let x = c.in-Many in
-    let e = ap (near m c.args.at.segment c.args.at.word 0) x.is
+    let e = ap (target_from m c.args.at.segment c.args.at.word 0) x.is
     ∙ near-list m c.args.at (word_at m c.args.at) p.result x.offset x.width x.count refl p.ensures.pointer x.is in
     search rules
 
