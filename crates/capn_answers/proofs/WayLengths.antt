@@ -9,13 +9,13 @@ use Rattle.capn_target.specs.declared.target.Shape.TheVariants as shapes
 use Rattle.capn_walk.specs.Accepted.{root}
 use Rattle.capn_walk.specs.Limits.{Bounds}
 use Rattle.capn_walk.specs.declared.walk_answer.Stopped.{Stopped}
-use Rattle.capn_way.specs.Ways.{AreNumbersOf, Leads, IsRefusedAt}
-use Rattle.capn_departure.specs.Departures.{IsDeparture}
-use Rattle.capn_departure.specs.Owner.{IsOwner}
-use Rattle.capn_departure.specs.declared.answer.Departure.{Departure}
-use Rattle.capn_departure.specs.declared.answer.Departure.TheVariants.{Canonical, Segments, Capability, Word, After}
-use Rattle.capn_departure.specs.declared.whose.Whose.{Whose}
-use Rattle.capn_departure.specs.declared.whose.Whose.TheVariants.{Pointer, Tag, LastWord}
+use Rattle.capn_path.specs.Ways.{AreNumbersOf, Leads, IsRefusedAt}
+use Rattle.capn_mismatch.specs.Departures.{IsDeparture}
+use Rattle.capn_mismatch.specs.Owner.{IsOwner}
+use Rattle.capn_mismatch.specs.declared.answer.Departure.{Departure}
+use Rattle.capn_mismatch.specs.declared.answer.Departure.TheVariants.{Canonical, Segments, Capability, Word, After}
+use Rattle.capn_mismatch.specs.declared.whose.Whose.{Whose}
+use Rattle.capn_mismatch.specs.declared.whose.Whose.TheVariants.{Pointer, Tag, LastWord}
 use Rattle.capn_answers.specs.Departures.{owner_way, way_of}
 
 -- a step takes two numbers at most

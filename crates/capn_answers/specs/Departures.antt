@@ -4,11 +4,11 @@ use Rattle.capn_walk.specs.Limits.{Bounds}
 use Rattle.capn_canon.specs.MemoryNeed.{MayNeedMemory}
 use Rattle.capn_canon.specs.Reads.{Reads}
 use Rattle.capn_canon.specs.declared.form.Form.{Form}
-use Rattle.capn_departure.specs.Departures.{Departs, IsDeparture}
-use Rattle.capn_departure.specs.declared.answer.Departure.{Departure}
-use Rattle.capn_departure.specs.declared.answer.Departure.TheVariants.{Canonical, Segments, Capability, Word, After}
-use Rattle.capn_departure.specs.declared.whose.Whose.{Whose}
-use Rattle.capn_departure.specs.declared.whose.Whose.TheVariants.{Pointer, Tag, LastWord}
+use Rattle.capn_mismatch.specs.Departures.{Departs, IsDeparture}
+use Rattle.capn_mismatch.specs.declared.answer.Departure.{Departure}
+use Rattle.capn_mismatch.specs.declared.answer.Departure.TheVariants.{Canonical, Segments, Capability, Word, After}
+use Rattle.capn_mismatch.specs.declared.whose.Whose.{Whose}
+use Rattle.capn_mismatch.specs.declared.whose.Whose.TheVariants.{Pointer, Tag, LastWord}
 use Rattle.capn_answers.specs.MemoryAsked.{MayAsk}
 
 -- the bytes are read as a message, of which this is answered

@@ -2,7 +2,7 @@
 use Rattle.std.specs.Prelude.{◌≢◌, ℕ, List}
 use Rattle.capn_walk.specs.Limits.{Bounds}
 use Rattle.capn_walk.specs.declared.walk_answer.Stopped.{Stopped}
-use Rattle.capn_way.specs.Ways.{IsRefusedAt}
+use Rattle.capn_path.specs.Ways.{IsRefusedAt}
 use Rattle.capn_canon.specs.Reads.{Reads}
 use Rattle.capn_canon.specs.Refusal.{IsMisread}
 use Rattle.capn_canon.specs.declared.form.Form.{Form}

@@ -12,7 +12,7 @@ ghost use Rattle.capn_answers.specs.inner.Answered.{IsDepartureSurveyed};
 
 use crate::input::run_few;
 use capn_canon::{Form, MessageTask, Refusal, survey};
-use capn_departure::{Departure, departure};
+use capn_mismatch::{Departure, departure};
 use capn_walk::{Limits, Surveyed};
 use capn_words::Space;
 use std::alloc::{Allocator, Global};

@@ -31,7 +31,7 @@ pub use way_input::walk_in;
 
 // The types in the signatures above.
 pub use capn_canon::{Form, MessageTask, Refusal};
-pub use capn_departure::{Departure, Whose};
 pub use capn_few::FewSegments;
+pub use capn_mismatch::{Departure, Whose};
+pub use capn_path::Refused;
 pub use capn_walk::{Limits, Surveyed};
-pub use capn_way::Refused;

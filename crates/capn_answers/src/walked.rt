@@ -1,7 +1,7 @@
 //! The end of a message's walk.
 
+use capn_path::Refused;
 use capn_walk::Surveyed;
-use capn_way::Refused;
 use std::alloc::{Allocator, Global};
 
 /// The end of the walk of a message. (Own.)

@@ -12,8 +12,8 @@ ghost use Rattle.capn_answers.specs.inner.Answered.{IsWalkTold};
 use crate::input::run_few;
 use crate::walked::Walked;
 use capn_canon::{Form, MessageTask, Refusal};
+use capn_path::{Refused, way_of_stop};
 use capn_walk::{Limits, survey};
-use capn_way::{Refused, way_of_stop};
 use capn_words::Space;
 use std::alloc::Allocator;
 

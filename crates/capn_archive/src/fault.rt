@@ -1,12 +1,11 @@
 //! Faults of a run over an archive.
 
 ghost use Rattle.capn_words.specs.Watched.{inner_of, has_failed};
-ghost use Rattle.capn_endings.specs.Line.{Says, way};
+ghost use Rattle.capn_serve.specs.Line.{Says, way};
 ghost use Rattle.capn_archive.specs.FaultText.{text_of_refused, text_of_uncanonical};
 
 use capn_canon::Refusal;
-use capn_endings::{Ending, Line};
-use capn_serve::{Position, Skipped, say_place, say_refusal, say_skipped};
+use capn_serve::{Ending, Line, Position, Skipped, say_place, say_refusal, say_skipped};
 use capn_words::Watched;
 use std::io::Write;
 

@@ -13,9 +13,9 @@ use Rattle.capn_walk.specs.declared.survey_answer.Surveyed.{Surveyed}
 use Rattle.capn_canon.specs.Reads.{IsFramed}
 use Rattle.capn_canon.specs.SurveyedBytes.{Surveys}
 use Rattle.capn_canon.specs.declared.form.Form.{Form}
-use Rattle.capn_reports.specs.StatusCodes.{answered}
+use Rattle.capn_abi.specs.StatusCodes.{answered}
 use Rattle.capn_c.specs.Entries.{HasEntries}
-use Rattle.capn_reports.specs.declared.report.CapnReport.{CapnReport}
+use Rattle.capn_abi.specs.declared.report.CapnReport.{CapnReport}
 
 same_number : {A B C : Type 0} (f : A → C) (g : B → C) (xs : List A) (ys : List B) → map f xs ≡ map g ys
     → length xs ≡ length ys

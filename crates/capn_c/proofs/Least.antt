@@ -11,8 +11,8 @@ use Rattle.capn_stream.proofs.shared.Wanting.{frame_whole}
 use Rattle.capn_stream.specs.FrameRefusal.{IsFrameRefused}
 use Rattle.capn_stream.specs.declared.fault.FrameFault.{FrameFault}
 use Rattle.capn_stream.specs.declared.fault.FrameFault.TheVariants as frame
-use Rattle.capn_reports.specs.declared.report.CapnReport.{CapnReport}
-use Rattle.capn_reports.specs.StatusCodes.{frame_code}
+use Rattle.capn_abi.specs.declared.report.CapnReport.{CapnReport}
+use Rattle.capn_abi.specs.StatusCodes.{frame_code}
 use Rattle.capn_c.specs.FrameReport.{ReportsFrame}
 use Rattle.capn_c.specs.FrameNeed.{IsNeeded, needed}
 

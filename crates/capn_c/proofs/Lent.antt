@@ -32,10 +32,10 @@ use Rattle.capn_scratch.specs.Needs.{HasScratch}
 use Rattle.capn_scratch.specs.Theorem.{WrittenForm}
 use Rattle.capn_scratch.specs.declared.refusal.FormRefusal.{FormRefusal}
 use Rattle.capn_scratch.specs.declared.refusal.FormRefusal.TheVariants as told
-use Rattle.capn_reports.specs.Calls.{Delivers, IsWritten}
-use Rattle.capn_reports.specs.StatusCodes.{Reports, answered, at_number, bare_code, code, frame_code, is_status}
-use Rattle.capn_reports.specs.StatusCodes.{packed_code, report_of, walk_code}
-use Rattle.capn_reports.specs.declared.report.CapnReport.{CapnReport}
+use Rattle.capn_abi.specs.Calls.{Delivers, IsWritten}
+use Rattle.capn_abi.specs.StatusCodes.{Reports, answered, at_number, bare_code, code, frame_code, is_status}
+use Rattle.capn_abi.specs.StatusCodes.{packed_code, report_of, walk_code}
+use Rattle.capn_abi.specs.declared.report.CapnReport.{CapnReport}
 use Rattle.capn_c.specs.Lent.{LacksScratch, is_lent_status}
 use Rattle.capn_c.specs.inner.Lent.{IsLent, IsRefusalTold, IsResultTold}
 use Rattle.capn_c.proofs.Delivered.{in_buffer}

@@ -16,7 +16,7 @@ use Rattle.capn_canon.specs.declared.form.Form.TheVariants as forms
 use Rattle.capn_canon.specs.declared.refusal.Refusal.{Refusal}
 use Rattle.capn_canon.specs.declared.refusal.Refusal.TheVariants as refusals
 use Rattle.capn_canon.specs.Refusal.{IsRefused, IsMisframed}
-use Rattle.capn_reports.specs.StatusCodes.{is_status, bare_code, packed_code, frame_code, walk_code, code}
+use Rattle.capn_abi.specs.StatusCodes.{is_status, bare_code, packed_code, frame_code, walk_code, code}
 
 pub bare_listed : (e : BareFault) → IsTrue (is_status (bare_code e))
 bare_listed (bare.NotWhole n) = refl

@@ -13,7 +13,7 @@ use Rattle.capn_canon.specs.Reads.{Reads}
 use Rattle.capn_canon.specs.Refusal.{IsMisframed, IsRefused, IsRefusedMessage, IsUnacceptedIn}
 use Rattle.capn_canon.proofs.shared.OneReading.{one_message}
 use Rattle.capn_canon.proofs.shared.NotRefused.{read-not_misread}
-use Rattle.capn_reports.specs.StatusCodes.{code}
+use Rattle.capn_abi.specs.StatusCodes.{code}
 use Rattle.capn_segments.specs.Segments.{IsHeld}
 use Rattle.capn_c.specs.Held.{IsHeldOr, IsRefusedHeld}
 use Rattle.capn_c.proofs.OutOfMemory.{held_memory, refused_memory}

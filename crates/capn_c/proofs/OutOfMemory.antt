@@ -21,7 +21,7 @@ use Rattle.capn_canon.specs.Refusal.{IsRefused, IsUnaccepted, IsUnacceptedIn}
 use Rattle.capn_canon.specs.MemoryNeed.{MayNeedMemory}
 use Rattle.capn_answers.specs.MemoryAsked.{MayAsk}
 use Rattle.capn_c.specs.Held.{IsMisheld, IsRefusedHeld, IsUnacceptedHeld}
-use Rattle.capn_reports.specs.StatusCodes.{bare_code, packed_code, frame_code, walk_code, code}
+use Rattle.capn_abi.specs.StatusCodes.{bare_code, packed_code, frame_code, walk_code, code}
 
 -- of packed bytes
 pub packed_memory : (e : UnpackFault) → packed_code e ≡ 8 → e ≡ packed.Memory

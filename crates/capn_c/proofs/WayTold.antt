@@ -20,9 +20,9 @@ use Rattle.capn_canon.specs.declared.refusal.Refusal.{Refusal}
 use Rattle.capn_canon.specs.declared.refusal.Refusal.TheVariants as refusals
 use Rattle.capn_canon.specs.Refusal.{IsPaidWithin}
 use Rattle.capn_answers.specs.Ways.{IsStoppedIn, IsUnread}
-use Rattle.capn_reports.specs.StatusCodes.{Reports, bare_code, packed_code, frame_code, walk_code, code, report_of}
+use Rattle.capn_abi.specs.StatusCodes.{Reports, bare_code, packed_code, frame_code, walk_code, code, report_of}
 use Rattle.capn_c.specs.WayNumbers.{with_length}
-use Rattle.capn_reports.specs.declared.report.CapnReport.{CapnReport}
+use Rattle.capn_abi.specs.declared.report.CapnReport.{CapnReport}
 
 -- ---- the status of a stop is 64 or more
 

@@ -5,15 +5,15 @@ use Rattle.capn_walk.specs.Limits.{Bounds}
 use Rattle.capn_walk.specs.declared.survey_answer.Surveyed.{Surveyed}
 use Rattle.capn_canon.specs.SurveyedBytes.{Surveys}
 use Rattle.capn_canon.specs.declared.form.Form.{Form}
-use Rattle.capn_departure.specs.declared.answer.Departure.{Departure}
-use Rattle.capn_departure.specs.declared.answer.Departure.TheVariants.{Canonical, Segments, Capability, Word, After}
-use Rattle.capn_departure.specs.declared.whose.Whose.{Whose}
-use Rattle.capn_departure.specs.declared.whose.Whose.TheVariants.{Pointer, Tag, LastWord}
+use Rattle.capn_mismatch.specs.declared.answer.Departure.{Departure}
+use Rattle.capn_mismatch.specs.declared.answer.Departure.TheVariants.{Canonical, Segments, Capability, Word, After}
+use Rattle.capn_mismatch.specs.declared.whose.Whose.{Whose}
+use Rattle.capn_mismatch.specs.declared.whose.Whose.TheVariants.{Pointer, Tag, LastWord}
 use Rattle.capn_answers.specs.Departures.{IsDepartureIn, owner_way, way_of}
-use Rattle.capn_reports.specs.StatusCodes.{answered}
+use Rattle.capn_abi.specs.StatusCodes.{answered}
 use Rattle.capn_c.specs.WayNumbers.{ArePlaced}
 use Rattle.capn_c.specs.declared.departed.CapnDeparted.{CapnDeparted}
-use Rattle.capn_reports.specs.declared.report.CapnReport.{CapnReport}
+use Rattle.capn_abi.specs.declared.report.CapnReport.{CapnReport}
 
 module _ {A : Type 0} where
   -- the number of the kind of an owner's word

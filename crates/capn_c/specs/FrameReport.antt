@@ -2,9 +2,9 @@
 use Rattle.std.specs.Prelude.{◌≡◌, ◌≢◌, ℕ, List}
 use Rattle.capn_stream.specs.declared.fault.FrameFault.{FrameFault}
 use Rattle.capn_stream.specs.declared.fault.FrameFault.TheVariants as frame
-use Rattle.capn_reports.specs.StatusCodes.{answered, at_number, frame_code}
+use Rattle.capn_abi.specs.StatusCodes.{answered, at_number, frame_code}
 use Rattle.capn_c.specs.FrameNeed.{needed}
-use Rattle.capn_reports.specs.declared.report.CapnReport.{CapnReport}
+use Rattle.capn_abi.specs.declared.report.CapnReport.{CapnReport}
 
 -- the report of a refusal: of a frame that is not whole, how many bytes it needs; else its number
 abbrev pub frame_report : List ℕ → FrameFault → CapnReport

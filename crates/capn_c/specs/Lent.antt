@@ -1,7 +1,7 @@
 -- What a call says whose scratch the caller lends: its statuses, and the words that the scratch lacks. (Own.)
 use Rattle.std.specs.Prelude.{◌⊎◌, ℕ, Bool, ◌||◌, if◌then◌else◌, nat_eq, nat_lt, List}
 use Rattle.capn_canon.specs.declared.form.Form.{Form}
-use Rattle.capn_reports.specs.StatusCodes.{is_status}
+use Rattle.capn_abi.specs.StatusCodes.{is_status}
 use Rattle.capn_scratch.specs.FormRefusal.{LacksTable, LacksText}
 
 -- its statuses: up to 4 what is said of the call, 9 if the scratch is too short, and else the refusal; never 8, which

@@ -3,8 +3,8 @@ use Rattle.std.specs.Prelude.{◌≡◌, ℕ, ◌-◌, ◌*◌, ◌/◌, ◌^◌
 use Rattle.capn_pack.specs.WholeGroups.{UnpacksSome}
 use Rattle.capn_pack.specs.declared.whole_groups.Next.{Next}
 use Rattle.capn_pack.specs.declared.whole_groups.Next.TheVariants as nexts
-use Rattle.capn_reports.specs.Calls.{IsWritten}
-use Rattle.capn_reports.specs.declared.report.CapnReport.{CapnReport}
+use Rattle.capn_abi.specs.Calls.{IsWritten}
+use Rattle.capn_abi.specs.declared.report.CapnReport.{CapnReport}
 
 -- the number of whole words for which a buffer of `room` bytes has room, as far as 32 bits count them
 abbrev pub words_in : ℕ → ℕ

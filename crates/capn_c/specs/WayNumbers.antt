@@ -2,9 +2,9 @@
 use Rattle.std.specs.Prelude.{◌≡◌, ◌⊎◌, ℕ, ◌*◌, ◌≤◌, List, length}
 use Rattle.capn_walk.specs.declared.walk_answer.Stopped.{Stopped}
 use Rattle.capn_canon.specs.declared.refusal.Refusal.TheVariants as refusals
-use Rattle.capn_reports.specs.Calls.{IsWritten, HasNoRoom}
-use Rattle.capn_reports.specs.StatusCodes.{Reports}
-use Rattle.capn_reports.specs.declared.report.CapnReport.{CapnReport}
+use Rattle.capn_abi.specs.Calls.{IsWritten, HasNoRoom}
+use Rattle.capn_abi.specs.StatusCodes.{Reports}
+use Rattle.capn_abi.specs.declared.report.CapnReport.{CapnReport}
 
 -- the numbers are at the start of a room, and the rest of it is as it was; or it has no room for all of them, and is as
 -- it was

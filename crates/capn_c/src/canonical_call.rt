@@ -12,15 +12,15 @@ ghost use Rattle.capn_canon.specs.Refusal.{IsRefused};
 ghost use Rattle.capn_canon.specs.MemoryNeed.{MayNeedMemory, MayNeedBytesIn};
 ghost use Rattle.capn_canon.specs.declared.refusal.Refusal.{Refusal as Refusals};
 ghost use Rattle.capn_answers.specs.MemoryAsked.{MayAsk};
-ghost use Rattle.capn_reports.specs.Calls.{IsForm, form_named, GiveLimits, IsTariff, bounds_of, Serves};
-ghost use Rattle.capn_reports.specs.StatusCodes.{Reports, answered, at_number, is_status};
+ghost use Rattle.capn_abi.specs.Calls.{IsForm, form_named, GiveLimits, IsTariff, bounds_of, Serves};
+ghost use Rattle.capn_abi.specs.StatusCodes.{Reports, answered, at_number, is_status};
 
 use crate::canonical_fill::fill;
 use crate::survey_bytes::survey_bytes;
-use capn_canon::{Form, Refusal};
-use capn_reports::{
+use capn_abi::{
     BAD_FORM, CapnLimits, CapnReport, NO_ROOM, answer_of, form_of, limits_of, refuse, report_at,
 };
+use capn_canon::{Form, Refusal};
 use capn_walk::Limits;
 use std::alloc::Global;
 

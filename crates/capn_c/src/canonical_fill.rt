@@ -12,13 +12,13 @@ ghost use Rattle.capn_canon.specs.MemoryNeed.{MayNeedBytesIn};
 ghost use Rattle.capn_canon.specs.declared.form.Form.TheVariants as forms;
 ghost use Rattle.capn_canon.specs.declared.refusal.Refusal.{Refusal as Refusals};
 ghost use Rattle.capn_answers.specs.MemoryAsked.{MayAsk};
-ghost use Rattle.capn_reports.specs.Calls.{Delivers};
-ghost use Rattle.capn_reports.specs.StatusCodes.{Reports, answered, is_status};
+ghost use Rattle.capn_abi.specs.Calls.{Delivers};
+ghost use Rattle.capn_abi.specs.StatusCodes.{Reports, answered, is_status};
 
 use crate::written_message::write_message;
+use capn_abi::{CapnReport, answer_of, deliver, refuse};
 use capn_answers::read_frame;
 use capn_canon::{Form, Refusal, canonicalise};
-use capn_reports::{CapnReport, answer_of, deliver, refuse};
 use capn_walk::Limits;
 use capn_words::Bare;
 use std::alloc::Global;

@@ -11,17 +11,17 @@ ghost use Rattle.capn_canon.specs.Refusal.{IsRefused};
 ghost use Rattle.capn_canon.specs.declared.refusal.Refusal.{Refusal as Refusals};
 ghost use Rattle.capn_scratch.specs.Laws.{most_scratch};
 ghost use Rattle.capn_scratch.specs.Needs.{HasScratch};
-ghost use Rattle.capn_reports.specs.Calls.{IsForm, form_named, GiveLimits, IsTariff, bounds_of, Delivers};
-ghost use Rattle.capn_reports.specs.StatusCodes.{Reports, answered, at_number};
+ghost use Rattle.capn_abi.specs.Calls.{IsForm, form_named, GiveLimits, IsTariff, bounds_of, Delivers};
+ghost use Rattle.capn_abi.specs.StatusCodes.{Reports, answered, at_number};
 ghost use Rattle.capn_c.specs.Lent.{LacksScratch, is_lent_status};
 ghost use Rattle.capn_c.specs.inner.Lent.{IsLent, IsRefusalTold, IsResultTold};
 
-use capn_canon::laws::denotation;
-use capn_canon::{CanonicalLength, Form, Refusal};
-use capn_reports::{
+use capn_abi::{
     BAD_FORM, CapnLimits, CapnReport, DONE, NO_ROOM, answer_of, form_of, limits_of, refuse,
     report_at,
 };
+use capn_canon::laws::denotation;
+use capn_canon::{CanonicalLength, Form, Refusal};
 use capn_scratch::laws::{decision, enough};
 use capn_scratch::{FormRefusal, canonical_into_form};
 use capn_walk::Limits;

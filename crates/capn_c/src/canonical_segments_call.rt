@@ -8,14 +8,14 @@ ghost use Rattle.capn_canon.specs.Layout.{canon};
 ghost use Rattle.capn_canon.specs.Canonicity.{IsCanonicalForm};
 ghost use Rattle.capn_canon.specs.declared.refusal.Refusal.{Refusal as Refusals};
 ghost use Rattle.capn_segments.specs.Segments.{message_of};
-ghost use Rattle.capn_reports.specs.Calls.{GiveLimits, IsTariff, bounds_of, Delivers, Serves};
+ghost use Rattle.capn_abi.specs.Calls.{GiveLimits, IsTariff, bounds_of, Delivers, Serves};
 ghost use Rattle.capn_c.specs.Held.{AnswersHeld, DenotesHeld, IsRefusedHeld};
-ghost use Rattle.capn_reports.specs.StatusCodes.{Reports, answered, at_number, is_status};
+ghost use Rattle.capn_abi.specs.StatusCodes.{Reports, answered, at_number, is_status};
 
 use crate::held_message::{held, survey_held};
 use crate::written_message::write_message;
+use capn_abi::{CapnLimits, CapnReport, NO_ROOM, answer_of, limits_of, refuse, report_at};
 use capn_canon::Refusal;
-use capn_reports::{CapnLimits, CapnReport, NO_ROOM, answer_of, limits_of, refuse, report_at};
 use capn_walk::Limits;
 use std::alloc::Global;
 

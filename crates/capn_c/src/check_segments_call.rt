@@ -6,12 +6,12 @@ ghost use Rattle.capn_walk.specs.Accepted.{IsBounded};
 ghost use Rattle.capn_walk.specs.declared.survey_answer.Surveyed.{Surveyed as Survey};
 ghost use Rattle.capn_canon.specs.declared.refusal.Refusal.{Refusal as Refusals};
 ghost use Rattle.capn_segments.specs.Segments.{message_of};
-ghost use Rattle.capn_reports.specs.Calls.{GiveLimits, IsTariff, bounds_of};
+ghost use Rattle.capn_abi.specs.Calls.{GiveLimits, IsTariff, bounds_of};
 ghost use Rattle.capn_c.specs.Held.{DenotesHeld, IsUnacceptedHeld, SurveysHeld};
-ghost use Rattle.capn_reports.specs.StatusCodes.{Reports, answered, at_number, is_status};
+ghost use Rattle.capn_abi.specs.StatusCodes.{Reports, answered, at_number, is_status};
 
 use crate::held_message::survey_held;
-use capn_reports::{CapnLimits, CapnReport, DONE, answer_of, limits_of, refuse, report_at};
+use capn_abi::{CapnLimits, CapnReport, DONE, answer_of, limits_of, refuse, report_at};
 use capn_walk::Limits;
 use std::alloc::Global;
 

@@ -11,17 +11,17 @@ ghost use Rattle.capn_canon.specs.declared.form.Form.{Form as Forms};
 ghost use Rattle.capn_canon.specs.declared.refusal.Refusal.{Refusal as Refusals};
 ghost use Rattle.capn_answers.specs.Departures as departures;
 ghost use Rattle.capn_answers.specs.Departures.{IsDepartureIn, MayAskForDeparture, MayNeedDeparture};
-ghost use Rattle.capn_reports.specs.Calls.{IsForm, form_named, GiveLimits, IsTariff, bounds_of};
+ghost use Rattle.capn_abi.specs.Calls.{IsForm, form_named, GiveLimits, IsTariff, bounds_of};
 ghost use Rattle.capn_c.specs.Departed.{TellsDeparture};
-ghost use Rattle.capn_reports.specs.StatusCodes.{Reports, at_number, is_status};
+ghost use Rattle.capn_abi.specs.StatusCodes.{Reports, at_number, is_status};
 
 use crate::departed::{CapnDeparted, departed_of, way_of};
 use crate::way_numbers::place_way;
-use capn_answers::{Departure, departure_and_survey_in};
-use capn_canon::Form;
-use capn_reports::{
+use capn_abi::{
     BAD_FORM, CapnLimits, CapnReport, DONE, answer_of, form_of, limits_of, refuse, report_at,
 };
+use capn_answers::{Departure, departure_and_survey_in};
+use capn_canon::Form;
 use capn_walk::{Limits, Surveyed};
 use std::alloc::Global;
 

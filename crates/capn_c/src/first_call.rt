@@ -6,13 +6,13 @@ ghost use Rattle.capn_stream.specs.Frames.{StandsFirst};
 ghost use Rattle.capn_stream.specs.StreamPieces.{IsUnfinished};
 ghost use Rattle.capn_stream.specs.FrameRefusal.{HasTable, IsFrameRefused};
 ghost use Rattle.capn_stream.specs.declared.fault.FrameFault.{FrameFault as Faults};
-ghost use Rattle.capn_reports.specs.Calls.{GiveLimits, IsTariff};
-ghost use Rattle.capn_reports.specs.StatusCodes.{answered, at_number, is_status};
+ghost use Rattle.capn_abi.specs.Calls.{GiveLimits, IsTariff};
+ghost use Rattle.capn_abi.specs.StatusCodes.{answered, at_number, is_status};
 ghost use Rattle.capn_c.specs.FrameReport.{ReportsFrame, frame_report};
 ghost use Rattle.capn_c.specs.FrameNeed.{IsNeeded};
 
 use crate::frame_need::needed_of;
-use capn_reports::{
+use capn_abi::{
     CapnLimits, CapnReport, DONE, answer_of, code_of_frame, limits_of, number_of_frame, report_at,
 };
 use capn_stream::{FrameFault, first};

@@ -11,14 +11,14 @@ ghost use Rattle.capn_canon.specs.Refusal.{IsRefused};
 ghost use Rattle.capn_canon.specs.MemoryNeed.{MayNeedBytesIn};
 ghost use Rattle.capn_canon.specs.declared.refusal.Refusal.{Refusal as Refusals};
 ghost use Rattle.capn_answers.specs.MemoryAsked.{MayAskOrMake};
-ghost use Rattle.capn_reports.specs.Calls.{IsForm, form_named, GiveLimits, IsTariff, bounds_of};
-ghost use Rattle.capn_reports.specs.StatusCodes.{Reports, answered, at_number, is_status};
+ghost use Rattle.capn_abi.specs.Calls.{IsForm, form_named, GiveLimits, IsTariff, bounds_of};
+ghost use Rattle.capn_abi.specs.StatusCodes.{Reports, answered, at_number, is_status};
 
 use crate::message_digest::digest_in;
-use capn_canon::Form;
-use capn_reports::{
+use capn_abi::{
     BAD_FORM, CapnLimits, CapnReport, DONE, answer_of, form_of, limits_of, refuse, report_at,
 };
+use capn_canon::Form;
 use capn_walk::Limits;
 use std::alloc::Global;
 

@@ -9,12 +9,12 @@ ghost use Rattle.capn_canon.specs.Layout.{canon};
 ghost use Rattle.capn_canon.specs.MemoryNeed.{MayNeedBytes};
 ghost use Rattle.capn_canon.specs.declared.refusal.Refusal.{Refusal as Refusals};
 ghost use Rattle.capn_segments.specs.Segments.{message_of};
-ghost use Rattle.capn_reports.specs.Calls.{GiveLimits, IsTariff, bounds_of};
+ghost use Rattle.capn_abi.specs.Calls.{GiveLimits, IsTariff, bounds_of};
 ghost use Rattle.capn_c.specs.Held.{AnswersHeld, DenotesHeld, IsRefusedHeld};
-ghost use Rattle.capn_reports.specs.StatusCodes.{Reports, answered, at_number, is_status};
+ghost use Rattle.capn_abi.specs.StatusCodes.{Reports, answered, at_number, is_status};
 
 use crate::held_message::canonical_held;
-use capn_reports::{CapnLimits, CapnReport, DONE, answer_of, limits_of, refuse, report_at};
+use capn_abi::{CapnLimits, CapnReport, DONE, answer_of, limits_of, refuse, report_at};
 use capn_walk::Limits;
 use sha2::{Digest, Sha256};
 use std::alloc::Global;

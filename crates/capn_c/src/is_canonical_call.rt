@@ -10,11 +10,11 @@ ghost use Rattle.capn_canon.specs.Layout.{canon};
 ghost use Rattle.capn_canon.specs.Refusal.{IsRefused};
 ghost use Rattle.capn_canon.specs.declared.form.Form.TheVariants as forms;
 ghost use Rattle.capn_canon.specs.declared.refusal.Refusal.{Refusal as Refusals};
-ghost use Rattle.capn_reports.specs.Calls.{GiveLimits, IsTariff, bounds_of};
-ghost use Rattle.capn_reports.specs.StatusCodes.{Reports, at_number, is_status};
+ghost use Rattle.capn_abi.specs.Calls.{GiveLimits, IsTariff, bounds_of};
+ghost use Rattle.capn_abi.specs.StatusCodes.{Reports, at_number, is_status};
 
+use capn_abi::{CapnLimits, CapnReport, DONE, NOT_CANONICAL, limits_of, refuse, report_at};
 use capn_canon::is_canonical;
-use capn_reports::{CapnLimits, CapnReport, DONE, NOT_CANONICAL, limits_of, refuse, report_at};
 use capn_walk::Limits;
 use std::alloc::Global;
 

@@ -43,7 +43,7 @@ mod unpack_some_call;
 mod way_numbers;
 mod written_message;
 
-pub use capn_reports::{CapnLimits, CapnReport};
+pub use capn_abi::{CapnLimits, CapnReport};
 pub use departed::CapnDeparted;
 pub use entries::CapnEntry;
 pub use figures::CapnFigures;

@@ -16,12 +16,12 @@ ghost use Rattle.capn_canon.specs.declared.form.Form.TheVariants as forms;
 ghost use Rattle.capn_canon.specs.declared.refusal.Refusal.{Refusal as Refusals};
 ghost use Rattle.capn_answers.specs.MemoryAsked.{MayAsk};
 ghost use Rattle.capn_c.specs.Entries.{IndexedIn, c_index, starts_from};
-ghost use Rattle.capn_reports.specs.StatusCodes.{Reports, answered, is_status};
+ghost use Rattle.capn_abi.specs.StatusCodes.{Reports, answered, is_status};
 
 use crate::entries::{CapnEntry, Offsets, put_starts};
+use capn_abi::{CapnReport, DONE, NO_ROOM, answer_of, refuse};
 use capn_answers::read_frame;
 use capn_canon::{Refusal, survey};
-use capn_reports::{CapnReport, DONE, NO_ROOM, answer_of, refuse};
 use capn_stream::table::head_of;
 use capn_stream::{Framed, first};
 use capn_walk::laws::indexes;

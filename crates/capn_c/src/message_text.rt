@@ -8,8 +8,8 @@ ghost use Rattle.capn_canon.specs.declared.refusal.Refusal.TheVariants as refusa
 ghost use Rattle.capn_c.specs.Shown.{MayNeedText, ShowsIn, ShowsMessage};
 ghost use Rattle.capn_c.specs.inner.Told.{IsTextTold};
 
+use capn_abi::end_of;
 use capn_canon::{Form, MessageTask, Refusal, run_task, survey};
-use capn_reports::end_of;
 use capn_show::{Style, show_part};
 use capn_walk::{Limits, Surveyed};
 use capn_words::{Space, Watched};

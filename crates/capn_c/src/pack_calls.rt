@@ -6,11 +6,11 @@ ghost use Rattle.capn_pack.specs.Chosen.{Chosen};
 ghost use Rattle.capn_pack.specs.Words.{HasWords};
 ghost use Rattle.capn_pack.specs.UnpackRefusal.{IsUnpackRefused, StartsWithin};
 ghost use Rattle.capn_pack.specs.declared.fault.UnpackFault.{UnpackFault as Faults};
-ghost use Rattle.capn_reports.specs.Calls.{Delivers};
-ghost use Rattle.capn_reports.specs.StatusCodes.{answered, at_number, ReportsPacked, is_status};
+ghost use Rattle.capn_abi.specs.Calls.{Delivers};
+ghost use Rattle.capn_abi.specs.StatusCodes.{answered, at_number, ReportsPacked, is_status};
 
+use capn_abi::{CapnReport, MEMORY, NOT_WHOLE, answer_of, deliver, refuse_packed, report_at};
 use capn_pack::{PackFault, pack, unpack};
-use capn_reports::{CapnReport, MEMORY, NOT_WHOLE, answer_of, deliver, refuse_packed, report_at};
 use std::alloc::Global;
 
 /// Writes the packed text of the whole words `bytes` to `out`.

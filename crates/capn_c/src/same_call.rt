@@ -10,16 +10,16 @@ ghost use Rattle.capn_canon.specs.Refusal.{IsRefused};
 ghost use Rattle.capn_canon.specs.MemoryNeed.{MayNeedMemory};
 ghost use Rattle.capn_canon.specs.declared.refusal.Refusal.{Refusal as Refusals};
 ghost use Rattle.capn_answers.specs.MemoryAsked.{MayAsk};
-ghost use Rattle.capn_reports.specs.Calls.{IsForm, form_named, GiveLimits, IsTariff, bounds_of};
-ghost use Rattle.capn_reports.specs.StatusCodes.{Reports, at_number, is_status};
+ghost use Rattle.capn_abi.specs.Calls.{IsForm, form_named, GiveLimits, IsTariff, bounds_of};
+ghost use Rattle.capn_abi.specs.StatusCodes.{Reports, at_number, is_status};
 ghost use Rattle.capn_c.specs.Compared.{ComparesIn, DenoteBoth, named};
 
 use crate::compared::compared_in;
-use capn_canon::Form;
-use capn_canon::laws::{canonicity, denotation};
-use capn_reports::{
+use capn_abi::{
     BAD_FORM, CapnLimits, CapnReport, DIFFERENT, DONE, form_of, limits_of, refuse, report_at,
 };
+use capn_canon::Form;
+use capn_canon::laws::{canonicity, denotation};
 use capn_walk::Limits;
 use std::alloc::Global;
 

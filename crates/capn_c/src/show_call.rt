@@ -8,17 +8,17 @@ ghost use Rattle.capn_canon.specs.Denotes.{Denotes};
 ghost use Rattle.capn_canon.specs.Refusal.{IsUnacceptedIn};
 ghost use Rattle.capn_canon.specs.SurveyedBytes.{Surveys};
 ghost use Rattle.capn_canon.specs.declared.refusal.Refusal.{Refusal as Refusals};
-ghost use Rattle.capn_reports.specs.Calls.{IsForm, form_named, GiveLimits, IsTariff, bounds_of, Delivers};
-ghost use Rattle.capn_reports.specs.Styles.{IsStyle, style_named};
+ghost use Rattle.capn_abi.specs.Calls.{IsForm, form_named, GiveLimits, IsTariff, bounds_of, Delivers};
+ghost use Rattle.capn_abi.specs.Styles.{IsStyle, style_named};
 ghost use Rattle.capn_c.specs.Shown.{MayNeedText, ShowsIn, message_text};
-ghost use Rattle.capn_reports.specs.StatusCodes.{Reports, answered, at_number, is_status};
+ghost use Rattle.capn_abi.specs.StatusCodes.{Reports, answered, at_number, is_status};
 
 use crate::message_text::text_in;
-use capn_canon::Form;
-use capn_reports::{
+use capn_abi::{
     BAD_FORM, BAD_STYLE, CapnLimits, CapnReport, answer_of, deliver, form_of, limits_of, refuse,
     report_at, style_of,
 };
+use capn_canon::Form;
 use capn_show::Style;
 use capn_walk::Limits;
 use std::alloc::Global;

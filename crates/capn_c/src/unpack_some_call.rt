@@ -2,12 +2,12 @@
 
 ghost use Rattle.std.specs.Prelude.{IsTrue, ◌≡◌, ◌≢◌, ◌≤◌, ◌*◌, length};
 ghost use Rattle.capn_pack.specs.UnpackRefusal.{StartsWithin};
-ghost use Rattle.capn_reports.specs.Calls.{IsWritten};
-ghost use Rattle.capn_reports.specs.StatusCodes.{at_number, is_status};
+ghost use Rattle.capn_abi.specs.Calls.{IsWritten};
+ghost use Rattle.capn_abi.specs.StatusCodes.{at_number, is_status};
 ghost use Rattle.capn_c.specs.UnpackedPieces.{UnpacksInto, next_code, progressed, words_in};
 
+use capn_abi::{CapnReport, DONE, MEMORY, PACKED_CUT, PACKED_TOO_LONG, report_at};
 use capn_pack::{Next, Progress, unpack_some};
-use capn_reports::{CapnReport, DONE, MEMORY, PACKED_CUT, PACKED_TOO_LONG, report_at};
 use std::alloc::Global;
 
 /// Returns the status of what comes `next`.

@@ -3,8 +3,8 @@
 ghost use Rattle.std.specs.Prelude.{◌≡◌, ◌≤◌, ◌*◌, length};
 ghost use Rattle.capn_c.specs.WayNumbers.{ArePlaced, TellsWay};
 
+use capn_abi::{CapnReport, refuse, report_at};
 use capn_canon::Refusal;
-use capn_reports::{CapnReport, refuse, report_at};
 use capn_walk::Stopped;
 
 /// Writes the numbers of `way` at the start of `room`, if it has room for all of them.

@@ -11,11 +11,11 @@ ghost use Rattle.capn_canon.specs.Refusal.{IsRefusedMessage};
 ghost use Rattle.capn_canon.specs.Theorem.{RefusedInto};
 ghost use Rattle.capn_canon.specs.declared.message_refusal.IntoRefusal.{IntoRefusal as IntoRefusals};
 ghost use Rattle.capn_canon.specs.declared.refusal.Refusal.{Refusal as Refusals};
-ghost use Rattle.capn_reports.specs.Calls.{Delivers};
-ghost use Rattle.capn_reports.specs.StatusCodes.{Reports, answered, is_status};
+ghost use Rattle.capn_abi.specs.Calls.{Delivers};
+ghost use Rattle.capn_abi.specs.StatusCodes.{Reports, answered, is_status};
 
+use capn_abi::{CapnReport, DONE, NO_ROOM, answer_of, refuse};
 use capn_canon::{IntoRefusal, Refusal, canonical_into};
-use capn_reports::{CapnReport, DONE, NO_ROOM, answer_of, refuse};
 use capn_walk::Limits;
 use capn_words::Space;
 

@@ -1,7 +1,6 @@
 //! Faults of a run that compares.
 
-use capn_endings::{Ending, Line};
-use capn_serve::RunFault;
+use capn_serve::{Ending, Line, RunFault};
 use capn_words::Watched;
 use std::io::Write;
 

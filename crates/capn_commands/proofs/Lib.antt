@@ -17,3 +17,14 @@ pub mod OneRead
 pub mod OneRun
 pub mod OnePiece
 pub mod PackedServed
+pub mod InputRead
+pub mod RunEnds
+pub mod Unpacked
+pub mod Chunk
+pub mod Settled
+pub mod LastWord
+pub mod Packed
+pub mod HeldBack
+pub mod PartServed
+pub mod ShownRuns
+mod EndLines

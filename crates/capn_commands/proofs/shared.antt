@@ -1,2 +1,3 @@
 -- Lemmas that other crates may cite.
 pub mod OneMessageLaws
+pub mod OneShown

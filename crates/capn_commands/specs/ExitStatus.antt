@@ -1,6 +1,6 @@
 -- How a run of a command ends the program.
 use Rattle.std.specs.Prelude.{ℕ, Result}
-use Rattle.capn_endings.specs.Ending.{status_of_ending}
+use Rattle.capn_serve.specs.Ending.{status_of_ending}
 use Rattle.capn_commands.specs.declared.fault.ToolFault.{ToolFault}
 use Rattle.capn_commands.specs.declared.fault.ToolFault.TheVariants as faults
 

@@ -1,7 +1,7 @@
 -- The texts that say why a run stopped. (Own.)
 use Rattle.std.specs.Prelude.{ℕ, List, ◌++◌, codes, Bool, Option, Result}
 use Rattle.std.specs.Fmt.{decimal}
-use Rattle.capn_endings.specs.Ending.{WritesEnding, fault_text_line, out_of_memory}
+use Rattle.capn_serve.specs.Ending.{WritesEnding, fault_text_line, out_of_memory}
 use Rattle.capn_canon.specs.Display.{refusal_text}
 use Rattle.capn_commands.specs.declared.fault.ToolFault.{ToolFault}
 use Rattle.capn_commands.specs.declared.fault.ToolFault.TheVariants as faults

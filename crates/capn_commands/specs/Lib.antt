@@ -10,3 +10,11 @@ pub mod OneMessage
 pub mod CommandRun
 pub mod ExitStatus
 pub mod FaultText
+pub mod FlowFaultText
+pub mod Flow
+pub mod UnpackRun
+pub mod PackRun
+pub mod Laws
+pub mod MessageMarks
+pub mod PartTexts
+pub mod ShowRun

@@ -4,3 +4,4 @@ pub mod OneServing
 pub mod Pending
 pub mod PriceRoom
 pub mod ReadInput
+pub mod AddedParts

@@ -7,8 +7,7 @@ ghost use Rattle.capn_commands.specs.FaultText as spec;
 ghost use Rattle.capn_commands.specs.FaultText.{ReportsEnding};
 
 use crate::fault::ToolFault;
-use capn_endings::{Ending, Line};
-use capn_serve::say_refusal;
+use capn_serve::{Ending, Line, say_refusal};
 use capn_value::Memory;
 use capn_words::Watched;
 use std::alloc::Allocator;
@@ -46,7 +45,7 @@ impl Ending for ToolFault {
 pub fn status(outcome: &Result<(), ToolFault>) -> u8
     ensures { result ≡ status_of outcome.now }
 {
-    capn_endings::status(outcome)
+    capn_serve::status(outcome)
 }
 
 /// A fault of which the text is shown. A `ToolFault` itself shows the name of its variant.
@@ -89,5 +88,5 @@ pub fn end<E: Write, A: Allocator + Copy>(
     ensures says { ReportsEnding outcome.now (E.contents (inner_of errors.old)) (E.contents (inner_of errors.new))
         (has_failed errors.new) }
 {
-    capn_endings::end(outcome, errors)
+    capn_serve::end(outcome, errors)
 }

@@ -18,21 +18,34 @@ mod command;
 mod command_run;
 mod exit_status;
 mod fault;
+mod flow_fault;
+mod flow_output;
+pub mod laws;
+mod message_marks;
 mod message_stream;
 mod message_text;
 mod message_texts;
 mod one_message;
+mod pack_run;
+mod part_texts;
 mod pending;
 mod plan;
 mod price_line;
+mod show_run;
+mod unpack_run;
 mod whole_input;
 
 pub use command::Command;
 pub use command_run::run;
 pub use exit_status::{end, fault_text, status};
 pub use fault::ToolFault;
+pub use flow_fault::FlowFault;
 pub use one_message::serve_one;
+pub use pack_run::pack_stream;
+pub use part_texts::PartTexts;
 pub use plan::MessageText;
+pub use show_run::run_show;
+pub use unpack_run::unpack_stream;
 
 // Types of the signatures above.
 pub use capn_canon::{Form, Limits, Refusal, Tariff};

@@ -1,5 +1,9 @@
-pub mod ListedParts
-pub mod PlacesOnWays
-pub mod PlaceWithin
-pub mod WayParts
-pub mod WordDigits
+pub mod Accounts
+pub mod Closings
+pub mod Finishes
+pub mod Reporters
+pub mod Zeros
+pub mod AtLeast
+pub mod RefusedReporters
+pub mod RefusedAnswers
+pub mod NothingWritten

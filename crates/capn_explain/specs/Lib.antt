@@ -1,6 +1,10 @@
-pub mod Texts
-pub mod PlaceByte
-pub mod Slot
-pub mod SlotTexts
-pub mod MessageTexts
-pub mod Refusal
+pub mod inner
+pub mod Accounts
+pub mod Reports
+pub mod WhatCame
+pub mod FaultLines
+pub mod Finish
+pub mod ExplainRun
+pub mod RefusedReports
+pub mod RefusedRun
+pub mod FaultText

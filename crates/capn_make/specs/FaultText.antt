@@ -2,7 +2,7 @@
 use Rattle.std.specs.Prelude.{ℕ, List, ◌++◌, codes}
 use Rattle.std.specs.Fmt.{decimal}
 use Rattle.capn_value.specs.Display.{misfit_name}
-use Rattle.capn_endings.specs.Ending.{out_of_memory}
+use Rattle.capn_serve.specs.Ending.{out_of_memory}
 use Rattle.capn_make.specs.declared.fault.MakeFault.{MakeFault}
 use Rattle.capn_make.specs.declared.fault.MakeFault.TheVariants as faults
 

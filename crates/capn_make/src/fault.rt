@@ -5,7 +5,7 @@ ghost use Rattle.capn_value.specs.Display.{misfit_name};
 ghost use Rattle.capn_make.specs.FaultText.{status_of};
 ghost use Rattle.capn_make.specs.declared.fault.MakeFault.TheVariants as faults;
 
-use capn_endings::{Ending, Line};
+use capn_serve::{Ending, Line};
 use capn_value::Misfit;
 use capn_words::{Memory, Watched};
 use std::alloc::AllocError;

@@ -1,3 +1,4 @@
+pub mod Ways
 pub mod shared
 pub mod Sends
 pub mod More

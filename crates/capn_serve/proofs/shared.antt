@@ -1,4 +1,5 @@
 -- Lemmas that other crates may cite.
+pub mod Said
 pub mod Adding
 pub mod Appending
 pub mod Given

@@ -1,7 +1,7 @@
 -- The text of a fault that ends a run, and its exit status. (Own.)
 use Rattle.std.specs.Prelude.{ℕ, ◌+◌, ◌≡◌, List, ◌++◌, codes, refl}
 use Rattle.std.specs.Fmt.{decimal, digits}
-use Rattle.capn_endings.specs.Ending.{out_of_memory}
+use Rattle.capn_serve.specs.Ending.{out_of_memory}
 use Rattle.capn_canon.specs.Display.{refusal_text}
 use Rattle.capn_canon.specs.declared.refusal.Refusal.TheVariants as refusals
 use Rattle.capn_serve.specs.declared.position.Position.{Position}

@@ -1,3 +1,5 @@
+pub mod Line
+pub mod Ending
 pub mod Service
 pub mod Fold
 pub mod Outgoing

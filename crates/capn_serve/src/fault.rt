@@ -7,8 +7,8 @@ ghost use Rattle.capn_serve.specs.declared.fault.ServeFault.TheVariants as serve
 
 use crate::position::Position;
 use crate::refusal_line::{say_place, say_refusal};
+use crate::{Ending, Line};
 use capn_canon::Refusal;
-use capn_endings::{Ending, Line};
 use capn_walk::{Fault, Stopped};
 use capn_words::Watched;
 use std::io::Write;

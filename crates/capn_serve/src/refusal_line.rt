@@ -3,7 +3,7 @@
 ghost use Rattle.std.specs.Prelude.{◌≡◌, codes, ◌++◌};
 ghost use Rattle.capn_words.specs.Display.{bare_text};
 ghost use Rattle.capn_words.specs.Watched.{inner_of, has_failed};
-ghost use Rattle.capn_endings.specs.Line.{Says, way};
+ghost use Rattle.capn_serve.specs.Line.{Says, way};
 ghost use Rattle.capn_pack.specs.Display.{unpack_text};
 ghost use Rattle.capn_stream.specs.Display.{frame_text};
 ghost use Rattle.capn_target.specs.Display.{fault_name};
@@ -11,9 +11,9 @@ ghost use Rattle.capn_walk.specs.Display.{stopped_text};
 ghost use Rattle.capn_canon.specs.Display.{refusal_text};
 ghost use Rattle.capn_serve.specs.FaultText.{place_text};
 
+use crate::Line;
 use crate::position::{Position, number_of};
 use capn_canon::Refusal;
-use capn_endings::Line;
 use capn_pack::UnpackFault;
 use capn_stream::FrameFault;
 use capn_walk::{Fault, Stopped};

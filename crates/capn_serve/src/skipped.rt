@@ -2,13 +2,13 @@
 
 ghost use Rattle.std.specs.Prelude.{◌≡◌};
 ghost use Rattle.capn_words.specs.Watched.{inner_of, has_failed};
-ghost use Rattle.capn_endings.specs.Line.{Says, way};
+ghost use Rattle.capn_serve.specs.Line.{Says, way};
 ghost use Rattle.capn_serve.specs.Skipped as spec;
 ghost use Rattle.capn_serve.specs.Skipped.{text_of_skipped};
 
+use crate::Line;
 use crate::position::Position;
 use crate::refusal_line::say_place;
-use capn_endings::Line;
 use capn_words::Watched;
 use std::io::Write;
 

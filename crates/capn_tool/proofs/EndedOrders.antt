@@ -1,14 +1,14 @@
 -- An order that was carried out, from its run and the end of that.
 use Rattle.std.proofs.Common.{ℕ, List, Bool, Option, Result, refl}
 use Rattle.clap.specs.Words.{Text, subcommand_of}
-use Rattle.capn_endings.specs.Ending.{WritesEnding, status_of_ending}
-use Rattle.capn_orders.specs.CommandLine.{program_line}
+use Rattle.capn_serve.specs.Ending.{WritesEnding, status_of_ending}
+use Rattle.capn_args.specs.CommandLine.{program_line}
 use Rattle.capn_tool.specs.Course.{Course, course}
 use Rattle.capn_tool.specs.Flushed.{EndsRun, RunOver}
-use Rattle.capn_orders.specs.Meaning.{MeansOrder}
+use Rattle.capn_args.specs.Meaning.{MeansOrder}
 use Rattle.capn_tool.specs.Program.{EndsCmp, EndsRunOrder}
-use Rattle.capn_orders.specs.declared.order.Order.{Order}
-use Rattle.capn_orders.specs.declared.order.Order.TheVariants as orders
+use Rattle.capn_args.specs.declared.order.Order.{Order}
+use Rattle.capn_args.specs.declared.order.Order.TheVariants as orders
 use Rattle.capn_cmp.specs.CmpRun.{Compared}
 use Rattle.capn_cmp.specs.declared.cmp_order.CmpOrder.{CmpOrder}
 use Rattle.capn_cmp.specs.declared.cmp_run.Comparison.{Comparison}

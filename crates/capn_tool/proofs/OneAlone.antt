@@ -3,9 +3,9 @@ use Rattle.std.proofs.Common.{◌≡◌, inl, inr, ℕ, List, Bool, true, false,
 use Rattle.capn_walk.specs.Limits.{Bounds}
 use Rattle.capn_serve.specs.declared.pick.StreamForm.{StreamForm}
 use Rattle.capn_serve.specs.StreamRun.{start}
-use Rattle.capn_parts.specs.PartTexts.{refuses, serves}
-use Rattle.capn_parts.specs.declared.part_texts.PartTexts.{PartTexts}
-use Rattle.capn_parts.proofs.shared.OneShown.{IsLike, not_both, one_part, one_refusal, refuses_like, serves_like}
+use Rattle.capn_commands.specs.PartTexts.{refuses, serves}
+use Rattle.capn_commands.specs.declared.part_texts.PartTexts.{PartTexts}
+use Rattle.capn_commands.proofs.shared.OneShown.{IsLike, not_both, one_part, one_refusal, refuses_like, serves_like}
 use Rattle.capn_commands.specs.OneMessage.{RefusesOne, WritesOne}
 use Rattle.capn_commands.specs.declared.fault.ToolFault.{ToolFault}
 use Rattle.capn_commands.proofs.shared.OneMessageLaws.{DoesOneThing, one_due_of}

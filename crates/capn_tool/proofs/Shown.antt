@@ -8,7 +8,7 @@ use Rattle.capn_commands.specs.declared.fault.ToolFault.TheVariants as faults
 use Rattle.capn_tool.specs.Course.{course}
 use Rattle.capn_tool.specs.Flushed.{EndsFlushed}
 use Rattle.capn_tool.specs.Unordered.{ShowsHelp, ShowsVersion}
-use Rattle.capn_orders.specs.Usage.{IsHelp, version_line}
+use Rattle.capn_args.specs.Usage.{IsHelp, version_line}
 use Rattle.capn_tool.proofs.Written.{begun_all, kept, sound}
 
 abbrev Ending : Type 0

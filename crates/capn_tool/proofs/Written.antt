@@ -4,7 +4,7 @@ use Rattle.std.proofs.Common.{IsErrOf, is_err, ◌||◌, ◌↔◌, refl, sym, s
 use Rattle.std.proofs.Math.Seq.{take-length}
 use Rattle.std.specs.Io.KnownBytes.{Appends, Keeps}
 use Rattle.capn_words.specs.Watched.{HasBegun}
-use Rattle.capn_endings.specs.Line.{WritesLine}
+use Rattle.capn_serve.specs.Line.{WritesLine}
 use Rattle.capn_commands.specs.declared.fault.ToolFault.{ToolFault}
 use Rattle.capn_commands.specs.declared.fault.ToolFault.TheVariants as faults
 

@@ -1,7 +1,7 @@
 -- How the program ends after a comparison: what is found is the exit status. (Own.)
 use Rattle.std.specs.Prelude.{◌≡◌, ℕ, List, Bool, Option, Result, Ok, Err}
 use Rattle.std.specs.Io.KnownBytes.{Keeps}
-use Rattle.capn_endings.specs.Ending.{WritesEnding}
+use Rattle.capn_serve.specs.Ending.{WritesEnding}
 use Rattle.capn_cmp.specs.CmpRun.{Compared}
 use Rattle.capn_cmp.specs.FaultText.{cmp_text, status_of}
 use Rattle.capn_cmp.specs.declared.cmp_order.CmpOrder.{CmpOrder}

@@ -1,16 +1,16 @@
 -- How the program ends. After a run it ends with 0 where that is done, and else with the status of its fault. (Own.)
 use Rattle.std.specs.Prelude.{ℕ, Result}
-use Rattle.capn_endings.specs.Ending.{status_of_ending}
+use Rattle.capn_serve.specs.Ending.{status_of_ending}
 use Rattle.capn_serve.specs.FaultText as served
 use Rattle.capn_serve.specs.declared.fault.RunFault.{RunFault}
 use Rattle.capn_archive.specs.FaultText as archived
 use Rattle.capn_archive.specs.declared.fault.ArchiveFault.{ArchiveFault}
-use Rattle.capn_report.specs.FaultText as reported
-use Rattle.capn_report.specs.declared.fault.ReportFault.{ReportFault}
+use Rattle.capn_explain.specs.FaultText as reported
+use Rattle.capn_explain.specs.declared.fault.ReportFault.{ReportFault}
 use Rattle.capn_make.specs.FaultText as made
 use Rattle.capn_make.specs.declared.fault.MakeFault.{MakeFault}
-use Rattle.capn_flow.specs.FaultText as flowing
-use Rattle.capn_flow.specs.declared.fault.FlowFault.{FlowFault}
+use Rattle.capn_commands.specs.FlowFaultText as flowing
+use Rattle.capn_commands.specs.declared.flow_fault.FlowFault.{FlowFault}
 
 -- after a run over an archive
 abbrev pub archive_status : Result (Unit {0}) ArchiveFault → ℕ

@@ -1,18 +1,18 @@
 -- What is said of a run that was not done. (Own.)
 use Rattle.std.specs.Prelude.{ℕ, ◌≡◌, List, codes, Bool, Option, Result, refl}
 use Rattle.std.specs.Fmt.{digits}
-use Rattle.capn_endings.specs.Ending.{WritesEnding, fault_text_line}
+use Rattle.capn_serve.specs.Ending.{WritesEnding, fault_text_line}
 use Rattle.capn_serve.specs.FaultText as served
 use Rattle.capn_serve.specs.declared.fault.RunFault.{RunFault}
 use Rattle.capn_archive.specs.FaultText.{archive_text}
 use Rattle.capn_archive.specs.declared.fault.ArchiveFault.{ArchiveFault}
 use Rattle.capn_archive.specs.declared.fault.ArchiveFault.TheVariants as faults
-use Rattle.capn_report.specs.FaultText as reported
-use Rattle.capn_report.specs.declared.fault.ReportFault.{ReportFault}
+use Rattle.capn_explain.specs.FaultText as reported
+use Rattle.capn_explain.specs.declared.fault.ReportFault.{ReportFault}
 use Rattle.capn_make.specs.FaultText as made
 use Rattle.capn_make.specs.declared.fault.MakeFault.{MakeFault}
-use Rattle.capn_flow.specs.FaultText as flowing
-use Rattle.capn_flow.specs.declared.fault.FlowFault.{FlowFault}
+use Rattle.capn_commands.specs.FlowFaultText as flowing
+use Rattle.capn_commands.specs.declared.flow_fault.FlowFault.{FlowFault}
 
 skipped : fault_text_line (archive_text (faults.Skipped (record {
   refused = 3;

@@ -1,23 +1,23 @@
 -- A run and the flush of its output. (Own.)
 use Rattle.std.specs.Prelude.{ℕ, ◌≡◌, ◌↔◌, ◌⊎◌, List, Bool, true, false, Option, IfSome, IsErrOf, Result, Ok, Err}
 use Rattle.std.specs.Io.KnownBytes.{Keeps}
-use Rattle.capn_endings.specs.Ending.{WritesEnding, status_of_ending}
+use Rattle.capn_serve.specs.Ending.{WritesEnding, status_of_ending}
 use Rattle.capn_commands.specs.CommandRun.{KeepsUp, MayNeedMemory, StaysAheadAs}
 use Rattle.capn_commands.specs.Text.{Begins, EndsAs, EndsBy, IsText}
 use Rattle.capn_commands.specs.declared.command.Command.{Command}
 use Rattle.capn_commands.specs.declared.fault.ToolFault.{ToolFault}
 use Rattle.capn_commands.specs.declared.fault.ToolFault.TheVariants as faults
-use Rattle.capn_flow.specs.Flow.{Runs}
-use Rattle.capn_flow.specs.PackRun.{packing}
-use Rattle.capn_flow.specs.UnpackRun.{unpacking}
-use Rattle.capn_flow.specs.declared.fault.FlowFault.{FlowFault}
+use Rattle.capn_commands.specs.Flow.{Runs}
+use Rattle.capn_commands.specs.PackRun.{packing}
+use Rattle.capn_commands.specs.UnpackRun.{unpacking}
+use Rattle.capn_commands.specs.declared.flow_fault.FlowFault.{FlowFault}
 use Rattle.capn_canon.specs.declared.form.Form.{Form}
 use Rattle.capn_make.specs.MadeTexts.{MadeTexts}
 use Rattle.capn_make.specs.MakeRun.{Made}
 use Rattle.capn_make.specs.declared.fault.MakeFault.{MakeFault}
 use Rattle.capn_tool.specs.Course.{Course}
-use Rattle.capn_orders.specs.declared.order.Flow.{Flow}
-use Rattle.capn_orders.specs.declared.order.Flow.TheVariants as flows
+use Rattle.capn_args.specs.declared.order.Flow.{Flow}
+use Rattle.capn_args.specs.declared.order.Flow.TheVariants as flows
 
 -- After a flush a run that was done ends as it did, or with the fault of an output that failed, if the flush failed.
 -- Any other run ends as it did.

@@ -8,11 +8,11 @@ use Rattle.capn_serve.specs.declared.pick.StreamForm.{StreamForm}
 use Rattle.capn_commands.specs.OneMessage.{RefusesOne, WritesOne}
 use Rattle.capn_commands.specs.Text.{IsDueOf}
 use Rattle.capn_commands.specs.declared.fault.ToolFault.{ToolFault}
-use Rattle.capn_parts.specs.PartTexts.{refuses, serves}
-use Rattle.capn_parts.specs.ShowRun.{part_fold}
-use Rattle.capn_parts.specs.declared.part_texts.PartTexts.{PartTexts}
+use Rattle.capn_commands.specs.PartTexts.{refuses, serves}
+use Rattle.capn_commands.specs.ShowRun.{part_fold}
+use Rattle.capn_commands.specs.declared.part_texts.PartTexts.{PartTexts}
 use Rattle.capn_tool.specs.PartRun.{Follows}
-use Rattle.capn_orders.specs.declared.order.Show.{Show}
+use Rattle.capn_args.specs.declared.order.Show.{Show}
 
 -- by an order and a way one text of an input is shown, and a run over it ends in one way
 abbrev pub OneShown : Type 0

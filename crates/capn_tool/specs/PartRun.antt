@@ -5,16 +5,16 @@ use Rattle.capn_canon.specs.declared.form.Form.TheVariants as forms
 use Rattle.capn_serve.specs.declared.fault.RunFault.{RunFault}
 use Rattle.capn_serve.specs.declared.pick.StreamForm.{StreamForm}
 use Rattle.capn_serve.specs.declared.pick.StreamForm.TheVariants as streams
-use Rattle.capn_parts.specs.PartTexts.{refuses, serves}
-use Rattle.capn_parts.specs.ShowRun.{Shown}
-use Rattle.capn_parts.specs.declared.part_texts.PartTexts.{PartTexts}
+use Rattle.capn_commands.specs.PartTexts.{refuses, serves}
+use Rattle.capn_commands.specs.ShowRun.{Shown}
+use Rattle.capn_commands.specs.declared.part_texts.PartTexts.{PartTexts}
 use Rattle.capn_commands.specs.CommandRun.{unplaced}
 use Rattle.capn_commands.specs.OneMessage.{RefusesOne, WritesOne}
 use Rattle.capn_commands.specs.WholeRun.{RunsWhole}
 use Rattle.capn_commands.specs.declared.fault.ToolFault.{ToolFault}
 use Rattle.capn_commands.specs.declared.fault.ToolFault.TheVariants as faults
-use Rattle.capn_orders.specs.Way.{numbers_of}
-use Rattle.capn_orders.specs.declared.order.Show.{Show}
+use Rattle.capn_args.specs.Way.{numbers_of}
+use Rattle.capn_args.specs.declared.order.Show.{Show}
 
 -- how a run over messages ends, without the position of the message that is refused
 abbrev pub unplaced_end : Result (Unit {0}) RunFault → Result (Unit {0}) ToolFault

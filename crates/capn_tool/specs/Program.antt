@@ -12,28 +12,28 @@ use Rattle.capn_cmp.specs.FaultText.{cmp_text}
 use Rattle.capn_cmp.specs.declared.cmp_order.CmpOrder.{CmpOrder}
 use Rattle.capn_cmp.specs.declared.cmp_run.Comparison.{Comparison}
 use Rattle.capn_cmp.specs.declared.fault.CmpFault.{CmpFault}
-use Rattle.capn_endings.specs.Ending.{WritesEnding}
+use Rattle.capn_serve.specs.Ending.{WritesEnding}
 use Rattle.capn_serve.specs.PickRun.{Picks}
 use Rattle.capn_serve.specs.declared.fault.RunFault.TheVariants as run_faults
-use Rattle.capn_report.specs.ExplainRun.{Explained}
-use Rattle.capn_report.specs.RefusedRun.{ExplainedRefused}
-use Rattle.capn_report.specs.declared.fault.ReportFault.TheVariants as report_faults
-use Rattle.capn_flow.specs.declared.fault.FlowFault.TheVariants as flow_faults
+use Rattle.capn_explain.specs.ExplainRun.{Explained}
+use Rattle.capn_explain.specs.RefusedRun.{ExplainedRefused}
+use Rattle.capn_explain.specs.declared.fault.ReportFault.TheVariants as report_faults
+use Rattle.capn_commands.specs.declared.flow_fault.FlowFault.TheVariants as flow_faults
 use Rattle.capn_make.specs.declared.fault.MakeFault.TheVariants as make_faults
-use Rattle.capn_orders.specs.CommandLine.{program_line}
+use Rattle.capn_args.specs.CommandLine.{program_line}
 use Rattle.capn_tool.specs.CmpEnd.{Finds, cmp_status, io}
 use Rattle.capn_tool.specs.Course.{Course}
 use Rattle.capn_tool.specs.ExitStatus.{archive_status, flow_status, make_status, pick_status, report_status}
 use Rattle.capn_tool.specs.FaultText.{WritesArchiveEnding, WritesFlowEnding, WritesMakeEnding, WritesPickEnding}
 use Rattle.capn_tool.specs.FaultText.{WritesReportEnding}
 use Rattle.capn_tool.specs.Flushed.{CarriesOut, Flowed, MadeBy, RunOver, RunsFlushed}
-use Rattle.capn_orders.specs.Meaning.{MeansOrder}
+use Rattle.capn_args.specs.Meaning.{MeansOrder}
 use Rattle.capn_tool.specs.OnlyRun.{OnlyPicked}
 use Rattle.capn_tool.specs.PartRun.{PartsShown}
 use Rattle.capn_tool.specs.Unordered.{Unordered}
-use Rattle.capn_orders.specs.declared.order.Explanation.TheVariants as explanations
-use Rattle.capn_orders.specs.declared.order.Order.{Order}
-use Rattle.capn_orders.specs.declared.order.Order.TheVariants as orders
+use Rattle.capn_args.specs.declared.order.Explanation.TheVariants as explanations
+use Rattle.capn_args.specs.declared.order.Order.{Order}
+use Rattle.capn_args.specs.declared.order.Order.TheVariants as orders
 
 -- The words order this. It was carried out, from the input to the output. The status, and what was written to the
 -- errors, are those of how it ended.

@@ -5,16 +5,16 @@ use Rattle.clap.specs.Words.{Text, subcommand_of, takes}
 use Rattle.clap.specs.declared.error.ErrorKind.{ErrorKind}
 use Rattle.clap.specs.declared.error.ErrorKind.TheVariants as kinds
 use Rattle.capn_words.specs.Watched.{HasBegun}
-use Rattle.capn_endings.specs.Line.{WritesLine}
+use Rattle.capn_serve.specs.Line.{WritesLine}
 use Rattle.capn_commands.specs.ExitStatus.{status_of}
 use Rattle.capn_commands.specs.FaultText.{ReportsEnding, fault_line}
 use Rattle.capn_commands.specs.declared.fault.ToolFault.{ToolFault}
 use Rattle.capn_commands.specs.declared.fault.ToolFault.TheVariants as faults
-use Rattle.capn_orders.specs.CommandLine.{program_line}
+use Rattle.capn_args.specs.CommandLine.{program_line}
 use Rattle.capn_tool.specs.Course.{Course, IsUntouched}
-use Rattle.capn_orders.specs.Meaning.{MeansOrder}
-use Rattle.capn_orders.specs.Usage.{IsHelp, IsReason, version_line}
-use Rattle.capn_orders.specs.declared.order.Order.{Order}
+use Rattle.capn_args.specs.Meaning.{MeansOrder}
+use Rattle.capn_args.specs.Usage.{IsHelp, IsReason, version_line}
+use Rattle.capn_args.specs.declared.order.Order.{Order}
 
 -- Help was shown on the output, and ended so: a text of help was written, and the output has not failed; or a beginning
 -- of one, and it has failed; or nothing was, since memory was refused.

@@ -4,9 +4,9 @@ ghost use Rattle.std.specs.Prelude.{◌≡◌, false};
 ghost use Rattle.capn_words.specs.Watched.{inner_of, has_failed};
 ghost use Rattle.capn_tool.specs.Flushed.{Flowed, MadeBy};
 
-use capn_flow::{FlowFault, pack_stream, unpack_stream};
+use capn_args::{Flow, Make};
+use capn_commands::{FlowFault, pack_stream, unpack_stream};
 use capn_make::{MakeFault, make, make_texts};
-use capn_orders::{Flow, Make};
 use capn_words::Watched;
 use std::alloc::Global;
 use std::io::{Read, Write};

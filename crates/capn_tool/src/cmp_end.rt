@@ -8,8 +8,7 @@ ghost use Rattle.capn_tool.specs.Course.{course};
 
 use crate::output::flush_after;
 use capn_cmp::{CmpFault, Comparison};
-use capn_endings::{Ending, end};
-use capn_serve::RunFault;
+use capn_serve::{Ending, RunFault, end};
 use capn_words::Watched;
 use std::io::Write;
 

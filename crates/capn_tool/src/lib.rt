@@ -2,11 +2,11 @@
 //! Each run goes from all of the input to all of the output.
 //!
 //! [`program`] is all of it, from the words of the command line to the exit status, over any reader and writers.
-//! [`order_of`], of [`capn_orders`], reads the words. They order a command of [`capn_commands`]; that messages, or
+//! [`order_of`], of [`capn_args`], reads the words. They order a command of [`capn_commands`]; that messages, or
 //! parts of them, are shown in a style, by [`show_parts`]; that a message is explained, or each that is refused, by
-//! [`capn_report`]; a run over an archive, which is a stream of messages of any length, by [`capn_archive`] or
+//! [`capn_explain`]; a run over an archive, which is a stream of messages of any length, by [`capn_archive`] or
 //! [`capn_serve`]; that messages are compared, by [`capn_cmp`]; that bytes are packed or unpacked while they come in,
-//! by [`capn_flow`]; or that messages are made from texts, by [`capn_make`]. [`end`] reports how such a run ended.
+//! by [`capn_commands`]; or that messages are made from texts, by [`capn_make`]. [`end`] reports how such a run ended.
 //! [`command_of`] reads the words where they order a command of [`capn_commands`], and [`run`] carries it out.
 //!
 //! ```text
@@ -30,7 +30,7 @@ pub use part_run::show_parts;
 pub use program_run::program;
 
 // The command line: the words, and the order that they give.
-pub use capn_orders::{
+pub use capn_args::{
     Explanation, Flow, Make, Only, Order, Show, Usage, command_of, order_of, program_command,
 };
 
@@ -43,9 +43,9 @@ pub use capn_archive::{
 };
 pub use capn_canon::{Form, Limits, Refusal, Tariff};
 pub use capn_cmp::{CmpFault, CmpOrder, Comparison};
-pub use capn_flow::FlowFault;
+pub use capn_commands::FlowFault;
+pub use capn_explain::{Explain, ExplainRefused, ReportFault};
 pub use capn_make::{MakeFault, Misfit};
-pub use capn_report::{Explain, ExplainRefused, ReportFault};
 pub use capn_serve::{Pick, StreamForm};
 pub use capn_show::Style;
 pub use capn_value::Memory;

@@ -5,10 +5,9 @@ ghost use Rattle.capn_tool.specs.PartRun as spec;
 ghost use Rattle.capn_words.specs.Watched.{inner_of, has_failed};
 ghost use Rattle.capn_tool.specs.PartRun.{PartsShown};
 
+use capn_args::{Show, numbers_of};
 use capn_canon::Form;
-use capn_commands::{ToolFault, serve_one};
-use capn_orders::{Show, numbers_of};
-use capn_parts::{PartTexts, run_show};
+use capn_commands::{PartTexts, ToolFault, run_show, serve_one};
 use capn_serve::StreamForm;
 use capn_words::Watched;
 use std::alloc::Allocator;

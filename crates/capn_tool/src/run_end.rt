@@ -6,7 +6,7 @@ ghost use Rattle.capn_tool.specs.Course.{course};
 ghost use Rattle.capn_tool.specs.Flushed.{EndsRun};
 
 use crate::output::flush_after;
-use capn_endings::{Ending, end};
+use capn_serve::{Ending, end};
 use capn_words::Watched;
 use std::io::Write;
 

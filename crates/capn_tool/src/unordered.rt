@@ -3,16 +3,16 @@
 ghost use Rattle.std.specs.Prelude.{◌≡◌, false, IfOk, IfErr, string_bytes};
 ghost use Rattle.clap.specs.Words.{kind_of};
 ghost use Rattle.capn_words.specs.Watched.{inner_of, has_failed};
-ghost use Rattle.capn_endings.specs.Line.{WritesLine};
+ghost use Rattle.capn_serve.specs.Line.{WritesLine};
 ghost use Rattle.capn_commands.specs.FaultText.{fault_line};
 ghost use Rattle.capn_commands.specs.declared.fault.ToolFault.TheVariants as faults;
 ghost use Rattle.capn_tool.specs.Course.{course};
 ghost use Rattle.capn_tool.specs.Unordered.{EndsUnordered, ShowsHelp, ShowsVersion, WritesText};
-ghost use Rattle.capn_orders.specs.Usage.{WishesHelp, error_of};
+ghost use Rattle.capn_args.specs.Usage.{WishesHelp, error_of};
 
 use crate::output::{flush_after, write_all};
+use capn_args::{Usage, VERSION_LINE};
 use capn_commands::{ToolFault, end};
-use capn_orders::{Usage, VERSION_LINE};
 use capn_words::Watched;
 use std::alloc::{AllocError, Global};
 use std::io::Write;

@@ -4,11 +4,10 @@ use crate::runs::{command_line, tool_told};
 use anyhow::{Result, anyhow};
 use capn_archive::{run_archive, run_filter, run_uniq};
 use capn_cmp::run_cmp;
-use capn_endings::{Ending, end};
-use capn_flow::{FlowFault, pack_stream, unpack_stream};
+use capn_commands::{FlowFault, pack_stream, unpack_stream};
+use capn_explain::{ReportFault, run_explain, run_explain_refused};
 use capn_make::{MakeFault, make, make_texts};
-use capn_report::{ReportFault, run_explain, run_explain_refused};
-use capn_serve::run_pick;
+use capn_serve::{Ending, end, run_pick};
 use capn_tool::{
     ArchiveFault, CmpFault, Comparison, Explanation, Flow, Order, RunFault, order_of, pick_only,
     show_parts,

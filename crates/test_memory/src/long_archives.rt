@@ -3,7 +3,7 @@
 
 use capn_archive::{ArchiveFault, ArchiveOrder, Task, UniqOrder, run_archive, run_uniq};
 use capn_canon::Form;
-use capn_flow::pack_stream;
+use capn_commands::pack_stream;
 use capn_walk::Limits;
 use capn_words::Watched;
 use std::alloc::{AllocError, Global};

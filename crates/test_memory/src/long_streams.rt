@@ -5,7 +5,7 @@ use crate::subject::MOST;
 use capn_archive::{ArchiveOrder, FilterOrder, Task, UniqOrder, run_archive, run_filter, run_uniq};
 use capn_canon::Form;
 use capn_cmp::{CmpOrder, Comparison, run_cmp};
-use capn_flow::{pack_stream, unpack_stream};
+use capn_commands::{pack_stream, unpack_stream};
 use capn_serve::{Pick, StreamForm, run_pick};
 use capn_walk::Limits;
 use capn_words::Watched;

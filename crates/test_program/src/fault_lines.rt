@@ -1,7 +1,7 @@
 //! The lines written at the end of runs.
 
 use crate::broken::Short;
-use capn_endings::{Line, end};
+use capn_serve::{Line, end};
 use capn_tool::{
     ArchiveFault, FlowFault, MakeFault, Position, Refusal, ReportFault, RunFault, Skipped, Watched,
 };

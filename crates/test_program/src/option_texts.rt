@@ -1,6 +1,6 @@
 //! Values of options, read as numbers and ranges.
 
-use capn_orders::{numbers_of, ranges_in};
+use capn_args::{numbers_of, ranges_in};
 use capn_serve::Range;
 use std::process::Abort;
 

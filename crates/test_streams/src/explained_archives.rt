@@ -1,7 +1,7 @@
 //! Work and memory for the messages of an archive of which one is explained.
 
 use capn_canon::{Form, Limits};
-use capn_report::{Explain, run_explain};
+use capn_explain::{Explain, run_explain};
 use capn_serve::RunFault;
 use capn_words::Watched;
 use std::alloc::{AllocError, Allocator, Global};

@@ -1,7 +1,7 @@
 //! Runs that explain messages which were made by hand.
 
 use capn_canon::{BareFault, Form, FrameFault, Limits, Refusal};
-use capn_report::{Explain, run_explain};
+use capn_explain::{Explain, run_explain};
 use capn_serve::{Position, RunFault};
 use capn_walk::{Fault, Stopped};
 use capn_words::{Place, Watched};

@@ -1,6 +1,6 @@
 //! Handmade streams, packed and unpacked.
 
-use capn_flow::{FlowFault, pack_stream, unpack_stream};
+use capn_commands::{FlowFault, pack_stream, unpack_stream};
 use capn_words::Watched;
 use std::test::Fail;
 

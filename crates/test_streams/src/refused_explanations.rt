@@ -2,7 +2,7 @@
 
 use crate::explanations::{FIRST, FOURTH, FRAMES, Once, SECOND};
 use capn_canon::{BareFault, Form, FrameFault, Limits, Refusal};
-use capn_report::{ExplainRefused, ReportFault, run_explain_refused};
+use capn_explain::{ExplainRefused, ReportFault, run_explain_refused};
 use capn_serve::{Position, RunFault, Skipped};
 use capn_words::Watched;
 use std::alloc::{Allocator, Global};

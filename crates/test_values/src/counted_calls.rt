@@ -4,7 +4,7 @@ ghost use Rattle.std.specs.Prelude.{◌≡◌};
 
 use crate::words::bytes_of;
 use capn_canon::{canonical_into, canonical_length, canonical_of};
-use capn_explain::explain_stop;
+use capn_diagnostics::explain_stop;
 use capn_stream::first;
 use capn_walk::{Entry, Limits, index_into, survey};
 use capn_words::{Place, Space};

@@ -2,7 +2,7 @@
 
 use crate::words::bytes_of;
 use capn_canon::{MeasuredBare, SurveyedBare, measure};
-use capn_departure::{lines_of_measured, measure_surveyed};
+use capn_mismatch::{lines_of_measured, measure_surveyed};
 use capn_walk::{Limits, survey_depth};
 use capn_words::Bare;
 use std::alloc::Global;

@@ -2,7 +2,7 @@
 
 use crate::words::bytes_of;
 use capn_canon::Refusal;
-use capn_departure::{Departure, Whose, departure};
+use capn_mismatch::{Departure, Whose, departure};
 use capn_stream::first;
 use capn_walk::{Fault, Limits};
 use capn_words::Bare;

@@ -1,7 +1,7 @@
 //! The whole texts of messages that walks refuse.
 
 use crate::words::bytes_of;
-use capn_explain::explain_stop;
+use capn_diagnostics::explain_stop;
 use capn_stream::first;
 use capn_walk::{Limits, survey};
 use capn_words::{Bare, MOST_MESSAGE_WORDS};

@@ -1,7 +1,7 @@
 //! The texts of explanations of messages.
 
 use crate::words::bytes_of;
-use capn_explain::{PointerText, SlotText, TagText, WayText, WordText, place_byte};
+use capn_diagnostics::{PointerText, SlotText, TagText, WayText, WordText, place_byte};
 use capn_words::{Bare, Place};
 use std::alloc::Global;
 use std::fmt;

@@ -1,8 +1,8 @@
 //! Ways to slots of messages, visited or refused.
 
 use crate::words::bytes_of;
+use capn_path::{way_of_refusal, way_of_stop, way_of_visit};
 use capn_walk::{Fault, Limits, survey};
-use capn_way::{way_of_refusal, way_of_stop, way_of_visit};
 use capn_words::{Bare, Place};
 use std::alloc::Global;
 use std::test::Fail;

@@ -5,12 +5,12 @@ use Rattle.capn_walk.specs.Accepted.{IsBounded, IsWalkRefused}
 use Rattle.capn_walk.specs.Limits.{Bounds}
 use Rattle.capn_walk.specs.Surveyed.{IsSurvey}
 use Rattle.capn_walk.specs.declared.walk_answer.Stopped.{Stopped}
-use Rattle.capn_way.specs.Ways.{IsRefusedAt}
-use Rattle.capn_way.specs.declared.refusal.Refused.{Refused}
+use Rattle.capn_path.specs.Ways.{IsRefusedAt}
+use Rattle.capn_path.specs.declared.refusal.Refused.{Refused}
 use Rattle.capn_canon.specs.Refusal.{IsPaidWithin, IsUnaccepted}
 use Rattle.capn_canon.specs.declared.refusal.Refusal.{Refusal}
 use Rattle.capn_canon.specs.declared.refusal.Refusal.TheVariants as refusals
-use Rattle.capn_departure.specs.Departures.{Departs, IsDeparture}
+use Rattle.capn_mismatch.specs.Departures.{Departs, IsDeparture}
 use Rattle.capn_answers.specs.Walked.{IsWalkedWithin}
 use Rattle.capn_answers.specs.declared.departure_input.SurveyedDeparture.{SurveyedDeparture}
 use Rattle.capn_answers.specs.declared.walked.Walked.{Walked}

@@ -16,9 +16,9 @@ use Rattle.capn_scratch.specs.Laws.{most_scratch}
 use Rattle.capn_scratch.specs.Needs.{HasScratch}
 use Rattle.capn_scratch.specs.declared.refusal.FormRefusal.{FormRefusal}
 use Rattle.capn_scratch.specs.declared.refusal.FormRefusal.TheVariants as told
-use Rattle.capn_reports.specs.Calls.{Delivers}
-use Rattle.capn_reports.specs.StatusCodes.{Reports, answered, at_number}
-use Rattle.capn_reports.specs.declared.report.CapnReport.{CapnReport}
+use Rattle.capn_abi.specs.Calls.{Delivers}
+use Rattle.capn_abi.specs.StatusCodes.{Reports, answered, at_number}
+use Rattle.capn_abi.specs.declared.report.CapnReport.{CapnReport}
 use Rattle.capn_c.specs.Lent.{LacksScratch, is_lent_status}
 
 -- the status and the report of a refusal

@@ -1,5 +1,5 @@
 -- The canonical bytes of a value are a bare message: its words are below 2^64 and few enough. (For `CanonicalWords`,
--- `DepthOfCanonical`, `EqualExactlySame` and capn_departure.)
+-- `DepthOfCanonical`, `EqualExactlySame` and capn_mismatch.)
 use Rattle.std.proofs.Common.{◌≡◌, ℕ, zero, suc, ◌+◌, ◌-◌, ◌*◌, ◌/◌, ◌^◌, ◌<◌, ◌≤◌, ◌==◌, ◌&&◌, List}
 use Rattle.std.proofs.Common.{[], ◌∷◌, ◌++◌, length, take, drop, pos, refl, arith}
 use Rattle.std.proofs.Math.Nat.{pow-succ', pow-zero, one-le-pow, mul-le-mul_left}

@@ -1,5 +1,5 @@
 -- The number of words that the canonical layout of a value takes. (For `message_layout.rt`, `object_layout.rt`,
--- `tree_layout.rt`, capn_c, capn_canon and capn_departure.)
+-- `tree_layout.rt`, capn_c, capn_canon and capn_mismatch.)
 use Rattle.std.proofs.Common.{◌≡◌, ℕ, suc, ◌+◌, ◌*◌, ◌^◌, ◌≤◌, ◌∷◌, length, refl, arith}
 use Rattle.std.proofs.lemmas.Bool.Decides.{nat_tests}
 use Rattle.capn_value.specs.Tree.{Tree, nil, node, voids, numbers, links, rows, cap, Trees}

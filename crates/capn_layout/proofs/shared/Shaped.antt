@@ -1,4 +1,4 @@
--- The value inside content of a shape. (For `item`, capn_canon and capn_departure.)
+-- The value inside content of a shape. (For `item`, capn_canon and capn_mismatch.)
 use Rattle.std.proofs.Common.{◌≡◌, ℕ, suc, ◌+◌, List, length, take, Ok, refl, subst, arith}
 use Rattle.capn_words.specs.declared.space.Place.{Place}
 use Rattle.capn_words.specs.declared.pointer.Width.{Width}

@@ -1,4 +1,4 @@
--- A value that fits and is in range is sound. (For `layout`, capn_c, capn_canon and capn_departure.)
+-- A value that fits and is in range is sound. (For `layout`, capn_c, capn_canon and capn_mismatch.)
 use Rattle.std.proofs.Common.{◌≡◌, ℕ, zero, suc, ◌+◌, ◌*◌, ◌^◌, ◌<◌, ◌≤◌, ◌==◌, ◌&&◌, nat_lt, true, false, List, []}
 use Rattle.std.proofs.Common.{◌∷◌, length, arith}
 use Rattle.std.proofs.lemmas.Bool.{or_parts, and_parts, eqb-true, ltb-false, not-false}

@@ -1,5 +1,5 @@
 -- Each text is a row of whole groups and a rest that no group begins, in one way. (For `splitting`, capn_commands,
--- capn_flow and capn_serve.)
+-- capn_commands and capn_serve.)
 use Rattle.std.proofs.Common.{◌≡◌, ◌⊎◌, inl, inr, ℕ, zero, suc, ◌+◌, ◌*◌, ◌/◌, ◌%◌, ◌^◌, ◌<◌, ◌≤◌, List, [], ◌∷◌}
 use Rattle.std.proofs.Common.{◌++◌, length, take, drop, get_or, slice_range, refl, ap, sym, ◌∙◌, arith}
 use Rattle.std.proofs.Common.{append_assoc, length-append, length-drop, take-append-drop}

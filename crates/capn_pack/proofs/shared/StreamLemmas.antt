@@ -1,4 +1,4 @@
--- Groups at the front of a stream. (For `feed_begun`, `join_first`, `take_groups`, capn_flow and capn_serve.)
+-- Groups at the front of a stream. (For `feed_begun`, `join_first`, `take_groups`, capn_commands and capn_serve.)
 use Rattle.std.proofs.Common.{◌≡◌, ℕ, ◌+◌, ◌-◌, ◌<◌, ◌≤◌, ◌⊎◌, inl, inr, List}
 use Rattle.std.proofs.Common.{[], ◌∷◌, ◌++◌, length, take, drop, slice_range, refl, sym, ap, ◌∙◌, subst, arith}
 use Rattle.std.proofs.Common.{append_assoc, length-append, take-append-drop, length-take, take_all}

@@ -1,4 +1,4 @@
--- Content that a pointer names lies inside its segment, which exists. (For `resolve`, capn_canon, capn_explain and
+-- Content that a pointer names lies inside its segment, which exists. (For `resolve`, capn_canon, capn_diagnostics and
 -- other crates.)
 use Rattle.std.proofs.Common.{◌≡◌, ℕ, ◌+◌, ◌<◌, ◌≤◌, List, length, Result, Ok, Err, IfOk}
 use Rattle.capn_words.specs.Message.{segment_at}

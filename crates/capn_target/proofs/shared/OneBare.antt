@@ -1,4 +1,4 @@
--- A message of one segment is what its bytes are read as. (For `only_segment`, capn_c, capn_canon and capn_departure.)
+-- A message of one segment is what its bytes are read as. (For `only_segment`, capn_c, capn_canon and capn_mismatch.)
 use Rattle.std.proofs.Common.{◌≡◌, ℕ, ◌*◌, List, [], ◌∷◌, length, refl, ap, sym, ◌∙◌, arith, Option}
 use Rattle.std.proofs.Common.{Some, None}
 use Rattle.std.specs.Option.{unwrap_or}

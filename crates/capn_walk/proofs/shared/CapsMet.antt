@@ -1,5 +1,5 @@
 -- The first capability of a value is that of the first visit of one, where no visit is a fault. (For `RootSurveys` and
--- capn_departure.)
+-- capn_mismatch.)
 use Rattle.std.proofs.Common.{◌≡◌, ℕ, zero, suc, ◌+◌, ◌-◌, List, [], ◌∷◌, ◌++◌, length, Option, Some, None, Ok, refl}
 use Rattle.std.proofs.Common.{ap, ap₂, ◌∙◌, arith}
 use Rattle.std.specs.List.{flat_map}

@@ -1,5 +1,5 @@
 -- A walk pays at least the cost of the value that it finds, and its depth is at least the height. (For `CapsMet`,
--- `Depths`, `Exists`, capn_canon and capn_departure.)
+-- `Depths`, `Exists`, capn_canon and capn_mismatch.)
 use Rattle.std.proofs.Common.{◌≡◌, ◌≢◌, ℕ, zero, suc, ◌+◌, ◌-◌, ◌*◌, ◌<◌, ◌≤◌, ◌==◌, List, [], ◌∷◌, ◌++◌, length}
 use Rattle.std.proofs.Common.{refl, ap, ◌∙◌, arith, cond, if◌then◌else◌}
 use Rattle.std.specs.List.{flat_map}

@@ -1,5 +1,5 @@
 -- The value at the root of an accepted message fits, costs at most what was paid, and is no higher than the depth
--- limit. (For `Answering`, `RootWalks`, capn_c, capn_canon and capn_departure.)
+-- limit. (For `Answering`, `RootWalks`, capn_c, capn_canon and capn_mismatch.)
 use Rattle.std.proofs.Common.{◌≡◌, inl, inr, ℕ, suc, ◌+◌, ◌*◌, ◌^◌, ◌<◌, ◌≤◌, ◌==◌, ◌&&◌, ◌||◌, Bool, true, false, List}
 use Rattle.std.proofs.Common.{[], ◌∷◌, length, refl, ap, arith}
 use Rattle.std.proofs.lemmas.Bool.{or_from, and_from, and_parts, eqb-true, eq-eqb, le-ltb, not_from_true}

@@ -1,5 +1,5 @@
 -- Every number of a value at a place of a message is in its range. (For `values`, `walk_counted`, capn_c, capn_canon
--- and capn_departure.)
+-- and capn_mismatch.)
 use Rattle.std.proofs.Common.{ℕ, zero, suc, ◌+◌, ◌/◌, ◌%◌, ◌^◌, ◌<◌, List, [], ◌∷◌, length, drop, slice_index, sym}
 use Rattle.std.proofs.Common.{subst, arith}
 use Rattle.std.proofs.Math.Nat.{mod-lt}

@@ -1,4 +1,4 @@
--- The state of a walk over rows. (For the cycle `walk`, capn_canon, capn_departure and other crates.)
+-- The state of a walk over rows. (For the cycle `walk`, capn_canon, capn_mismatch and other crates.)
 use Rattle.std.proofs.Common.{◌≡◌, ◌⊎◌, inl, inr, ℕ, zero, suc, ◌+◌, ◌-◌, ◌*◌, ◌<◌, ◌≤◌, List, [], ◌∷◌, ◌++◌, length}
 use Rattle.std.proofs.Common.{take, refl, ap, sym, subst, ◌∙◌, arith, append_assoc}
 use Rattle.std.specs.List.{flat_map}

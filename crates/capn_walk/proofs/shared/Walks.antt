@@ -1,5 +1,5 @@
 -- The state of a walk over slots. (For the cycle `index_slots`, the cycle `walk`, `targets`, `visit_found`, capn_canon
--- and capn_departure.)
+-- and capn_mismatch.)
 use Rattle.std.proofs.Common.{◌≡◌, ◌⊎◌, inl, inr, ℕ, zero, suc, ◌+◌, ◌-◌, ◌<◌, ◌≤◌, List, [], ◌∷◌, ◌++◌, length, take}
 use Rattle.std.proofs.Common.{Ok, Err, refl, ap, ap₂, sym, ◌∙◌, arith}
 use Rattle.std.proofs.lemmas.List.{append-nil}

@@ -1,5 +1,5 @@
 -- Choices by a test: what holds of them, and which branch they are. The library of the toolchain has no such lemmas.
--- (For `FieldBits`, `Pointers`, capn_canon, capn_departure and other crates.)
+-- (For `FieldBits`, `Pointers`, capn_canon, capn_mismatch and other crates.)
 use Rattle.std.proofs.Common.{◌≡◌, ◌≢◌, ℕ, ◌<◌, ◌≤◌, ◌==◌, nat_lt, Bool, true, false, refl, arith, if◌then◌else◌}
 use Rattle.std.proofs.lemmas.Bool.Decides.{nat_tests}
 

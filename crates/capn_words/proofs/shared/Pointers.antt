@@ -1,5 +1,5 @@
 -- A pointer that fits has one word, of which `pointer_of` reads it, and no other pointer has that word. (For `join`,
--- `split`, capn_canon and capn_departure.)
+-- `split`, capn_canon and capn_mismatch.)
 use Rattle.std.proofs.Common.{◌≡◌, ◌≢◌, ℕ, ◌+◌, ◌*◌, ◌/◌, ◌%◌, ◌^◌, ◌<◌, ◌==◌, Bool, ℤ, refl, ap, ◌∙◌, arith}
 use Rattle.std.specs.Int.{from_bool}
 use Rattle.capn_words.specs.Pointers.{Fields, FitsFields, FitsOffset, offset_field, width_code, word_of, field, signed}

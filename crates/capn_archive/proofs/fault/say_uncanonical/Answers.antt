@@ -1,4 +1,4 @@
-use Rattle.capn_endings.proofs.shared.Said.{both}
+use Rattle.capn_serve.proofs.shared.Said.{both}
 use Rattle.capn_archive.proofs.fault.say_uncanonical.Goals as goal
 
 pub returns : goal.returns

@@ -4,7 +4,7 @@ use Rattle.capn_walk.specs.Limits.{Bounds}
 use Rattle.capn_canon.specs.declared.form.Form.{Form}
 use Rattle.capn_canon.specs.Denotes.{Denotes}
 use Rattle.capn_canon.specs.Canonicity.{IsCanonicalForm}
-use Rattle.capn_reports.specs.Calls.{bounds_of}
+use Rattle.capn_abi.specs.Calls.{bounds_of}
 use Rattle.capn_c.proofs.canonical_call.capn_canonical.Goals as goal
 
 pub returns-else-is_empty-clause-canonical : goal.returns-else-is_empty-clause-canonical

@@ -2,8 +2,8 @@
 -- out.
 use Rattle.std.proofs.Common.{inl, ap, sym, refl, ◌∙◌, arith, Err}
 use Rattle.capn_canon.specs.Layout.{canon}
-use Rattle.capn_reports.specs.declared.report.CapnReport.{CapnReport}
-use Rattle.capn_reports.specs.StatusCodes.{code}
+use Rattle.capn_abi.specs.declared.report.CapnReport.{CapnReport}
+use Rattle.capn_abi.specs.StatusCodes.{code}
 use Rattle.capn_c.proofs.OutOfMemory.{unaccepted_memory}
 use Rattle.capn_c.proofs.canonical_call.survey_length.Goals as goal
 

@@ -1,7 +1,7 @@
 -- What is said of the canonical bytes is said of the bytes in the buffer.
 use Rattle.std.proofs.Common.{rules, List, ℕ, inr, ap, sym, subst, ◌∙◌, Err}
 use Rattle.capn_canon.specs.Canonicity.{IsCanonicalForm}
-use Rattle.capn_reports.specs.Calls.{Delivers}
+use Rattle.capn_abi.specs.Calls.{Delivers}
 use Rattle.capn_c.proofs.Delivered.{in_buffer}
 use Rattle.capn_c.proofs.OutOfMemory.{refused_memory}
 use Rattle.capn_c.proofs.canonical_fill.fill_copied.Goals as goal

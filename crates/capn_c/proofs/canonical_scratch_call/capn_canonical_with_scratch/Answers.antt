@@ -2,9 +2,9 @@
 use Rattle.std.proofs.Common.{◌≡◌, ℕ, List, length, subst}
 use Rattle.capn_walk.specs.Limits.{Bounds}
 use Rattle.capn_canon.specs.declared.form.Form.{Form}
-use Rattle.capn_reports.specs.Calls.{bounds_of, form_named}
-use Rattle.capn_reports.specs.declared.limits.CapnLimits.{CapnLimits}
-use Rattle.capn_reports.specs.declared.report.CapnReport.{CapnReport}
+use Rattle.capn_abi.specs.Calls.{bounds_of, form_named}
+use Rattle.capn_abi.specs.declared.limits.CapnLimits.{CapnLimits}
+use Rattle.capn_abi.specs.declared.report.CapnReport.{CapnReport}
 use Rattle.capn_c.specs.inner.Lent.{IsLent}
 use Rattle.capn_c.proofs.canonical_scratch_call.capn_canonical_with_scratch.Goals as goal
 

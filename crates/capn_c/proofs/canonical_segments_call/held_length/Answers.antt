@@ -2,7 +2,7 @@
 use Rattle.std.proofs.Common.{ap, sym, refl, ◌∙◌, arith}
 use Rattle.capn_canon.specs.Layout.{canon}
 use Rattle.capn_segments.specs.Segments.{message_of}
-use Rattle.capn_reports.specs.declared.report.CapnReport.{CapnReport}
+use Rattle.capn_abi.specs.declared.report.CapnReport.{CapnReport}
 use Rattle.capn_c.proofs.OutOfMemory.{unaccepted_held_memory}
 use Rattle.capn_c.proofs.canonical_segments_call.held_length.Goals as goal
 

@@ -1,7 +1,7 @@
 -- What is reported of a frame that comes first, and of one that is not whole.
 use Rattle.std.proofs.Common.{inl, inr, ap, refl, sym, ◌∙◌, Err}
-use Rattle.capn_reports.specs.declared.report.CapnReport.{CapnReport}
-use Rattle.capn_reports.specs.StatusCodes.{frame_code}
+use Rattle.capn_abi.specs.declared.report.CapnReport.{CapnReport}
+use Rattle.capn_abi.specs.StatusCodes.{frame_code}
 use Rattle.capn_c.proofs.Least.{frame_memory, needed_told}
 use Rattle.capn_c.proofs.first_call.frame.Goals as goal
 

@@ -3,7 +3,7 @@ use Rattle.std.proofs.Common.{inl, inr, refl, ap, sym, ◌∙◌, Err}
 use Rattle.sha2.specs.Sha256.{sha256}
 use Rattle.capn_canon.proofs.shared.NotRefused.{not_refused}
 use Rattle.capn_canon.proofs.shared.OneReading.{answers_only}
-use Rattle.capn_reports.specs.StatusCodes.{code}
+use Rattle.capn_abi.specs.StatusCodes.{code}
 use Rattle.capn_c.proofs.OutOfMemory.{refused_memory}
 use Rattle.capn_c.proofs.hash_call.hash.Goals as goal
 

@@ -4,7 +4,7 @@ use Rattle.capn_walk.specs.Limits.{Bounds}
 use Rattle.capn_canon.specs.declared.form.Form.{Form}
 use Rattle.capn_canon.specs.Denotes.{Denotes}
 use Rattle.capn_canon.specs.MemoryNeed.{MayNeedMemory}
-use Rattle.capn_reports.specs.Calls.{bounds_of}
+use Rattle.capn_abi.specs.Calls.{bounds_of}
 use Rattle.capn_c.proofs.OutOfMemory.{flat_needs}
 use Rattle.capn_c.proofs.index_call.capn_index.Goals as goal
 

@@ -4,7 +4,7 @@ use Rattle.capn_walk.specs.Index.{index_of}
 use Rattle.capn_canon.specs.declared.form.Form.TheVariants as forms
 use Rattle.capn_canon.proofs.shared.NotUnaccepted.{not_unaccepted, unaccepted_message}
 use Rattle.capn_c.specs.Entries.{c_index}
-use Rattle.capn_reports.specs.StatusCodes.{code}
+use Rattle.capn_abi.specs.StatusCodes.{code}
 use Rattle.capn_c.proofs.OfMessage.{value_of}
 use Rattle.capn_c.proofs.message_index.index_many.Goals as goal
 

@@ -1,6 +1,6 @@
 -- The index has as many entries as the survey has visits; what is accepted is refused only if memory runs out.
 use Rattle.std.proofs.Common.{inr, ap, sym, ◌∙◌, arith}
-use Rattle.capn_reports.specs.StatusCodes.{code}
+use Rattle.capn_abi.specs.StatusCodes.{code}
 use Rattle.capn_c.proofs.Counted.{many_entries}
 use Rattle.capn_c.proofs.OutOfMemory.{message_memory}
 use Rattle.capn_c.proofs.message_index.index_message.Goals as goal

@@ -1,6 +1,6 @@
 -- The text of the packer is the one that is delivered.
 use Rattle.std.proofs.Common.{inr, subst, rules, arith}
-use Rattle.capn_reports.specs.Calls.{Delivers}
+use Rattle.capn_abi.specs.Calls.{Delivers}
 use Rattle.capn_c.proofs.pack_calls.capn_pack.Goals as goal
 
 pub returns-in-Ok-clause-only : goal.returns-in-Ok-clause-only

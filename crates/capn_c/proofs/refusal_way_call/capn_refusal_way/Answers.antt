@@ -3,7 +3,7 @@ use Rattle.std.proofs.Common.{sym, subst}
 use Rattle.capn_walk.specs.Limits.{Bounds}
 use Rattle.capn_canon.specs.declared.form.Form.{Form}
 use Rattle.capn_canon.specs.Denotes.{Denotes}
-use Rattle.capn_reports.specs.Calls.{bounds_of}
+use Rattle.capn_abi.specs.Calls.{bounds_of}
 use Rattle.capn_c.proofs.refusal_way_call.capn_refusal_way.Goals as goal
 
 pub returns-in-Ok-clause-only : goal.returns-in-Ok-clause-only

@@ -3,9 +3,9 @@ use Rattle.std.proofs.Common.{ℕ, List, length, inr, ap, sym, subst, ◌∙◌,
 use Rattle.std.specs.Bool.{IsTrue}
 use Rattle.capn_walk.specs.Accepted.{IsBounded}
 use Rattle.capn_answers.proofs.shared.Reading.{unread_unaccepted, unread_within}
-use Rattle.capn_reports.specs.StatusCodes.{code, is_status}
+use Rattle.capn_abi.specs.StatusCodes.{code, is_status}
 use Rattle.capn_c.specs.WayNumbers.{TellsWay}
-use Rattle.capn_reports.specs.declared.report.CapnReport.{CapnReport}
+use Rattle.capn_abi.specs.declared.report.CapnReport.{CapnReport}
 use Rattle.capn_c.proofs.Digests.{unaccepted_refused}
 use Rattle.capn_c.proofs.Listed.{refused_listed}
 use Rattle.capn_c.proofs.OutOfMemory.{unaccepted_memory}

@@ -2,7 +2,7 @@
 use Rattle.std.proofs.Common.{sym, subst}
 use Rattle.capn_walk.specs.Limits.{Bounds}
 use Rattle.capn_canon.specs.declared.form.Form.{Form}
-use Rattle.capn_reports.specs.Calls.{bounds_of}
+use Rattle.capn_abi.specs.Calls.{bounds_of}
 use Rattle.capn_c.specs.Compared.{DenoteBoth}
 use Rattle.capn_c.proofs.same_call.capn_same.Goals as goal
 

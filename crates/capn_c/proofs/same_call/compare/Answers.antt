@@ -7,7 +7,7 @@ use Rattle.capn_canon.specs.MemoryNeed.{MayNeedMemory}
 use Rattle.capn_canon.specs.declared.refusal.Refusal.{Refusal}
 use Rattle.capn_canon.proofs.shared.NotRefused.{not_refused}
 use Rattle.capn_answers.specs.MemoryAsked.{MayAsk}
-use Rattle.capn_reports.specs.StatusCodes.{code}
+use Rattle.capn_abi.specs.StatusCodes.{code}
 use Rattle.capn_c.specs.Compared.{named}
 use Rattle.capn_c.specs.inner.Told.{IsCompared}
 use Rattle.capn_c.proofs.Comparisons.{same_only, told_in}

@@ -1,8 +1,8 @@
 -- The bytes have one text; what is accepted is refused only if memory runs out.
 use Rattle.std.proofs.Common.{rules, List, ℕ, inl, inr, ap, sym, subst, ◌∙◌, Err}
 use Rattle.capn_canon.proofs.shared.NotUnaccepted.{not_unaccepted}
-use Rattle.capn_reports.specs.Calls.{Delivers}
-use Rattle.capn_reports.specs.StatusCodes.{code}
+use Rattle.capn_abi.specs.Calls.{Delivers}
+use Rattle.capn_abi.specs.StatusCodes.{code}
 use Rattle.capn_c.proofs.OutOfMemory.{unaccepted_memory}
 use Rattle.capn_c.proofs.Shown.{text_only}
 use Rattle.capn_c.proofs.show_call.show_in.Goals as goal

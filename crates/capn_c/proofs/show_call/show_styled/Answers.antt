@@ -1,7 +1,7 @@
 -- The style is the one that the number names.
 use Rattle.std.proofs.Common.{◌≡◌, ◌⊎◌, subst}
 use Rattle.capn_show.specs.declared.style.Style.{Style}
-use Rattle.capn_reports.specs.Calls.{Delivers}
+use Rattle.capn_abi.specs.Calls.{Delivers}
 use Rattle.capn_c.specs.Shown.{message_text}
 use Rattle.capn_c.proofs.show_call.show_styled.Goals as goal
 

@@ -1,7 +1,7 @@
 -- What is accepted is refused only if memory runs out, for which the status is 8.
 use Rattle.std.proofs.Common.{inr, ap, sym, ◌∙◌, Err}
 use Rattle.capn_canon.proofs.shared.NotUnaccepted.{not_unaccepted}
-use Rattle.capn_reports.specs.StatusCodes.{code}
+use Rattle.capn_abi.specs.StatusCodes.{code}
 use Rattle.capn_c.proofs.OutOfMemory.{unaccepted_memory}
 use Rattle.capn_c.proofs.survey_call.survey_in.Goals as goal
 

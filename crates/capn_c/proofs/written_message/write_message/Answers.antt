@@ -8,8 +8,8 @@ use Rattle.capn_canon.specs.Layout.{canon}
 use Rattle.capn_canon.specs.Theorem.{RefusedInto}
 use Rattle.capn_canon.specs.declared.message_refusal.IntoRefusal.{IntoRefusal}
 use Rattle.capn_canon.proofs.shared.NotRefused.{accepted-not_refused}
-use Rattle.capn_reports.specs.Calls.{IsWritten}
-use Rattle.capn_reports.specs.declared.report.CapnReport.{CapnReport}
+use Rattle.capn_abi.specs.Calls.{IsWritten}
+use Rattle.capn_abi.specs.declared.report.CapnReport.{CapnReport}
 use Rattle.capn_c.proofs.OutOfMemory.{stopped_memory}
 use Rattle.capn_c.proofs.Short.{short}
 use Rattle.capn_c.proofs.written_message.write_message.Goals as goal

@@ -1,6 +1,6 @@
 use Rattle.std.proofs.Common.{◌∙◌, ap, sym}
 use Rattle.std.specs.Fmt.{decimal}
-use Rattle.capn_endings.proofs.shared.Said.{both}
+use Rattle.capn_serve.proofs.shared.Said.{both}
 use Rattle.capn_serve.proofs.refusal_line.say_place.Goals as goal
 
 pub returns : goal.returns

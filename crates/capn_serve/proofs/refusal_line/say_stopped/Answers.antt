@@ -1,5 +1,5 @@
 use Rattle.std.proofs.Common.{sym}
-use Rattle.capn_endings.proofs.shared.Said.{both}
+use Rattle.capn_serve.proofs.shared.Said.{both}
 use Rattle.capn_serve.proofs.refusal_line.say_stopped.Goals as goal
 
 pub returns : goal.returns

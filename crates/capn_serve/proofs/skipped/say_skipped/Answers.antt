@@ -1,4 +1,4 @@
-use Rattle.capn_endings.proofs.shared.Said.{both}
+use Rattle.capn_serve.proofs.shared.Said.{both}
 use Rattle.capn_serve.proofs.skipped.say_skipped.Goals as goal
 
 pub returns : goal.returns

@@ -1,5 +1,5 @@
 use Rattle.std.proofs.Common.{◌∙◌, sym}
-use Rattle.capn_parts.proofs.shared.OneShown.{one_shown}
+use Rattle.capn_commands.proofs.shared.OneShown.{one_shown}
 use Rattle.capn_tool.proofs.laws.one_text.Goals as goal
 
 pub returns : goal.returns

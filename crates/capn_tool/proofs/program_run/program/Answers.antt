@@ -1,10 +1,10 @@
 use Rattle.std.proofs.Common.{inl, inr, map, subst}
 use Rattle.clap.specs.Words.{subcommand_of}
 use Rattle.capn_make.specs.declared.fault.MakeFault.TheVariants as make_faults
-use Rattle.capn_orders.specs.CommandLine.{program_line}
-use Rattle.capn_orders.specs.Meaning.{MeansOrder}
-use Rattle.capn_orders.specs.declared.order.Order.{Order}
-use Rattle.capn_orders.specs.declared.order.Order.TheVariants as orders
+use Rattle.capn_args.specs.CommandLine.{program_line}
+use Rattle.capn_args.specs.Meaning.{MeansOrder}
+use Rattle.capn_args.specs.declared.order.Order.{Order}
+use Rattle.capn_args.specs.declared.order.Order.TheVariants as orders
 use Rattle.capn_tool.specs.Flushed.{MadeBy}
 use Rattle.capn_tool.proofs.EndedOrders.{ended}
 use Rattle.capn_tool.proofs.program_run.program.Goals as goal

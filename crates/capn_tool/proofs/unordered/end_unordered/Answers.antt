@@ -1,6 +1,6 @@
 use Rattle.std.proofs.Common.{refl}
 use Rattle.clap.specs.Words.{kind_of}
-use Rattle.capn_orders.specs.Usage.{error_of}
+use Rattle.capn_args.specs.Usage.{error_of}
 use Rattle.capn_tool.proofs.UnorderedEnds.{ends_help, ends_memory, ends_mistake, ends_version}
 use Rattle.capn_tool.proofs.unordered.end_unordered.Goals as goal
 

@@ -1,5 +1,5 @@
 use Rattle.std.proofs.Common.{sym, subst}
-use Rattle.capn_orders.specs.Usage.{IsHelp}
+use Rattle.capn_args.specs.Usage.{IsHelp}
 use Rattle.capn_tool.proofs.Shown.{help_not_shown, help_shown}
 use Rattle.capn_tool.proofs.unordered.show_help.Goals as goal
 

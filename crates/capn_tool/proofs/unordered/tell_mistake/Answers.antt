@@ -1,7 +1,7 @@
 use Rattle.std.proofs.Common.{inl, inr, Result, Ok, Err, IfOk, IfErr, string_bytes, String}
 use Rattle.capn_tool.specs.Course.{Course}
 use Rattle.capn_tool.specs.Unordered.{WritesText}
-use Rattle.capn_endings.specs.Line.{WritesLine}
+use Rattle.capn_serve.specs.Line.{WritesLine}
 use Rattle.capn_commands.specs.FaultText.{fault_line}
 use Rattle.capn_commands.specs.declared.fault.ToolFault.TheVariants as faults
 use Rattle.capn_tool.proofs.unordered.tell_mistake.Goals as goal

@@ -1,6 +1,6 @@
 use Rattle.std.proofs.Common.{ℕ, List, subst}
 use Rattle.capn_words.specs.Watched.{inner_of, has_failed}
-use Rattle.capn_endings.specs.Line.{WritesLine}
+use Rattle.capn_serve.specs.Line.{WritesLine}
 use Rattle.capn_tool.proofs.Written.{told}
 use Rattle.capn_tool.proofs.unordered.tell_said.Goals as goal
 

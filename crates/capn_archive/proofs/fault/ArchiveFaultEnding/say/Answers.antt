@@ -1,4 +1,4 @@
-use Rattle.capn_endings.proofs.shared.Said.{both}
+use Rattle.capn_serve.proofs.shared.Said.{both}
 use Rattle.capn_archive.proofs.fault.ArchiveFaultEnding.say.Goals as goal
 
 pub returns-in-Memory : goal.returns-in-Memory

@@ -1,5 +1,5 @@
 use Rattle.std.proofs.Common.{sym}
-use Rattle.capn_endings.proofs.shared.Said.{both}
+use Rattle.capn_serve.proofs.shared.Said.{both}
 use Rattle.capn_make.proofs.fault.MakeFaultEnding.say.Goals as goal
 
 pub returns-in-Memory : goal.returns-in-Memory

@@ -1,0 +1,79 @@
+//! Limits and forms, as C passes them.
+
+ghost use Rattle.std.specs.Prelude.{◌≡◌, ◌↔◌, ◌⊎◌, IsSome, IfSome, IfOk, IfErr};
+ghost use Rattle.capn_abi.specs.Calls.{IsForm, form_named, IsTariff, tariff_named, GiveLimits, bounds_of};
+ghost use Rattle.capn_abi.specs.Calls.{IsFlat};
+
+use crate::status_codes::{BAD_LIMITS, BAD_TARIFF};
+use capn_canon::Form;
+use capn_value::Tariff;
+use capn_walk::Limits;
+
+/// The limits of a call. Any numbers may be passed: a call's status says if one is out of its range.
+#[derive(Clone, Copy)]
+#[repr(C)]
+pub struct CapnLimits {
+    /// The words of one framed message, from 1 to 2^28.
+    pub message_words: u32,
+    /// The words that a walk pays, at most 2^28.
+    pub budget: u32,
+    /// The depth of objects, from 1 to 256.
+    pub depth: u32,
+    /// The tariff by which visits are priced: 0, each content costs 1 beside its size; 1, it costs nothing beside it.
+    pub tariff: u32,
+}
+
+/// Returns the tariff that has this `number`.
+fn tariff_of(number: u32) -> Option<Tariff>
+    ensures some { IsSome result ↔ IsTariff number }
+    ensures value { IfSome result (λ t. t ≡ tariff_named number) }
+{
+    match number {
+        0 => Some(Tariff::Strict),
+        1 => Some(Tariff::Plain),
+        _ => None,
+    }
+}
+
+/// Returns the form that has this `number`; `None`, if none has.
+pub fn form_of(number: u32) -> Option<Form>
+    ensures some { IsSome result ↔ IsForm number }
+    ensures value { IfSome result (λ f. f ≡ form_named number) }
+{
+    match number {
+        0 => Some(Form::Stream),
+        1 => Some(Form::Packed),
+        2 => Some(Form::Bare),
+        _ => None,
+    }
+}
+
+/// Returns the form that has this `number`, if its bytes are those of the message itself: a stream, or bare words; else
+/// `None`.
+pub fn flat_form_of(number: u32) -> Option<Form>
+    ensures some { IsSome result ↔ IsFlat number }
+    ensures value { IfSome result (λ f. f ≡ form_named number) }
+    ensures flat { IfSome result (λ f. (f ≡ Form.Stream) ⊎ (f ≡ Form.Bare)) }
+{
+    match number {
+        0 => Some(Form::Stream),
+        2 => Some(Form::Bare),
+        _ => None,
+    }
+}
+
+/// Reads `limits`: returns them, or the status that says which is out of its range.
+pub fn limits_of(limits: &CapnLimits) -> Result<Limits, u32>
+    ensures value { IfOk result (λ l. l ≡ bounds_of limits.now) }
+    ensures ok { IfOk result (λ l. GiveLimits limits.now × IsTariff limits.now.tariff) }
+    ensures bad { IfErr result (λ s. ((s ≡ 3) × (GiveLimits limits.now → ⊥))
+        ⊎ ((s ≡ 4) × GiveLimits limits.now × (IsTariff limits.now.tariff → ⊥))) }
+{
+    let Some(strict) = Limits::new(limits.message_words, limits.budget, limits.depth) else {
+        return Err(BAD_LIMITS);
+    };
+    let Some(tariff) = tariff_of(limits.tariff) else {
+        return Err(BAD_TARIFF);
+    };
+    Ok(strict.with_tariff(tariff))
+}

@@ -1,0 +1,187 @@
+//! The status of each refusal.
+
+ghost use Rattle.std.specs.Prelude.{◌≡◌};
+ghost use Rattle.capn_abi.specs.StatusCodes.{bare_code, bare_number, packed_code, packed_number, frame_code};
+ghost use Rattle.capn_abi.specs.StatusCodes.{frame_number};
+ghost use Rattle.capn_abi.specs.StatusCodes.{walk_code, code, report_of, Reports, ReportsPacked};
+
+use crate::report::{CapnReport, report_at};
+use capn_canon::Refusal;
+use capn_pack::UnpackFault;
+use capn_stream::FrameFault;
+use capn_walk::Fault;
+use capn_words::BareFault;
+
+/// The answer is there.
+pub const DONE: u32 = 0;
+
+/// The buffer has no room for the answer.
+pub const NO_ROOM: u32 = 1;
+
+/// No form has this number.
+pub const BAD_FORM: u32 = 2;
+
+/// A limit is out of its range.
+pub const BAD_LIMITS: u32 = 3;
+
+/// No tariff has this number.
+pub const BAD_TARIFF: u32 = 4;
+
+/// The bytes are not the canonical ones of their value.
+pub const NOT_CANONICAL: u32 = 5;
+
+/// No style has this number.
+pub const BAD_STYLE: u32 = 6;
+
+/// The canonical bytes of two messages differ.
+pub const DIFFERENT: u32 = 7;
+
+/// A growth of memory was refused.
+pub const MEMORY: u32 = 8;
+
+/// The number of bytes is no multiple of 8.
+pub const NOT_WHOLE: u32 = 16;
+
+/// A group of a packed text is cut.
+pub const PACKED_CUT: u32 = 32;
+
+/// A group of a packed text has more words than it may.
+pub const PACKED_TOO_LONG: u32 = 33;
+
+fn code_of_bare(fault: BareFault) -> u32
+    ensures { result ≡ bare_code fault }
+{
+    match fault {
+        BareFault::NotWhole(_) => NOT_WHOLE,
+        BareFault::TooLong(_) => 17,
+    }
+}
+
+fn number_of_bare(fault: BareFault) -> u64
+    ensures { result ≡ bare_number fault }
+{
+    match fault {
+        BareFault::NotWhole(n) => n,
+        BareFault::TooLong(n) => n,
+    }
+}
+
+fn code_of_packed(fault: UnpackFault) -> u32
+    ensures { result ≡ packed_code fault }
+{
+    match fault {
+        UnpackFault::Memory => MEMORY,
+        UnpackFault::Cut { at: _ } => PACKED_CUT,
+        UnpackFault::TooLong { at: _ } => PACKED_TOO_LONG,
+        UnpackFault::Failed => 254,
+    }
+}
+
+fn number_of_packed(fault: UnpackFault) -> u64
+    ensures { result ≡ packed_number fault }
+{
+    match fault {
+        UnpackFault::Memory => 0,
+        UnpackFault::Cut { at } => at,
+        UnpackFault::TooLong { at } => at,
+        UnpackFault::Failed => 0,
+    }
+}
+
+pub fn code_of_frame(fault: FrameFault) -> u32
+    ensures { result ≡ frame_code fault }
+{
+    match fault {
+        FrameFault::Memory => MEMORY,
+        FrameFault::Empty => 48,
+        FrameFault::TooManySegments(_) => 49,
+        FrameFault::TooManyWords(_) => 50,
+        FrameFault::Cut => 51,
+        FrameFault::Failed => 255,
+    }
+}
+
+pub fn number_of_frame(fault: FrameFault) -> u64
+    ensures { result ≡ frame_number fault }
+{
+    match fault {
+        FrameFault::Memory => 0,
+        FrameFault::Empty => 0,
+        FrameFault::TooManySegments(n) => n,
+        FrameFault::TooManyWords(n) => n,
+        FrameFault::Cut => 0,
+        FrameFault::Failed => 0,
+    }
+}
+
+fn code_of_walk(fault: Fault) -> u32
+    ensures { result ≡ walk_code fault }
+{
+    match fault {
+        Fault::NoRoot => 64,
+        Fault::RootKind => 65,
+        Fault::Reserved => 66,
+        Fault::NoSegment => 67,
+        Fault::PadRange => 68,
+        Fault::BadPad => 69,
+        Fault::Range => 70,
+        Fault::BadTag => 71,
+        Fault::TagOverrun => 72,
+        Fault::TooDeep => 73,
+        Fault::OverBudget => 74,
+        Fault::Memory => MEMORY,
+    }
+}
+
+/// Returns the status of `refusal`.
+fn code_of(refusal: Refusal) -> u32
+    ensures { result ≡ code refusal }
+{
+    match refusal {
+        Refusal::Bare(fault) => code_of_bare(fault),
+        Refusal::Packed(fault) => code_of_packed(fault),
+        Refusal::Frame(fault) => code_of_frame(fault),
+        Refusal::Trailing(_) => 52,
+        Refusal::Walk(stopped) => code_of_walk(stopped.fault),
+        Refusal::Capability(_) => 80,
+        Refusal::Memory => MEMORY,
+    }
+}
+
+/// Returns the numbers of `refusal`.
+fn report_of_refusal(refusal: Refusal) -> CapnReport
+    ensures { result ≡ report_of refusal }
+{
+    match refusal {
+        Refusal::Bare(fault) => report_at(number_of_bare(fault)),
+        Refusal::Packed(fault) => report_at(number_of_packed(fault)),
+        Refusal::Frame(fault) => report_at(number_of_frame(fault)),
+        Refusal::Trailing(at) => report_at(at),
+        Refusal::Walk(stopped) => CapnReport {
+            length: 0,
+            at: 0,
+            paid: stopped.paid,
+            visits: stopped.visits,
+            segment: stopped.place.segment,
+            word: stopped.place.word,
+        },
+        Refusal::Capability(index) => report_at(index as u64),
+        Refusal::Memory => report_at(0),
+    }
+}
+
+/// Reports `refusal`: writes its numbers to `report`, and returns its status.
+pub fn refuse(refusal: Refusal, report: &mut CapnReport) -> u32
+    ensures { Reports result report.new refusal }
+{
+    *report = report_of_refusal(refusal);
+    code_of(refusal)
+}
+
+/// Reports a refusal of packed bytes, `fault`: writes its number to `report`, and returns its status.
+pub fn refuse_packed(fault: UnpackFault, report: &mut CapnReport) -> u32
+    ensures { ReportsPacked result report.new fault }
+{
+    *report = report_at(number_of_packed(fault));
+    code_of_packed(fault)
+}

@@ -1,0 +1,234 @@
+-- What a subcommand and the values of its options order. (Own.)
+use Rattle.std.specs.Prelude.{ℕ, ◌≡◌, ◌||◌, not, List, Bool, true, false, Option, Some, None, codes, ⊤, IsSome}
+use Rattle.std.specs.Borrow.{Bor}
+use Rattle.clap.specs.Words.{Row, Text, first_of}
+use Rattle.capn_words.specs.Message.{most_message_words}
+use Rattle.capn_value.specs.declared.tariff.Tariff.TheVariants as tariffs
+use Rattle.capn_walk.specs.Limits.{Bounds}
+use Rattle.capn_commands.specs.declared.command.Command.{Command}
+use Rattle.capn_commands.specs.declared.command.Command.TheVariants as commands
+use Rattle.capn_archive.specs.declared.filter_order.FilterOrder.{FilterOrder}
+use Rattle.capn_cmp.specs.declared.cmp_order.CmpOrder.{CmpOrder}
+use Rattle.capn_commands.specs.declared.plan.MessageText.{MessageText}
+use Rattle.capn_commands.specs.declared.plan.MessageText.TheVariants as pieces
+use Rattle.capn_commands.specs.Plan.{form_of}
+use Rattle.capn_archive.specs.declared.task.ArchiveOrder.{ArchiveOrder}
+use Rattle.capn_archive.specs.declared.task.Task.{Task}
+use Rattle.capn_archive.specs.declared.task.Task.TheVariants as tasks
+use Rattle.capn_archive.specs.declared.uniq_order.UniqOrder.{UniqOrder}
+use Rattle.capn_show.specs.declared.style.Style.{Style}
+use Rattle.capn_show.specs.declared.style.Style.TheVariants as styles
+use Rattle.capn_serve.specs.declared.pick.Pick.{Pick}
+use Rattle.capn_explain.specs.declared.explain.Explain.{Explain}
+use Rattle.capn_explain.specs.declared.explain_refused.ExplainRefused.{ExplainRefused}
+use Rattle.capn_args.specs.CommandLine.{most_number}
+use Rattle.capn_args.specs.OptionValues.{FlagIs, FormIs, IsUsual, LimitsAre, NumberIn, UnpackedIs}
+use Rattle.capn_args.specs.MessageNumber.{number_of}
+use Rattle.capn_args.specs.RangeList.{ranges_in}
+use Rattle.capn_args.specs.Way.{way_of}
+use Rattle.capn_args.specs.declared.order.Explanation.{Explanation}
+use Rattle.capn_args.specs.declared.order.Explanation.TheVariants as explanations
+use Rattle.capn_args.specs.declared.order.Flow.{Flow}
+use Rattle.capn_args.specs.declared.order.Flow.TheVariants as flows
+use Rattle.capn_args.specs.declared.order.Make.{Make}
+use Rattle.capn_args.specs.declared.order.Only.{Only}
+use Rattle.capn_args.specs.declared.order.Show.{Show}
+use Rattle.capn_args.specs.declared.order.Order.{Order}
+use Rattle.capn_args.specs.declared.order.Order.TheVariants as orders
+
+-- the options over an archive have these values
+abbrev pub AreOptions : List Row → ArchiveOrder → Type 0
+AreOptions rows archive = FormIs rows archive.form × LimitsAre rows archive.limits
+    × FlagIs rows (codes "keep-going") archive.keep_going
+
+-- the options of `uniq` have these values
+abbrev pub UniqIs : List Row → UniqOrder → Type 0
+UniqIs rows uniq = FormIs rows uniq.form × LimitsAre rows uniq.limits
+    × FlagIs rows (codes "keep-going") uniq.keep_going × FlagIs rows (codes "count") uniq.count
+
+-- the options of `filter` have these values
+abbrev pub FilterIs : List Row → FilterOrder → Type 0
+FilterIs rows filter = FormIs rows filter.form × LimitsAre rows filter.limits
+    × FlagIs rows (codes "keep-going") filter.keep_going × FlagIs rows (codes "canonical") filter.canonical
+
+-- the options of `cmp` have these values; it takes no bare input
+abbrev pub CmpIs : List Row → CmpOrder → Type 0
+CmpIs rows cmp = FormIs rows (form_of cmp.form) × LimitsAre rows cmp.limits
+
+-- the usual limits, with this number of words of a message
+abbrev pub usual_with : ℕ → Bounds
+usual_with words = record { message_words = words; budget = 8388608; depth = 64; tariff = tariffs.Strict }
+
+-- the options of `pick` have these values, `--only` is not given, and the other limits are the usual ones; it takes no
+-- bare input
+abbrev pub PickIs : List Row → Pick → Type 0
+PickIs rows pick = FormIs rows (form_of pick.form)
+    × NumberIn rows (codes "message-words") 1 most_message_words pick.limits.message_words
+    × (pick.limits ≡ usual_with pick.limits.message_words)
+    × NumberIn rows (codes "from") 1 most_number pick.from
+    × NumberIn rows (codes "to") 1 most_number pick.to
+    × (first_of (codes "only") rows ≡ None)
+
+-- the subcommand of this name is for this task: `list` with or without `--digest`, `canonical` where `--framed` is
+-- given
+abbrev pub IsTask : Text → List Row → Task → Type 0
+IsTask name rows tasks.List = (name ≡ codes "list") × FlagIs rows (codes "digest") false
+IsTask name rows tasks.Digests = (name ≡ codes "list") × FlagIs rows (codes "digest") true
+IsTask name rows tasks.Limits = name ≡ codes "limits"
+IsTask name rows tasks.Canonical = (name ≡ codes "canonical") × FlagIs rows (codes "framed") true
+
+-- `--only` is given, its value is a list of ascending numbers and ranges, and neither `--from` nor `--to` is given
+abbrev pub ListIs : List Row → Text → Type 0
+ListIs rows list = (first_of (codes "only") rows ≡ Some list) × IsSome (ranges_in list)
+    × IsUsual rows (codes "from") × IsUsual rows (codes "to")
+
+-- the options of `pick` have these values, and `--only` is given
+abbrev pub OnlyIs : List Row → Only → Type 0
+OnlyIs rows only = FormIs rows (form_of only.form)
+    × NumberIn rows (codes "message-words") 1 most_message_words only.limits.message_words
+    × (only.limits ≡ usual_with only.limits.message_words)
+    × ListIs rows only.list.now
+
+-- `--number` is given, and its value is this number of a message; or it isn't given
+abbrev pub IsNumbered : List Row → Option ℕ → Type 0
+IsNumbered rows None = first_of (codes "number") rows ≡ None
+IsNumbered rows (Some n) = (text : Text) × (first_of (codes "number") rows ≡ Some text) × (number_of text ≡ Some n)
+
+-- the options of `explain` have these values
+abbrev pub ExplainIs : List Row → Explain → Type 0
+ExplainIs rows explain = FormIs rows explain.form × LimitsAre rows explain.limits × IsNumbered rows explain.number
+
+-- the options of `explain` that explains every message that is refused have these values, and `--number` is not given
+abbrev pub RefusedIs : List Row → ExplainRefused → Type 0
+RefusedIs rows refused =
+    FormIs rows refused.form × LimitsAre rows refused.limits × (first_of (codes "number") rows ≡ None)
+
+-- with `--keep-going` every message that is refused is explained, and without it one
+abbrev pub ExplanationIs : List Row → Explanation → Type 0
+ExplanationIs rows (explanations.One explain) = ExplainIs rows explain × FlagIs rows (codes "keep-going") false
+ExplanationIs rows (explanations.Refused refused) = RefusedIs rows refused × FlagIs rows (codes "keep-going") true
+
+-- the options of `make` have these values
+abbrev pub MakeIs : List Row → Make → Type 0
+MakeIs rows make = FormIs rows make.form × FlagIs rows (codes "text") make.quoted
+
+-- the subcommand of this name lets bytes flow this way: `--streaming` is given, and `--message-words` is not
+abbrev pub IsFlow : Text → List Row → Flow → Type 0
+IsFlow name rows flows.Pack = (name ≡ codes "pack") × FlagIs rows (codes "streaming") true
+IsFlow name rows flows.Unpack =
+    (name ≡ codes "unpack") × FlagIs rows (codes "streaming") true × IsUsual rows (codes "message-words")
+
+-- the style that two flags order
+abbrev pub StyleIs : List Row → Style → Type 0
+StyleIs rows styles.Lines = FlagIs rows (codes "text") false × FlagIs rows (codes "json") false
+StyleIs rows styles.Quoted = FlagIs rows (codes "text") true × FlagIs rows (codes "json") false
+StyleIs rows styles.Json = FlagIs rows (codes "text") false × FlagIs rows (codes "json") true
+StyleIs rows styles.JsonText = FlagIs rows (codes "text") true × FlagIs rows (codes "json") true
+
+-- a text in this style has lines, before which marks can stand: JSON has none
+abbrev pub has_lines : Style → Bool
+has_lines styles.Lines = true
+has_lines styles.Quoted = true
+has_lines styles.Json = false
+has_lines styles.JsonText = false
+
+-- each mark is asked for or isn't; JSON goes without them
+abbrev pub MarksAre : List Row → Style → Bool → Bool → Type 0
+MarksAre rows style offsets ways = FlagIs rows (codes "offsets") offsets × FlagIs rows (codes "ways") ways
+    × (has_lines style || not (offsets || ways) ≡ true)
+
+-- lines without marks, as a plain `show` writes them
+abbrev pub is_plain : Style → Bool → Bool → Bool
+is_plain styles.Lines offsets ways = not (offsets || ways)
+is_plain styles.Quoted offsets ways = false
+is_plain styles.Json offsets ways = false
+is_plain styles.JsonText offsets ways = false
+
+-- `--at` is given, and its value is a way; or it isn't, and the text is not that of a plain `show`
+abbrev pub WayIs : List Row → Bool → Option (Bor Text) → Type 0
+WayIs rows plain None = (first_of (codes "at") rows ≡ None) × (plain ≡ false)
+WayIs rows plain (Some way) = (first_of (codes "at") rows ≡ Some way.now) × IsSome (way_of way.now)
+
+-- the options of `show` have these values: one of `--at`, `--text`, `--json`, `--offsets` and `--ways` is given
+abbrev pub ShowIs : List Row → Show → Type 0
+ShowIs rows show = FormIs rows show.form × LimitsAre rows show.limits × StyleIs rows show.style
+    × MarksAre rows show.style show.offsets show.ways
+    × WayIs rows (is_plain show.style show.offsets show.ways) show.way
+    × FlagIs rows (codes "one") show.one
+
+-- the name of the subcommand that writes this of a message
+abbrev pub name_of : MessageText → Text
+name_of pieces.Text = codes "show"
+name_of pieces.Price = codes "check"
+name_of pieces.Digest = codes "hash"
+
+-- the subcommand of this name is that of this command over messages or bytes, and the options that it shares with
+-- others have these values
+abbrev pub Means : Option (Text × List Row) → Command → Type 0
+Means None command = ⊥
+Means (Some s) (commands.Show form limits) = (s.0 ≡ codes "show") × FormIs s.1 form × LimitsAre s.1 limits
+    × FlagIs s.1 (codes "one") false
+Means (Some s) (commands.Check form limits) = (s.0 ≡ codes "check") × FormIs s.1 form × LimitsAre s.1 limits
+    × FlagIs s.1 (codes "one") false
+Means (Some s) commands.Pack = s.0 ≡ codes "pack"
+Means (Some s) (commands.Unpack most) = (s.0 ≡ codes "unpack") × UnpackedIs s.1 most
+Means (Some s) (commands.Canonical form limits) = (s.0 ≡ codes "canonical") × FormIs s.1 form × LimitsAre s.1 limits
+Means (Some s) (commands.Hash form limits) = (s.0 ≡ codes "hash") × FormIs s.1 form × LimitsAre s.1 limits
+    × FlagIs s.1 (codes "one") false
+Means (Some s) (commands.One piece form limits) = (s.0 ≡ name_of piece) × FormIs s.1 form × LimitsAre s.1 limits
+    × FlagIs s.1 (codes "one") true
+
+-- `canonical`, `pack` and `unpack` are commands over one input where none of their flags is given, and `show` where
+-- neither a flag but `--one` nor `--at` is; no other command over messages has such an option
+abbrev pub HasNoFlag : List Row → Command → Type 0
+HasNoFlag rows (commands.Show form limits) = (first_of (codes "at") rows ≡ None) × StyleIs rows styles.Lines
+    × MarksAre rows styles.Lines false false
+HasNoFlag rows (commands.Check form limits) = ⊤
+HasNoFlag rows commands.Pack = FlagIs rows (codes "streaming") false
+HasNoFlag rows (commands.Unpack most) = FlagIs rows (codes "streaming") false
+HasNoFlag rows (commands.Canonical form limits) =
+    FlagIs rows (codes "framed") false × FlagIs rows (codes "keep-going") false
+HasNoFlag rows (commands.Hash form limits) = ⊤
+HasNoFlag rows (commands.One pieces.Text form limits) = (first_of (codes "at") rows ≡ None)
+    × StyleIs rows styles.Lines × MarksAre rows styles.Lines false false
+HasNoFlag rows (commands.One pieces.Price form limits) = ⊤
+HasNoFlag rows (commands.One pieces.Digest form limits) = ⊤
+
+-- the subcommand of this name, with these values, orders this
+abbrev pub MeansOrder : Option (Text × List Row) → Order → Type 0
+MeansOrder None order = ⊥
+MeansOrder (Some s) (orders.Message command) = Means (Some s) command × HasNoFlag s.1 command
+MeansOrder (Some s) (orders.Show show) = (s.0 ≡ codes "show") × ShowIs s.1 show
+MeansOrder (Some s) (orders.Explain explain) = (s.0 ≡ codes "explain") × ExplanationIs s.1 explain
+MeansOrder (Some s) (orders.Archive archive) = IsTask s.0 s.1 archive.task × AreOptions s.1 archive
+MeansOrder (Some s) (orders.Uniq uniq) = (s.0 ≡ codes "uniq") × UniqIs s.1 uniq
+MeansOrder (Some s) (orders.Filter filter) = (s.0 ≡ codes "filter") × FilterIs s.1 filter
+MeansOrder (Some s) (orders.Cmp cmp) = (s.0 ≡ codes "cmp") × CmpIs s.1 cmp
+MeansOrder (Some s) (orders.Pick pick) = (s.0 ≡ codes "pick") × PickIs s.1 pick
+MeansOrder (Some s) (orders.Only only) = (s.0 ≡ codes "pick") × OnlyIs s.1 only
+MeansOrder (Some s) (orders.Flow flow) = IsFlow s.0 s.1 flow
+MeansOrder (Some s) (orders.Make make) = (s.0 ≡ codes "make") × MakeIs s.1 make
+
+-- a meaning is that of one command at most
+abbrev pub MeansOne : Type 0
+MeansOne = (said : Option (Text × List Row)) (c d : Command) → Means said c → Means said d → c ≡ d
+
+-- no way, or two whose texts are equal, wherever these are
+abbrev pub IsSameWay : Option (Bor Text) → Option (Bor Text) → Type 0
+IsSameWay None None = ⊤
+IsSameWay None (Some way) = ⊥
+IsSameWay (Some way) None = ⊥
+IsSameWay (Some way) (Some other) = way.now ≡ other.now
+
+-- two orders are the same: where messages or parts of them are shown, so are the texts of the ways, and where those of
+-- a list are picked, so are the texts of the lists
+abbrev pub AreSame : Order → Order → Type 0
+AreSame (orders.Show s) (orders.Show t) =
+    (s.form ≡ t.form) × (s.limits ≡ t.limits) × (s.style ≡ t.style) × (s.offsets ≡ t.offsets) × (s.ways ≡ t.ways)
+    × IsSameWay s.way t.way × (s.one ≡ t.one)
+AreSame (orders.Only s) (orders.Only t) = (s.form ≡ t.form) × (s.limits ≡ t.limits) × (s.list.now ≡ t.list.now)
+AreSame o p = o ≡ p
+
+-- a meaning is that of one order at most
+abbrev pub MeansOneOrder : Type 0
+MeansOneOrder = (said : Option (Text × List Row)) (o p : Order) → MeansOrder said o → MeansOrder said p → AreSame o p

@@ -1,0 +1,36 @@
+-- The options that rows say.
+use Rattle.std.specs.Prelude.{List, [], ◌∷◌, Bool, cond, map}
+use Rattle.std.specs.List.{list_any}
+use Rattle.std.specs.Borrow.{Bor}
+use Rattle.std.specs.Str.{bytes_eq}
+use Rattle.clap.specs.Words.{App, Rule, Text, with_rule}
+use Rattle.capn_args.specs.CommandLine.{asked_rule, flag_rule, number_rule, place_rule, usual_rule}
+use Rattle.capn_args.specs.declared.option_row.OptionRow.{OptionRow}
+use Rattle.capn_args.specs.declared.option_row.Taken.{Taken}
+use Rattle.capn_args.specs.declared.option_row.Taken.TheVariants as taken
+
+-- the option of this name that takes this
+abbrev pub rule_for : Text → Taken → Rule
+rule_for name taken.Flag = flag_rule name
+rule_for name (taken.Asked value) = asked_rule name
+rule_for name (taken.Usual value usual) = usual_rule name usual.now
+rule_for name (taken.Number usual least most) = number_rule name usual.now least most
+rule_for name (taken.Place usual) = place_rule name usual.now
+
+-- the option of a row
+abbrev pub rule_of_row : OptionRow → Rule
+rule_of_row row = rule_for row.name.now row.taken
+
+-- the command of this name takes the option of a row
+abbrev pub is_taken : Text → OptionRow → Bool
+is_taken name row = list_any (λ command. bytes_eq command.now name) row.commands.now
+
+-- a line with the options of some rows more, those that the command of this name takes
+abbrev pub with_rows : Text → App → List OptionRow → App
+with_rows name line [] = line
+with_rows name line (row ∷ rest) =
+    with_rows name (cond (is_taken name row) (with_rule line (rule_of_row row)) line) rest
+
+-- the texts of names
+abbrev pub texts_of : List (Bor Text) → List Text
+texts_of names = map (λ name. name.now) names

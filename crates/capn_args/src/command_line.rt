@@ -1,0 +1,238 @@
+//! The order given by the words of the command line.
+
+ghost use Rattle.std.specs.Prelude.{◌≡◌, [], true, codes, map};
+ghost use Rattle.std.specs.Prelude.{IfErr, IfOk, IfSome, IsSome, Some};
+ghost use Rattle.clap.specs.Words.{fault_of, found_of, kind_of, rows_of, subcommand_of, takes};
+ghost use Rattle.capn_args.specs.Usage.{error_of, IsReason, Orders};
+ghost use Rattle.capn_archive.specs.declared.filter_order.FilterOrder.{FilterOrder};
+ghost use Rattle.capn_cmp.specs.declared.cmp_order.CmpOrder.{CmpOrder};
+ghost use Rattle.capn_archive.specs.declared.task.ArchiveOrder.{ArchiveOrder};
+ghost use Rattle.capn_archive.specs.declared.uniq_order.UniqOrder.{UniqOrder};
+ghost use Rattle.capn_args.specs.CommandLine.{program_line};
+ghost use Rattle.capn_args.specs.Meaning.{AreOptions, CmpIs, FilterIs, MakeIs, MeansOrder, UniqIs};
+ghost use Rattle.capn_args.specs.declared.order.Make.{Make};
+ghost use Rattle.capn_args.specs.declared.order.Order.{Order};
+
+use crate::explain_options::explain_of;
+use crate::input_options::{form_of, limits_of, unpacked_words_of};
+use crate::mistakes::meaningless;
+use crate::option_values::{flag_of, is_usual, stream_form_of};
+use crate::order::{Flow, Make, Order};
+use crate::pick_options::pick_order;
+use crate::show_options::show_of;
+use crate::subcommands::program_command;
+use crate::usage::Usage;
+use capn_archive::{ArchiveOrder, FilterOrder, Task, UniqOrder};
+use capn_cmp::CmpOrder;
+use capn_commands::{Command, MessageText};
+use clap::ArgMatches;
+use std::alloc::Global;
+use std::convert::AsStr;
+
+/// The run over an archive that is for this task and has these options, if they mean one.
+fn archive_of(task: Task, matches: &ArgMatches) -> Option<ArchiveOrder>
+    ensures task { IfSome result (λ archive. archive.task ≡ task) }
+    ensures options { IfSome result (AreOptions (rows_of (found_of matches.now))) }
+    ensures served { (archive : ArchiveOrder) → AreOptions (rows_of (found_of matches.now)) archive → IsSome result }
+{
+    let form = form_of(matches)?;
+    let limits = limits_of(matches)?;
+    let keep_going = flag_of(matches, "keep-going")?;
+    Some(ArchiveOrder {
+        task,
+        form,
+        limits,
+        keep_going,
+    })
+}
+
+/// Returns the order of `list` with these options, if they mean one: with `--digest` the lines have digests.
+fn list_of<'a>(matches: &ArgMatches<'a>) -> Option<Order<'a>>
+    ensures means { IfSome result (MeansOrder (Some (codes "list", rows_of (found_of matches.now)))) }
+    ensures served { (order : Order) → MeansOrder (Some (codes "list", rows_of (found_of matches.now))) order
+        → IsSome result }
+{
+    let task = if flag_of(matches, "digest")? {
+        Task::Digests
+    } else {
+        Task::List
+    };
+    Some(Order::Archive(archive_of(task, matches)?))
+}
+
+/// The run of `uniq` that has these options, if they mean one.
+fn uniq_of(matches: &ArgMatches) -> Option<UniqOrder>
+    ensures are { IfSome result (UniqIs (rows_of (found_of matches.now))) }
+    ensures served { (uniq : UniqOrder) → UniqIs (rows_of (found_of matches.now)) uniq → IsSome result }
+{
+    Some(UniqOrder {
+        form: form_of(matches)?,
+        limits: limits_of(matches)?,
+        keep_going: flag_of(matches, "keep-going")?,
+        count: flag_of(matches, "count")?,
+    })
+}
+
+/// The run of `filter` that has these options, if they mean one.
+fn filter_of(matches: &ArgMatches) -> Option<FilterOrder>
+    ensures are { IfSome result (FilterIs (rows_of (found_of matches.now))) }
+    ensures served { (filter : FilterOrder) → FilterIs (rows_of (found_of matches.now)) filter → IsSome result }
+{
+    Some(FilterOrder {
+        form: form_of(matches)?,
+        limits: limits_of(matches)?,
+        keep_going: flag_of(matches, "keep-going")?,
+        canonical: flag_of(matches, "canonical")?,
+    })
+}
+
+/// The run of `cmp` that has these options, if they mean one.
+fn cmp_of(matches: &ArgMatches) -> Option<CmpOrder>
+    ensures are { IfSome result (CmpIs (rows_of (found_of matches.now))) }
+    ensures served { (cmp : CmpOrder) → CmpIs (rows_of (found_of matches.now)) cmp → IsSome result }
+{
+    Some(CmpOrder {
+        form: stream_form_of(matches)?,
+        limits: limits_of(matches)?,
+    })
+}
+
+/// The run of `make` that has these options, if they mean one.
+fn make_of(matches: &ArgMatches) -> Option<Make>
+    ensures are { IfSome result (MakeIs (rows_of (found_of matches.now))) }
+    ensures served { (make : Make) → MakeIs (rows_of (found_of matches.now)) make → IsSome result }
+{
+    Some(Make {
+        form: form_of(matches)?,
+        quoted: flag_of(matches, "text")?,
+    })
+}
+
+/// Returns the order of `canonical` with these options, if they mean one: with `--framed` a run over an archive, and
+/// without it and `--keep-going` the command over one message.
+fn canonical_of<'a>(matches: &ArgMatches<'a>) -> Option<Order<'a>>
+    ensures means { IfSome result (MeansOrder (Some (codes "canonical", rows_of (found_of matches.now)))) }
+    ensures served { (order : Order) → MeansOrder (Some (codes "canonical", rows_of (found_of matches.now))) order
+        → IsSome result }
+{
+    if flag_of(matches, "framed")? {
+        return Some(Order::Archive(archive_of(Task::Canonical, matches)?));
+    }
+    if flag_of(matches, "keep-going")? {
+        return None;
+    }
+    let form = form_of(matches)?;
+    let limits = limits_of(matches)?;
+    Some(Order::Message(Command::Canonical(form, limits)))
+}
+
+/// Returns the order of `pack` with these options, if they mean one: with `--streaming` it packs while bytes come in.
+fn pack_of<'a>(matches: &ArgMatches<'a>) -> Option<Order<'a>>
+    ensures means { IfSome result (MeansOrder (Some (codes "pack", rows_of (found_of matches.now)))) }
+    ensures served { (order : Order) → MeansOrder (Some (codes "pack", rows_of (found_of matches.now))) order
+        → IsSome result }
+{
+    if flag_of(matches, "streaming")? {
+        return Some(Order::Flow(Flow::Pack));
+    }
+    Some(Order::Message(Command::Pack))
+}
+
+/// Returns the order of `unpack` with these options, if they mean one: with `--streaming`, and without
+/// `--message-words`, it unpacks while bytes come in.
+fn unpack_of<'a>(matches: &ArgMatches<'a>) -> Option<Order<'a>>
+    ensures means { IfSome result (MeansOrder (Some (codes "unpack", rows_of (found_of matches.now)))) }
+    ensures served { (order : Order) → MeansOrder (Some (codes "unpack", rows_of (found_of matches.now))) order
+        → IsSome result }
+{
+    if !flag_of(matches, "streaming")? {
+        return Some(Order::Message(Command::Unpack(unpacked_words_of(matches)?)));
+    }
+    if is_usual(matches, "message-words") {
+        return Some(Order::Flow(Flow::Unpack));
+    }
+    None
+}
+
+/// Returns the order of `check` with these options, if they mean one: with `--one` the input is exactly one message.
+fn check_of<'a>(matches: &ArgMatches<'a>) -> Option<Order<'a>>
+    ensures means { IfSome result (MeansOrder (Some (codes "check", rows_of (found_of matches.now)))) }
+    ensures served { (order : Order) → MeansOrder (Some (codes "check", rows_of (found_of matches.now))) order
+        → IsSome result }
+{
+    let form = form_of(matches)?;
+    let limits = limits_of(matches)?;
+    if flag_of(matches, "one")? {
+        return Some(Order::Message(Command::One(MessageText::Price, form, limits)));
+    }
+    Some(Order::Message(Command::Check(form, limits)))
+}
+
+/// Returns the order of `hash` with these options, if they mean one: with `--one` the input is exactly one message.
+fn hash_of<'a>(matches: &ArgMatches<'a>) -> Option<Order<'a>>
+    ensures means { IfSome result (MeansOrder (Some (codes "hash", rows_of (found_of matches.now)))) }
+    ensures served { (order : Order) → MeansOrder (Some (codes "hash", rows_of (found_of matches.now))) order
+        → IsSome result }
+{
+    let form = form_of(matches)?;
+    let limits = limits_of(matches)?;
+    if flag_of(matches, "one")? {
+        return Some(Order::Message(Command::One(MessageText::Digest, form, limits)));
+    }
+    Some(Order::Message(Command::Hash(form, limits)))
+}
+
+/// Returns the order of the subcommand called `name` with these options, if they mean one.
+fn named_order<'a>(name: &str, matches: &ArgMatches<'a>) -> Option<Order<'a>>
+    ensures means { IfSome result (MeansOrder (Some (name.now, rows_of (found_of matches.now)))) }
+    ensures served { (order : Order) → MeansOrder (Some (name.now, rows_of (found_of matches.now))) order
+        → IsSome result }
+{
+    match name {
+        "show" => show_of(matches),
+        "check" => check_of(matches),
+        "explain" => Some(Order::Explain(explain_of(matches)?)),
+        "list" => list_of(matches),
+        "limits" => Some(Order::Archive(archive_of(Task::Limits, matches)?)),
+        "canonical" => canonical_of(matches),
+        "uniq" => Some(Order::Uniq(uniq_of(matches)?)),
+        "filter" => Some(Order::Filter(filter_of(matches)?)),
+        "cmp" => Some(Order::Cmp(cmp_of(matches)?)),
+        "pick" => pick_order(matches),
+        "pack" => pack_of(matches),
+        "unpack" => unpack_of(matches),
+        "make" => Some(Order::Make(make_of(matches)?)),
+        "hash" => hash_of(matches),
+        _ => None,
+    }
+}
+
+/// Parses the words of a command line, the first being the program's name: the subcommand with the form, the limits,
+/// the tariff and the flags that its options have, given or usual. A request for help or for the version, a word, an
+/// option or a value that is not known, a number out of its range, a form or a tariff that the command does not take,
+/// a value of `--at` that is no way, one of `--number` that is no number of a message, one of `--only` that is no list,
+/// `--json` with `--offsets` or `--ways`, `--only` with `--from` or `--to`, `--keep-going` of `canonical` without
+/// `--framed`, `--message-words` of `unpack` with `--streaming`, and refused memory are answered as `Usage`, with the
+/// text for the user.
+pub fn order_of<'a, S: AsStr>(alloc: Global, words: &'a [S]) -> Result<Order<'a>, Usage>
+    // An order that is given is what the words mean.
+    ensures means { IfOk result (MeansOrder (subcommand_of program_line (map S.text words.now))) }
+    // If the words are taken and mean an order, that order is returned, unless memory is refused.
+    ensures only { takes program_line (map S.text words.now) ≡ true → (order : Order)
+        → MeansOrder (subcommand_of program_line (map S.text words.now)) order → Orders order result }
+    // If one is returned no step of the parser fails.
+    ensures passes { IfOk result (λ _. fault_of program_line (map S.text words.now) ≡ []) }
+    // If none is returned, the kind of the error is a reason why the words order nothing.
+    ensures reason { IfErr result (λ usage. IsReason (map S.text words.now) (kind_of (error_of usage))) }
+{
+    let tool = program_command(alloc)?;
+    let matches = tool.try_get_matches_from(words)?;
+    let named = match matches.subcommand() {
+        Some((name, found)) => named_order(name, found),
+        None => None,
+    };
+    match named {
+        Some(order) => Ok(order),
+        None => Err(meaningless(alloc, &matches)),
+    }
+}

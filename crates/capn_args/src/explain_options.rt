@@ -1,0 +1,71 @@
+//! What the options of `explain` order.
+
+ghost use Rattle.std.specs.Prelude.{Option, ℕ, IfSome, IsSome};
+ghost use Rattle.clap.specs.Words.{found_of, rows_of};
+ghost use Rattle.capn_explain.specs.declared.explain.Explain.{Explain};
+ghost use Rattle.capn_explain.specs.declared.explain_refused.ExplainRefused.{ExplainRefused};
+ghost use Rattle.capn_args.specs.Meaning.{ExplainIs, ExplanationIs, IsNumbered, RefusedIs};
+ghost use Rattle.capn_args.specs.declared.order.Explanation.{Explanation};
+
+use crate::input_options::{form_of, limits_of};
+use crate::message_number::message_number;
+use crate::option_values::{flag_of, text_in};
+use crate::order::Explanation;
+use capn_explain::{Explain, ExplainRefused};
+use clap::ArgMatches;
+
+/// The number that `--number` gives, or that none is given; nothing where its value is no number of a message.
+fn numbered(matches: &ArgMatches) -> Option<Option<u64>>
+    ensures read { IfSome result (IsNumbered (rows_of (found_of matches.now))) }
+    ensures served { (number : Option ℕ) → IsNumbered (rows_of (found_of matches.now)) number → IsSome result }
+{
+    match text_in(matches, "number") {
+        Some(text) => {
+            let number = message_number(text)?;
+            Some(Some(number))
+        }
+        None => Some(None),
+    }
+}
+
+/// Returns the run that explains one message and has these options, if they mean one.
+fn one_of(matches: &ArgMatches) -> Option<Explain>
+    ensures are { IfSome result (ExplainIs (rows_of (found_of matches.now))) }
+    ensures served { (explain : Explain) → ExplainIs (rows_of (found_of matches.now)) explain → IsSome result }
+{
+    let form = form_of(matches)?;
+    let limits = limits_of(matches)?;
+    let number = numbered(matches)?;
+    Some(Explain {
+        form,
+        limits,
+        number,
+    })
+}
+
+/// Returns the run that explains every message that is refused and has these options, if they mean one: `--number` is
+/// not given.
+fn refused_of(matches: &ArgMatches) -> Option<ExplainRefused>
+    ensures are { IfSome result (RefusedIs (rows_of (found_of matches.now))) }
+    ensures served { (refused : ExplainRefused) → RefusedIs (rows_of (found_of matches.now)) refused → IsSome result }
+{
+    let form = form_of(matches)?;
+    let limits = limits_of(matches)?;
+    match text_in(matches, "number") {
+        Some(_) => None,
+        None => Some(ExplainRefused { form, limits }),
+    }
+}
+
+/// Returns the run of `explain` that has these options, if they mean one: with `--keep-going` every message that is
+/// refused is explained.
+pub(crate) fn explain_of(matches: &ArgMatches) -> Option<Explanation>
+    ensures are { IfSome result (ExplanationIs (rows_of (found_of matches.now))) }
+    ensures served { (explanation : Explanation) → ExplanationIs (rows_of (found_of matches.now)) explanation
+        → IsSome result }
+{
+    if flag_of(matches, "keep-going")? {
+        return Some(Explanation::Refused(refused_of(matches)?));
+    }
+    Some(Explanation::One(one_of(matches)?))
+}

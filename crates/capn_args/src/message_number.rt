@@ -1,0 +1,23 @@
+//! The text of `--number`: the number of a message.
+
+ghost use Rattle.std.specs.Prelude.{◌≡◌};
+ghost use Rattle.capn_args.specs.MessageNumber as spec;
+
+use crate::way::with_digit;
+
+/// The number of a text, if that is one from 1 to 2^64 - 1 in digits, without leading zeros and signs.
+pub(crate) fn message_number(text: &str) -> Option<u64>
+    ensures { result ≡ spec.number_of text.now }
+{
+    let mut begun: Option<u64> = None;
+    let mut rest = text.as_bytes();
+    while let [c, after @ ..] = rest {
+        let number = with_digit(begun, *c)?;
+        if number == 0 {
+            return None;
+        }
+        begun = Some(number);
+        rest = after;
+    }
+    begun
+}

@@ -1,0 +1,143 @@
+//! The order given by the options of `show`.
+
+ghost use Rattle.std.specs.Prelude.{◌≡◌, Bool, List, codes, IfSome, IsSome, None, Some};
+ghost use Rattle.clap.specs.Words.{Row, first_of, found_of, rows_of};
+ghost use Rattle.capn_show.specs.declared.style.Style.{Style};
+ghost use Rattle.capn_args.specs.OptionValues.{FlagIs, FormIs, LimitsAre};
+ghost use Rattle.capn_args.specs.Meaning as meaning;
+ghost use Rattle.capn_args.specs.Meaning.{MarksAre, MeansOrder, StyleIs};
+ghost use Rattle.capn_args.specs.inner.Styles as spec;
+ghost use Rattle.capn_args.specs.declared.order.Order.{Order};
+
+use crate::input_options::{form_of, limits_of};
+use crate::option_values::{flag_of, text_in};
+use crate::order::{Order, Show};
+use crate::way::is_way;
+use capn_canon::Form;
+use capn_commands::{Command, MessageText};
+use capn_show::Style;
+use capn_walk::Limits;
+use clap::ArgMatches;
+
+/// The style of two flags.
+fn style_for(text: bool, json: bool) -> Style
+    ensures { result ≡ spec.style_for text json }
+{
+    if text {
+        if json { Style::JsonText } else { Style::Quoted }
+    } else if json {
+        Style::Json
+    } else {
+        Style::Lines
+    }
+}
+
+/// The style that `--text` and `--json` order.
+fn style_of(matches: &ArgMatches) -> Option<Style>
+    ensures read { IfSome result (StyleIs (rows_of (found_of matches.now))) }
+    ensures served { (style : Style) → StyleIs (rows_of (found_of matches.now)) style → IsSome result }
+{
+    let text = flag_of(matches, "text")?;
+    let json = flag_of(matches, "json")?;
+    Some(style_for(text, json))
+}
+
+/// Tells if `style` writes lines, before which offsets and ways can stand.
+pub(crate) fn has_lines(style: Style) -> bool
+    ensures { result ≡ meaning.has_lines style }
+{
+    match style {
+        Style::Lines | Style::Quoted => true,
+        Style::Json | Style::JsonText => false,
+    }
+}
+
+/// Returns whether `--offsets` and `--ways` are given, if `style` goes with them.
+fn marks_of(matches: &ArgMatches, style: Style) -> Option<(bool, bool)>
+    ensures read { IfSome result (λ marks. MarksAre (rows_of (found_of matches.now)) style marks.0 marks.1) }
+    ensures served { (offsets ways : Bool) → MarksAre (rows_of (found_of matches.now)) style offsets ways
+        → IsSome result }
+{
+    let offsets = flag_of(matches, "offsets")?;
+    let ways = flag_of(matches, "ways")?;
+    if has_lines(style) || !(offsets || ways) {
+        return Some((offsets, ways));
+    }
+    None
+}
+
+/// Tells if a style, `offsets` and `ways` are those of a plain `show`.
+fn is_plain(style: Style, offsets: bool, ways: bool) -> bool
+    ensures { result ≡ meaning.is_plain style offsets ways }
+{
+    match style {
+        Style::Lines => !(offsets || ways),
+        Style::Quoted | Style::Json | Style::JsonText => false,
+    }
+}
+
+/// Returns the order of `show` without `--at`, in `style`: all of each message, or of exactly one.
+fn whole_order<'a>(
+    form: Form,
+    limits: Limits,
+    style: Style,
+    offsets: bool,
+    ways: bool,
+    one: bool,
+) -> Order<'a>
+    ensures { (rows : List Row) → FormIs rows form → LimitsAre rows limits → StyleIs rows style
+        → MarksAre rows style offsets ways → FlagIs rows (codes "one") one → first_of (codes "at") rows ≡ None
+        → MeansOrder (Some (codes "show", rows)) result }
+{
+    if !is_plain(style, offsets, ways) {
+        return Order::Show(Show {
+            form,
+            limits,
+            style,
+            offsets,
+            ways,
+            one,
+            way: None,
+        });
+    }
+    if one {
+        Order::Message(Command::One(MessageText::Text, form, limits))
+    } else {
+        Order::Message(Command::Show(form, limits))
+    }
+}
+
+/// Returns the order of `show` with these options, if they mean one: with `--at`, whose value is a way, that parts of
+/// messages are shown; with `--text`, `--json` or both that messages or parts are shown in another style; and with
+/// `--offsets` or `--ways`, but not in JSON, that marks stand before the lines. With `--one` the input is exactly one
+/// message.
+pub(crate) fn show_of<'a>(matches: &ArgMatches<'a>) -> Option<Order<'a>>
+    ensures means { IfSome result (MeansOrder (Some (codes "show", rows_of (found_of matches.now)))) }
+    ensures served { (order : Order) → MeansOrder (Some (codes "show", rows_of (found_of matches.now))) order
+        → IsSome result }
+{
+    let form = form_of(matches)?;
+    let limits = limits_of(matches)?;
+    let style = style_of(matches)?;
+    let (offsets, ways) = marks_of(matches, style)?;
+    let one = flag_of(matches, "one")?;
+    match text_in(matches, "at") {
+        Some(way) => {
+            if is_way(way) {
+                let way = Some(way);
+                Some(Order::Show(Show {
+                    form,
+                    limits,
+                    style,
+                    offsets,
+                    ways,
+                    one,
+                    way,
+                }))
+            } else {
+                None
+            }
+        }
+        None => Some(whole_order(form, limits, style, offsets, ways, one)),
+    }
+}

@@ -1,0 +1,89 @@
+//! Command lines that order nothing: help, mistakes, refused memory.
+
+ghost use Rattle.std.specs.Prelude.{◌≡◌, ◌↔◌, IfOk, IsTrue, string_bytes};
+ghost use Rattle.clap.specs.Words.{kind_of};
+ghost use Rattle.capn_args.specs.ExitStatus.{usage_status_of};
+
+use crate::help::TITLE;
+use clap::error::ErrorKind;
+use std::alloc::{AllocError, Allocator};
+
+/// Why a command line orders nothing: a request for help or for the version, a mistake, or no memory.
+#[derive(Drop)]
+pub struct Usage {
+    /// The error of the parser of the command line.
+    pub error: clap::Error,
+}
+
+impl Usage {
+    ghost use Rattle.capn_args.specs.Usage.{IsHelp, NeedsMemory, WishesHelp, WishesVersion, error_of};
+
+    /// The exit status: 3 if memory ran out, 0 for a request for help, 2 for any other. The program shows the version
+    /// instead and ends with 0.
+    pub fn status(&self) -> u8
+        ensures { result ≡ usage_status_of (kind_of (error_of self.now)) }
+    {
+        match self.error.kind() {
+            ErrorKind::OutOfMemory => 3,
+            ErrorKind::DisplayHelp => 0,
+            _ => 2,
+        }
+    }
+
+    /// Tells if nothing is wrong with the words, and memory was refused.
+    pub fn is_memory(&self) -> bool
+        ensures { IsTrue result ↔ NeedsMemory self.now }
+    {
+        matches!(self.error.kind(), ErrorKind::OutOfMemory)
+    }
+
+    /// Tells if help is asked for.
+    pub fn is_help(&self) -> bool
+        ensures { IsTrue result ↔ WishesHelp self.now }
+    {
+        matches!(self.error.kind(), ErrorKind::DisplayHelp)
+    }
+
+    /// Tells if the version is asked for.
+    pub fn is_version(&self) -> bool
+        ensures { IsTrue result ↔ WishesVersion self.now }
+    {
+        matches!(self.error.kind(), ErrorKind::DisplayVersion)
+    }
+
+    /// The text for the user: help below its title, or what is said of a mistake.
+    pub fn text<A: Allocator + Copy>(&self, alloc: A) -> Result<String<A>, AllocError>
+        ensures { WishesHelp self.now → IfOk result (λ text. IsHelp (string_bytes text)) }
+    {
+        let said = format!(in alloc; "{}", &self.error)?;
+        if !self.is_help() {
+            return Ok(said);
+        }
+        let mut text = String::from_str(alloc, TITLE)?;
+        text.push_str(said.as_str())?;
+        Ok(text)
+    }
+}
+
+impl From<clap::Error> for Usage {
+    ghost use Rattle.std.specs.Prelude.{◌≡◌};
+    ghost use Rattle.capn_args.specs.Usage.{error_of};
+
+    ghost from_gives = { λ error usage. error_of usage ≡ error };
+
+    fn from(error: clap::Error) -> Usage {
+        Usage { error }
+    }
+}
+
+impl From<AllocError> for Usage {
+    ghost use Rattle.capn_args.specs.Usage.{NeedsMemory};
+
+    ghost from_gives = { λ _ usage. NeedsMemory usage };
+
+    fn from(error: AllocError) -> Usage {
+        Usage {
+            error: error.into(),
+        }
+    }
+}

@@ -1,0 +1,23 @@
+-- The messages of a run that shows parts were served.
+use Rattle.std.proofs.Common.{◌≡◌, ℕ, List, Bool, Option, Result, subst}
+use Rattle.capn_serve.specs.Fold.{fold_of}
+use Rattle.capn_serve.specs.FormRun.{ServesMessages}
+use Rattle.capn_serve.specs.StreamRun.{first_run}
+use Rattle.capn_serve.specs.declared.service.Run.{Run}
+use Rattle.capn_serve.specs.declared.fault.RunFault.{RunFault}
+use Rattle.capn_commands.specs.PartTexts.{refuses, serves}
+use Rattle.capn_commands.specs.ShowRun.{Shown}
+use Rattle.capn_commands.specs.declared.part_texts.PartTexts.{PartTexts}
+
+pub shown_run : (s : PartTexts) (x : Run PartTexts) (most : ℕ) (a b c d : Option (List ℕ))
+    (reader_failed writer_failed : Bool) (r : Result (Unit {0}) RunFault) (y : Run PartTexts)
+    → most ≡ s.limits.message_words → x ≡ first_run s
+    → ServesMessages (fold_of serves refuses most) x s.form a b c d reader_failed writer_failed r y
+    → Shown s a b c d reader_failed writer_failed r
+shown_run s x most a b c d reader_failed writer_failed r y words new run = (
+  y,
+  subst (λ (n : ℕ). ServesMessages (fold_of serves refuses n) (first_run s) s.form a b c d reader_failed writer_failed
+      r y) words
+      (subst (λ (z : Run PartTexts). ServesMessages (fold_of serves refuses most) z s.form a b c d reader_failed
+      writer_failed r y) new run),
+)

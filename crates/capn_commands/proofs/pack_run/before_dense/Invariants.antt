@@ -1,0 +1,14 @@
+use Rattle.std.proofs.Common.{◌≡◌, ◌≤◌, ◌%◌, ℕ, drop, length}
+use Rattle.capn_pack.specs.Chosen.{AllDense}
+use Rattle.capn_commands.proofs.pack_run.before_dense.Given as goal
+
+-- whole words come before the cut, and dense ones after it
+abbrev pub invariant-loop-cut : goal.invariant-loop-cut
+invariant-loop-cut l = record {
+  inside : l.cut ≤ length l.words;
+  whole : l.cut % 8 ≡ 0;
+  dense : (n : ℕ) × AllDense n (drop l.cut l.words);
+}
+
+abbrev pub decreases-loop-cut : goal.decreases-loop-cut
+decreases-loop-cut l = l.cut

@@ -1,0 +1,10 @@
+use Rattle.std.proofs.Common.{◌≡◌, ◌≤◌, ◌+◌, drop}
+use Rattle.capn_pack.specs.Chosen.{zero_count}
+use Rattle.capn_commands.proofs.pack_run.zeros_of.Given as goal
+
+-- those of the bytes so far are counted
+abbrev pub invariant-loop-byte : goal.invariant-loop-byte
+invariant-loop-byte l = record {
+  few : l.zeros ≤ l.byte-index;
+  counted : l.zeros + zero_count (drop l.byte-index l.bytes) ≡ zero_count l.bytes;
+}

@@ -1,0 +1,48 @@
+-- The marks of a message in an input, and its line `end` with marks. (Own.)
+use Rattle.std.specs.Prelude.{◌≡◌, ℕ, ◌+◌, ◌*◌, List, [], ◌∷◌, ◌++◌, codes, Bool, true, false, if◌then◌else◌}
+use Rattle.std.specs.Prelude.{refl}
+use Rattle.std.specs.Fmt.{decimal, digits}
+use Rattle.capn_marks.specs.declared.marks.Marks.{Marks}
+use Rattle.capn_show.specs.declared.style.Style.{Style}
+use Rattle.capn_show.specs.declared.style.Style.TheVariants as styles
+use Rattle.capn_serve.specs.Table.{table_words}
+use Rattle.capn_serve.specs.declared.position.Position.{Position}
+use Rattle.capn_commands.specs.declared.part_texts.PartTexts.{PartTexts}
+
+-- whether lists of bytes that are texts stand between quotes in a style of lines
+abbrev pub is_quoted : Style → Bool
+is_quoted styles.Lines = false
+is_quoted styles.Quoted = true
+is_quoted styles.Json = false
+is_quoted styles.JsonText = false
+
+-- the marks of a message at a position
+abbrev pub marks_of : PartTexts → Position → List (List ℕ) → Marks
+marks_of s at message = record {
+  offsets = s.offsets;
+  ways = s.ways;
+  quoted = is_quoted s.style;
+  offset = at.offset;
+  table = table_words s.form message;
+}
+
+-- the byte after a message whose table and words are this many
+abbrev pub byte_after : Marks → ℕ → ℕ
+byte_after marks words = marks.offset + 8 * (marks.table + words)
+
+-- the line `end` with marks, of a message of this many words: the byte after it, and no way
+abbrev pub marked_end : Marks → ℕ → List ℕ
+marked_end marks words =
+    (if marks.offsets then decimal (byte_after marks words) ++ 9 ∷ [] else [])
+    ++ ((if marks.ways then 9 ∷ [] else []) ++ (codes "end" ++ 10 ∷ []))
+
+-- ---- examples: what ends a message of 3 words, whose table of 1 word begins at byte 24
+
+after_both : marked_end (record { offsets = true; ways = true; quoted = false; offset = 24; table = 1 }) 3
+    ≡ codes "56\t\tend\n"
+unfolding digits
+after_both = refl
+
+after_ways : marked_end (record { offsets = false; ways = true; quoted = false; offset = 24; table = 1 }) 3
+    ≡ codes "\tend\n"
+after_ways = refl

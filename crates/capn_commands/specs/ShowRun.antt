@@ -1,0 +1,20 @@
+-- What a run that shows messages did: of each, in a style or with marks, what is at a way from its root. (Own.)
+use Rattle.std.specs.Prelude.{ℕ, List, Bool, Option, Result}
+use Rattle.capn_serve.specs.Fold.{Fold, fold_of}
+use Rattle.capn_serve.specs.FormRun.{ServesMessages}
+use Rattle.capn_serve.specs.StreamRun.{first_run}
+use Rattle.capn_serve.specs.declared.service.Run.{Run}
+use Rattle.capn_serve.specs.declared.fault.RunFault.{RunFault}
+use Rattle.capn_commands.specs.PartTexts.{refuses, serves}
+use Rattle.capn_commands.specs.declared.part_texts.PartTexts.{PartTexts}
+
+-- the fold over the messages of an input, none of which has more words than this
+abbrev pub part_fold : ℕ → Fold (Run PartTexts)
+part_fold most = fold_of serves refuses most
+
+-- the messages were served from the first on, over a reader (from a to b) and a writer (from c to d)
+abbrev pub Shown : PartTexts → Option (List ℕ) → Option (List ℕ) → Option (List ℕ) → Option (List ℕ) → Bool → Bool
+    → Result (Unit {0}) RunFault → Type 0
+Shown texts a b c d reader_failed writer_failed r = (last : Run PartTexts)
+    × ServesMessages (part_fold texts.limits.message_words) (first_run texts) texts.form a b c d reader_failed
+    writer_failed r last

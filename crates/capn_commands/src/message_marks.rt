@@ -1,0 +1,128 @@
+//! The marks of a message, and its line `end`.
+
+ghost use Rattle.std.specs.Prelude.{◌≡◌, [], ◌∷◌, ◌++◌, codes, false, if◌then◌else◌};
+ghost use Rattle.std.specs.Fmt.{decimal};
+ghost use Rattle.capn_words.specs.Watched.{has_failed};
+ghost use Rattle.capn_show.specs.Outgoing.{outgoing};
+ghost use Rattle.capn_commands.specs.MessageMarks as spec;
+ghost use Rattle.capn_commands.specs.inner.AddedParts.{AddsEnd};
+
+use crate::part_texts::{PartTexts, add_end};
+use capn_marks::Marks;
+use capn_serve::{Position, ServeFault, table_words};
+use capn_show::Style;
+use capn_words::{Space, Watched};
+use std::alloc::Allocator;
+use std::io::Write;
+
+/// Tells if `style` writes lists of bytes that are texts between quotes.
+fn is_quoted(style: Style) -> bool
+    ensures { result ≡ spec.is_quoted style }
+{
+    match style {
+        Style::Quoted => true,
+        Style::Lines | Style::Json | Style::JsonText => false,
+    }
+}
+
+/// The marks of a message at a position.
+pub(crate) fn marks_of<S: Space>(texts: &PartTexts, at: Position, message: &S) -> Marks
+    ensures { result ≡ spec.marks_of texts.now at (S.message message.now) }
+{
+    Marks {
+        offsets: texts.offsets,
+        ways: texts.ways,
+        quoted: is_quoted(texts.style),
+        offset: at.offset,
+        table: table_words(texts.form, message),
+    }
+}
+
+/// The byte after a message of this many words.
+fn byte_after(marks: Marks, words: u32) -> u128
+    ensures { result ≡ spec.byte_after marks words }
+{
+    u128::from(marks.offset) + 8 * (u128::from(marks.table) + u128::from(words))
+}
+
+/// The line `end`, behind an empty way if ways are asked for.
+fn way_end(ways: bool) -> &'static [u8]
+    ensures { result.now ≡ (if ways then 9 ∷ [] else []) ++ (codes "end" ++ 10 ∷ []) }
+{
+    if ways { b"\tend\n" } else { b"end\n" }
+}
+
+/// Adds the line `end` behind a byte, in digits, and an empty way.
+fn add_end_with_way<W: Write, A: Allocator>(
+    byte: u64,
+    text: &mut Vec<u8, A>,
+    writer: &mut Watched<W>,
+) -> Result<(), ServeFault>
+    requires fine { has_failed writer.old ≡ false }
+    ensures { AddsEnd (decimal byte ++ codes "\t\tend\n") (outgoing W.contents writer.old text.old.items)
+        (outgoing W.contents writer.new text.new.items) result }
+{
+    let mut block = *b"00000000000000000000\t\tend\n";
+    let start = itoa::write_digits(byte, &mut block, 20);
+    add_end(&block[start..], text, writer)
+}
+
+/// Adds the line `end` behind a byte, in digits.
+fn add_end_at<W: Write, A: Allocator>(
+    byte: u64,
+    text: &mut Vec<u8, A>,
+    writer: &mut Watched<W>,
+) -> Result<(), ServeFault>
+    requires fine { has_failed writer.old ≡ false }
+    ensures { AddsEnd (decimal byte ++ codes "\tend\n") (outgoing W.contents writer.old text.old.items)
+        (outgoing W.contents writer.new text.new.items) result }
+{
+    let mut block = *b"00000000000000000000\tend\n";
+    let start = itoa::write_digits(byte, &mut block, 20);
+    add_end(&block[start..], text, writer)
+}
+
+/// Adds the line `end` behind a byte that is past 2^64.
+#[cold]
+fn add_wide_end<W: Write, A: Allocator>(
+    alloc: A,
+    ways: bool,
+    byte: u128,
+    text: &mut Vec<u8, A>,
+    writer: &mut Watched<W>,
+) -> Result<(), ServeFault>
+    requires fine { has_failed writer.old ≡ false }
+    ensures { AddsEnd ((decimal byte ++ 9 ∷ []) ++ ((if ways then 9 ∷ [] else []) ++ (codes "end" ++ 10 ∷ [])))
+        (outgoing W.contents writer.old text.old.items) (outgoing W.contents writer.new text.new.items) result }
+{
+    let tab = if ways { "\t" } else { "" };
+    match format!(in alloc; "{byte}\t{tab}end\n") {
+        Ok(line) => add_end(line.as_bytes(), text, writer),
+        Err(_) => Err(ServeFault::Memory),
+    }
+}
+
+/// Adds the line `end` with marks, of a message of this many words.
+pub(crate) fn add_marked_end<W: Write, A: Allocator>(
+    alloc: A,
+    marks: Marks,
+    words: u32,
+    text: &mut Vec<u8, A>,
+    writer: &mut Watched<W>,
+) -> Result<(), ServeFault>
+    requires fine { has_failed writer.old ≡ false }
+    ensures { AddsEnd (spec.marked_end marks words) (outgoing W.contents writer.old text.old.items)
+        (outgoing W.contents writer.new text.new.items) result }
+{
+    if !marks.offsets {
+        return add_end(way_end(marks.ways), text, writer);
+    }
+    let byte = byte_after(marks, words);
+    if byte >= 1 << 64 {
+        add_wide_end(alloc, marks.ways, byte, text, writer)
+    } else if marks.ways {
+        add_end_with_way(byte as u64, text, writer)
+    } else {
+        add_end_at(byte as u64, text, writer)
+    }
+}

@@ -1,0 +1,290 @@
+//! Packing of a whole stream.
+
+ghost use Rattle.std.specs.Prelude.{◌≡◌, ◌⊎◌, ◌+◌, ◌%◌, ◌<◌, ◌≤◌, ℕ, drop, length, true, false, IfOk};
+ghost use Rattle.capn_pack.specs.Chosen.{AllDense, Chosen, zero_count};
+ghost use Rattle.capn_words.specs.Watched.{inner_of, has_failed};
+ghost use Rattle.capn_commands.specs.Flow.{Ends, Runs};
+ghost use Rattle.capn_commands.specs.PackRun.{
+  IsSettled,
+  MayGoOn,
+  PacksPart,
+  Settles,
+  ending_of,
+  most_held,
+  most_open,
+  last_word,
+  packing,
+  packing_last,
+};
+
+use crate::flow_fault::FlowFault;
+use crate::flow_output::write_all;
+use capn_pack::{pack, unpack_some};
+use capn_words::Watched;
+use std::alloc::{AllocError, Allocator};
+use std::io::{Read, Write};
+
+/// The most bytes that one call of a reader is asked for.
+const CHUNK: u64 = 65_536;
+
+/// The most words of a group.
+const RUN: u32 = 256;
+
+/// The bytes of 255 words: a run of this length may go on.
+const OPEN: usize = 2040;
+
+/// The part of a packed text that is settled, whatever follows: its number of bytes, and the number of bytes of the
+/// words that it packs.
+#[derive(Clone, Copy)]
+struct Settled {
+    text: usize,
+    words: usize,
+}
+
+/// Returns `true` if a group with this `tag` and number of `words` is a run that may go on.
+fn may_go_on(tag: u8, words: u32) -> bool
+    ensures open { result ≡ true → words < 256 }
+    ensures tag { result ≡ true → (tag ≡ 0) ⊎ (tag ≡ 255) }
+    ensures closed { result ≡ false → words < 256 → (0 < tag) × (tag < 255) }
+{
+    words < RUN && (tag == 0 || tag == 255)
+}
+
+/// Counts the zero bytes of `bytes`.
+fn zeros_of(bytes: &[u8]) -> usize
+    ensures { result ≡ zero_count bytes.now }
+{
+    let mut zeros = 0;
+    for byte in bytes {
+        if *byte == 0 {
+            zeros += 1;
+        }
+    }
+    zeros
+}
+
+/// Returns the end of what can be packed of `words` now: the start of the last run of dense words, which may go on in
+/// the next bytes; or the end of all words, if that run is as long as one may be.
+fn before_dense(words: &[u8]) -> usize
+    requires { length words.now % 8 ≡ 0 }
+    ensures whole { result % 8 ≡ 0 }
+    ensures inside { result ≤ length words.now }
+    ensures near { length words.now ≤ result + most_open }
+    ensures dense { (n : ℕ) × AllDense n (drop result words.now) }
+{
+    let mut cut = words.len();
+    while cut > 0 {
+        if words.len() - cut > OPEN {
+            return words.len();
+        }
+        if zeros_of(&words[cut - 8..cut]) > 1 {
+            return cut;
+        }
+        cut -= 8;
+    }
+    words.len()
+}
+
+/// Returns what is settled of the `text` of `words`, of which the last is zero: the last group is zero words, and its
+/// last byte says how many.
+fn zeros_part(words: &[u8], text: &[u8]) -> Settled
+    requires some { 8 ≤ length words.now }
+    requires chosen { Chosen text.now words.now }
+    requires zeros { zero_count (last_word words.now) ≡ 8 }
+    ensures { IsSettled text.now words.now result.text result.words }
+{
+    let more = text[text.len() - 1];
+    if more == 255 {
+        return Settled {
+            text: text.len(),
+            words: words.len(),
+        };
+    }
+    Settled {
+        text: text.len() - 2,
+        words: words.len() - 8 * (1 + more as usize),
+    }
+}
+
+/// Returns what is settled of the `text` of `words`. Its last group is found by unpacking those before it.
+fn unpacked_part<A: Allocator + Copy>(
+    alloc: A,
+    words: &[u8],
+    text: &[u8],
+) -> Result<Settled, AllocError>
+    requires some { 8 ≤ length words.now }
+    requires short { length words.now ≤ 131072 }
+    requires chosen { Chosen text.now words.now }
+    ensures { IfOk result (λ s. IsSettled text.now words.now s.text s.words) }
+{
+    let count = (words.len() / 8) as u32;
+    let mut unpacked = Vec::new(alloc);
+    let progress = unpack_some(text, count - 1, &mut unpacked)?;
+    if may_go_on(text[progress.bytes], count - progress.words) {
+        return Ok(Settled {
+            text: progress.bytes,
+            words: 8 * progress.words as usize,
+        });
+    }
+    Ok(Settled {
+        text: text.len(),
+        words: words.len(),
+    })
+}
+
+/// Returns what is settled of the `text` of `words`: all of it, or all but its last group, if that is a run that may go
+/// on. Most often the last word says which: a dense one may be in a run of raw words, a zero one is in a run, and
+/// others are alone.
+fn settled_part<A: Allocator + Copy>(
+    alloc: A,
+    words: &[u8],
+    text: &[u8],
+) -> Result<Settled, AllocError>
+    requires short { length words.now ≤ 131072 }
+    requires chosen { Chosen text.now words.now }
+    ensures { IfOk result (λ s. IsSettled text.now words.now s.text s.words) }
+{
+    if words.len() < 8 {
+        return Ok(Settled { text: 0, words: 0 });
+    }
+    let zeros = zeros_of(&words[words.len() - 8..]);
+    if zeros < 2 {
+        return unpacked_part(alloc, words, text);
+    }
+    if zeros == 8 {
+        return Ok(zeros_part(words, text));
+    }
+    Ok(Settled {
+        text: text.len(),
+        words: words.len(),
+    })
+}
+
+/// The text of some bytes that is settled, whatever follows, and the bytes whose text isn't.
+#[derive(Drop)]
+struct Settlement<A: Allocator + Copy> {
+    text: Vec<u8, A>,
+    rest: Vec<u8, A>,
+}
+
+/// Packs the whole words of `held`, as far as their text is settled. Dense words that come last are held back with the
+/// rest, if they may be in a run that goes on: so the groups before it need not be unpacked to find its beginning.
+fn settle<A: Allocator + Copy>(alloc: A, held: &[u8]) -> Result<Settlement<A>, AllocError>
+    requires short { length held.now ≤ 131072 }
+    ensures settled { IfOk result (λ s. Settles held.now s.text.items s.rest.items) }
+    ensures short { IfOk result (λ s. length s.rest.items < most_held) }
+    ensures few { IfOk result (λ s. length s.rest.items ≤ length held.now) }
+    ensures open { IfOk result (λ s. MayGoOn s.rest.items) }
+{
+    let whole = held.len() / 8 * 8;
+    let cut = before_dense(&held[..whole]);
+    let Ok(mut text) = pack(alloc, &held[..cut]) else {
+        return Err(AllocError);
+    };
+    let part = settled_part(alloc, &held[..cut], &text)?;
+    text.truncate(part.text);
+    let mut rest = Vec::new(alloc);
+    rest.extend_from_slice(&held[part.words..])?;
+    Ok(Settlement { text, rest })
+}
+
+/// Writes what is settled of the text of `held` followed by `bytes`, and leaves the rest in `held`.
+fn pack_chunk<W: Write, A: Allocator + Copy>(
+    alloc: A,
+    held: &mut Vec<u8, A>,
+    bytes: &[u8],
+    writer: &mut Watched<W>,
+) -> Result<(), FlowFault>
+    requires fine { has_failed writer.old ≡ false }
+    requires held { length held.old.items < most_held }
+    requires short { length bytes.now ≤ 65536 }
+    ensures { PacksPart held.old.items bytes.now (W.contents (inner_of writer.old)) (W.contents (inner_of writer.new))
+        (has_failed writer.new) result held.new.items }
+{
+    held.extend_from_slice(bytes)?;
+    let settlement = settle(alloc, held)?;
+    write_all(writer, &settlement.text)?;
+    *held = settlement.rest;
+    Ok(())
+}
+
+/// Returns the end of a run of `count` bytes, all of which were packed: `InputTooLong` if the stream `is_longer`, else
+/// `NotWhole` if they are no whole words, else done.
+fn end_after(count: u64, is_longer: bool) -> Result<(), FlowFault>
+    ensures { result ≡ ending_of is_longer count }
+{
+    if is_longer {
+        return Err(FlowFault::InputTooLong);
+    }
+    if count % 8 != 0 {
+        return Err(FlowFault::NotWhole(count));
+    }
+    Ok(())
+}
+
+/// Writes the text of the whole words of `held` to `writer`: the last ones. Returns the end of the run, which took
+/// `count` bytes in all.
+fn pack_last<W: Write, A: Allocator + Copy>(
+    alloc: A,
+    held: &[u8],
+    count: u64,
+    is_longer: bool,
+    writer: &mut Watched<W>,
+) -> Result<(), FlowFault>
+    requires fine { has_failed writer.old ≡ false }
+    ensures { Ends (packing_last count) held.now is_longer (W.contents (inner_of writer.old))
+        (W.contents (inner_of writer.new)) (has_failed writer.new) result }
+{
+    let whole = held.len() / 8 * 8;
+    match pack(alloc, &held[..whole]) {
+        Err(_) => Err(FlowFault::Memory),
+        Ok(text) => {
+            write_all(writer, &text)?;
+            end_after(count, is_longer)
+        }
+    }
+}
+
+/// Packs a stream: writes the packer's text of the whole words of `reader` to `writer`, which is what
+/// [`pack`](capn_pack::pack) answers of them. It reads chunks of at most 65,536 bytes, and writes what is settled of
+/// the text of each chunk before it reads again. (Page: packing; the rest is own.)
+///
+/// Settled is what no later word can change: all but the last group, and that too, unless it is a run of zero words or
+/// of raw words that may go on. With up to 255 dense words that come last, fewer than 4,096 bytes are held back.
+///
+/// Of the stream at most 2^64 - 1 bytes are taken, and one more is read, to know whether there are more. The run ends
+/// as done, or with the first fault: `Io` if and only if the reader or the writer failed; `Memory` if a growth was
+/// refused, which takes a byte; `InputTooLong` if there are more bytes; `NotWhole`, with their number, if it is no
+/// multiple of eight. Before the two last the text of all whole words was written, after `Memory` and `Io` a beginning
+/// of it. It holds a chunk, its text and its words, each at most twice: less than 2 MiB.
+pub fn pack_stream<R: Read, W: Write, A: Allocator + Copy>(
+    alloc: A,
+    reader: &mut Watched<R>,
+    writer: &mut Watched<W>,
+) -> Result<(), FlowFault>
+    requires reader_fine { has_failed reader.old ≡ false }
+    requires writer_fine { has_failed writer.old ≡ false }
+    ensures { Runs packing (R.remaining (inner_of reader.old)) (R.remaining (inner_of reader.new))
+        (W.contents (inner_of writer.old)) (W.contents (inner_of writer.new)) (has_failed reader.new)
+        (has_failed writer.new) result }
+{
+    let mut held = Vec::new(alloc);
+    let mut buffer = [0; CHUNK as usize];
+    let mut taken = 0;
+    'chunks: loop {
+        let left = u64::MAX - taken;
+        let room = left.min(CHUNK - 1) + 1;
+        match reader.read(&mut buffer[..room as usize]) {
+            Err(_) => return Err(FlowFault::Io),
+            Ok(0) => return pack_last(alloc, &held, taken, false, writer),
+            Ok(count) => {
+                let within = left.min(count as u64);
+                pack_chunk(alloc, &mut held, &buffer[..within as usize], writer)?;
+                taken += within;
+                if within < count as u64 {
+                    return pack_last(alloc, &held, taken, true, writer);
+                }
+            }
+        }
+    }
+}

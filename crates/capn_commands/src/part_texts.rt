@@ -1,0 +1,175 @@
+//! The service of `show`: parts of messages in a style, or with marks.
+
+ghost use Rattle.std.specs.Prelude.{◌≡◌, ◌||◌, false};
+ghost use Rattle.capn_words.specs.Message.{total};
+ghost use Rattle.capn_words.specs.Watched.{has_failed};
+ghost use Rattle.capn_marks.specs.MarkedPart.{marked_at};
+ghost use Rattle.capn_show.specs.Outgoing.{outgoing};
+ghost use Rattle.capn_show.specs.Styled.{styled};
+ghost use Rattle.capn_commands.specs.MessageMarks as marking;
+ghost use Rattle.capn_commands.specs.PartTexts as spec;
+ghost use Rattle.capn_commands.specs.inner.AddedParts.{AddsEnd, AddsPart, IsFaultOf};
+
+use crate::message_marks::{add_marked_end, marks_of};
+use capn_canon::Form;
+use capn_marks::{Marks, show_marked};
+use capn_serve::{Position, ServeFault, Service, fault_of_stop, flush_long};
+use capn_show::{ShowFault, Style, show_part};
+use capn_walk::Limits;
+use capn_words::{Space, Watched, total_words};
+use std::alloc::Allocator;
+use std::io::Write;
+
+/// The service that writes of each message of a stream, within limits, the text of the value at a way and its end.
+#[derive(Drop)]
+pub struct PartTexts<'w> {
+    /// The numbers of the way.
+    pub way: &'w [u64],
+    /// The encoding of the stream.
+    pub form: Form,
+    /// The limits of a message.
+    pub limits: Limits,
+    /// The style of the text.
+    pub style: Style,
+    /// True if each line begins with the offset of the byte that it is about. Not with JSON.
+    pub offsets: bool,
+    /// True if each line begins, after that offset, with the way to the slot that it is about. Not with JSON.
+    pub ways: bool,
+}
+
+/// Maps the fault of a message that is refused, or whose text breaks off, to a `ServeFault`.
+fn fault_of(fault: ShowFault) -> ServeFault
+    ensures { IsFaultOf fault result }
+{
+    match fault {
+        ShowFault::Stopped(stopped) => fault_of_stop(stopped),
+        ShowFault::Io => ServeFault::Io,
+        ShowFault::Memory => ServeFault::Memory,
+    }
+}
+
+/// Returns the end of a message's text: the line `end`, or nothing for JSON, whose text is one line.
+fn end_of(style: Style) -> &'static [u8]
+    ensures { result.now ≡ spec.end_of style }
+{
+    match style {
+        Style::Lines | Style::Quoted => b"end\n",
+        Style::Json | Style::JsonText => b"",
+    }
+}
+
+/// Adds an end to the text, or nothing if memory is refused, and writes what is long.
+pub(crate) fn add_end<W: Write, A: Allocator>(
+    end: &[u8],
+    text: &mut Vec<u8, A>,
+    writer: &mut Watched<W>,
+) -> Result<(), ServeFault>
+    requires fine { has_failed writer.old ≡ false }
+    ensures { AddsEnd end.now (outgoing W.contents writer.old text.old.items)
+        (outgoing W.contents writer.new text.new.items) result }
+{
+    match text.extend_from_slice(end) {
+        Ok(()) => flush_long(text, writer),
+        Err(_) => Err(ServeFault::Memory),
+    }
+}
+
+/// Adds the text of what is at a way from a message's root, in a style, and what ends it. Long texts are written
+/// while they are made.
+fn add_part<S: Space, W: Write, A: Allocator + Copy>(
+    alloc: A,
+    message: &S,
+    limits: Limits,
+    style: Style,
+    way: &[u64],
+    text: &mut Vec<u8, A>,
+    writer: &mut Watched<W>,
+) -> Result<(), ServeFault>
+    requires fine { has_failed writer.old ≡ false }
+    ensures { AddsPart (S.message message.now) limits (styled style way.now) (spec.end_of style)
+        (outgoing W.contents writer.old text.old.items) (outgoing W.contents writer.new text.new.items) result }
+{
+    match show_part(alloc, text, writer, message, limits, style, way) {
+        Ok(()) => add_end(end_of(style), text, writer),
+        Err(fault) => Err(fault_of(fault)),
+    }
+}
+
+/// The same with marks.
+fn add_marked<S: Space, W: Write, A: Allocator + Copy>(
+    alloc: A,
+    message: &S,
+    limits: Limits,
+    marks: Marks,
+    way: &[u64],
+    text: &mut Vec<u8, A>,
+    writer: &mut Watched<W>,
+) -> Result<(), ServeFault>
+    requires fine { has_failed writer.old ≡ false }
+    ensures { AddsPart (S.message message.now) limits (marked_at (S.message message.now) marks way.now)
+        (marking.marked_end marks (total (S.message message.now))) (outgoing W.contents writer.old text.old.items)
+        (outgoing W.contents writer.new text.new.items) result }
+{
+    match show_marked(alloc, text, writer, message, limits, marks, way) {
+        Ok(()) => add_marked_end(alloc, marks, total_words(message), text, writer),
+        Err(fault) => Err(fault_of(fault)),
+    }
+}
+
+/// Tells if `texts` asks for offsets or ways.
+fn has_marks(texts: &PartTexts) -> bool
+    ensures { result ≡ (texts.now.offsets || texts.now.ways) }
+{
+    texts.offsets || texts.ways
+}
+
+/// The same with marks where any is asked for, and else in a style.
+fn add_text<S: Space, W: Write, A: Allocator + Copy>(
+    alloc: A,
+    texts: &PartTexts,
+    at: Position,
+    message: &S,
+    text: &mut Vec<u8, A>,
+    writer: &mut Watched<W>,
+) -> Result<(), ServeFault>
+    requires fine { has_failed writer.old ≡ false }
+    ensures { AddsPart (S.message message.now) texts.now.limits (spec.part_of texts.now at (S.message message.now))
+        (spec.part_end texts.now at (S.message message.now)) (outgoing W.contents writer.old text.old.items)
+        (outgoing W.contents writer.new text.new.items) result }
+{
+    let (limits, way) = (texts.limits, texts.way);
+    if has_marks(texts) {
+        let marks = marks_of(texts, at, message);
+        add_marked(alloc, message, limits, marks, way, text, writer)
+    } else {
+        add_part(alloc, message, limits, texts.style, way, text, writer)
+    }
+}
+
+impl<'w> Service for PartTexts<'w> {
+    ghost use Rattle.capn_commands.specs.PartTexts as spec;
+    ghost use Rattle.capn_serve.specs.Fold.{never};
+
+    ghost serves = { spec.serves };
+
+    ghost refuses = { spec.refuses };
+
+    ghost done = { never };
+
+    #[inline(always)]
+    fn is_done(&self, _at: Position) -> bool {
+        false
+    }
+
+    fn serve<S: Space, W: Write, A: Allocator + Copy>(
+        &mut self,
+        alloc: A,
+        at: Position,
+        _frame: &[u8],
+        message: &S,
+        text: &mut Vec<u8, A>,
+        writer: &mut Watched<W>,
+    ) -> Result<(), ServeFault> {
+        add_text(alloc, self, at, message, text, writer)
+    }
+}

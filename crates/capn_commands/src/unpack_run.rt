@@ -1,0 +1,117 @@
+//! Unpacking of a whole stream.
+
+ghost use Rattle.std.specs.Prelude.{◌≡◌, false};
+ghost use Rattle.capn_words.specs.Watched.{inner_of, has_failed};
+ghost use Rattle.capn_commands.specs.Flow.{Runs};
+ghost use Rattle.capn_commands.specs.UnpackRun.{WritesGroups, WritesSome, ending_of, unpacking};
+
+use crate::flow_fault::FlowFault;
+use crate::flow_output::write_all;
+use capn_pack::{Next, Progress, unpack_some};
+use capn_words::Watched;
+use std::alloc::Allocator;
+use std::io::{Read, Write};
+
+/// The most bytes that one call of a reader is asked for.
+const CHUNK: usize = 65_536;
+
+/// The most bytes of an unfinished group.
+const UNFINISHED: usize = 2049;
+
+/// The most words that are held at once. No group has as many.
+const WORDS: u32 = 16_384;
+
+/// Writes the words of the whole groups that come first in `bytes`, as many as are held at once. `words` is
+/// overwritten.
+fn write_some<W: Write, A: Allocator + Copy>(
+    bytes: &[u8],
+    words: &mut Vec<u8, A>,
+    writer: &mut Watched<W>,
+) -> Result<Progress, FlowFault>
+    requires fine { has_failed writer.old ≡ false }
+    ensures { WritesSome bytes.now (W.contents (inner_of writer.old)) (W.contents (inner_of writer.new))
+        (has_failed writer.new) result }
+{
+    words.clear();
+    let progress = unpack_some(bytes, WORDS, words)?;
+    write_all(writer, words)?;
+    Ok(progress)
+}
+
+/// Writes the words of all whole groups that come first in `bytes`, and returns the number of bytes that those groups
+/// take. `words` is overwritten.
+fn write_groups<W: Write, A: Allocator + Copy>(
+    bytes: &[u8],
+    words: &mut Vec<u8, A>,
+    writer: &mut Watched<W>,
+) -> Result<usize, FlowFault>
+    requires fine { has_failed writer.old ≡ false }
+    ensures { WritesGroups bytes.now (W.contents (inner_of writer.old)) (W.contents (inner_of writer.new))
+        (has_failed writer.new) result }
+{
+    let mut at = 0;
+    'parts: loop {
+        let progress = write_some(&bytes[at..], words, writer)?;
+        at += progress.bytes;
+        match progress.next {
+            Next::TooLong => {}
+            Next::End | Next::Cut => return Ok(at),
+        }
+    }
+}
+
+/// Returns the end of a run at the end of the input, of which the bytes of `rest`, from `offset` on, are in no whole
+/// group.
+fn end_of_unpacking(rest: &[u8], offset: u64) -> Result<(), FlowFault>
+    ensures { result ≡ ending_of false rest.now offset }
+{
+    if rest.is_empty() {
+        return Ok(());
+    }
+    Err(FlowFault::Cut(offset))
+}
+
+/// Unpacks a stream: reads chunks of at most 65,536 bytes of `reader`, and writes the words of the groups that each
+/// chunk makes whole to `writer` before it reads again. (Page: packing; the rest is own.)
+///
+/// Of the stream at most 2^64 - 1 bytes are taken, and one more is read, to know whether there are more. There is no
+/// maximum of words. The run ends as done, or with the first fault: `Io` if and only if the reader or the writer
+/// failed; `Memory` if a growth was refused, which takes a byte; `InputTooLong` if there are more bytes; `Cut`, with
+/// the offset of its tag, if the input ends within a group. The words of whole groups before it were written; after
+/// `Memory` and `Io` a beginning of them. It holds a chunk, an unfinished group of at most 2,049 bytes, and up to
+/// 16,384 words, which it writes at once, in room that grows by doubling: less than 512 KiB, whatever comes.
+pub fn unpack_stream<R: Read, W: Write, A: Allocator + Copy>(
+    alloc: A,
+    reader: &mut Watched<R>,
+    writer: &mut Watched<W>,
+) -> Result<(), FlowFault>
+    requires reader_fine { has_failed reader.old ≡ false }
+    requires writer_fine { has_failed writer.old ≡ false }
+    ensures { Runs unpacking (R.remaining (inner_of reader.old)) (R.remaining (inner_of reader.new))
+        (W.contents (inner_of writer.old)) (W.contents (inner_of writer.new)) (has_failed reader.new)
+        (has_failed writer.new) result }
+{
+    let mut words = Vec::new(alloc);
+    let mut buffer = [0; UNFINISHED + CHUNK];
+    let mut held = 0;
+    let mut taken = 0;
+    'chunks: loop {
+        let left = u64::MAX - taken;
+        let room = left.min(CHUNK as u64 - 1) + 1;
+        match reader.read(&mut buffer[held..held + room as usize]) {
+            Err(_) => return Err(FlowFault::Io),
+            Ok(0) => return end_of_unpacking(&buffer[..held], taken - held as u64),
+            Ok(count) => {
+                let within = left.min(count as u64);
+                let end = held + within as usize;
+                let at = write_groups(&buffer[..end], &mut words, writer)?;
+                if within < count as u64 {
+                    return Err(FlowFault::InputTooLong);
+                }
+                taken += within;
+                buffer.copy_within(at..end, 0);
+                held = end - at;
+            }
+        }
+    }
+}

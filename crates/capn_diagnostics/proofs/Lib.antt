@@ -1,0 +1,5 @@
+pub mod ListedParts
+pub mod PlacesOnWays
+pub mod PlaceWithin
+pub mod WayParts
+pub mod WordDigits

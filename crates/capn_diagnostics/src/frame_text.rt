@@ -1,0 +1,79 @@
+//! The lines of a frame, a packing or a length that is refused.
+
+ghost use Rattle.std.specs.Prelude.{◌≡◌, [], ◌∷◌};
+ghost use Rattle.hex.specs.Hex.{encode_lower};
+
+use std::{fmt, str};
+
+/// The part that came of a message whose frame, packing or length is refused, displayed in a line with its end; or in
+/// no bytes.
+#[derive(Clone, Copy, Debug, PartialEq, Eq)]
+pub enum FrameKey {
+    /// The fault has no such line.
+    Nothing,
+    /// The bytes that came of a bare message.
+    There(u64),
+    /// The bytes that came of a framed message, and those that it has at least.
+    AtLeast(u64, u64),
+    /// The segments or words that a table announces, and the most that are allowed.
+    Announced(u64, u64),
+    /// A group of a packed input: the byte at which it begins, its tag, the bytes that it has at least, and those that
+    /// came.
+    Group(u64, u8, u64, u64),
+}
+
+/// Returns the two hexadecimal digits of `byte`.
+fn digits_of(byte: u8) -> [u8; 2]
+    ensures { result ≡ encode_lower (byte ∷ []) }
+{
+    let mut digits = [0u8; 2];
+    // Two digits have room, so nothing is refused.
+    let _done = hex::encode_to_slice([byte], &mut digits);
+    digits
+}
+
+/// The bits of a byte, displayed in two hexadecimal digits in lower case.
+#[derive(Drop)]
+struct ByteText(u8);
+
+impl fmt::Display for ByteText {
+    ghost use Rattle.std.specs.Prelude.{Some, ◌∷◌, []};
+    ghost use Rattle.hex.specs.Hex.{encode_lower};
+
+    ghost output = { λ text. Some (encode_lower (text.0 ∷ [])) };
+
+    fn fmt<W: fmt::Write>(&self, f: &mut fmt::Formatter<W>) -> fmt::Result {
+        let digits = digits_of(self.0);
+        let Ok(text) = str::from_utf8(&digits) else {
+            unreachable!();
+        };
+        f.write_str(text)
+    }
+}
+
+impl fmt::Display for FrameKey {
+    ghost use Rattle.std.specs.Prelude.{Some};
+    ghost use Rattle.capn_diagnostics.specs.MessageTexts.{key_line};
+
+    ghost output = { λ key. Some (key_line key) };
+
+    fn fmt<W: fmt::Write>(&self, f: &mut fmt::Formatter<W>) -> fmt::Result {
+        match self {
+            FrameKey::Nothing => write!(f, ""),
+            FrameKey::There(came) => write!(f, "there: {came} bytes\n"),
+            FrameKey::AtLeast(came, least) => {
+                write!(f, "there: {came} bytes of at least {least}\n")
+            }
+            FrameKey::Announced(announced, most) => {
+                write!(f, "announced: {announced}, at most {most}\n")
+            }
+            FrameKey::Group(byte, tag, needs, came) => {
+                let tag = ByteText(*tag);
+                write!(
+                    f,
+                    "group: byte {byte} of the packed input, tag {tag}: needs {needs} bytes, {came} came\n"
+                )
+            }
+        }
+    }
+}

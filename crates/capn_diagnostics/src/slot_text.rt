@@ -1,0 +1,59 @@
+//! The text of a slot.
+
+ghost use Rattle.std.specs.Prelude.{◌≡◌};
+ghost use Rattle.capn_words.specs.Message.{IsPlace};
+ghost use Rattle.capn_diagnostics.specs.Slot.{placed};
+
+use crate::byte_of_place::long_place_byte;
+use crate::pointer_text::PointerText;
+use crate::word_text::WordText;
+use capn_words::{Place, Space};
+use std::fmt;
+
+/// A slot, displayed in one line without its end: the byte and the place of its word, the word's bytes, and the pointer
+/// that it is.
+#[derive(Clone, Copy, Debug, PartialEq, Eq)]
+pub struct SlotText {
+    /// The byte of the stream at which its word begins.
+    pub byte: u128,
+    /// Its place.
+    pub place: Place,
+    /// Its word.
+    pub word: u64,
+}
+
+impl SlotText {
+    /// Returns the text of the slot at `at` of the message `space`, which has to be in range.
+    ///
+    /// `offset` is the byte of its stream at which the message's table begins, and `table` the number of words that it
+    /// takes: 0 for a bare segment.
+    pub fn at<S: Space>(space: &S, offset: u64, table: u32, at: Place) -> SlotText
+        requires { IsPlace (S.message space.now) at }
+        ensures { result ≡ placed (S.message space.now) offset table at }
+    {
+        SlotText {
+            byte: long_place_byte(space, offset, table, at),
+            place: at,
+            word: space.word(at),
+        }
+    }
+}
+
+impl fmt::Display for SlotText {
+    ghost use Rattle.std.specs.Prelude.{Some};
+    ghost use Rattle.capn_diagnostics.specs.Texts.{slot_text};
+
+    ghost output = { λ slot. Some (slot_text slot.byte slot.place slot.word) };
+
+    fn fmt<W: fmt::Write>(&self, f: &mut fmt::Formatter<W>) -> fmt::Result {
+        let byte = self.byte;
+        let segment = self.place.segment;
+        let word = self.place.word;
+        write!(
+            f,
+            "byte {byte}, segment {segment} word {word}: {}: {}",
+            WordText(self.word),
+            PointerText::of(self.word)
+        )
+    }
+}

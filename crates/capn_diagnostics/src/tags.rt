@@ -1,0 +1,131 @@
+//! The tag of a list of structs to which a slot leads, and its rows.
+
+ghost use Rattle.std.specs.Prelude.{◌≡◌, ◌<◌, ◌≤◌, ◌^◌, IfSome};
+ghost use Rattle.capn_words.specs.Message.{IsPlace};
+ghost use Rattle.capn_diagnostics.specs.Slot as spec;
+
+use crate::examined::RowWords;
+use crate::telling::{Telling, has_words};
+use capn_target::Fault;
+use capn_words::{Place, Pointer, Space, Width};
+
+/// Returns the word at which content begins, `offset` words from the word `from`; `None`, if that is before word 0.
+fn begins(from: u64, offset: i32) -> Option<u64>
+    requires { from ≤ 2 ^ 32 }
+    ensures value { result ≡ spec.begins from offset }
+    ensures small { IfSome result (λ start. start < 2 ^ 34) }
+{
+    let start = from as i64 + offset as i64;
+    if start < 0 { None } else { Some(start as u64) }
+}
+
+/// Returns the place of a tag at word `start` of `segment`, if it and the `span` words after it are inside that.
+fn tag_from<S: Space>(space: &S, segment: u32, span: u32, start: Option<u64>) -> Option<Place>
+    requires { IfSome start (λ word. word < 2 ^ 34) }
+    ensures value { result ≡ spec.tag_from (S.message space.now) segment span start }
+    ensures inside { IfSome result (λ at. IsPlace (S.message space.now) at) }
+{
+    let start = start?;
+    if has_words(space, segment, start, 1 + span as u64) {
+        Some(Place {
+            segment,
+            word: start as u32,
+        })
+    } else {
+        None
+    }
+}
+
+/// Returns the place of the tag of the list of structs to which a pointer refers, if it is reached.
+pub(crate) fn tag_in<S: Space>(space: &S, told: Option<Telling>) -> Option<Place>
+    requires { IfSome told (λ t. t.from ≤ 2 ^ 32) }
+    ensures value { result ≡ spec.tag_in (S.message space.now) told }
+    ensures inside { IfSome result (λ at. IsPlace (S.message space.now) at) }
+{
+    let told = told?;
+    tag_told(space, told)
+}
+
+/// Returns the place of the tag word, if the pointer is to a list of structs.
+fn tag_told<S: Space>(space: &S, told: Telling) -> Option<Place>
+    requires { told.from ≤ 2 ^ 32 }
+    ensures value { result ≡ spec.tag_told (S.message space.now) told.segment told.from told.offset told.form }
+    ensures inside { IfSome result (λ at. IsPlace (S.message space.now) at) }
+{
+    match told.form {
+        Pointer::Many {
+            offset: _,
+            width,
+            count,
+        } => match width {
+            Width::Rows => {
+                let start = begins(told.from, told.offset);
+                tag_from(space, told.segment, count, start)
+            }
+            _ => None,
+        },
+        _ => None,
+    }
+}
+
+/// Returns the rows that `tag` counts, if the pointer `form` is one to a list of structs.
+fn rows_by(tag: u64, form: Pointer) -> Option<RowWords>
+    ensures { result ≡ spec.rows_by tag form }
+{
+    match form {
+        Pointer::Many {
+            offset: _,
+            width,
+            count,
+        } => match width {
+            Width::Rows => Some(row_words(tag, count)),
+            _ => None,
+        },
+        _ => None,
+    }
+}
+
+/// Returns the rows that `tag` counts, of a list whose pointer gives them `span` words.
+fn row_words(tag: u64, span: u32) -> RowWords
+    ensures { result ≡ spec.row_words tag span }
+{
+    let count = tag >> 2 & 0x3fff_ffff;
+    let words = tag >> 32 & 0xffff;
+    let slots = tag >> 48 & 0xffff;
+    let each = words + slots;
+    RowWords {
+        count: count as u32,
+        each: each as u32,
+        words: count * each,
+        span,
+    }
+}
+
+/// Returns the rows of the list of structs to which a slot leads, if they have no room.
+pub(crate) fn rows_of<S: Space>(
+    space: &S,
+    at: Place,
+    told: Option<Telling>,
+    tag: Option<Place>,
+    fault: Fault,
+) -> Option<RowWords>
+    requires told { told ≡ spec.told (S.message space.now) at }
+    requires tag { tag ≡ spec.tag_at (S.message space.now) at }
+    requires inside { IfSome tag (λ at. IsPlace (S.message space.now) at) }
+    ensures { result ≡ spec.rows_of (S.message space.now) at fault }
+{
+    match fault {
+        Fault::TagOverrun => rows_in(space, told, tag),
+        _ => None,
+    }
+}
+
+/// Returns the rows of the list of structs to which a pointer refers, with its `tag`.
+fn rows_in<S: Space>(space: &S, told: Option<Telling>, tag: Option<Place>) -> Option<RowWords>
+    requires { IfSome tag (λ at. IsPlace (S.message space.now) at) }
+    ensures { result ≡ spec.rows_in (S.message space.now) told tag }
+{
+    let told = told?;
+    let tag = tag?;
+    rows_by(space.word(tag), told.form)
+}

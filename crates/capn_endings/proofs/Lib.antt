@@ -1,2 +1,0 @@
-pub mod shared
-pub mod Ways

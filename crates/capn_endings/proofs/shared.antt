@@ -1,2 +1,0 @@
--- Lemmas that other crates may cite.
-pub mod Said

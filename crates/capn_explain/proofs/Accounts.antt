@@ -1,0 +1,121 @@
+-- The lines of an account, wherever its ways are kept. (For `first_of` and `put_accepted`.)
+use Rattle.std.proofs.Common.{◌≡◌, ℕ, List, Some, Result, Ok, Err, IfOk, IsErr, refl, ap, ◌++◌, codes}
+use Rattle.std.proofs.Common.{◌≤◌, Vec, arith}
+use Rattle.capn_words.specs.declared.memory.Memory.{Memory}
+use Rattle.capn_walk.specs.Limits.{Bounds}
+use Rattle.capn_canon.specs.declared.form.Form.{Form}
+use Rattle.capn_serve.specs.declared.fault.ServeFault.{ServeFault}
+use Rattle.capn_serve.specs.declared.position.Position.{Position}
+use Rattle.std.specs.Fmt.{decimal}
+use Rattle.capn_diagnostics.specs.MessageTexts.{head_lines, lengths_line}
+use Rattle.capn_mismatch.specs.CanonicalLines.{canonical_lines, departure_text}
+use Rattle.capn_mismatch.specs.Departures.{Departs, IsDeparture}
+use Rattle.capn_mismatch.specs.declared.answer.Departure.{Departure}
+use Rattle.capn_mismatch.specs.declared.answer.Departure.TheVariants as departures
+use Rattle.capn_mismatch.specs.declared.canonical_lines.CanonicalLines.{CanonicalLines}
+use Rattle.capn_mismatch.specs.declared.whose.Whose.{Whose}
+use Rattle.capn_mismatch.specs.declared.whose.Whose.TheVariants as whose
+use Rattle.capn_explain.specs.Accounts.{IsAccount, IsAccountText, account_text}
+use Rattle.capn_explain.specs.Reports.{IsFirst, PutsAccount, PutsText, lines_first}
+use Rattle.capn_explain.specs.declared.account.Account.{Account}
+use Rattle.capn_explain.specs.declared.explain.Explain.{Explain}
+
+module _ {A : Type 0} where
+  -- the same numbers, kept nowhere in particular
+  abbrev pub way : Vec ℕ A → Vec ℕ (Unit {0})
+  way d = record {
+    ptr = d.ptr;
+    len = d.len;
+    cap = d.cap;
+    alloc = tt;
+    items = d.items;
+    ok = d.ok;
+    small = d.small;
+  }
+
+  abbrev pub owner : Whose A → Whose (Unit {0})
+  owner (whose.Pointer w) = whose.Pointer (way w)
+  owner (whose.Tag w) = whose.Tag (way w)
+  owner (whose.LastWord w) = whose.LastWord (way w)
+
+  abbrev pub departure : Departure A → Departure (Unit {0})
+  departure departures.Canonical = departures.Canonical
+  departure (departures.Segments n) = departures.Segments n
+  departure (departures.Capability k w) = departures.Capability k (way w)
+  departure (departures.Word w is c o) = departures.Word w is c (owner o)
+  departure (departures.After w is) = departures.After w is
+
+  abbrev pub lines : CanonicalLines A → CanonicalLines (Unit {0})
+  lines l = record { departure = departure l.departure; offset = l.offset; table = l.table; lengths = l.lengths }
+
+  abbrev pub account : Account A → Account (Unit {0})
+  account a = record { head = a.head; paid = a.paid; visits = a.visits; depth = a.depth; lines = lines a.lines }
+
+  -- the same is told
+  same_departure : (offset table : ℕ) (d : Departure A)
+      → departure_text offset table d ≡ departure_text offset table (departure d)
+  same_departure offset table departures.Canonical = refl
+  same_departure offset table (departures.Segments n) = refl
+  same_departure offset table (departures.Capability k w) = refl
+  same_departure offset table (departures.Word w is c (whose.Pointer p)) = refl
+  same_departure offset table (departures.Word w is c (whose.Tag p)) = refl
+  same_departure offset table (departures.Word w is c (whose.LastWord p)) = refl
+  same_departure offset table (departures.After w is) = refl
+
+  same_lines : (l : CanonicalLines A) → canonical_lines l ≡ canonical_lines (lines l)
+  same_lines l = λ i. codes "canonical: " ++ (same_departure l.offset l.table l.departure i ++ (codes "\n"
+      ++ lengths_line l.lengths))
+
+  same_account : (a : Account A) → account_text a ≡ account_text (account a)
+  same_account a = λ i. head_lines a.head ++ (codes "accepted: paid " ++ (decimal a.paid ++ (codes " visits "
+      ++ (decimal a.visits ++ (codes " depth " ++ (decimal a.depth ++ (codes "\n" ++ same_lines a.lines i)))))))
+
+  -- and is so
+  is_departure : (message : List (List ℕ)) (limits : Bounds) (d : Departure A) → IsDeparture message limits d
+      → IsDeparture message limits (departure d)
+  is_departure message limits departures.Canonical is = is
+  is_departure message limits (departures.Segments n) is = is
+  is_departure message limits (departures.Capability k w) is = is
+  is_departure message limits (departures.Word w x c (whose.Pointer p)) is = is
+  is_departure message limits (departures.Word w x c (whose.Tag p)) is = is
+  is_departure message limits (departures.Word w x c (whose.LastWord p)) is = is
+  is_departure message limits (departures.After w x) is = is
+
+  module _ (form : Form) (at : Position) (message : List (List ℕ)) (limits : Bounds) where
+    -- what an account displays are the lines of the message
+    pub account_told : (a : Account A) → IsAccount form at message limits a
+        → IsAccountText form at message limits (account_text a)
+    account_told a (m, measured, are, is) = (
+      account a,
+      (
+        m,
+        measured,
+        record {
+          value = are.value;
+          is = are.is;
+          departure = is_departure message limits a.lines.departure are.departure;
+          lengths = are.lengths;
+          offset_is = are.offset_is;
+          table_is = are.table_is;
+        },
+        ap account is,
+      ),
+      same_account a,
+    )
+
+    -- what is kept of the first message
+    pub first_kept : (r : Result (Account A) Memory) → at.index ≡ 0 → IfOk r (IsAccount form at message limits)
+        → (IsErr r → Departs message limits) → IsFirst form at message limits (lines_first (Some r))
+    first_kept (Ok a) first found departs = (first, account_told a found)
+    first_kept (Err memory) first found departs = (first, departs refl)
+
+  -- its lines were appended
+  pub puts_account : (order : Explain) (at : Position) (message : List (List ℕ)) (a : Account A) (old new : List ℕ)
+      (r : Result (Unit {0}) ServeFault) → IsAccount order.form at message order.limits a
+      → PutsText (account_text a) old new r → PutsAccount order at message old new r
+  puts_account order at message a old new (Ok u) is put =
+      (account_text a, account_told order.form at message order.limits a is, put)
+  puts_account order at message a old new (Err fault) is put = put
+
+pub not_positive : (n : ℕ) → n ≤ 0 → n ≡ 0
+not_positive n e = omega (arith, e)

@@ -1,0 +1,119 @@
+-- The text after the loop over the messages. (For `run_explain` and `write_refusal`.)
+use Rattle.std.proofs.Common.{◌≡◌, ◌≢◌, ◌↔◌, ◌⊎◌, inl, inr, ℕ, List, [], ◌++◌, Bool, true, false, Option, None}
+use Rattle.std.proofs.Common.{Some, OnOk, IsErrOf, IsErrAnd, IsOkUnless, codes, length, arith}
+use Rattle.std.proofs.Common.{Result, Ok, Err, refl, ap, sym, subst, ◌∙◌}
+use Rattle.std.specs.Io.KnownBytes.{Appends}
+use Rattle.capn_words.specs.Watched.{HasBegun}
+use Rattle.capn_walk.specs.Limits.{Bounds}
+use Rattle.capn_canon.specs.declared.refusal.Refusal.{Refusal}
+use Rattle.capn_serve.specs.declared.fault.RunFault.{RunFault}
+use Rattle.capn_serve.specs.declared.fault.RunFault.TheVariants as faults
+use Rattle.capn_serve.specs.declared.position.Position.{Position}
+use Rattle.capn_serve.specs.WhatCame.{Came}
+use Rattle.capn_explain.specs.ExplainRun.{ending_by, rest_ending, told_at}
+use Rattle.capn_explain.specs.FaultLines.{fault_lines}
+use Rattle.capn_explain.specs.Reports.{First}
+use Rattle.capn_explain.specs.inner.Closing.{IsFineIfTold, PutsClosing, told_by}
+use Rattle.capn_explain.specs.declared.explain.Explain.{Explain}
+use Rattle.capn_explain.specs.declared.outcome.Outcome.{Outcome}
+use Rattle.capn_explain.specs.declared.outcome.Outcome.TheVariants as outcomes
+
+abbrev pub Ending : Type 0
+Ending = Result (Unit {0}) RunFault
+
+-- how a run ended
+abbrev pub ended : Ending → Ending
+ended r = r
+
+-- an ending by a fault
+abbrev pub stopped : RunFault → Ending
+stopped e = Err e
+
+-- ---- what is written
+
+no_failure : (failed : Bool) → ((ended (Ok tt) ≡ Err faults.Io) ↔ (failed ≡ true)) → failed ≡ false
+no_failure false io = refl
+no_failure true (to, from) = let k = from refl in absurd (cc)
+
+-- it was written, or the writer failed
+pub closing_wrote : (text bytes : List ℕ) (old new : Option (List ℕ)) (before after : Bool) (r : Ending)
+    → before ≡ false → text ≢ [] → bytes ≡ text → OnOk r (Appends old new bytes) → HasBegun old new bytes
+    → (IsErrOf r faults.Io ↔ (after ≡ true)) → IsOkUnless r faults.Io → PutsClosing text old new before after r
+closing_wrote text bytes old new before after (Ok u) fine some same ok begun io only =
+    (subst (Appends old new) same ok, no_failure after io ∙ sym fine)
+closing_wrote text bytes old new before after (Err e) fine some same ok begun io only =
+    (some, inr (only, subst (HasBegun old new) same begun, io.0 (ap stopped only)))
+
+-- memory was refused for it
+pub closing_refused : (text : List ℕ) (old new : Option (List ℕ)) (before after : Bool) (r : Ending) (fault : RunFault)
+    → IsErrAnd r (λ e. e ≡ fault) → fault ≡ faults.Memory → new ≡ old → after ≡ before → text ≢ []
+    → PutsClosing text old new before after r
+closing_refused text old new before after (Ok u) fault told is same fine some = absurd told
+closing_refused text old new before after (Err e) fault told is same fine some = (some, inl (told ∙ is, same, fine))
+
+-- the lines of a fault are not empty
+fault_some : (limits : Bounds) (at : Position) (r : Refusal) (rest group : List ℕ)
+    → fault_lines limits at r rest group ≢ []
+fault_some limits at r rest group = λ h. absurd (omega (arith, ap length h))
+
+-- by whether messages are explained apart
+pub told_without : (apart : Bool) (order : Explain) (at : Position) (r : Refusal) (came : Came) → apart ≡ false
+    → told_by apart order at r came ≡ told_at order at r came
+told_without false order at r came is = refl
+told_without true order at r came is = absurd (cc)
+
+pub told_with : (apart : Bool) (order : Explain) (at : Position) (r : Refusal) (came : Came) → apart ≡ true
+    → told_by apart order at r came ≡ told_at order at r came ++ codes "\n"
+told_with false order at r came is = absurd (cc)
+told_with true order at r came is = refl
+
+pub told_some : (apart : Bool) (order : Explain) (at : Position) (r : Refusal) (came : Came)
+    → told_by apart order at r came ≢ []
+told_some false order at r came = fault_some order.limits at r came.rest came.group
+told_some true order at r came = λ h. absurd (omega (arith, ap length h))
+
+-- ---- how a run ends
+
+-- what has been explained does not end it for the reader and the writer
+pub rest_not_io : (number : Option ℕ) (first : Option First) → rest_ending number first ≡ Err faults.Io → ⊥
+rest_not_io (Some number) first is = absurd (cc)
+rest_not_io None (Some (Ok text)) is = absurd (cc)
+rest_not_io None (Some (Err memory)) is = absurd (cc)
+rest_not_io None None is = absurd (cc)
+
+pub ending_not_io : (outcome : Outcome) (number : Option ℕ) (first : Option First)
+    → ending_by outcome number first ≡ Err faults.Io → ⊥
+ending_not_io outcomes.Nothing number first is = rest_not_io number first is
+ending_not_io (outcomes.Refused at s) number first is = absurd (cc)
+ending_not_io outcomes.Accepted number first is = absurd (cc)
+
+pub io_is_not_memory : ended (Err faults.Io) ≡ Err faults.Memory → ⊥
+io_is_not_memory is = absurd (cc)
+
+pub not_true : (failed : Bool) → (failed ≡ true → ⊥) → failed ≡ false
+not_true false none = refl
+not_true true none = absurd (none refl)
+
+-- a run that ended so has not failed to read or to write
+pub refused_fine : (at : Position) (r : Refusal) (reader writer : Bool)
+    → ((stopped (faults.Refused at r) ≡ Err faults.Io) ↔ ((reader ≡ true) ⊎ (writer ≡ true)))
+    → (reader ≡ true → ⊥) × (writer ≡ false)
+refused_fine at r reader writer (to, from) = (
+  λ h. let k = from (inl h) in absurd (cc),
+  not_true writer (λ h. let k = from (inr h) in absurd (cc)),
+)
+
+pub done_fine : (reader writer : Bool)
+    → ((ended (Ok tt) ≡ Err faults.Io) ↔ ((reader ≡ true) ⊎ (writer ≡ true)))
+    → (reader ≡ true → ⊥) × (writer ≡ false)
+done_fine reader writer (to, from) = (
+  λ h. let k = from (inl h) in absurd (cc),
+  not_true writer (λ h. let k = from (inr h) in absurd (cc)),
+)
+
+pub fine_if_told : (e : RunFault) (reader writer : Bool)
+    → ((stopped e ≡ Err faults.Io) ↔ ((reader ≡ true) ⊎ (writer ≡ true))) → IsFineIfTold e writer
+fine_if_told (faults.Refused at r) reader writer io = (refused_fine at r reader writer io).1
+fine_if_told faults.Memory reader writer io = tt
+fine_if_told faults.Io reader writer io = tt
+fine_if_told faults.InputTooLong reader writer io = tt

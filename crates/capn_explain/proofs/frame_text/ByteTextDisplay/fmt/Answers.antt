@@ -1,5 +1,0 @@
-use Rattle.capn_explain.proofs.WordDigits.{are-digits}
-use Rattle.capn_explain.proofs.frame_text.ByteTextDisplay.fmt.Goals as goal
-
-pub unreachable-requires : goal.unreachable-requires
-unreachable-requires g c = c.in_default.ensures.cases.0 (rw c.digits_of-digits.ensures (are-digits _))

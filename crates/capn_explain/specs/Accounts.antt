@@ -1,0 +1,70 @@
+-- The account of a message that is accepted. (Own.)
+use Rattle.std.specs.Prelude.{◌≡◌, ℕ, List, [], ◌∷◌, ◌++◌, None, Some, codes, refl}
+use Rattle.std.specs.Fmt.{decimal, digits}
+use Rattle.capn_walk.specs.Limits.{Bounds}
+use Rattle.capn_canon.specs.Measure.{IsMeasure}
+use Rattle.capn_canon.specs.declared.form.Form.{Form}
+use Rattle.capn_canon.specs.declared.surveyed_bare.MeasuredBare.{MeasuredBare}
+use Rattle.capn_serve.specs.Table.{table_words}
+use Rattle.capn_serve.specs.declared.position.Position.{Position}
+use Rattle.capn_diagnostics.specs.MessageTexts.{head_lines, segments_of}
+use Rattle.capn_diagnostics.specs.declared.message_text.MessageHead.{MessageHead}
+use Rattle.capn_mismatch.specs.CanonicalLines.{AreLinesOf, canonical_lines}
+use Rattle.capn_mismatch.specs.declared.answer.Departure.TheVariants as departures
+use Rattle.capn_mismatch.specs.declared.canonical_lines.CanonicalLines.{CanonicalLines}
+use Rattle.capn_explain.specs.declared.account.Account.{Account}
+
+-- the place of a message, and its segments
+abbrev pub head_of : Position → List (List ℕ) → MessageHead
+head_of at message = record { index = at.index; offset = at.offset; segments = Some (segments_of message) }
+
+module _ {A : Type 0} where
+  -- the account of a message that was measured, and has these lines
+  abbrev pub account_by : Position → List (List ℕ) → MeasuredBare → CanonicalLines A → Account A
+  account_by at message m lines = record {
+    head = head_of at message;
+    paid = m.survey.paid;
+    visits = m.survey.visits;
+    depth = m.depth;
+    lines = lines;
+  }
+
+  -- the message is accepted, and this is what its walk pays and visits, how deep it is, and whether it is canonical and
+  -- why not
+  abbrev pub IsAccount : Form → Position → List (List ℕ) → Bounds → Account A → Type 0
+  IsAccount form at message limits account =
+      (m : MeasuredBare) × IsMeasure message limits m
+      × AreLinesOf message limits at.offset (table_words form message) account.lines
+      × (account ≡ account_by at message m account.lines)
+
+  -- its lines
+  abbrev pub account_text : Account A → List ℕ
+  account_text a =
+      head_lines a.head ++ (codes "accepted: paid " ++ (decimal a.paid ++ (codes " visits " ++ (decimal a.visits
+      ++ (codes " depth " ++ (decimal a.depth ++ (codes "\n" ++ canonical_lines a.lines)))))))
+
+-- these lines tell that; where its ways are kept, no line says
+abbrev pub IsAccountText : Form → Position → List (List ℕ) → Bounds → List ℕ → Type 0
+IsAccountText form at message limits text =
+    (account : Account (Unit {0})) × IsAccount form at message limits account × (text ≡ account_text account)
+
+-- ---- lines
+
+second : account_text {A = Unit {0}} (record {
+  head = head_of (record { index = 1; offset = 24 }) ((0 ∷ []) ∷ []);
+  paid = 1;
+  visits = 1;
+  depth = 0;
+  lines = record { departure = departures.Canonical; offset = 24; table = 1; lengths = None };
+}) ≡ codes "message: 2 at 24\nsegments: 1 of 1 words\naccepted: paid 1 visits 1 depth 0\ncanonical: yes\n"
+unfolding digits
+second = refl
+
+of_two_segments : canonical_lines {A = Unit {0}} (record {
+  departure = departures.Segments 2;
+  offset = 0;
+  table = 2;
+  lengths = None;
+}) ≡ codes "canonical: no: 2 segments\n"
+unfolding digits
+of_two_segments = refl

@@ -1,0 +1,37 @@
+-- The text of a fault that ends a run which explains every message that is refused, and its exit status. (Own.)
+use Rattle.std.specs.Prelude.{ℕ, ◌≡◌, List, ◌++◌, codes, refl}
+use Rattle.std.specs.Fmt.{digits}
+use Rattle.capn_stream.specs.declared.fault.FrameFault.TheVariants as frame_faults
+use Rattle.capn_canon.specs.declared.refusal.Refusal.TheVariants as refusals
+use Rattle.capn_serve.specs.FaultText as served
+use Rattle.capn_serve.specs.Skipped.{text_of_skipped}
+use Rattle.capn_serve.specs.declared.fault.RunFault.{RunFault}
+use Rattle.capn_serve.specs.declared.fault.RunFault.TheVariants as run_faults
+use Rattle.capn_serve.specs.declared.skipped.Skipped.{Skipped}
+use Rattle.capn_explain.specs.declared.fault.ReportFault.{ReportFault}
+use Rattle.capn_explain.specs.declared.fault.ReportFault.TheVariants as faults
+
+-- how many messages were refused by their walk, and on a line of its own why the run ended
+abbrev pub text_after_skipped : Skipped → RunFault → List ℕ
+text_after_skipped skipped fault = text_of_skipped skipped ++ (codes "\ncapn: " ++ served.fault_text fault)
+
+-- why a run did not end as done
+abbrev pub report_text : ReportFault → List ℕ
+report_text (faults.Ended fault) = served.fault_text fault
+report_text (faults.Skipped skipped) = text_of_skipped skipped
+report_text (faults.RefusedAfterSkipped skipped at refusal) =
+    text_after_skipped skipped (run_faults.Refused at refusal)
+
+-- 1 where a message was refused, else the status of a run over messages
+abbrev pub status_of : ReportFault → ℕ
+status_of (faults.Ended fault) = served.status_of fault
+status_of (faults.Skipped skipped) = 1
+status_of (faults.RefusedAfterSkipped skipped at refusal) = 1
+
+-- the second message, at the offset 24, was explained, and the third, at the offset 40, is cut
+after_one : report_text (faults.RefusedAfterSkipped
+    (record { refused = 1; messages = 2; first = record { index = 1; offset = 24 } })
+    (record { index = 2; offset = 40 }) (refusals.Frame frame_faults.Cut))
+    ≡ codes "1 of 2 messages refused, the first is 2 at 24\ncapn: message 3 at 40: frame: Cut"
+unfolding digits
+after_one = refl

@@ -1,0 +1,98 @@
+-- A run that explains every message that is refused: the text at its end, its answer, and the rest by the definition
+-- for all such runs. (Own.)
+use Rattle.std.specs.Prelude.{◌≡◌, ℕ, List, [], ◌++◌, Bool, Option, Some, None, Result, Ok, Err, codes, refl}
+use Rattle.std.specs.Fmt.{digits}
+use Rattle.capn_canon.specs.declared.refusal.Refusal.{Refusal}
+use Rattle.capn_serve.specs.Fold.{Fold, fold_of}
+use Rattle.capn_serve.specs.Skipped.{skipped_of}
+use Rattle.capn_serve.specs.StreamRun.{start}
+use Rattle.capn_serve.specs.WhatCame.{Came}
+use Rattle.capn_serve.specs.declared.fault.RunFault.{RunFault}
+use Rattle.capn_serve.specs.declared.fault.RunFault.TheVariants as run_faults
+use Rattle.capn_serve.specs.declared.position.Position.{Position}
+use Rattle.capn_serve.specs.declared.service.Run.{Run}
+use Rattle.capn_serve.specs.declared.skipped.SkippedSoFar.{SkippedSoFar}
+use Rattle.capn_explain.specs.ExplainRun.{rest_ending, rest_text, told_at}
+use Rattle.capn_explain.specs.Finish.{Answer, Answered, Finish}
+use Rattle.capn_explain.specs.RefusedReports.{RefusedReporting, each_of, first_state, refuses, serves}
+use Rattle.capn_explain.specs.Reports.{First}
+use Rattle.capn_explain.specs.declared.explain_refused.ExplainRefused.{ExplainRefused}
+use Rattle.capn_explain.specs.declared.fault.ReportFault.{ReportFault}
+use Rattle.capn_explain.specs.declared.fault.ReportFault.TheVariants as faults
+
+-- the fold over all messages of an input
+abbrev pub refused_fold : ExplainRefused → Fold (Run RefusedReporting)
+refused_fold order = fold_of serves refuses order.limits.message_words
+
+-- nothing has been served
+abbrev pub first_run : ExplainRefused → Run RefusedReporting
+first_run order = record { service = first_state order; at = start }
+
+-- the text after all messages: that of `explain` if none was refused, else nothing more
+abbrev pub closing_by : Option SkippedSoFar → Option First → ℕ → List ℕ
+closing_by None first count = rest_text None first count
+closing_by (Some skipped) first count = []
+
+-- the end of a run after all messages: that of `explain` if none was refused, else as done
+abbrev pub ending_by : Option SkippedSoFar → Option First → Result (Unit {0}) RunFault
+ending_by None first = rest_ending None first
+ending_by (Some skipped) first = Ok tt
+
+-- that text, and that end, by the state after them
+abbrev pub closing : Run RefusedReporting → List ℕ
+closing run = closing_by run.service.skipped run.service.first run.at.index
+
+abbrev pub ending : Run RefusedReporting → Result (Unit {0}) RunFault
+ending run = ending_by run.service.skipped run.service.first
+
+-- the text of a message that is refused before its walk, and an empty line
+abbrev pub told_apart : ExplainRefused → Position → Refusal → Came → List ℕ
+told_apart order at refusal came = told_at (each_of order) at refusal came ++ codes "\n"
+
+-- the end of a run after its messages
+abbrev pub refused_finish : ExplainRefused → Finish (Run RefusedReporting)
+refused_finish order = record {
+  closing = λ y. closing y;
+  ending = λ y. ending y;
+  told = λ at r came. told_apart order at r came;
+}
+
+-- the fault of a run that this fault ended after this many messages, of which these were refused by their walk
+abbrev pub fault_after : Option SkippedSoFar → ℕ → RunFault → ReportFault
+fault_after None messages fault = faults.Ended fault
+fault_after (Some skipped) messages run_faults.Memory = faults.Ended run_faults.Memory
+fault_after (Some skipped) messages run_faults.Io = faults.Ended run_faults.Io
+fault_after (Some skipped) messages run_faults.InputTooLong = faults.Ended run_faults.InputTooLong
+fault_after (Some skipped) messages (run_faults.Refused at r) =
+    faults.RefusedAfterSkipped (skipped_of skipped messages) at r
+
+-- the answer of a run over this many messages, of which these were refused by their walk, by its end: done only if
+-- there are none
+abbrev pub answer_by : Option SkippedSoFar → ℕ → Result (Unit {0}) RunFault → Result (Unit {0}) ReportFault
+answer_by None messages (Ok u) = Ok tt
+answer_by (Some skipped) messages (Ok u) = Err (faults.Skipped (skipped_of skipped messages))
+answer_by skipped messages (Err fault) = Err (fault_after skipped messages fault)
+
+-- that answer by the state after the messages
+abbrev pub refused_answer : Answer (Run RefusedReporting) ReportFault
+refused_answer = record { of = λ e. faults.Ended e; by = λ y r. answer_by y.service.skipped y.at.index r }
+
+-- a run, over a reader (from a to b) and a writer (from c to d)
+abbrev pub ExplainedRefused : ExplainRefused → Option (List ℕ) → Option (List ℕ) → Option (List ℕ) → Option (List ℕ)
+    → Bool → Bool → Result (Unit {0}) ReportFault → Type 0
+ExplainedRefused order a b c d reader_failed writer_failed r =
+    Answered (refused_fold order) (first_run order) (refused_finish order) refused_answer order.form a b c d
+    reader_failed writer_failed r
+
+-- ---- the end without a refused message, and after one
+
+none_refused : closing_by None None 3 ≡ codes "3 messages, none refused\n"
+unfolding digits
+none_refused = refl
+
+one_refused : closing_by (Some (record { count = 1; first = record { index = 1; offset = 24 } })) None 3 ≡ []
+one_refused = refl
+
+told_as_skipped : answer_by (Some (record { count = 1; first = record { index = 1; offset = 24 } })) 3 (Ok tt)
+    ≡ Err (faults.Skipped (record { refused = 1; messages = 3; first = record { index = 1; offset = 24 } }))
+told_as_skipped = refl

@@ -1,0 +1,223 @@
+//! The text after the loop over the messages, and the end of a run.
+
+ghost use Rattle.std.specs.Prelude.{◌≡◌, ◌++◌, codes, false, IfOk, IfErr, Some, string_bytes};
+ghost use Rattle.capn_words.specs.Watched.{inner_of, has_failed};
+ghost use Rattle.capn_serve.specs.declared.fault.RunFault.TheVariants as faults;
+ghost use Rattle.capn_explain.specs.Accounts.{account_text};
+ghost use Rattle.capn_explain.specs.ExplainRun as spec;
+ghost use Rattle.capn_explain.specs.Reports.{lines_first};
+ghost use Rattle.capn_explain.specs.inner.Closing.{AreLines, IsFineIfTold, PutsClosing, PutsFault, told_by};
+
+use crate::account::Account;
+use crate::explain::Explain;
+use crate::fault_lines::fault_lines;
+use crate::outcome::Outcome;
+use crate::reporter::Reporter;
+use capn_canon::Refusal;
+use capn_diagnostics::CountText;
+use capn_serve::{Begun, Position, Run, RunFault, write_all};
+use capn_words::{Memory, Watched};
+use std::alloc::Allocator;
+use std::io::Write;
+
+/// Returns the end of a run that explained nothing.
+pub(crate) fn rest_ending<A: Allocator>(
+    number: Option<u64>,
+    first: &Option<Result<Account<A>, Memory>>,
+) -> Result<(), RunFault>
+    ensures { result ≡ spec.rest_ending number (lines_first first.now) }
+{
+    match number {
+        Some(_) => Ok(()),
+        None => match first {
+            Some(kept) => match kept {
+                Ok(_) => Ok(()),
+                Err(_) => Err(RunFault::Memory),
+            },
+            None => Ok(()),
+        },
+    }
+}
+
+/// Returns the end of `run`, whose messages ended as done.
+pub(crate) fn ending_of<A: Allocator + Copy>(run: &Run<Reporter<A>>) -> Result<(), RunFault>
+    ensures { result ≡ spec.ending run.now }
+{
+    let reporter = &run.service;
+    match reporter.outcome() {
+        Outcome::Refused(at, stopped) => Err(RunFault::Refused(at, Refusal::Walk(stopped))),
+        Outcome::Nothing => rest_ending(reporter.order().number, reporter.first()),
+        Outcome::Accepted => Ok(()),
+    }
+}
+
+/// Writes the line of `count`.
+fn count_line<A: Allocator>(alloc: A, count: CountText) -> Result<String<A>, RunFault>
+    ensures found { IfOk result (λ line. string_bytes line ≡ spec.count_line count) }
+    ensures only { IfErr result (λ e. e ≡ faults.Memory) }
+{
+    match format!(in alloc; "{count}\n") {
+        Ok(line) => Ok(line),
+        Err(_) => Err(RunFault::Memory),
+    }
+}
+
+/// Writes the lines of the only message.
+fn only_lines<B: Allocator, A: Allocator>(
+    alloc: A,
+    account: &Account<B>,
+) -> Result<String<A>, RunFault>
+    ensures found { IfOk result (λ lines. string_bytes lines ≡ account_text account.now) }
+    ensures only { IfErr result (λ e. e ≡ faults.Memory) }
+{
+    match format!(in alloc; "{account}") {
+        Ok(lines) => Ok(lines),
+        Err(_) => Err(RunFault::Memory),
+    }
+}
+
+/// Writes the text of a run of `count` messages that explained nothing.
+pub(crate) fn rest_lines<B: Allocator, A: Allocator>(
+    alloc: A,
+    number: Option<u64>,
+    first: &Option<Result<Account<B>, Memory>>,
+    count: u64,
+) -> Result<Option<String<A>>, RunFault>
+    ensures { AreLines (spec.rest_text number (lines_first first.now) count) result }
+{
+    let lines = match number {
+        Some(_) => count_line(alloc, CountText::Fewer(count))?,
+        None => match first {
+            Some(kept) => match kept {
+                Ok(account) => only_lines(alloc, account)?,
+                Err(_) => return Ok(None),
+            },
+            None => count_line(alloc, CountText::NoneRefused(count))?,
+        },
+    };
+    Ok(Some(lines))
+}
+
+/// Writes the `lines` of the message that has been explained.
+fn write_kept<W: Write>(lines: &[u8], writer: &mut Watched<W>) -> Result<(), RunFault>
+    requires { has_failed writer.old ≡ false }
+    ensures { PutsClosing lines.now (W.contents (inner_of writer.old)) (W.contents (inner_of writer.new))
+        (has_failed writer.old) (has_failed writer.new) result }
+{
+    if lines.is_empty() {
+        return Ok(());
+    }
+    write_all(writer, lines)
+}
+
+/// Writes the text of a run of `count` messages that explained nothing.
+fn write_rest<W: Write, B: Allocator, A: Allocator>(
+    alloc: A,
+    number: Option<u64>,
+    first: &Option<Result<Account<B>, Memory>>,
+    count: u64,
+    writer: &mut Watched<W>,
+) -> Result<(), RunFault>
+    requires { has_failed writer.old ≡ false }
+    ensures { PutsClosing (spec.rest_text number (lines_first first.now) count) (W.contents (inner_of writer.old))
+        (W.contents (inner_of writer.new)) (has_failed writer.old) (has_failed writer.new) result }
+{
+    match rest_lines(alloc, number, first, count)? {
+        Some(lines) => write_all(writer, lines.as_bytes()),
+        None => Ok(()),
+    }
+}
+
+/// Writes the text after all messages.
+pub(crate) fn write_closing<W: Write, B: Allocator + Copy, A: Allocator + Copy>(
+    alloc: A,
+    run: &Run<Reporter<B>>,
+    writer: &mut Watched<W>,
+) -> Result<(), RunFault>
+    requires { has_failed writer.old ≡ false }
+    ensures { PutsClosing (spec.closing run.now) (W.contents (inner_of writer.old))
+        (W.contents (inner_of writer.new)) (has_failed writer.old) (has_failed writer.new) result }
+{
+    let reporter = &run.service;
+    match reporter.outcome() {
+        Outcome::Refused(_, _) | Outcome::Accepted => write_kept(reporter.lines(), writer),
+        Outcome::Nothing => {
+            let number = reporter.order().number;
+            write_rest(alloc, number, reporter.first(), run.at.index, writer)
+        }
+    }
+}
+
+/// Returns `lines` with an empty line behind them.
+fn with_empty_line<A: Allocator>(mut lines: String<A>) -> Result<String<A>, RunFault>
+    ensures found { IfOk result (λ more. string_bytes more ≡ string_bytes lines ++ codes "\n") }
+    ensures only { IfErr result (λ e. e ≡ faults.Memory) }
+{
+    match lines.push_str("\n") {
+        Ok(()) => Ok(lines),
+        Err(_) => Err(RunFault::Memory),
+    }
+}
+
+/// Returns the lines of a refusal that ended the loop over the messages, by the part of the message that had come; with
+/// an empty line behind them if messages are explained `apart`.
+fn refusal_lines<B: Allocator + Copy, A: Allocator>(
+    alloc: A,
+    order: &Explain,
+    at: Position,
+    refusal: &Refusal,
+    begun: &Begun<B>,
+    apart: bool,
+) -> Result<String<A>, RunFault>
+    ensures found { IfOk result (λ lines.
+        string_bytes lines ≡ told_by apart order.now at refusal.now begun.now) }
+    ensures only { IfErr result (λ e. e ≡ faults.Memory) }
+{
+    let rest = begun.message();
+    let group = begun.group();
+    let lines = fault_lines(alloc, order.limits, at, refusal, rest, group)?;
+    if apart {
+        return with_empty_line(lines);
+    }
+    Ok(lines)
+}
+
+/// Writes the lines of a refusal that ended the loop over the messages.
+fn write_refusal<W: Write, B: Allocator + Copy, A: Allocator + Copy>(
+    alloc: A,
+    order: &Explain,
+    at: Position,
+    refusal: &Refusal,
+    begun: &Begun<B>,
+    apart: bool,
+    writer: &mut Watched<W>,
+) -> Result<(), RunFault>
+    requires { has_failed writer.old ≡ false }
+    ensures { PutsClosing (told_by apart order.now at refusal.now begun.now) (W.contents (inner_of writer.old))
+        (W.contents (inner_of writer.new)) (has_failed writer.old) (has_failed writer.new) result }
+{
+    let lines = refusal_lines(alloc, order, at, refusal, begun, apart)?;
+    write_all(writer, lines.as_bytes())
+}
+
+/// Writes the lines of the `fault` that ended the loop over the messages, and an empty line if messages are explained
+/// `apart`.
+pub(crate) fn write_fault<W: Write, B: Allocator + Copy, A: Allocator + Copy>(
+    alloc: A,
+    order: &Explain,
+    fault: RunFault,
+    begun: &Begun<B>,
+    apart: bool,
+    writer: &mut Watched<W>,
+) -> Result<(), RunFault>
+    requires { IsFineIfTold fault (has_failed writer.old) }
+    ensures { PutsFault (λ at r. told_by apart order.now at r begun.now) fault (W.contents (inner_of writer.old))
+        (W.contents (inner_of writer.new)) (has_failed writer.old) (has_failed writer.new) result }
+{
+    match fault {
+        RunFault::Memory | RunFault::Io | RunFault::InputTooLong => Ok(()),
+        RunFault::Refused(at, refusal) => {
+            write_refusal(alloc, order, at, &refusal, begun, apart, writer)
+        }
+    }
+}

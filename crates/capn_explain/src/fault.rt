@@ -1,0 +1,64 @@
+//! Faults of a run that explains every message that is refused.
+
+ghost use Rattle.capn_words.specs.Watched.{inner_of, has_failed};
+ghost use Rattle.capn_serve.specs.Line.{Says, way};
+ghost use Rattle.capn_explain.specs.FaultText.{text_after_skipped};
+
+use capn_canon::Refusal;
+use capn_serve::{Ending, Line, Position, RunFault, Skipped, say_skipped};
+use capn_words::Watched;
+use std::io::Write;
+
+/// A fault that ends a run which explains every message that is refused.
+#[derive(Clone, Copy, Debug, PartialEq, Eq)]
+pub enum ReportFault {
+    /// The run over the messages ended so, and no message was refused by its walk before; or memory, the reader or the
+    /// writer failed, or the input is too long.
+    Ended(RunFault),
+    /// All of the input was served, and messages were refused by their walk and explained.
+    Skipped(Skipped),
+    /// The frame or the packed text at this position is refused, after messages of which these were refused by their
+    /// walk and explained.
+    RefusedAfterSkipped(Skipped, Position, Refusal),
+}
+
+/// Says how many messages were `skipped`, and on a line of its own the fault that ended the run.
+fn say_after_skipped<E: Write>(
+    skipped: &Skipped,
+    fault: &RunFault,
+    line: &mut Line,
+    errors: &mut Watched<E>,
+)
+    ensures { Says (text_after_skipped skipped.now fault.now)
+        (way line.old (E.contents (inner_of errors.old)) (has_failed errors.old))
+        (way line.new (E.contents (inner_of errors.new)) (has_failed errors.new)) }
+{
+    say_skipped(skipped, line, errors);
+    line.put(b"\ncapn: ", errors);
+    fault.say(line, errors);
+}
+
+impl Ending for ReportFault {
+    ghost use Rattle.capn_explain.specs.FaultText.{report_text, status_of};
+
+    ghost text = { report_text };
+
+    ghost exit = { status_of };
+
+    fn say<E: Write>(&self, line: &mut Line, errors: &mut Watched<E>) {
+        match self {
+            ReportFault::Ended(fault) => fault.say(line, errors),
+            ReportFault::Skipped(skipped) => say_skipped(skipped, line, errors),
+            ReportFault::RefusedAfterSkipped(skipped, at, refusal) => {
+                say_after_skipped(skipped, &RunFault::Refused(*at, *refusal), line, errors)
+            }
+        }
+    }
+
+    fn exit_status(&self) -> u8 {
+        match self {
+            ReportFault::Ended(fault) => fault.exit_status(),
+            ReportFault::Skipped(_) | ReportFault::RefusedAfterSkipped(_, _, _) => 1,
+        }
+    }
+}

@@ -1,0 +1,163 @@
+//! The service that explains each message that is refused.
+
+ghost use Rattle.std.specs.Prelude.{◌≡◌, []};
+ghost use Rattle.capn_walk.specs.Accepted.{IsWalkRefused};
+ghost use Rattle.capn_explain.specs.RefusedReports as spec;
+ghost use Rattle.capn_explain.specs.RefusedReports.{PutsToldApart};
+ghost use Rattle.capn_explain.specs.Reports.{Puts, lines_first};
+
+use crate::account::Account;
+use crate::explain::Explain;
+use crate::explain_refused::ExplainRefused;
+use crate::message_lines::{put_bytes, told_of};
+use crate::reporter::first_of;
+use capn_serve::{Position, ServeFault, Service, SkippedSoFar, flush_long, one_more};
+use capn_walk::{Stopped, survey_depth};
+use capn_words::{Memory, Space, Watched};
+use std::alloc::{Allocator, Global};
+use std::io::Write;
+use std::marker::Model;
+
+/// The service that explains each message that is refused.
+///
+/// It walks each message. One that is refused writes the lines that explain it, and an empty line. No message ends its
+/// run. It keeps how many it has explained, and the account of the first message, or that memory was refused for it,
+/// until another one has begun.
+#[derive(Drop)]
+pub struct RefusedReporter<A: Allocator = Global> {
+    alloc: A,
+    order: Explain,
+    skipped: Option<SkippedSoFar>,
+    first: Option<Result<Account<A>, Memory>>,
+}
+
+impl<A: Allocator> Model for RefusedReporter<A> {
+    ghost use Rattle.capn_explain.specs.RefusedReports.{RefusedReporting};
+    ghost use Rattle.capn_explain.specs.Reports.{lines_first};
+
+    ghost Value = { RefusedReporting };
+
+    ghost view = { λ s. record { order = s.order; skipped = s.skipped; first = lines_first s.first } };
+}
+
+/// Returns the order to explain the first message that is refused.
+pub(crate) fn each_of(order: ExplainRefused) -> Explain
+    ensures { result ≡ spec.each_of order }
+{
+    Explain {
+        form: order.form,
+        limits: order.limits,
+        number: None,
+    }
+}
+
+/// Appends the lines that explain `message`, whose walk `stopped`, and an empty line to `text`, or nothing if memory is
+/// refused.
+fn put_apart<S: Space, A: Allocator + Copy>(
+    alloc: A,
+    order: &Explain,
+    at: Position,
+    message: &S,
+    stopped: Stopped,
+    text: &mut Vec<u8, A>,
+) -> Result<(), ServeFault>
+    requires refused { IsWalkRefused (S.message message.now) order.now.limits
+        stopped.fault stopped.place stopped.paid stopped.visits }
+    ensures { PutsToldApart order.now at (S.message message.now) text.old.items text.new.items result }
+{
+    let mut told = told_of(alloc, order, at, message, stopped)?;
+    put_bytes(&mut told.text, b"\n")?;
+    put_bytes(text, &told.text)
+}
+
+impl<B: Allocator> RefusedReporter<B> {
+    /// Returns a reporter that has explained nothing. It takes no memory.
+    pub(crate) fn new(alloc: B, order: ExplainRefused) -> RefusedReporter<B>
+        ensures { result ≡ spec.first_state order }
+    {
+        RefusedReporter {
+            alloc,
+            order: each_of(order),
+            skipped: None,
+            first: None,
+        }
+    }
+
+    /// Returns the messages that it has explained, if any was.
+    pub(crate) fn skipped(&self) -> Option<SkippedSoFar>
+        ensures { result ≡ self.now.skipped }
+    {
+        self.skipped
+    }
+
+    /// Returns the account of the only message so far, if that is accepted.
+    pub(crate) fn first(&self) -> &Option<Result<Account<B>, Memory>>
+        ensures { lines_first result.now ≡ self.now.first }
+    {
+        &self.first
+    }
+}
+
+impl<B: Allocator + Copy> RefusedReporter<B> {
+    /// Keeps those that were explained, and the account of the first message.
+    fn keep(&mut self, skipped: Option<SkippedSoFar>, first: Option<Result<Account<B>, Memory>>)
+        ensures { self.new ≡ record { order = self.old.order; skipped = skipped; first = lines_first first } }
+    {
+        self.skipped = skipped;
+        self.first = first;
+    }
+
+    /// Reports on `message`.
+    fn report<S: Space, A: Allocator + Copy>(
+        &mut self,
+        alloc: A,
+        at: Position,
+        message: &S,
+        text: &mut Vec<u8, A>,
+    ) -> Result<(), ServeFault>
+        ensures { Puts (spec.serves self.old at [] (S.message message.now)) text.old.items text.new.items result
+            self.new }
+    {
+        match survey_depth(alloc, message, self.order.limits) {
+            Ok(surveyed) => {
+                let first = first_of(self.alloc, &self.order, at, message, surveyed);
+                self.keep(self.skipped, first);
+                Ok(())
+            }
+            Err(stopped) => {
+                put_apart(alloc, &self.order, at, message, stopped, text)?;
+                self.keep(Some(one_more(self.skipped, at)), None);
+                Ok(())
+            }
+        }
+    }
+}
+
+impl<B: Allocator + Copy> Service for RefusedReporter<B> {
+    ghost use Rattle.capn_explain.specs.RefusedReports as spec;
+    ghost use Rattle.capn_serve.specs.Fold.{never};
+
+    ghost serves = { spec.serves };
+
+    ghost refuses = { spec.refuses };
+
+    ghost done = { never };
+
+    #[inline(always)]
+    fn is_done(&self, _at: Position) -> bool {
+        false
+    }
+
+    fn serve<S: Space, W: Write, A: Allocator + Copy>(
+        &mut self,
+        alloc: A,
+        at: Position,
+        _frame: &[u8],
+        message: &S,
+        text: &mut Vec<u8, A>,
+        writer: &mut Watched<W>,
+    ) -> Result<(), ServeFault> {
+        self.report(alloc, at, message, text)?;
+        flush_long(text, writer)
+    }
+}

@@ -1,0 +1,89 @@
+//! A run that explains every message of an input that is refused.
+
+ghost use Rattle.std.specs.Prelude.{◌≡◌, false, IfSome};
+ghost use Rattle.capn_words.specs.Watched.{inner_of, has_failed};
+ghost use Rattle.capn_explain.specs.RefusedRun as spec;
+ghost use Rattle.capn_explain.specs.RefusedRun.{ExplainedRefused};
+ghost use Rattle.capn_explain.specs.Finish.{TellsEnd};
+ghost use Rattle.capn_serve.specs.FormRun.{ServesMessages};
+
+use crate::closing::write_fault;
+use crate::explain_refused::ExplainRefused;
+use crate::fault::ReportFault;
+use crate::refused_closing::{answer_of, ending_of, write_closing};
+use crate::refused_reporter::{RefusedReporter, each_of};
+use capn_serve::{Begun, Run, RunFault, serve_form_with};
+use capn_words::Watched;
+use std::alloc::Allocator;
+use std::io::{Read, Write};
+
+/// Returns the run of `order` before its first message.
+fn first_run<A: Allocator>(alloc: A, order: ExplainRefused) -> Run<RefusedReporter<A>>
+    ensures { result ≡ spec.first_run order }
+{
+    Run::new(RefusedReporter::new(alloc, order))
+}
+
+/// Serves the messages of an input in its form, and keeps the part that had come of one that is refused before its
+/// walk.
+fn serve_messages<R: Read, W: Write, A: Allocator + Copy>(
+    alloc: A,
+    order: &ExplainRefused,
+    run: &mut Run<RefusedReporter<A>>,
+    begun: &mut Begun<A>,
+    reader: &mut Watched<R>,
+    writer: &mut Watched<W>,
+) -> Result<(), RunFault>
+    requires fresh { run.old ≡ spec.first_run order.now }
+    requires reader_fine { has_failed reader.old ≡ false }
+    requires writer_fine { has_failed writer.old ≡ false }
+    ensures serves { ServesMessages (spec.refused_fold order.now) (spec.first_run order.now) order.now.form
+        (R.remaining (inner_of reader.old)) (R.remaining (inner_of reader.new))
+        (W.contents (inner_of writer.old)) (W.contents (inner_of writer.new)) (has_failed reader.new)
+        (has_failed writer.new) result run.new }
+    ensures begun { IfSome (R.remaining (inner_of reader.old)) (λ input. TellsEnd (spec.refused_fold order.now)
+        (spec.first_run order.now) order.now.form input result begun.new run.new) }
+{
+    let most = order.limits.message_words();
+    serve_form_with(alloc, order.form, most, run, begun, reader, writer)
+}
+
+/// Explains every message of the input of `reader` that is refused, by `order`. Writes the lines to `writer`, an empty
+/// line behind those of each message.
+///
+/// Each message that its walk refuses is explained as [`run_explain`](crate::run_explain) explains the first, and its
+/// lines are written before more is read; then the next one is served. A message whose frame, packing or length is
+/// refused ends the run, and is explained last. If none is refused, what is written is what `run_explain` writes: the
+/// lines of the only message, or the line that says how many there are, and no empty line.
+///
+/// It reads as [`serve_form_with`] does. The run ends as done; as `Skipped` after all of its input, if messages were
+/// refused by their walk; or with the first fault: a frame, a group or a bare input that is refused, at its position,
+/// which is `RefusedAfterSkipped` if messages were refused by their walk before; `InputTooLong`; `Io` if and only if
+/// the reader or the writer failed; and `Memory` if a growth on `alloc` was refused; if that was for the account of the
+/// first message, only if no other has come. It holds what its loop holds, the canonical bytes of the first message,
+/// the ways of one account, and its lines.
+pub fn run_explain_refused<R: Read, W: Write, A: Allocator + Copy>(
+    alloc: A,
+    order: ExplainRefused,
+    reader: &mut Watched<R>,
+    writer: &mut Watched<W>,
+) -> Result<(), ReportFault>
+    requires reader_fine { has_failed reader.old ≡ false }
+    requires writer_fine { has_failed writer.old ≡ false }
+    ensures { ExplainedRefused order (R.remaining (inner_of reader.old)) (R.remaining (inner_of reader.new))
+        (W.contents (inner_of writer.old)) (W.contents (inner_of writer.new)) (has_failed reader.new)
+        (has_failed writer.new) result }
+{
+    let mut run = first_run(alloc, order);
+    let mut begun = Begun::new(alloc);
+    match serve_messages(alloc, &order, &mut run, &mut begun, reader, writer) {
+        Ok(()) => match write_closing(alloc, &run, writer) {
+            Ok(()) => answer_of(&run, ending_of(&run)),
+            Err(fault) => Err(ReportFault::Ended(fault)),
+        },
+        Err(stopped) => match write_fault(alloc, &each_of(order), stopped, &begun, true, writer) {
+            Ok(()) => answer_of(&run, Err(stopped)),
+            Err(fault) => Err(ReportFault::Ended(fault)),
+        },
+    }
+}

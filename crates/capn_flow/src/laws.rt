@@ -1,9 +1,0 @@
-//! The laws of flowing bytes, as empty functions.
-
-ghost use Rattle.capn_flow.specs.Laws.{PackingGivesOne, UnpackingGivesOne};
-
-/// States: bytes are packed to one text, and unpacked to one, and each ends in one way.
-pub fn one_text()
-    ensures packing { PackingGivesOne }
-    ensures unpacking { UnpackingGivesOne }
-{}

@@ -1,0 +1,79 @@
+-- The lines that say whether an accepted message is canonical, and how long it is. (Own.)
+use Rattle.std.specs.Prelude.{◌≡◌, ◌≢◌, ◌⊎◌, ℕ, ◌+◌, ◌*◌, List, ◌++◌, length, Option, Some, None, codes, refl}
+use Rattle.std.specs.Fmt.{decimal, digits}
+use Rattle.capn_words.specs.Message.{total}
+use Rattle.capn_value.specs.Tree.{Tree}
+use Rattle.capn_value.specs.FirstCap.{first_cap}
+use Rattle.capn_walk.specs.Limits.{Bounds}
+use Rattle.capn_walk.specs.Accepted.{IsValueOf}
+use Rattle.capn_diagnostics.specs.Texts.{way_text, word_text}
+use Rattle.capn_diagnostics.specs.MessageTexts.{word_says, lengths_line}
+use Rattle.capn_layout.specs.Layout.{canon}
+use Rattle.capn_canon.specs.Measure.{IsCanonicalOf}
+use Rattle.capn_mismatch.specs.declared.answer.Departure.{Departure}
+use Rattle.capn_mismatch.specs.declared.answer.Departure.TheVariants.{Canonical, Segments, Capability, Word, After}
+use Rattle.capn_mismatch.specs.declared.whose.Whose.TheVariants.{Pointer, Tag, LastWord}
+use Rattle.capn_mismatch.specs.declared.canonical_lines.CanonicalLines.{CanonicalLines}
+use Rattle.capn_mismatch.specs.Departures.{IsDeparture}
+
+-- the byte of a stream at which a word of a message's first segment lies: behind the bytes before the message, and its
+-- table
+abbrev pub byte_of : ℕ → ℕ → ℕ → ℕ
+byte_of offset table word = offset + 8 * (table + word)
+
+-- a byte, the word at it, and the value of that word in the canonical bytes
+abbrev pub differs_text : ℕ → List ℕ → List ℕ → List ℕ
+differs_text byte word canonical =
+    codes "no: at byte " ++ (decimal byte ++ (codes ": " ++ (word ++ (codes ", canonical " ++ canonical))))
+
+module _ {A : Type 0} where
+  -- yes, if a message is canonical, else the reason why not
+  abbrev pub departure_text : ℕ → ℕ → Departure A → List ℕ
+  departure_text offset table Canonical = codes "yes"
+  departure_text offset table (Segments count) = codes "no: " ++ (decimal count ++ codes " segments")
+  departure_text offset table (Capability index way) =
+      codes "no: capability " ++ (decimal index ++ (codes " at " ++ way_text way.items))
+  departure_text offset table (Word word is canonical (Pointer way)) =
+      differs_text (byte_of offset table word) (word_says is)
+      (word_says canonical ++ (codes ", the pointer at " ++ way_text way.items))
+  departure_text offset table (Word word is canonical (Tag way)) =
+      differs_text (byte_of offset table word) (word_text is)
+      (word_text canonical ++ (codes ", the tag of " ++ way_text way.items))
+  departure_text offset table (Word word is canonical (LastWord way)) =
+      differs_text (byte_of offset table word) (word_text is)
+      (word_text canonical ++ (codes ", the last word of " ++ way_text way.items))
+  departure_text offset table (After word is) =
+      differs_text (byte_of offset table word) (word_text is) (codes "nothing, after the value")
+
+  -- both lines
+  abbrev pub canonical_lines : CanonicalLines A → List ℕ
+  canonical_lines lines =
+      codes "canonical: " ++ (departure_text lines.offset lines.table lines.departure ++ (codes "\n"
+      ++ lengths_line lines.lengths))
+
+-- the number of bytes of the contents of a message, and of its canonical bytes: there if it isn't canonical, has no
+-- capability, and the two differ
+abbrev pub AreLengths : List (List ℕ) → Tree → Option (ℕ × ℕ) → Type 0
+AreLengths message v (Some lengths) =
+    (IsCanonicalOf message v → ⊥) × (first_cap v ≡ None) × (lengths.0 ≡ 8 * total message)
+    × (lengths.1 ≡ length (canon v)) × (lengths.0 ≢ lengths.1)
+AreLengths message v None = IsCanonicalOf message v ⊎ (first_cap v ≢ None) ⊎ (8 * total message ≡ length (canon v))
+
+-- these are the lines of an accepted message whose table begins at byte `offset` and has `table` words
+pub record AreLinesOf {A : Type 0} (message : List (List ℕ)) (limits : Bounds) (offset table : ℕ)
+    (lines : CanonicalLines A) : Type 0 where
+  pub value : Tree
+  pub is : IsValueOf message limits value
+  pub departure : IsDeparture message limits lines.departure
+  pub lengths : AreLengths message value lines.lengths
+  pub offset_is : lines.offset ≡ offset
+  pub table_is : lines.table ≡ table
+
+-- ---- examples: the byte of the third word behind a table of one word, and two segments
+
+the_third_word : byte_of 16 1 2 ≡ 40
+the_third_word = refl
+
+two_segments : departure_text {A = ℕ} 0 0 (Segments 2) ≡ codes "no: 2 segments"
+unfolding digits
+two_segments = refl

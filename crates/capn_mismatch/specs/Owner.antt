@@ -1,0 +1,54 @@
+-- Whose a word of canonical bytes is. (Own.)
+use Rattle.std.specs.Prelude.{◌≡◌, ℕ, ◌+◌, ◌≤◌, List, [], ◌∷◌, Ok, ⊤}
+use Rattle.capn_words.specs.declared.space.Place.{Place}
+use Rattle.capn_words.specs.declared.pointer.Width.{Width}
+use Rattle.capn_words.specs.declared.pointer.Width.TheVariants.{W1, W8, W16, W32}
+use Rattle.capn_target.specs.declared.target.Target.{Target}
+use Rattle.capn_target.specs.declared.target.Target.TheVariants as targets
+use Rattle.capn_target.specs.declared.target.Shape.TheVariants as shapes
+use Rattle.capn_target.specs.Target.{target, content_words}
+use Rattle.capn_walk.specs.Limits.{Bounds}
+use Rattle.capn_path.specs.Ways.{IsWayTo}
+use Rattle.capn_mismatch.specs.declared.whose.Whose.{Whose}
+use Rattle.capn_mismatch.specs.declared.whose.Whose.TheVariants.{Pointer, Tag, LastWord}
+
+-- the place of word w of the only segment
+abbrev pub place : ℕ → Place
+place w = record { segment = 0; word = w }
+
+-- a word is the tag of a list of structs
+abbrev pub IsTag : ℕ → Target → Type 0
+IsTag word (targets.Content s start (shapes.Rows n a b span) pads) = (s ≡ 0) × (start ≡ word)
+IsTag word found = ⊥
+
+-- bits, bytes, u16 and u32: several elements share a word
+abbrev pub IsSmall : Width → Type 0
+IsSmall W1 = ⊤
+IsSmall W8 = ⊤
+IsSmall W16 = ⊤
+IsSmall W32 = ⊤
+IsSmall width = ⊥
+
+-- a word is the last of a list of such elements, which has words
+abbrev pub IsLastWord : ℕ → Target → Type 0
+IsLastWord word (targets.Content s start (shapes.Many width n) pads) =
+    IsSmall width × (s ≡ 0) × (start ≤ word) × (start + content_words width n ≡ word + 1)
+IsLastWord word found = ⊥
+
+-- a way leads from the root to a slot, which names such an object
+pub record LeadsTo (message : List (List ℕ)) (limits : Bounds) (way : List ℕ) (Is : Target → Type 0) : Type 0 where
+  pub number : ℕ
+  pub slot : Place
+  pub leads : IsWayTo message limits number way slot
+  pub found : Target
+  pub names : target message slot ≡ Ok found
+  pub is : Is found
+
+module _ {A : Type 0} where
+  -- the owner of a word of a message of one segment: the word is the pointer of a slot, or the tag or the last word of
+  -- its target
+  abbrev pub IsOwner : List ℕ → Bounds → ℕ → Whose A → Type 0
+  IsOwner words limits word (Pointer way) =
+      (number : ℕ) × IsWayTo (words ∷ []) limits number way.items (place word)
+  IsOwner words limits word (Tag way) = LeadsTo (words ∷ []) limits way.items (IsTag word)
+  IsOwner words limits word (LastWord way) = LeadsTo (words ∷ []) limits way.items (IsLastWord word)

@@ -1,0 +1,62 @@
+-- A slot that is reached from another, at which a word is found.
+use Rattle.std.specs.Prelude.{◌≡◌, ℕ, ◌+◌, ◌*◌, ◌<◌, ◌≤◌, ◌^◌, List, [], ◌∷◌, ◌++◌, length, Some}
+use Rattle.capn_words.specs.Message.{segment_at}
+use Rattle.capn_words.specs.declared.space.Place.{Place}
+use Rattle.capn_words.specs.declared.pointer.Width.TheVariants.{Link}
+use Rattle.capn_target.specs.declared.target.Shape.{Shape}
+use Rattle.capn_target.specs.declared.target.Shape.TheVariants as shapes
+use Rattle.capn_walk.specs.Visits.{slots}
+use Rattle.capn_target.specs.Target.{target}
+use Rattle.capn_path.specs.Ways.{Leads}
+use Rattle.capn_path.specs.Steps.{AreNumbersIn, DescendsTo}
+use Rattle.capn_mismatch.specs.declared.slot_rows.SlotRows.{SlotRows}
+use Rattle.capn_mismatch.specs.declared.sought.Found.{Found}
+use Rattle.capn_mismatch.specs.inner.Search.{finds}
+
+-- the slots of an object that begins at a place, in rows of one form
+abbrev pub rows_of : Place → Shape → SlotRows
+rows_of start (shapes.Node a b) = record { at = start; count = 1; words = a; slots = b }
+rows_of start (shapes.Many Link n) = record { at = start; count = 1; words = 0; slots = n }
+rows_of start (shapes.Many width n) = record { at = start; count = 0; words = 0; slots = 0 }
+rows_of start (shapes.Rows n a b span) = record {
+  at = record { segment = start.segment; word = start.word + 1 };
+  count = n;
+  words = a;
+  slots = b;
+}
+
+-- the place of a slot of a row
+abbrev pub place_in : SlotRows → ℕ → ℕ → Place
+place_in rows row slot = record {
+  segment = rows.at.segment;
+  word = rows.at.word + row * (rows.words + rows.slots) + rows.words + slot;
+}
+
+-- rows lie inside their segment, and the words of one are counted in 32 bits
+pub record AreWithin (message : List (List ℕ)) (rows : SlotRows) : Type 0 where
+  pub inside : rows.at.word + rows.count * (rows.words + rows.slots) ≤ length (segment_at message rows.at.segment)
+  pub small : rows.words + rows.slots < 2 ^ 32
+
+-- the numbers that say which of an object's slots is meant, by its row and its number there
+abbrev pub numbers : Shape → ℕ → ℕ → List ℕ
+numbers (shapes.Rows n a b span) row slot = row ∷ slot ∷ []
+numbers shape row slot = slot ∷ []
+
+module _ (m : List (List ℕ)) (base : ℕ) (word : Place) where
+  -- a slot that is reached by some numbers, with which the way goes on from the old one, and the kind of the word there
+  pub record ReachesIn (Onward : List ℕ → Place → ℕ → Type 0) (old new : List ℕ) (x : Found) : Type 0 where
+    pub rest : List ℕ
+    pub is : new ≡ old ++ rest
+    pub to : Place
+    pub number : ℕ
+    pub found : finds word to (target m to) ≡ Some x
+    pub leads : Onward rest to number
+
+  -- from a slot on
+  abbrev pub Reaches : ℕ → Place → List ℕ → List ℕ → Found → Type 0
+  Reaches depth at = ReachesIn (Leads m base depth at)
+
+  -- from an object on
+  abbrev pub ReachesBelow : ℕ → Place → Shape → List ℕ → List ℕ → Found → Type 0
+  ReachesBelow depth start shape =
+      ReachesIn (DescendsTo m base depth (slots start.segment start.word shape) (AreNumbersIn shape))

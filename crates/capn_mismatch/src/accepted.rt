@@ -1,0 +1,91 @@
+//! The lines of an accepted message.
+
+ghost use Rattle.std.specs.Prelude.{IfOk, IfSome, IsErr};
+ghost use Rattle.capn_value.specs.Tree.{Tree as Value};
+ghost use Rattle.capn_walk.specs.Accepted.{IsValueOf};
+ghost use Rattle.capn_canon.specs.Measure.{IsMeasure};
+ghost use Rattle.capn_mismatch.specs.CanonicalLines.{AreLinesOf, AreLengths};
+ghost use Rattle.capn_mismatch.specs.Departures.{Departs};
+ghost use Rattle.capn_mismatch.specs.inner.Made.{HasCanonicalLength};
+
+use crate::canonical_lines::CanonicalLines;
+use crate::message_departure::finding_of;
+use capn_canon::MeasuredBare;
+use capn_layout::surveyed_length;
+use capn_walk::Limits;
+use capn_words::{Memory, Space, total_words};
+use std::alloc::Allocator;
+
+/// Returns the lines of the accepted message `space` about its canonical form: whether it is canonical, and the lengths
+/// of it and of its canonical bytes.
+///
+/// `measured` is the answer of [`measure`](capn_canon::measure) to this message within `limits`, so it isn't surveyed
+/// again. `offset` is the byte of the stream at which the message begins, and `table` the number of words of its table:
+/// 0 for a bare message. Canonical bytes are laid out once, and only of a message of one segment that is not canonical;
+/// if it has more segments they are counted. `Memory` comes only for a message of one segment that is not canonical, if
+/// a growth on `alloc` was refused. Memory: that of [`departure`](crate::departure). (Own.)
+pub fn lines_of_measured<S: Space, A: Allocator + Copy>(
+    alloc: A,
+    space: &S,
+    limits: Limits,
+    measured: MeasuredBare,
+    offset: u64,
+    table: u32,
+) -> Result<CanonicalLines<A>, Memory>
+    requires measured { IsMeasure (S.message space.now) limits measured }
+    // All that the lines say.
+    ensures found { IfOk result (λ lines. AreLinesOf (S.message space.now) limits offset table lines) }
+    // Memory is needed only for a message of one segment that is not canonical.
+    ensures memory { IsErr result → Departs (S.message space.now) limits }
+{
+    let finding = finding_of(alloc, space, limits, measured)?;
+    let lengths = lengths_of(space, limits, measured, finding.length);
+    Ok(CanonicalLines {
+        departure: finding.departure,
+        offset,
+        table,
+        lengths,
+    })
+}
+
+/// Returns the bytes of the contents of a message and those of its canonical bytes, if the lines have them. `made` is
+/// the number of canonical bytes that were made already.
+fn lengths_of<S: Space>(
+    space: &S,
+    limits: Limits,
+    measured: MeasuredBare,
+    made: Option<u64>,
+) -> Option<(u64, u64)>
+    requires measured { IsMeasure (S.message space.now) limits measured }
+    requires made { IfSome made (HasCanonicalLength (S.message space.now) limits) }
+    ensures { (v : Value) → IsValueOf (S.message space.now) limits v → AreLengths (S.message space.now) v result }
+{
+    if measured.survey.is_canonical {
+        return None;
+    }
+    match measured.survey.capability {
+        Some(_) => return None,
+        None => {}
+    }
+    let contents = 8 * total_words(space) as u64;
+    let canonical = canonical_length(space, limits, made);
+    if contents == canonical {
+        return None;
+    }
+    Some((contents, canonical))
+}
+
+/// Returns the number of canonical bytes of a message: as many as were `made`, or else they are counted.
+fn canonical_length<S: Space>(space: &S, limits: Limits, made: Option<u64>) -> u64
+    requires accepted { (v : Value) × IsValueOf (S.message space.now) limits v }
+    requires made { IfSome made (HasCanonicalLength (S.message space.now) limits) }
+    ensures { HasCanonicalLength (S.message space.now) limits result }
+{
+    // The count needs the promises of a message and of limits.
+    let _segments = space.segments();
+    let _budget = limits.budget();
+    match made {
+        Some(length) => length,
+        None => 8 * surveyed_length(space, limits.depth()) as u64,
+    }
+}

@@ -1,0 +1,97 @@
+//! The lines about the canonical form of an accepted message.
+
+ghost use Rattle.std.specs.Prelude.{◌≡◌};
+ghost use Rattle.capn_diagnostics.specs.MessageTexts.{canonical_text};
+ghost use Rattle.capn_mismatch.specs.CanonicalLines as spec;
+
+use crate::answer::Departure;
+use crate::whose::Whose;
+use capn_diagnostics::CanonicalText;
+use std::alloc::{Allocator, Global};
+use std::fmt;
+
+/// The lines about the canonical form of an accepted message: `canonical` says that it is canonical, or why not, and
+/// `lengths`, if they are known, how long it and its canonical bytes are. (Own.)
+#[derive(Debug, Drop)]
+pub struct CanonicalLines<A: Allocator = Global> {
+    /// `Canonical`, or the first reason why it isn't.
+    pub departure: Departure<A>,
+    /// The byte of the stream at which its table begins.
+    pub offset: u64,
+    /// The number of words of its table: 0 for a bare message.
+    pub table: u32,
+    /// The bytes of its contents and its canonical bytes, if it isn't canonical, has no capability, and they differ.
+    pub lengths: Option<(u64, u64)>,
+}
+
+/// Returns the byte at which `word` of the first segment lies.
+fn byte_of(offset: u64, table: u32, word: u32) -> u128
+    ensures { result ≡ spec.byte_of offset table word }
+{
+    offset as u128 + 8 * (table as u128 + word as u128)
+}
+
+impl<A: Allocator> CanonicalLines<A> {
+    /// Returns the text of the line `canonical`.
+    pub fn canonical(&self) -> CanonicalText<'_>
+        ensures { canonical_text result ≡ spec.departure_text self.now.offset self.now.table self.now.departure }
+    {
+        match &self.departure {
+            Departure::Canonical => CanonicalText::Yes,
+            Departure::Segments(count) => CanonicalText::Segments(*count),
+            Departure::Capability(index, way) => CanonicalText::Capability(*index, way.as_slice()),
+            Departure::Word {
+                word,
+                is,
+                canonical,
+                whose,
+            } => {
+                let byte = byte_of(self.offset, self.table, *word);
+                match whose {
+                    Whose::Pointer(way) => {
+                        CanonicalText::Pointer(byte, *is, *canonical, way.as_slice())
+                    }
+                    Whose::Tag(way) => CanonicalText::Tag(byte, *is, *canonical, way.as_slice()),
+                    Whose::LastWord(way) => {
+                        CanonicalText::LastWord(byte, *is, *canonical, way.as_slice())
+                    }
+                }
+            }
+            Departure::After { word, is } => {
+                CanonicalText::After(byte_of(self.offset, self.table, *word), *is)
+            }
+        }
+    }
+}
+
+/// The line of two lengths.
+#[derive(Drop)]
+struct LengthsLine(Option<(u64, u64)>);
+
+impl fmt::Display for LengthsLine {
+    ghost use Rattle.std.specs.Prelude.{Some};
+    ghost use Rattle.capn_diagnostics.specs.MessageTexts.{lengths_line};
+
+    ghost output = { λ line. Some (lengths_line line.0) };
+
+    fn fmt<W: fmt::Write>(&self, f: &mut fmt::Formatter<W>) -> fmt::Result {
+        match self.0 {
+            Some((contents, canonical)) => {
+                write!(f, "lengths: {contents} bytes, canonical {canonical}\n")
+            }
+            None => write!(f, ""),
+        }
+    }
+}
+
+impl<A: Allocator> fmt::Display for CanonicalLines<A> {
+    ghost use Rattle.std.specs.Prelude.{Some};
+    ghost use Rattle.capn_mismatch.specs.CanonicalLines.{canonical_lines};
+
+    ghost output = { λ lines. Some (canonical_lines lines) };
+
+    fn fmt<W: fmt::Write>(&self, f: &mut fmt::Formatter<W>) -> fmt::Result {
+        let canonical = self.canonical();
+        write!(f, "canonical: {canonical}\n{}", LengthsLine(self.lengths))
+    }
+}

@@ -1,0 +1,113 @@
+//! The descent to the owner of a word.
+
+ghost use Rattle.std.specs.Prelude.{◌≡◌, ℕ, [], ◌∷◌, ◌++◌, IfOk, IfSome};
+ghost use Rattle.capn_words.specs.Message.{IsPlace};
+ghost use Rattle.capn_target.specs.Shapes.{IsContent, RowsFit, extent};
+ghost use Rattle.capn_mismatch.specs.inner.Reached.{Reaches, ReachesBelow, numbers};
+
+use crate::likely::likely_step;
+use crate::sought::{Found, finds};
+use capn_target::{Shape, Target, resolve};
+use capn_words::{Memory, Place, Space};
+use std::alloc::Allocator;
+
+/// Goes down from the slot at `at` to the slot that owns `word`: returns the kind of that word there.
+///
+/// Of an object it goes on to its likely slot, and to no other, so it reads few words. `None` says only that these lead
+/// to no such slot. `way` has the numbers that lead to the slot, and if something is found, those to its slot; if not,
+/// any others follow.
+#[cycle(descent)]
+pub fn descend<S: Space, A: Allocator>(
+    space: &S,
+    at: Place,
+    depth: u32,
+    word: Place,
+    way: &mut Vec<u32, A>,
+) -> Result<Option<Found>, Memory>
+    requires place { IsPlace (S.message space.now) at }
+    ensures { IfOk result (λ r. IfSome r (λ found. (base : ℕ)
+        → Reaches (S.message space.now) base word depth at way.old.items way.new.items found)) }
+{
+    let named = resolve(space, at);
+    match finds(word, at, named) {
+        Some(found) => return Ok(Some(found)),
+        None => {}
+    }
+    match named {
+        Ok(target) => match target {
+            Target::Nil => Ok(None),
+            Target::Cap(_) => Ok(None),
+            Target::Content {
+                segment,
+                start,
+                shape,
+                pads: _,
+            } => {
+                if depth == 0 {
+                    return Ok(None);
+                }
+                let start = Place {
+                    segment,
+                    word: start,
+                };
+                let found = descend_below(space, start, shape, depth - 1, word, way)?;
+                Ok(found)
+            }
+        },
+        Err(_) => Ok(None),
+    }
+}
+
+/// Goes down from the object of this `shape` whose content starts at `start`.
+#[cycle(descent)]
+fn descend_below<S: Space, A: Allocator>(
+    space: &S,
+    start: Place,
+    shape: Shape,
+    depth: u32,
+    word: Place,
+    way: &mut Vec<u32, A>,
+) -> Result<Option<Found>, Memory>
+    requires content { IsContent (S.message space.now) start (extent shape) }
+    requires rows { RowsFit shape }
+    ensures { IfOk result (λ r. IfSome r (λ found. (base : ℕ)
+        → ReachesBelow (S.message space.now) base word depth start shape way.old.items way.new.items found)) }
+{
+    let Some(step) = likely_step(space, start, shape, word) else {
+        return Ok(None);
+    };
+    put_numbers(shape, step.row, step.slot, way)?;
+    let found = descend(space, step.at, depth, word, way)?;
+    Ok(found)
+}
+
+/// Appends the numbers of one of an object's slots to `way`.
+fn put_numbers<A: Allocator>(
+    shape: Shape,
+    row: u32,
+    slot: u32,
+    way: &mut Vec<u32, A>,
+) -> Result<(), Memory>
+    ensures { IfOk result (λ r. way.new.items ≡ way.old.items ++ numbers shape row slot) }
+{
+    match shape {
+        Shape::Rows { .. } => {
+            let Ok(()) = way.push(row) else {
+                return Err(Memory);
+            };
+            put_number(slot, way)
+        }
+        Shape::Node { .. } => put_number(slot, way),
+        Shape::Many { .. } => put_number(slot, way),
+    }
+}
+
+/// Appends `number` to `way`.
+fn put_number<A: Allocator>(number: u32, way: &mut Vec<u32, A>) -> Result<(), Memory>
+    ensures { IfOk result (λ r. way.new.items ≡ way.old.items ++ number ∷ []) }
+{
+    let Ok(()) = way.push(number) else {
+        return Err(Memory);
+    };
+    Ok(())
+}

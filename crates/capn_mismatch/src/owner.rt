@@ -1,0 +1,61 @@
+//! The owner of a word of canonical bytes.
+
+ghost use Rattle.std.specs.Prelude.{◌<◌, [], ◌∷◌, length, IfOk};
+ghost use Rattle.capn_value.specs.Cost.{base};
+ghost use Rattle.capn_walk.specs.Accepted.{root};
+ghost use Rattle.capn_mismatch.specs.Owner.{IsOwner, place};
+ghost use Rattle.capn_mismatch.specs.inner.Owned.{HasOwner};
+ghost use Rattle.capn_mismatch.specs.inner.Reached.{Reaches};
+
+use crate::descent::descend;
+use crate::sought::{Found, Owner};
+use crate::whose::Whose;
+use capn_path::seek;
+use capn_walk::Limits;
+use capn_words::{Bare, Memory, Place};
+use std::alloc::Allocator;
+
+/// Finds the owner of `word` of `canonical` bytes, in which it is a pointer, a tag or the last word of a list of small
+/// numbers.
+pub fn owner<A: Allocator + Copy>(
+    alloc: A,
+    canonical: &Bare<'_>,
+    limits: Limits,
+    word: u32,
+) -> Result<Whose<A>, Memory>
+    requires some { 0 < length canonical.now }
+    requires owned { HasOwner canonical.now limits word }
+    ensures { IfOk result (λ whose. IsOwner canonical.now limits word whose) }
+{
+    let (found, way) = slot_of(alloc, canonical, limits, word)?;
+    match found {
+        Found::Pointer => Ok(Whose::Pointer(way)),
+        Found::Tag => Ok(Whose::Tag(way)),
+        Found::LastWord => Ok(Whose::LastWord(way)),
+    }
+}
+
+/// Finds the slot that owns `word`: returns the kind of the word there, and the way to the slot. Tries the direct
+/// descent first; the full search that follows always succeeds.
+fn slot_of<A: Allocator + Copy>(
+    alloc: A,
+    canonical: &Bare<'_>,
+    limits: Limits,
+    word: u32,
+) -> Result<(Found, Vec<u32, A>), Memory>
+    requires some { 0 < length canonical.now }
+    requires owned { HasOwner canonical.now limits word }
+    ensures { IfOk result (λ r. Reaches (canonical.now ∷ []) (base limits.tariff) (place word) limits.depth root
+        [] r.1.items r.0) }
+{
+    let mut way = Vec::new(alloc);
+    let word = Place { segment: 0, word };
+    match descend(canonical, Place::ROOT, limits.depth(), word, &mut way)? {
+        Some(found) => return Ok((found, way)),
+        None => {}
+    }
+    match seek(alloc, canonical, limits.depth(), Owner { word })? {
+        Some(found) => Ok(found),
+        None => unreachable!(),
+    }
+}

@@ -1,0 +1,112 @@
+//! The find of a word at a slot.
+
+ghost use Rattle.std.specs.Prelude.{◌≡◌, ◌<◌, ◌^◌};
+ghost use Rattle.capn_mismatch.specs.inner.Search as search;
+
+use capn_path::Aim;
+use capn_target::{Fault, Shape, Target, content_words};
+use capn_words::{Place, Width};
+
+/// The aim at the slot that owns a word: the word is its pointer, or the tag or the last word of its object.
+#[derive(Drop)]
+pub struct Owner {
+    /// The place of the word.
+    pub word: Place,
+}
+
+/// The kind of a word at the slot that owns it.
+#[derive(Clone, Copy)]
+pub enum Found {
+    /// It is the slot's pointer.
+    Pointer,
+    /// It is the tag of the list of structs that the slot names.
+    Tag,
+    /// It is the last word of the list of small numbers that the slot names.
+    LastWord,
+}
+
+impl Aim for Owner {
+    type Found = Found;
+
+    ghost finds = { search.owned };
+
+    ghost next = { search.same };
+
+    fn test(&mut self, at: Place, named: Result<Target, Fault>) -> Option<Found> {
+        finds(self.word, at, named)
+    }
+}
+
+/// Returns the kind of `word` at the slot at `at` with the target or the fault `named`, if the slot owns the word.
+pub fn finds(word: Place, at: Place, named: Result<Target, Fault>) -> Option<Found>
+    ensures { result ≡ search.finds word at named }
+{
+    if is_at(at.segment, at.word, word) {
+        return Some(Found::Pointer);
+    }
+    match named {
+        Ok(target) => found_in(word, target),
+        Err(_) => None,
+    }
+}
+
+/// Returns the kind of `word` in the object that a slot names: its tag, or its last word.
+fn found_in(word: Place, target: Target) -> Option<Found>
+    ensures { result ≡ search.found_in word target }
+{
+    match target {
+        Target::Nil => None,
+        Target::Cap(_) => None,
+        Target::Content {
+            segment,
+            start,
+            shape,
+            pads: _,
+        } => match shape {
+            Shape::Node { .. } => None,
+            Shape::Rows { .. } => {
+                if is_at(segment, start, word) {
+                    return Some(Found::Tag);
+                }
+                None
+            }
+            Shape::Many { width, count } => {
+                if is_small(width) && ends_at(segment, start, content_words(width, count), word) {
+                    return Some(Found::LastWord);
+                }
+                None
+            }
+        },
+    }
+}
+
+/// Returns `true` if `word` of `segment` is at `place`.
+fn is_at(segment: u32, word: u32, place: Place) -> bool
+    ensures { result ≡ search.is_at segment word place }
+{
+    segment == place.segment && word == place.word
+}
+
+/// Returns `true` if the last of `words` words from word `start` of `segment` on is at `place`.
+fn ends_at(segment: u32, start: u32, words: u64, place: Place) -> bool
+    requires few { words < 2 ^ 40 }
+    ensures { result ≡ search.ends_at segment start words place }
+{
+    segment == place.segment && words > 0 && start as u64 + words == place.word as u64 + 1
+}
+
+/// Returns `true` if several elements of this `width` share a word.
+fn is_small(width: Width) -> bool
+    ensures { result ≡ search.is_small width }
+{
+    match width {
+        Width::W1 => true,
+        Width::W8 => true,
+        Width::W16 => true,
+        Width::W32 => true,
+        Width::W0 => false,
+        Width::W64 => false,
+        Width::Link => false,
+        Width::Rows => false,
+    }
+}

@@ -1,0 +1,16 @@
+//! The kinds of owner of a word.
+
+use std::alloc::{Allocator, Global};
+
+/// The owner of a word of canonical bytes, by the way from the root to a slot. (Own.)
+///
+/// A way is as [`way_of_visit`](capn_path::way_of_visit) has it: that of the root's slot has no numbers.
+#[derive(Debug, Drop)]
+pub enum Whose<A: Allocator = Global> {
+    /// The pointer of the slot to which the way leads.
+    Pointer(Vec<u32, A>),
+    /// The tag of the list of structs that the slot names.
+    Tag(Vec<u32, A>),
+    /// The last word of the list of bits, bytes, `u16` or `u32` that the slot names.
+    LastWord(Vec<u32, A>),
+}

@@ -1,4 +1,0 @@
-pub mod shared
-pub mod PartServed
-pub mod ShownRuns
-mod EndLines

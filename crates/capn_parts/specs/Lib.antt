@@ -1,4 +1,0 @@
-pub mod MessageMarks
-pub mod PartTexts
-pub mod ShowRun
-pub mod inner

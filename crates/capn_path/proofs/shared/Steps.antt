@@ -1,0 +1,88 @@
+-- Numbers that lead from a slot to one of those below it, and on from there. (For `Followed`, `Holding`, `Searches` and
+-- capn_mismatch.)
+use Rattle.std.proofs.Common.{◌≡◌, ℕ, zero, suc, ◌+◌, ◌-◌, ◌*◌, ◌<◌, List, [], ◌∷◌, ◌++◌, length, Ok}
+use Rattle.std.proofs.Common.{refl, ap, sym, ◌∙◌, arith, append_assoc, length-append}
+use Rattle.capn_words.specs.declared.space.Place.{Place}
+use Rattle.capn_target.specs.declared.target.Target.TheVariants as targets
+use Rattle.capn_target.specs.declared.target.Shape.{Shape}
+use Rattle.capn_target.specs.declared.target.Shape.TheVariants as shapes
+use Rattle.capn_target.specs.Target.{target}
+use Rattle.capn_walk.specs.Visits.{places, row_places, slots}
+use Rattle.capn_walk.proofs.shared.RowWalks.{row_places-add}
+use Rattle.capn_path.specs.Ways.{AreNumbersOf, Leads, Descends}
+use Rattle.capn_path.specs.Steps.{AreNumbersIn, DescendsTo}
+
+-- how many slots there are
+pub length-places : (s w n : ℕ) → length (places s w n) ≡ n
+length-places s w zero = refl
+length-places s w (suc n) = ap suc (length-places s (w + 1) n)
+
+pub length-rows : (s w a b n : ℕ) → length (row_places s w a b n) ≡ n * b
+length-rows s w a b zero = omega arith
+length-rows s w a b (suc n) =
+    let l = length-append (places s (w + a) b) (row_places s (w + a + b) a b n) in
+    let p = length-places s (w + a) b in
+    let q = length-rows s (w + a + b) a b n in
+    omega arith
+
+-- the slots of the rows before row i, its own, and those of the rows after it
+pub row-split : (s w a b i n : ℕ) → i < n
+    → row_places s w a b n
+    ≡ row_places s w a b i
+    ++ (places s (w + i * (a + b) + a) b ++ row_places s (w + i * (a + b) + a + b) a b (n - suc i))
+row-split s w a b i n lt =
+    let e : n ≡ i + suc (n - suc i) = omega arith in
+    ap (row_places s w a b) e ∙ row_places-add s w a b i (suc (n - suc i))
+
+-- something in the middle of the second of three lists
+pub middle : {A : Type 0} (xs before : List A) (x : A) (behind ys : List A)
+    → xs ++ ((before ++ x ∷ behind) ++ ys) ≡ (xs ++ before) ++ x ∷ (behind ++ ys)
+middle xs before x behind ys =
+    ap (λ zs. xs ++ zs) (append_assoc before (x ∷ behind) ys) ∙ sym (append_assoc xs before (x ∷ (behind ++ ys)))
+
+-- the numbers say which of an object's slots is meant, and there are some
+numbers-of : (shape : Shape) (s start pads k : ℕ) (numbers : List ℕ) → AreNumbersIn shape k numbers
+    → AreNumbersOf (targets.Content s start shape pads) k numbers × (0 < length numbers)
+numbers-of (shapes.Node a b) s start pads k numbers h = rw h (refl, omega arith)
+numbers-of (shapes.Many width n) s start pads k numbers h = rw h (refl, omega arith)
+numbers-of (shapes.Rows n a b span) s start pads k numbers h = rw h.are ((h.small, h.count), omega arith)
+
+module _ (m : List (List ℕ)) (base : ℕ) where
+  -- a slot leads to itself
+  pub stays : (left : ℕ) (at : Place) → Leads m base left at [] at 0
+  stays zero at = (refl, refl)
+  stays (suc left) at = (refl, refl)
+
+  -- a step, and a way from there on
+  pub goes : (left : ℕ) (at : Place) (way : List ℕ) (to : Place) (n : ℕ) → 0 < length way
+      → Descends m base left (Leads m base left) at way to n → Leads m base (suc left) at way to n
+  goes left at [] to n h g = absurd (omega arith)
+  goes left at (i ∷ way) to n h g = g
+
+  -- a step from the slot that names an object to one of the object's slots
+  pub goes-down : (d : ℕ) (at : Place) (s start pads : ℕ) (shape : Shape) (way : List ℕ) (to : Place) (n : ℕ)
+      → target m at ≡ Ok (targets.Content s start shape pads) → 0 < d
+      → DescendsTo m base (d - 1) (slots s start shape) (AreNumbersIn shape) way to n
+      → Leads m base d at way to (suc n)
+  goes-down d at s start pads shape way to n e some g =
+      let k = numbers-of shape s start pads (length g.before) g.numbers g.named in
+      let l = length-append g.numbers g.rest in
+      let le = ap length g.is in
+      let long = k.1 in
+      let c = g.count in
+      let deep : suc (d - 1) ≡ d = omega arith in
+      rw deep at (goes (d - 1) at way to (suc n) (omega arith) (record {
+        found = targets.Content s start shape pads;
+        names = e;
+        before = g.before;
+        slot = g.slot;
+        behind = g.behind;
+        slots = g.slots;
+        numbers = g.numbers;
+        are = k.0;
+        rest = g.rest;
+        is = g.is;
+        later = g.later;
+        onward = g.onward;
+        count = omega arith;
+      }))

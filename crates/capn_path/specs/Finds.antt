@@ -1,0 +1,39 @@
+-- The first find of a search among the visits of a walk. (Own.)
+use Rattle.std.specs.Prelude.{◌≡◌, ℕ, List, [], ◌∷◌, ◌++◌, length, Option, Some, None, Result}
+use Rattle.capn_words.specs.declared.space.Place.{Place}
+use Rattle.capn_target.specs.declared.target.Target.{Target}
+use Rattle.capn_target.specs.declared.target.Fault.{Fault}
+use Rattle.capn_target.specs.Target.{target}
+use Rattle.capn_walk.specs.Visits.{Visit, visits}
+use Rattle.capn_walk.specs.Index.{place_of}
+use Rattle.capn_path.specs.Ways.{Leads}
+
+module _ {G F : Type 0} (m : List (List ℕ)) (finds : G → Place → Result Target Fault → Option F) (next : G → G) where
+  -- nothing is found at the slots of these visits, from one aim on, and this is the aim after them
+  abbrev pub IsPassed : G → List Visit → G → Type 0
+  IsPassed aim [] after = after ≡ aim
+  IsPassed aim (v ∷ vs) after =
+      (finds aim (place_of v) (target m (place_of v)) ≡ None) × IsPassed (next aim) vs after
+
+  -- the first of these visits at whose slot something is found, and the way to that
+  pub record Meets (vs : List Visit) (Onward : List ℕ → Place → ℕ → Type 0) (aim : G) (way : List ℕ) (x : F)
+      : Type 0 where
+    pub to : Place
+    pub before : List Visit
+    pub here : Visit
+    pub behind : List Visit
+    pub visits : vs ≡ before ++ here ∷ behind
+    pub last : G
+    pub passed : IsPassed aim before last
+    pub place : place_of here ≡ to
+    pub found : finds last to (target m to) ≡ Some x
+    pub leads : Onward way to (length before)
+
+  -- of the visits from a slot on, at most `depth` objects deep, and whatever the base of their prices
+  abbrev pub IsFirstFind : ℕ → Place → G → List ℕ → F → Type 0
+  IsFirstFind depth at aim way x =
+      (base : ℕ) → Meets (visits m base depth at) (Leads m base depth at) aim way x
+
+  -- nothing is found at any of them
+  abbrev pub IsWithoutFind : ℕ → Place → G → Type 0
+  IsWithoutFind depth at aim = (base : ℕ) → (after : G) × IsPassed aim (visits m base depth at) after

@@ -1,0 +1,40 @@
+-- A step to one of several slots, and a way from there on. (Own.)
+use Rattle.std.specs.Prelude.{◌≡◌, ℕ, ◌+◌, ◌*◌, ◌<◌, List, [], ◌∷◌, ◌++◌, length}
+use Rattle.capn_words.specs.declared.space.Place.{Place}
+use Rattle.capn_target.specs.declared.target.Shape.{Shape}
+use Rattle.capn_target.specs.declared.target.Shape.TheVariants as shapes
+use Rattle.capn_walk.specs.Visits.{visits_of}
+use Rattle.capn_path.specs.Ways.{Leads}
+
+-- the number that says which of several slots is meant, by how many come before it
+abbrev pub AreNumbers : ℕ → List ℕ → Type 0
+AreNumbers k numbers = numbers ≡ k ∷ []
+
+-- the numbers of a slot of rows, of b slots each: the number of the row, and that of the slot in it
+pub record AreRowNumbers (b k : ℕ) (numbers : List ℕ) : Type 0 where
+  pub row : ℕ
+  pub slot : ℕ
+  pub are : numbers ≡ row ∷ slot ∷ []
+  pub small : slot < b
+  pub count : k ≡ row * b + slot
+
+-- the numbers of a slot of an object
+abbrev pub AreNumbersIn : Shape → ℕ → List ℕ → Type 0
+AreNumbersIn (shapes.Node a b) = AreNumbers
+AreNumbersIn (shapes.Many width n) = AreNumbers
+AreNumbersIn (shapes.Rows n a b span) = AreRowNumbers b
+
+-- a step to one of several slots, and a way from there on
+pub record DescendsTo (m : List (List ℕ)) (base depth : ℕ) (ps : List Place) (are : ℕ → List ℕ → Type 0)
+    (way : List ℕ) (to : Place) (between : ℕ) : Type 0 where
+  pub before : List Place
+  pub slot : Place
+  pub behind : List Place
+  pub slots : ps ≡ before ++ slot ∷ behind
+  pub numbers : List ℕ
+  pub named : are (length before) numbers
+  pub rest : List ℕ
+  pub is : way ≡ numbers ++ rest
+  pub later : ℕ
+  pub onward : Leads m base depth slot rest to later
+  pub count : between ≡ length (visits_of m base depth before) + later

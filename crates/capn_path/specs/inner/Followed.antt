@@ -1,0 +1,65 @@
+-- A way that is followed, step by step: the slot to which it leads, and its holder.
+use Rattle.std.specs.Prelude.{ℕ, zero, suc, ◌+◌, nat_lt, List, [], ◌∷◌, Result, Ok, Option, Some, None}
+use Rattle.std.specs.Prelude.{if◌then◌else◌}
+use Rattle.capn_words.specs.declared.space.Place.{Place}
+use Rattle.capn_words.specs.declared.pointer.Width.TheVariants.{Link}
+use Rattle.capn_target.specs.declared.target.Target.{Target}
+use Rattle.capn_target.specs.declared.target.Target.TheVariants as targets
+use Rattle.capn_target.specs.declared.target.Shape.{Shape}
+use Rattle.capn_target.specs.declared.target.Shape.TheVariants as shapes
+use Rattle.capn_target.specs.declared.target.Fault.{Fault}
+use Rattle.capn_target.specs.Target.{target}
+use Rattle.capn_walk.specs.Accepted.{root}
+use Rattle.capn_path.specs.declared.holder.Holder.{Holder}
+use Rattle.capn_path.specs.declared.holder.Holder.TheVariants.{Struct, Pointers, Row}
+use Rattle.capn_path.specs.declared.holder.Spot.{Spot}
+use Rattle.capn_path.specs.Holders.{place, row_start}
+
+-- the slot of a holder that the first number of a way says, of n from a place on, and the rest of the way
+abbrev pub step_among : Holder → Place → ℕ → List ℕ → Option (Spot × List ℕ)
+step_among holder first n [] = None
+step_among holder first n (i ∷ way) =
+    if nat_lt i n
+    then Some (record { holder = Some holder; place = place first.segment (first.word + i) }, way)
+    else None
+
+-- the slot of a row that the first two numbers of a way say, of n rows of a words and b slots each
+abbrev pub step_in_rows : ℕ → ℕ → ℕ → ℕ → ℕ → List ℕ → Option (Spot × List ℕ)
+step_in_rows s start n a b [] = None
+step_in_rows s start n a b (row ∷ way) =
+    if nat_lt row n
+    then step_among (Row row n (place s (row_start start a b row))) (place s (row_start start a b row + a)) b way
+    else None
+
+-- the slot of an object that the first numbers of a way say
+abbrev pub step_in : ℕ → ℕ → Shape → List ℕ → Option (Spot × List ℕ)
+step_in s start (shapes.Node a b) way = step_among (Struct a b (place s start)) (place s (start + a)) b way
+step_in s start (shapes.Many Link n) way = step_among (Pointers n (place s start)) (place s start) n way
+step_in s start (shapes.Many width n) way = None
+step_in s start (shapes.Rows n a b span) way = step_in_rows s start n a b way
+
+-- the step from a target
+abbrev pub step_by : Result Target Fault → List ℕ → Option (Spot × List ℕ)
+step_by (Ok (targets.Content s start shape pads)) way = step_in s start shape way
+step_by found way = None
+
+-- on from a step, if it leads anywhere
+abbrev pub onward : (Spot → List ℕ → Option Spot) → Option (Spot × List ℕ) → Option Spot
+onward follow (Some x) = follow x.0 x.1
+onward follow None = None
+
+module _ (message : List (List ℕ)) where
+  -- the slot that a way leads to from a slot, where no more steps than so many are needed
+  abbrev pub follow : ℕ → Spot → List ℕ → Option Spot
+  follow zero here way = Some here
+  follow (suc n) here [] = Some here
+  follow (suc n) here (i ∷ way) = onward (follow n) (step_by (target message here.place) (i ∷ way))
+
+-- the root's slot, which nothing holds
+abbrev pub start : Spot
+start = record { holder = None; place = root }
+
+-- the holder of the slot to which a way was followed
+abbrev pub holder_at : Option Spot → Option Holder
+holder_at (Some x) = x.holder
+holder_at None = None

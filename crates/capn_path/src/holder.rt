@@ -1,0 +1,255 @@
+//! The holder of a slot.
+
+ghost use Rattle.std.specs.Prelude.{◌≡◌, ℕ, ◌+◌, ◌*◌, ◌<◌, ◌≤◌, ◌^◌, length, None, Some, IfNone, IfSome, MatchOption};
+ghost use Rattle.capn_words.specs.Message.{segment_at, IsPlace};
+ghost use Rattle.capn_target.specs.Shapes.{IsContent, RowsFit, extent};
+ghost use Rattle.capn_walk.specs.Limits.{Bounds};
+ghost use Rattle.capn_path.specs.Ways.{IsWayTo};
+ghost use Rattle.capn_path.specs.Holders.{IsHolder, IsHolderOrRoot};
+ghost use Rattle.capn_target.specs.Target.{target};
+ghost use Rattle.capn_path.specs.inner.Followed as spec;
+
+use capn_target::{Shape, Target, resolve, segment_length};
+use capn_words::{Place, Space, Width};
+
+/// The object that holds a slot: a struct, a list of pointers, or a row of a list of structs.
+#[derive(Clone, Copy, Debug, PartialEq, Eq)]
+pub enum Holder {
+    /// A struct.
+    Struct {
+        /// Its data words.
+        words: u16,
+        /// Its slots.
+        slots: u16,
+        /// The place of its first word; of one without words, that of its first slot.
+        at: Place,
+    },
+    /// A list of pointers.
+    Pointers {
+        /// The number of its elements.
+        count: u32,
+        /// The place of its first element.
+        at: Place,
+    },
+    /// A struct of a list of structs.
+    Row {
+        /// Its number, counted from 0.
+        row: u32,
+        /// The number of structs in the list.
+        count: u32,
+        /// The place of its first word; of one without words, that of its first slot.
+        at: Place,
+    },
+}
+
+/// A slot to which a way leads.
+#[derive(Clone, Copy)]
+pub struct Spot {
+    /// Its holder; the root's slot has none.
+    pub holder: Option<Holder>,
+    /// Its place.
+    pub place: Place,
+}
+
+/// Finds the object that holds the slot to which `way` leads from the root.
+///
+/// `None` if the way is empty, since nothing holds the root's slot, and if it leads to no slot. It follows the way from
+/// the root, and reads at most four words for each step. It takes no memory, and looks at no limits.
+pub fn holder_of<S: Space>(space: &S, way: &[u32]) -> Option<Holder>
+    // An answer holds the slot to which the way leads.
+    ensures some { IfSome result (λ holder. (to : Place) × IsHolder (S.message space.now) way.now to holder) }
+    // If there is no answer, nothing does.
+    ensures none { IfNone result
+        ((to : Place) (holder : Holder) → IsHolder (S.message space.now) way.now to holder → ⊥) }
+    // Of the way to a visit, that at which a walk stopped among them, it is the holder of that visit's slot.
+    ensures visit { (limits : Bounds) (number : ℕ) (to : Place)
+        → IsWayTo (S.message space.now) limits number way.now to
+        → IsHolderOrRoot (S.message space.now) way.now to result }
+{
+    held(space, way)
+}
+
+/// Finds that object by following `way`.
+fn held<S: Space>(space: &S, way: &[u32]) -> Option<Holder>
+    ensures { result ≡ spec.holder_at (spec.follow (S.message space.now) (length way.now) spec.start way.now) }
+{
+    if segment_length(space, Place::ROOT.segment) == 0 {
+        return None;
+    }
+    let root = Spot {
+        holder: None,
+        place: Place::ROOT,
+    };
+    match followed(space, root, way) {
+        Some(spot) => spot.holder,
+        None => None,
+    }
+}
+
+/// Follows `way` from the slot `from`; `None`, if it leads to no slot.
+fn followed<S: Space>(space: &S, from: Spot, way: &[u32]) -> Option<Spot>
+    requires place { IsPlace (S.message space.now) from.place }
+    ensures { result ≡ spec.follow (S.message space.now) (length way.now) from way.now }
+{
+    let mut spot = from;
+    let mut rest = way;
+    while let [_, ..] = rest {
+        match step(space, spot.place, rest) {
+            Some((next, after)) => {
+                spot = next;
+                rest = after;
+            }
+            None => return None,
+        }
+    }
+    Some(spot)
+}
+
+/// Follows `way` one step from the slot at `at`: returns the slot there and the rest of the way.
+fn step<'w, S: Space>(space: &S, at: Place, way: &'w [u32]) -> Option<(Spot, &'w [u32])>
+    requires place { IsPlace (S.message space.now) at }
+    ensures place { IfSome result (λ x. IsPlace (S.message space.now) x.0.place) }
+    ensures shorter { IfSome result (λ x. length x.1.now < length way.now) }
+    ensures exact { MatchOption result
+        (spec.step_by (target (S.message space.now) at) way.now ≡ None)
+        (λ x. spec.step_by (target (S.message space.now) at) way.now ≡ Some (x.0, x.1.now)) }
+{
+    match resolve(space, at) {
+        Ok(target) => match target {
+            Target::Nil => None,
+            Target::Cap(_) => None,
+            Target::Content {
+                segment,
+                start,
+                shape,
+                pads: _,
+            } => {
+                let start = Place {
+                    segment,
+                    word: start,
+                };
+                step_in(space, start, shape, way)
+            }
+        },
+        Err(_) => None,
+    }
+}
+
+/// Follows `way` one step among the slots of an object of this `shape`, whose content starts at `start`.
+fn step_in<'w, S: Space>(
+    space: &S,
+    start: Place,
+    shape: Shape,
+    way: &'w [u32],
+) -> Option<(Spot, &'w [u32])>
+    requires content { IsContent (S.message space.now) start (extent shape) }
+    requires rows { RowsFit shape }
+    ensures place { IfSome result (λ x. IsPlace (S.message space.now) x.0.place) }
+    ensures shorter { IfSome result (λ x. length x.1.now < length way.now) }
+    ensures exact { MatchOption result
+        (spec.step_in start.segment start.word shape way.now ≡ None)
+        (λ x. spec.step_in start.segment start.word shape way.now ≡ Some (x.0, x.1.now)) }
+{
+    let _bounds = space.segments();
+    let segment = start.segment;
+    match shape {
+        Shape::Node { words, slots } => {
+            let holder = Holder::Struct {
+                words,
+                slots,
+                at: start,
+            };
+            let first = Place {
+                segment,
+                word: start.word + words as u32,
+            };
+            step_among(space, holder, first, slots as u32, way)
+        }
+        Shape::Many { width, count } => match width {
+            Width::Link => {
+                let holder = Holder::Pointers { count, at: start };
+                step_among(space, holder, start, count, way)
+            }
+            _ => None,
+        },
+        Shape::Rows {
+            count,
+            words,
+            slots,
+            span: _,
+        } => step_in_rows(space, start, count, words, slots, way),
+    }
+}
+
+/// Follows `way` one step among the slots of `count` rows of `words` words and `slots` slots each, behind the tag at
+/// `start`.
+fn step_in_rows<'w, S: Space>(
+    space: &S,
+    start: Place,
+    count: u32,
+    words: u16,
+    slots: u16,
+    way: &'w [u32],
+) -> Option<(Spot, &'w [u32])>
+    requires inside { start.word + 1 + count * (words + slots)
+        ≤ length (segment_at (S.message space.now) start.segment) }
+    ensures place { IfSome result (λ x. IsPlace (S.message space.now) x.0.place) }
+    ensures shorter { IfSome result (λ x. length x.1.now < length way.now) }
+    ensures exact { MatchOption result
+        (spec.step_in_rows start.segment start.word count words slots way.now ≡ None)
+        (λ x. spec.step_in_rows start.segment start.word count words slots way.now ≡ Some (x.0, x.1.now)) }
+{
+    let _bounds = space.segments();
+    let segment = start.segment;
+    let [row, others @ ..] = way else {
+        return None;
+    };
+    let row = *row;
+    if row >= count {
+        return None;
+    }
+    let word = start.word + 1 + row * (words as u32 + slots as u32);
+    let holder = Holder::Row {
+        row,
+        count,
+        at: Place { segment, word },
+    };
+    let first = Place {
+        segment,
+        word: word + words as u32,
+    };
+    step_among(space, holder, first, slots as u32, others)
+}
+
+/// Follows `way` one step among the `count` slots of one `holder`, which lie one after the other from `first` on.
+fn step_among<'w, S: Space>(
+    space: &S,
+    holder: Holder,
+    first: Place,
+    count: u32,
+    way: &'w [u32],
+) -> Option<(Spot, &'w [u32])>
+    requires inside { first.word + count ≤ length (segment_at (S.message space.now) first.segment) }
+    ensures place { IfSome result (λ x. IsPlace (S.message space.now) x.0.place) }
+    ensures shorter { IfSome result (λ x. length x.1.now < length way.now) }
+    ensures exact { MatchOption result
+        (spec.step_among holder first count way.now ≡ None)
+        (λ x. spec.step_among holder first count way.now ≡ Some (x.0, x.1.now)) }
+{
+    let _bounds = space.segments();
+    let [number, rest @ ..] = way else {
+        return None;
+    };
+    if *number >= count {
+        return None;
+    }
+    let place = Place {
+        segment: first.segment,
+        word: first.word + *number,
+    };
+    let spot = Spot {
+        holder: Some(holder),
+        place,
+    };
+    Some((spot, rest))
+}

@@ -1,0 +1,216 @@
+//! The search among the visits of a walk.
+
+ghost use Rattle.std.specs.Prelude.{◌≡◌, ℕ, ◌+◌, ◌*◌, ◌<◌, ◌≤◌, IfOk, IfSome, IfNone, None, OnErr, length};
+ghost use Rattle.std.specs.Prelude.{vec_capacity, vec_len};
+ghost use Rattle.capn_words.specs.Message.{segment_at, IsMessage, IsPlace};
+ghost use Rattle.capn_target.specs.Shapes.{IsContent, RowsFit, extent};
+ghost use Rattle.capn_target.specs.Target.{target};
+ghost use Rattle.capn_walk.specs.Accepted.{root};
+ghost use Rattle.capn_walk.specs.Visits.{slots, places, row_places};
+ghost use Rattle.capn_path.specs.Finds.{IsFirstFind, IsWithoutFind};
+ghost use Rattle.capn_path.specs.Steps.{AreNumbers, AreRowNumbers, AreNumbersIn};
+ghost use Rattle.capn_path.specs.inner.Seeks.{Seeks, SeeksBelow};
+
+use crate::aim::Aim;
+use capn_target::{Shape, Target, resolve};
+use capn_words::{Memory, Place, Space, Width};
+use std::alloc::Allocator;
+
+/// Finds the first visit from the root of the message `space` on, at most `depth` objects deep, at whose slot `aim`
+/// finds something: returns the find, and the way to the slot. `None`: nothing is found at any.
+///
+/// It makes the visits up to that one, and reads at most four words for each beside what `aim` reads. It looks at no
+/// price and no budget. `Memory` comes only if a growth of the way on `alloc` was refused; the way has at most two
+/// numbers for each level of `depth`. (Own.)
+pub fn seek<S: Space, G: Aim, A: Allocator + Copy>(
+    alloc: A,
+    space: &S,
+    depth: u32,
+    aim: G,
+) -> Result<Option<(G::Found, Vec<u32, A>)>, Memory>
+    requires root { 0 < length (segment_at (S.message space.now) 0) }
+    // A find is the first.
+    ensures found { IfOk result (λ r. IfSome r
+        (λ x. IsFirstFind (S.message space.now) G.finds G.next depth root aim x.1.items x.0)) }
+    // Without one, nothing is found at any visit.
+    ensures none { IfOk result (λ r. IfNone r (IsWithoutFind (S.message space.now) G.finds G.next depth root aim)) }
+    // The root's slot takes no memory: it isn't the find, and objects may be below it.
+    ensures memory { OnErr result ((G.finds aim root (target (S.message space.now) root) ≡ None) × (0 < depth)) }
+{
+    let mut aim = aim;
+    let mut way = Vec::new(alloc);
+    match seek_slot(space, Place::ROOT, depth, &mut aim, &mut way)? {
+        Some(found) => Ok(Some((found, way))),
+        None => Ok(None),
+    }
+}
+
+/// Looks for the first find of `aim` from the visit of the slot at `at` on, where objects are visited at most `depth`
+/// deep. `way` has the numbers that lead to that slot, and if something is found, those to its slot.
+#[cycle(seek)]
+fn seek_slot<S: Space, G: Aim, A: Allocator>(
+    space: &S,
+    at: Place,
+    depth: u32,
+    aim: &mut G,
+    way: &mut Vec<u32, A>,
+) -> Result<Option<G::Found>, Memory>
+    requires place { IsPlace (S.message space.now) at }
+    ensures found { IfOk result (λ r. (base : ℕ) → Seeks (S.message space.now) G.finds G.next base depth at
+        aim.old aim.new way.old.items way.new.items r) }
+    ensures grown { vec_capacity way.old ≤ vec_capacity way.new }
+    ensures room { OnErr result (vec_capacity way.old < vec_len way.old + 2 * depth) }
+    ensures below { OnErr result (G.finds aim.old at (target (S.message space.now) at) ≡ None) }
+{
+    let named = resolve(space, at);
+    match aim.test(at, named) {
+        Some(found) => return Ok(Some(found)),
+        None => {}
+    }
+    match named {
+        Ok(target) => match target {
+            Target::Nil => Ok(None),
+            Target::Cap(_) => Ok(None),
+            Target::Content {
+                segment,
+                start,
+                shape,
+                pads: _,
+            } => {
+                if depth == 0 {
+                    return Ok(None);
+                }
+                let start = Place {
+                    segment,
+                    word: start,
+                };
+                let found = seek_object(space, start, shape, depth - 1, aim, way)?;
+                Ok(found)
+            }
+        },
+        Err(_) => Ok(None),
+    }
+}
+
+/// Looks for it among the visits of the slots of an object of this `shape`, whose content starts at `start`.
+#[cycle(seek)]
+fn seek_object<S: Space, G: Aim, A: Allocator>(
+    space: &S,
+    start: Place,
+    shape: Shape,
+    depth: u32,
+    aim: &mut G,
+    way: &mut Vec<u32, A>,
+) -> Result<Option<G::Found>, Memory>
+    requires content { IsContent (S.message space.now) start (extent shape) }
+    requires rows { RowsFit shape }
+    ensures found { IfOk result (λ r. (base : ℕ) → SeeksBelow (S.message space.now) G.finds G.next base depth
+        (slots start.segment start.word shape) (AreNumbersIn shape) aim.old aim.new way.old.items way.new.items r) }
+    ensures grown { vec_capacity way.old ≤ vec_capacity way.new }
+    ensures room { OnErr result (vec_capacity way.old < vec_len way.old + 2 * depth + 2) }
+{
+    let _bounds = space.segments();
+    let segment = start.segment;
+    match shape {
+        Shape::Node { words, slots } => {
+            let first = Place {
+                segment,
+                word: start.word + words as u32,
+            };
+            seek_slots(space, first, slots as u32, depth, aim, way)
+        }
+        Shape::Many { width, count } => match width {
+            Width::Link => seek_slots(space, start, count, depth, aim, way),
+            _ => Ok(None),
+        },
+        Shape::Rows {
+            count,
+            words,
+            slots,
+            span: _,
+        } => {
+            if slots == 0 {
+                return Ok(None);
+            }
+            let first = Place {
+                segment,
+                word: start.word + 1,
+            };
+            seek_rows(space, first, count, words, slots, depth, aim, way)
+        }
+    }
+}
+
+/// Looks for it among the visits of `count` slots that lie one after the other from `first` on, numbered from 0.
+#[cycle(seek)]
+fn seek_slots<S: Space, G: Aim, A: Allocator>(
+    space: &S,
+    first: Place,
+    count: u32,
+    depth: u32,
+    aim: &mut G,
+    way: &mut Vec<u32, A>,
+) -> Result<Option<G::Found>, Memory>
+    requires message { IsMessage (S.message space.now) }
+    requires inside { first.word + count ≤ length (segment_at (S.message space.now) first.segment) }
+    ensures found { IfOk result (λ r. (base : ℕ) → SeeksBelow (S.message space.now) G.finds G.next base depth
+        (places first.segment first.word count) AreNumbers aim.old aim.new way.old.items way.new.items r) }
+    ensures grown { vec_capacity way.old ≤ vec_capacity way.new }
+    ensures room { OnErr result (vec_capacity way.old < vec_len way.old + 2 * depth + 1) }
+{
+    for i in 0..count {
+        let Ok(()) = way.push(i) else {
+            return Err(Memory);
+        };
+        let at = Place {
+            segment: first.segment,
+            word: first.word + i,
+        };
+        match seek_slot(space, at, depth, aim, way)? {
+            Some(found) => return Ok(Some(found)),
+            None => {}
+        }
+        way.pop();
+    }
+    Ok(None)
+}
+
+/// Looks for it among the visits of the slots of `count` rows that lie one after the other from `first` on, numbered
+/// from 0.
+#[cycle(seek)]
+fn seek_rows<S: Space, G: Aim, A: Allocator>(
+    space: &S,
+    first: Place,
+    count: u32,
+    words: u16,
+    slots: u16,
+    depth: u32,
+    aim: &mut G,
+    way: &mut Vec<u32, A>,
+) -> Result<Option<G::Found>, Memory>
+    requires message { IsMessage (S.message space.now) }
+    requires inside { first.word + count * (words + slots) ≤ length (segment_at (S.message space.now) first.segment) }
+    ensures found { IfOk result (λ r. (base : ℕ) → SeeksBelow (S.message space.now) G.finds G.next base depth
+        (row_places first.segment first.word words slots count) (AreRowNumbers slots)
+        aim.old aim.new way.old.items way.new.items r) }
+    ensures grown { vec_capacity way.old ≤ vec_capacity way.new }
+    ensures room { OnErr result (vec_capacity way.old < vec_len way.old + 2 * depth + 2) }
+{
+    let mut next = first.word;
+    for row in 0..count {
+        let Ok(()) = way.push(row) else {
+            return Err(Memory);
+        };
+        let at = Place {
+            segment: first.segment,
+            word: next + words as u32,
+        };
+        match seek_slots(space, at, slots as u32, depth, aim, way)? {
+            Some(found) => return Ok(Some(found)),
+            None => {}
+        }
+        way.pop();
+        next += words as u32 + slots as u32;
+    }
+    Ok(None)
+}

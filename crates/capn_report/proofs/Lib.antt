@@ -1,9 +1,0 @@
-pub mod Accounts
-pub mod Closings
-pub mod Finishes
-pub mod Reporters
-pub mod Zeros
-pub mod AtLeast
-pub mod RefusedReporters
-pub mod RefusedAnswers
-pub mod NothingWritten

@@ -1,6 +1,0 @@
-use Rattle.std.proofs.Common.{◌*◌, arith}
-use Rattle.capn_report.proofs.Zeros.{entry-bytes}
-use Rattle.capn_report.proofs.what_came.entry_at.Goals as goal
-
-pub returns : goal.returns
-returns c = omega (arith, entry-bytes (4 * c.args.index) c.args.bytes.now)

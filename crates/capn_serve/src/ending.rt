@@ -1,0 +1,69 @@
+//! Endings: faults of a run, with text and status.
+
+ghost use Rattle.std.specs.Prelude.{◌≡◌, false};
+ghost use Rattle.capn_words.specs.Watched.{inner_of, has_failed};
+ghost use Rattle.capn_serve.specs.Line.{Says, way};
+ghost use Rattle.capn_serve.specs.Ending.{WritesEnding, WritesFault, status_of_ending};
+
+use crate::line::Line;
+use capn_words::Watched;
+use std::io::Write;
+
+/// A fault that can end a run.
+pub trait Ending {
+    ghost use Rattle.std.specs.Prelude.{ℕ, List};
+
+    /// The text of the fault, as it stands behind `capn: `.
+    ghost text: { Self → List ℕ };
+
+    /// The exit status of a run that the fault ends.
+    ghost exit: { Self → ℕ };
+
+    /// Puts the text of the fault on `line`, which goes to `errors`.
+    fn say<E: Write>(&self, line: &mut Line, errors: &mut Watched<E>)
+        ensures { Says (text self.now) (way line.old (E.contents (inner_of errors.old)) (has_failed errors.old))
+            (way line.new (E.contents (inner_of errors.new)) (has_failed errors.new)) };
+
+    /// Returns the exit status: 1 if the input is refused, 3 if the run could not be carried out.
+    fn exit_status(&self) -> u8
+        ensures { result ≡ exit self.now };
+}
+
+/// Writes the line of `fault` to `errors`.
+fn tell<F: Ending, E: Write>(fault: &F, errors: &mut Watched<E>)
+    requires { has_failed errors.old ≡ false }
+    ensures { WritesFault (F.text fault.now) (E.contents (inner_of errors.old)) (E.contents (inner_of errors.new))
+        (has_failed errors.new) }
+{
+    let mut line = Line::new();
+    line.put(b"capn: ", errors);
+    fault.say(&mut line, errors);
+    line.put(b"\n", errors);
+    line.send(errors);
+}
+
+/// Returns the exit status of a run with this `outcome`: 0 if it is done, and else that of its fault.
+pub fn status<F: Ending>(outcome: &Result<(), F>) -> u8
+    ensures { result ≡ status_of_ending F.exit outcome.now }
+{
+    match outcome {
+        Ok(()) => 0,
+        Err(fault) => fault.exit_status(),
+    }
+}
+
+/// Writes the line that says why a run ended to `errors`, unless `outcome` is done, and returns its exit status.
+///
+/// The line is `capn: `, the text of the fault and a newline. It is written whole, by one write if it has at most 256
+/// bytes and the errors take them at once; or a beginning of it is, if the errors fail. No memory is asked for.
+pub fn end<F: Ending, E: Write>(outcome: &Result<(), F>, errors: &mut Watched<E>) -> u8
+    requires { has_failed errors.old ≡ false }
+    ensures status { result ≡ status_of_ending F.exit outcome.now }
+    ensures says { WritesEnding F.text outcome.now (E.contents (inner_of errors.old)) (E.contents (inner_of errors.new))
+        (has_failed errors.new) }
+{
+    if let Err(fault) = outcome {
+        tell(fault, errors);
+    }
+    status(outcome)
+}
