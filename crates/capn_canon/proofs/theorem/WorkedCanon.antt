@@ -292,9 +292,9 @@ outside = (
     omega arith,
     record {
       before = [];
-      here = fails root faults.Range;
-      behind = [];
-      is = refl;
+      stop = fails root faults.Range;
+      after = [];
+      split = refl;
       within = record { all = tt; paid = omega arith };
       ends = (refl, refl);
       sum = refl;
