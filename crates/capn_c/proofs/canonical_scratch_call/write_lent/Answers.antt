@@ -14,9 +14,9 @@ returns c =
       some_depth = omega arith;
       small_depth = omega arith;
     } in
-    let w = c.canonical_into_form.ensures in
+    let w = c.canonical_into_form-written.ensures in
     lent c.decision.ensures c.enough.ensures.bounded c.enough.ensures.lacking c.denotation.ensures.form c.args.form
-    c.args.bytes.now l are (length c.args.scratch.now) c.args.out.now c.canonical_into_form.new.out
-    c.canonical_into_form.result
+    c.args.bytes.now l are (length c.args.scratch.now) c.args.out.now c.canonical_into_form-written.new.out
+    c.canonical_into_form-written.result
     (record { written = w.written; refused = w.refused; unchanged = w.unchanged }) w.bounded c.tell.result
     c.tell.new.report c.tell.ensures
