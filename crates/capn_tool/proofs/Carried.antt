@@ -4,7 +4,8 @@ use Rattle.std.proofs.Common.{Ok, Err, IfSome, IsErrOf, refl, sym, subst, ◌∙
 use Rattle.std.specs.Io.KnownBytes.{Keeps}
 use Rattle.capn_tool.specs.Flushed.{CarriesOut, EndsByText, EndsFlushed}
 use Rattle.capn_tool.specs.Course.{course}
-use Rattle.capn_commands.specs.CommandRun.{KeepsUp, MayNeedMemory, PlanIsAhead, PlanKeepsUp, StaysAhead, StaysAheadAs}
+use Rattle.capn_commands.specs.CommandRun.{HasWrittenAll, HasWrittenAllPacked, KeepsUp, MayNeedMemory, PlanIsAhead}
+use Rattle.capn_commands.specs.CommandRun.{PlanKeepsUp, StaysAhead, StaysAheadAs}
 use Rattle.capn_commands.specs.Plan.{plan_of}
 use Rattle.capn_commands.specs.Text.{Begins, EndsAs, EndsBy, HasEnded, IsDue}
 use Rattle.capn_commands.specs.declared.command.Command.{Command}
@@ -79,8 +80,8 @@ stays Written a b c m d k (bytes, read, (before, piece, mid, more, is, small, al
 
 ahead : (plan : Plan) (a b c m d : Option (List ℕ)) → Keeps m d → PlanIsAhead plan a b c m → PlanIsAhead plan a b c d
 ahead (plans.Whole whole) a b c m d k h = tt
-ahead (plans.Each piece limits) a b c m d k h = stays _ a b c m d k h
-ahead (plans.Packed piece limits) a b c m d k h = stays _ a b c m d k h
+ahead (plans.Each piece limits) a b c m d k h = stays (HasWrittenAll piece limits) a b c m d k h
+ahead (plans.Packed piece limits) a b c m d k h = stays (HasWrittenAllPacked piece limits) a b c m d k h
 
 -- it ends with Memory only where the run did
 memory : (r s : Ending) (old new : Bool) → EndsFlushed faults.Io r old new s → IsErrOf s faults.Memory
