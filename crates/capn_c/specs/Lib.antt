@@ -8,6 +8,7 @@ pub mod UnpackedPieces
 pub mod Held
 pub mod AsFramed
 pub mod Shown
+pub mod MadeBytes
 pub mod WayNumbers
 pub mod Departed
 pub mod inner
