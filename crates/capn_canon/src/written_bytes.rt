@@ -71,6 +71,7 @@ struct IntoTask {
 
 impl CountedWriter for IntoTask {
     type Told = Result<CanonicalLength, IntoRefusal>;
+    type Item = u8;
 
     ghost use Rattle.std.specs.Prelude.{◌+◌, ◌*◌};
     ghost use Rattle.capn_words.specs.Message.{IsMessage};

@@ -39,8 +39,11 @@ pub trait CountedWriter {
     /// The answer.
     type Told;
 
+    /// An item of the buffer.
+    type Item;
+
     /// The answer that the task gives of a message, and the change of the buffer.
-    ghost tells: { Self → List (List ℕ) → List ℕ → List ℕ → Self.Told → Type 0 };
+    ghost tells: { Self → List (List ℕ) → List Self.Item → List Self.Item → Self.Told → Type 0 };
 
     /// The most times that it asks the message and turns its loops, whatever the message.
     ghost most: { Self → ℕ };
@@ -49,7 +52,7 @@ pub trait CountedWriter {
     fn run<S: Space, L: Ledger>(
         self,
         space: &CountedSpace<'_, S, L>,
-        out: &mut [u8],
+        out: &mut [Self::Item],
         reads: &mut Reads<L>,
     ) -> Self::Told
         ensures told { tells self space.now out.old out.new result }
@@ -70,7 +73,7 @@ pub trait Asked {
         ensures { T.tells task (message self) result };
 
     /// Does `task` on the buffer `out` with a new count, which is opened by one read of the number of segments.
-    fn ask_into<T: CountedWriter>(self, task: T, out: &mut [u8]) -> T::Told
+    fn ask_into<T: CountedWriter>(self, task: T, out: &mut [T::Item]) -> T::Told
         requires { allows self (T.most task + 1) }
         ensures { T.tells task (message self) out.old out.new result };
 }
@@ -88,7 +91,7 @@ impl<'s, S: Space> Asked for &'s S {
     }
 
     #[inline(always)]
-    fn ask_into<T: CountedWriter>(self, task: T, out: &mut [u8]) -> T::Told {
+    fn ask_into<T: CountedWriter>(self, task: T, out: &mut [T::Item]) -> T::Told {
         write_counted(self, task, out)
     }
 }
@@ -115,7 +118,7 @@ fn run_with_ledger<S: Space, T: CountedTask, L: Ledger>(space: &S, task: T, blan
 
 /// Does `task` on the message `space` and the buffer `out` with a new count.
 #[inline(always)]
-fn write_counted<S: Space, T: CountedWriter>(space: &S, task: T, out: &mut [u8]) -> T::Told
+fn write_counted<S: Space, T: CountedWriter>(space: &S, task: T, out: &mut [T::Item]) -> T::Told
     ensures { T.tells task (S.message space.now) out.old out.new result }
 {
     write_with_ledger::<S, T, Brand>(space, task, out, Blank::new(1))
@@ -126,7 +129,7 @@ fn write_counted<S: Space, T: CountedWriter>(space: &S, task: T, out: &mut [u8])
 fn write_with_ledger<S: Space, T: CountedWriter, L: Ledger>(
     space: &S,
     task: T,
-    out: &mut [u8],
+    out: &mut [T::Item],
     blank: Blank,
 ) -> T::Told
     requires name { blank.name ≡ L.name }

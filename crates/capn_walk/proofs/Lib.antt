@@ -12,6 +12,7 @@ pub mod DeepVisits
 pub mod Depths
 pub mod Heights
 pub mod FilledRoom
+pub mod KeptRooms
 pub mod RootIndexes
 pub mod IndexLaws
 pub mod ValuesRead

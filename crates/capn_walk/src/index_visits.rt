@@ -3,14 +3,14 @@
 //! A slot costs at most thirteen reads and turns: its turn of the loop, and one before it that begins its row; its
 //! word; eight to find its target; the length of the segment below it, and the last turn there.
 
-ghost use Rattle.std.specs.Prelude.{◌≡◌, ◌+◌, ◌*◌, ◌<◌, ◌≤◌, ◌^◌, length, MatchResult};
+ghost use Rattle.std.specs.Prelude.{◌≡◌, ◌+◌, ◌*◌, ◌<◌, ◌≤◌, ◌^◌, length, IfErr, MatchResult};
 ghost use Rattle.capn_words.specs.Message.{segment_at, IsMessage, IsPlace};
 ghost use Rattle.capn_value.specs.Cost.{most_cost};
 ghost use Rattle.capn_target.specs.Target as spec;
 ghost use Rattle.capn_walk.specs.Visits.{visits, visits_of};
 ghost use Rattle.capn_walk.specs.inner.SlotsLeft.{places_of, owed, Lies};
 ghost use Rattle.capn_walk.specs.Index.{entries, entries_of};
-ghost use Rattle.capn_walk.specs.inner.IndexRoom.{Indexes};
+ghost use Rattle.capn_walk.specs.inner.IndexRoom.{Indexes, IsKept};
 
 use crate::entry::{Entry, Indexed};
 use crate::entry_form::EntryForm;
@@ -46,6 +46,7 @@ pub fn index_found<S: Space, L: Ledger, F: EntryForm>(
     requires fits { first + 1 + left < 2 ^ 32 }
     ensures indexes { Indexes left (visits space.now base depth at) 1 (F.written form.now)
         (entries space.now depth at) first room.old room.new result }
+    ensures kept { IfErr result (λ s. IsKept first room.old room.new s.visits) }
     ensures reads { MatchResult result (λ t. reads.new + 11 ≤ reads.old + 13 * t.visits)
         (λ s. reads.new + 11 ≤ reads.old + 13 * s.visits) }
 {
@@ -116,6 +117,7 @@ fn index_near<S: Space, L: Ledger, F: EntryForm>(
     requires fits { first + 1 + left < 2 ^ 32 }
     ensures indexes { Indexes left (visits space.now base depth at) 1 (F.written form.now)
         (entries space.now depth at) first room.old room.new result }
+    ensures kept { IfErr result (λ s. IsKept first room.old room.new s.visits) }
     ensures reads { MatchResult result (λ t. reads.new + 10 ≤ reads.old + 13 * t.visits)
         (λ s. reads.new + 10 ≤ reads.old + 13 * s.visits) }
 {
@@ -147,6 +149,7 @@ fn index_elsewhere<S: Space, L: Ledger, F: EntryForm>(
     requires fits { first + 1 + left < 2 ^ 32 }
     ensures indexes { Indexes left (visits space.entry base depth at) 1 (F.written form.now)
         (entries space.entry depth at) first room.old room.new result }
+    ensures kept { IfErr result (λ s. IsKept first room.old room.new s.visits) }
     ensures reads { MatchResult result (λ t. reads.new + 3 ≤ reads.old + 13 * t.visits)
         (λ s. reads.new + 3 ≤ reads.old + 13 * s.visits) }
 {
@@ -179,6 +182,7 @@ fn index_slot<S: Space, L: Ledger, F: EntryForm>(
     requires fits { first + 1 + left < 2 ^ 32 }
     ensures indexes { Indexes left (visits space.now base depth at) 1 (F.written form.now)
         (entries space.now depth at) first room.old room.new result }
+    ensures kept { IfErr result (λ s. IsKept first room.old room.new s.visits) }
     ensures reads { MatchResult result (λ t. reads.new + 2 ≤ reads.old + 13 * t.visits)
         (λ s. reads.new + 2 ≤ reads.old + 13 * s.visits) }
 {
@@ -233,6 +237,7 @@ fn index_frame<S: Space, L: Ledger, F: EntryForm>(
     requires fits { first + owed slots + left < 2 ^ 32 }
     ensures indexes { Indexes left (visits_of space.entry base depth (places_of slots)) (owed slots)
         (F.written form.now) (entries_of space.entry depth (places_of slots)) first room.old room.new result }
+    ensures kept { IfErr result (λ s. IsKept first room.old room.new s.visits) }
     ensures reads { MatchResult result (λ t. reads.new ≤ reads.old + 13 * t.visits + 1)
         (λ s. reads.new ≤ reads.old + 13 * s.visits + 1) }
 {

@@ -15,13 +15,38 @@ ghost use Rattle.capn_target.specs.declared.target.Fault.TheVariants.{Memory};
 use crate::limits::Limits;
 use crate::walk_answer::{Stopped, Walked, stop};
 use crate::walk_visits::walk_target;
-use capn_target::counted::{CountedSpace, Reads, count_reads};
+use capn_target::counted::{Asked, CountedSpace, CountedTask, Reads};
 use capn_target::{Fault, Shape, Target, counted};
 use capn_value::Tree;
 use capn_words::{Place, Space};
 use std::alloc::Allocator;
-use std::marker::Brand;
-use std::sync::ledger::{Blank, Ledger};
+use std::sync::ledger::Ledger;
+
+/// The value of a message within limits.
+#[derive(Drop)]
+struct WalkTask<A: Allocator + Copy> {
+    alloc: A,
+    limits: Limits,
+}
+
+impl<A: Allocator + Copy> CountedTask for WalkTask<A> {
+    type Told = Result<Walked<A>, Stopped>;
+
+    ghost use Rattle.std.specs.Prelude.{◌+◌, ◌*◌};
+    ghost use Rattle.capn_walk.specs.inner.Told.{IsWalkTold};
+
+    ghost tells = { λ t m r. IsWalkTold m t.limits r (λ w. w.tree) (λ w. w.paid) (λ w. w.visits) };
+
+    ghost most = { λ t. 12 * (t.limits.budget + 1) };
+
+    fn run<S: Space, L: Ledger>(
+        self,
+        space: &CountedSpace<'_, S, L>,
+        reads: &mut Reads<L>,
+    ) -> Result<Walked<A>, Stopped> {
+        walk_counted(self.alloc, space, self.limits, reads)
+    }
+}
 
 /// Reads the value that the message `space` denotes, from its root, within `limits`; returns it with the words that
 /// this paid and the number of visits.
@@ -38,26 +63,30 @@ use std::sync::ledger::{Blank, Ledger};
 ///
 /// Memory: the tree's own, on `alloc`. The stack holds at most as many objects as the depth limit. (Page: security
 /// considerations; the tariffs and the order of the faults are our own.)
-pub fn walk<S: Space, A: Allocator + Copy>(
+pub fn walk<M: Asked, A: Allocator + Copy>(
     alloc: A,
-    space: &S,
+    space: M,
     limits: Limits,
 ) -> Result<Walked<A>, Stopped>
+    // It asks the message and turns its loops at most 12 * (budget + 1) times, and once more to open the count: it is
+    // done on any message that allows this, and a reference to a `Space` allows all.
+    requires work { M.allows space (12 * (limits.budget + 1) + 1) }
+
     // An answer is the value at the root of an accepted message, with the sum of the prices.
-    ensures found { IfOk result (λ w. IsValueOf (S.message space.now) limits w.tree) }
-    ensures pays { IfOk result (λ w. w.paid ≡ paid (S.message space.now) limits) }
-    ensures counts { IfOk result (λ w. w.visits ≡ number_of_visits (S.message space.now) limits) }
+    ensures found { IfOk result (λ w. IsValueOf (M.message space) limits w.tree) }
+    ensures pays { IfOk result (λ w. w.paid ≡ paid (M.message space) limits) }
+    ensures counts { IfOk result (λ w. w.visits ≡ number_of_visits (M.message space) limits) }
 
     // Such a value is answered, or a growth was refused; any other refusal is the first stop.
-    ensures only { (v : trees.Tree) → IsValueOf (S.message space.now) limits v →
+    ensures only { (v : trees.Tree) → IsValueOf (M.message space) limits v →
         MatchResult result (λ w. w.tree ≡ v) (λ s. s.fault ≡ Memory) }
     ensures refused { IfErr result (λ s.
         (s.fault ≡ Memory)
-        ⊎ IsWalkRefused (S.message space.now) limits s.fault s.place s.paid s.visits) }
+        ⊎ IsWalkRefused (M.message space) limits s.fault s.place s.paid s.visits) }
 
     // Memory is needed only if the root leads to content whose price is within the budget.
     ensures memory { IfErr result (λ s. s.fault ≡ Memory →
-        IsEntered (stepped_to_root (S.message space.now) (base limits.tariff) limits.depth limits.budget)) }
+        IsEntered (stepped_to_root (M.message space) (base limits.tariff) limits.depth limits.budget)) }
 
     // No walk pays beyond its budget.
     ensures bounded { MatchResult result (λ w. IsBounded limits.budget w.paid w.visits)
@@ -67,45 +96,7 @@ pub fn walk<S: Space, A: Allocator + Copy>(
     ensures thrifty { IfOk result (λ w. cost (base limits.tariff) w.tree ≤ w.paid) }
     ensures low { IfOk result (λ w. height w.tree ≤ limits.depth) }
 {
-    walk_with_ledger::<S, A, Brand>(alloc, space, limits, Blank::new(1))
-}
-
-/// Does what [`walk`] does, with a count in the new ledger `blank`.
-fn walk_with_ledger<S: Space, A: Allocator + Copy, L: Ledger>(
-    alloc: A,
-    space: &S,
-    limits: Limits,
-    blank: Blank,
-) -> Result<Walked<A>, Stopped>
-    requires name { blank.name ≡ L.name }
-    requires parts { blank.parts ≡ L.parts }
-    requires one { 0 < blank.parts }
-    // An answer is the value at the root of an accepted message, with the sum of the prices.
-    ensures found { IfOk result (λ w. IsValueOf (S.message space.now) limits w.tree) }
-    ensures pays { IfOk result (λ w. w.paid ≡ paid (S.message space.now) limits) }
-    ensures counts { IfOk result (λ w. w.visits ≡ number_of_visits (S.message space.now) limits) }
-
-    // Such a value is answered, or a growth was refused; any other refusal is the first stop.
-    ensures only { (v : trees.Tree) → IsValueOf (S.message space.now) limits v →
-        MatchResult result (λ w. w.tree ≡ v) (λ s. s.fault ≡ Memory) }
-    ensures refused { IfErr result (λ s.
-        (s.fault ≡ Memory)
-        ⊎ IsWalkRefused (S.message space.now) limits s.fault s.place s.paid s.visits) }
-
-    // Memory is needed only if the root leads to content whose price is within the budget.
-    ensures memory { IfErr result (λ s. s.fault ≡ Memory →
-        IsEntered (stepped_to_root (S.message space.now) (base limits.tariff) limits.depth limits.budget)) }
-
-    // No walk pays beyond its budget.
-    ensures bounded { MatchResult result (λ w. IsBounded limits.budget w.paid w.visits)
-        (λ s. IsBounded limits.budget s.paid s.visits) }
-
-    // The tree costs no more than what was paid, and is no higher than the limit.
-    ensures thrifty { IfOk result (λ w. cost (base limits.tariff) w.tree ≤ w.paid) }
-    ensures low { IfOk result (λ w. height w.tree ≤ limits.depth) }
-{
-    let (space, mut reads) = count_reads::<S, L>(space, blank);
-    walk_counted(alloc, &space, limits, &mut reads)
+    space.ask(WalkTask { alloc, limits })
 }
 
 /// Reads the value that the message `space` denotes within `limits`, as [`walk`] does, by calls that count in `reads`,

@@ -1,5 +1,6 @@
 -- The answers of the inner functions of an index.
-use Rattle.std.specs.Prelude.{◌≡◌, ◌≢◌, ℕ, suc, List, [], ◌∷◌, length, set, Result, Ok, Err}
+use Rattle.std.specs.Prelude.{◌≡◌, ◌≢◌, ℕ, suc, ◌+◌, ◌-◌, ◌<◌, List, [], ◌∷◌, length, set, drop}
+use Rattle.std.specs.Prelude.{Result, Ok, Err}
 use Rattle.capn_walk.specs.declared.entry.Entry.{Entry}
 use Rattle.capn_walk.specs.declared.entry.Indexed.{Indexed}
 use Rattle.capn_target.specs.declared.target.Fault.TheVariants as faults
@@ -24,3 +25,8 @@ abbrev pub Indexes : {A : Type 0} → ℕ → List Visit → ℕ → (Entry → 
 Indexes left vs n form es first old new (Ok t) =
     Gives left vs n t.paid t.visits × IsLaid form es first old new t.visits
 Indexes left vs n form es first old new (Err s) = Refuses left vs n s × (s.fault ≢ faults.Memory)
+
+-- a refusal at this visit leaves a room as it was, but for the entries of the visits before it, from an index on
+pub record IsKept {A : Type 0} (first : ℕ) (old new : List A) (visits : ℕ) : Type 0 where
+  pub some : 0 < visits
+  pub rest : drop (first + visits - 1) new ≡ drop (first + visits - 1) old

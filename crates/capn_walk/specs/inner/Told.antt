@@ -1,15 +1,37 @@
--- The reports of surveys on a message, whether they count or not.
-use Rattle.std.specs.Prelude.{◌≡◌, ◌≢◌, ◌≤◌, ◌⊎◌, ℕ, List, Result, IfOk, IfErr, MatchResult}
+-- The reports of walks, surveys and indexes of a message, whether they count or not.
+use Rattle.std.specs.Prelude.{◌≡◌, ◌≢◌, ◌-◌, ◌≤◌, ◌⊎◌, ℕ, List, length, drop, Result, IfOk, IfErr, IsOk, OnOk}
+use Rattle.std.specs.Prelude.{MatchResult}
 use Rattle.capn_value.specs.Tree.{Tree}
 use Rattle.capn_value.specs.FirstCap.{first_cap}
+use Rattle.capn_value.specs.Cost.{base, cost, height}
 use Rattle.capn_target.specs.declared.target.Fault.TheVariants.{Memory}
+use Rattle.capn_walk.specs.declared.entry.Entry.{Entry}
+use Rattle.capn_walk.specs.declared.entry.Indexed.{Indexed}
 use Rattle.capn_walk.specs.declared.survey_answer.Measured.{Measured}
 use Rattle.capn_walk.specs.declared.survey_answer.Surveyed.{Surveyed}
 use Rattle.capn_walk.specs.declared.walk_answer.Stopped.{Stopped}
-use Rattle.capn_walk.specs.Accepted.{IsValueOf, IsWalkRefused, IsBounded}
+use Rattle.capn_walk.specs.Accepted.{IsAccepted, IsValueOf, IsWalkRefused, IsBounded, paid, number_of_visits}
 use Rattle.capn_walk.specs.Depth.{IsDepth}
+use Rattle.capn_walk.specs.Index.{index_of, IsIndexedAs}
 use Rattle.capn_walk.specs.Limits.{Bounds}
 use Rattle.capn_walk.specs.Surveyed.{IsSurvey}
+use Rattle.capn_walk.specs.View.{IsEntered, stepped_to_root}
+
+-- the report of a walk: the value of an accepted message with what it pays, or the first stop, or that memory ran out
+-- for content within the budget
+pub record IsWalkTold {W : Type 0} (message : List (List ℕ)) (limits : Bounds) (r : Result W Stopped) (tree : W → Tree)
+    (price visits : W → ℕ) : Type 0 where
+  pub found : IfOk r (λ w. IsValueOf message limits (tree w))
+  pub pays : IfOk r (λ w. price w ≡ paid message limits)
+  pub counts : IfOk r (λ w. visits w ≡ number_of_visits message limits)
+  pub only : (v : Tree) → IsValueOf message limits v → MatchResult r (λ w. tree w ≡ v) (λ s. s.fault ≡ Memory)
+  pub refused : IfErr r (λ s. (s.fault ≡ Memory) ⊎ IsWalkRefused message limits s.fault s.place s.paid s.visits)
+  pub memory : IfErr r (λ s. s.fault ≡ Memory
+      → IsEntered (stepped_to_root message (base limits.tariff) limits.depth limits.budget))
+  pub bounded : MatchResult r (λ w. IsBounded limits.budget (price w) (visits w))
+      (λ s. IsBounded limits.budget s.paid s.visits)
+  pub thrifty : IfOk r (λ w. cost (base limits.tariff) (tree w) ≤ price w)
+  pub low : IfOk r (λ w. height (tree w) ≤ limits.depth)
 
 -- the report of a survey: the words that the walk of an accepted message pays, or the first stop, and never for memory
 pub record IsSurveyTold (message : List (List ℕ)) (limits : Bounds) (r : Result Surveyed Stopped) : Type 0 where
@@ -31,4 +53,28 @@ pub record IsDepthTold (message : List (List ℕ)) (limits : Bounds) (r : Result
   pub refused : IfErr r (λ s. (s.fault ≡ Memory) ⊎ IsWalkRefused message limits s.fault s.place s.paid s.visits)
   pub no_memory : IfErr r (λ s. s.fault ≢ Memory)
   pub bounded : MatchResult r (λ m. IsBounded limits.budget m.survey.paid m.survey.visits)
+      (λ s. IsBounded limits.budget s.paid s.visits)
+
+-- the report of an index in a room: the sums of an accepted message, whose entries the room has, or the first stop,
+-- which leaves all as it was but the entries of the visits before it
+pub record IsIndexTold {A : Type 0} (form : Entry → A) (message : List (List ℕ)) (limits : Bounds) (old new : List A)
+    (r : Result Indexed Stopped) : Type 0 where
+  pub found : IfOk r (λ t. IsIndexedAs form message limits old new t)
+  pub only : IsAccepted message limits → IsOk r
+  pub refused : IfErr r (λ s. IsWalkRefused message limits s.fault s.place s.paid s.visits)
+  pub kept : IfErr r (λ s. drop (s.visits - 1) new ≡ drop (s.visits - 1) old)
+  pub bounded : MatchResult r (λ t. IsBounded limits.budget t.paid t.visits)
+      (λ s. IsBounded limits.budget s.paid s.visits)
+
+-- the report of an index in memory of its own: the entries of an accepted message and what it pays, or the first stop,
+-- or that memory ran out for the entries
+pub record IsIndexMade {X : Type 0} (message : List (List ℕ)) (limits : Bounds) (r : Result X Stopped)
+    (entries : X → List Entry) (price : X → ℕ) : Type 0 where
+  pub accepted : OnOk r (IsAccepted message limits)
+  pub found : IfOk r (λ x. entries x ≡ index_of message limits)
+  pub pays : IfOk r (λ x. price x ≡ paid message limits)
+  pub only : (v : Tree) → IsValueOf message limits v → IfErr r (λ s. s.fault ≡ Memory)
+  pub refused : IfErr r (λ s. (s.fault ≡ Memory) ⊎ IsWalkRefused message limits s.fault s.place s.paid s.visits)
+  pub no_memory : IfErr r (λ s. s.fault ≡ Memory → IsAccepted message limits)
+  pub bounded : MatchResult r (λ x. IsBounded limits.budget (price x) (length (entries x)))
       (λ s. IsBounded limits.budget s.paid s.visits)

@@ -19,6 +19,7 @@ use Rattle.capn_walk.proofs.UnderWay.{null-target}
 use Rattle.capn_walk.proofs.FilledRoom.{entries-leaf, entries-object, leaf-gives, object-gives, object-refuses}
 use Rattle.capn_walk.proofs.FilledRoom.{object-laid}
 use Rattle.capn_walk.proofs.FilledRoom.{way-takes, way-refuses, room-takes, count-takes}
+use Rattle.capn_walk.proofs.KeptRooms.{kept-takes, kept-stops, kept-object}
 use Rattle.capn_walk.proofs.index_visits.+index_slots.Goals as goal
 
 -- ---- a slot whose target is known
@@ -128,6 +129,13 @@ index_found-returns-in-Err-index_frame-clause-indexes g t c =
       i.1,
     )
 
+pub index_found-returns-in-Err-index_frame-clause-kept : goal.index_found-returns-in-Err-index_frame-clause-kept
+index_found-returns-in-Err-index_frame-clause-kept g t c =
+    let w = g.F.EntryForm.written c.args.form.now in
+    let r = c.in-Err-index_frame in
+    rw c.behind.ensures (kept-object c.args.first r.stopped.visits _ c.args.room.now _ _
+    (c.put.ensures ∙ ap (λ (x : Entry). set c.args.room.now c.args.first (w x)) c.of.ensures) r.ensures.kept)
+
 -- ---- a slot
 
 pub index_slot-returns-then-word-eq0-clause-indexes : goal.index_slot-returns-then-word-eq0-clause-indexes
@@ -189,6 +197,8 @@ index_frame-slots-preserved g t c =
           c.args.first w.visits x.told.visits _ _ x.ensures.indexes.1;
       count = count-takes f _ (entries m c.args.depth at) all (ap (entries_of m c.args.depth) k.places)
           c.args.first w.visits x.told.visits _ _ x.ensures.indexes.1 _ i.count;
+      kept = kept-takes c.args.first w.visits _ _ i.kept f (entries m c.args.depth at) x.told.visits _
+          x.ensures.indexes.1;
       reads = let n = x.ensures.reads in let so_far = i.reads in omega arith;
     }
 
@@ -207,3 +217,9 @@ index_frame-returns-in-Err-clause-indexes g t c =
           (ap (visits_of m c.args.base c.args.depth) k.places) k.owed i.way x.ensures.indexes.0,
       x.ensures.indexes.1,
     )
+
+pub index_frame-returns-in-Err-clause-kept : goal.index_frame-returns-in-Err-clause-kept
+index_frame-returns-in-Err-clause-kept g t c =
+    let w = c.slots in
+    let x = c.in-Err in
+    rw c.behind.ensures (kept-stops c.args.first w.visits _ _ w.invariant.kept x.stopped.visits _ x.ensures.kept)

@@ -1,4 +1,4 @@
-use Rattle.std.proofs.Common.{◌≡◌, ◌+◌, ◌-◌, ◌*◌, ◌≤◌, length}
+use Rattle.std.proofs.Common.{◌≡◌, ◌+◌, ◌-◌, ◌*◌, ◌≤◌, length, drop}
 use Rattle.capn_walk.specs.Visits.{visits_of}
 use Rattle.capn_walk.specs.inner.SlotsLeft.{places_of, owed, Lies}
 use Rattle.capn_walk.specs.Index.{entries_of}
@@ -37,5 +37,6 @@ invariant-index_frame-slots g l =
           ≡ laid f (l.first + l.visits) (entries_of m l.depth (places_of l.frame)) l.room;
       count : length (entries_of m l.depth (places_of l.fn.slots))
           ≡ l.visits + length (entries_of m l.depth (places_of l.frame));
+      kept : drop (l.first + l.visits) l.room ≡ drop (l.first + l.visits) l.fn.room;
       reads : l.reads ≤ l.fn.reads + 13 * l.visits + (1 - (1 - l.frame.left));
     }

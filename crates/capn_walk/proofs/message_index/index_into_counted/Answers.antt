@@ -1,6 +1,7 @@
 use Rattle.std.proofs.lemmas.Result.{err_from_is_err_and}
 use Rattle.capn_walk.proofs.RootWalks.{not-refused}
 use Rattle.capn_walk.proofs.RootIndexes.{indexed, unindexed}
+use Rattle.capn_walk.proofs.KeptRooms.{kept-first}
 use Rattle.capn_walk.proofs.message_index.index_into_counted.Goals as goal
 
 pub returns-in_err-told-clause-only : goal.returns-in_err-told-clause-only
@@ -35,3 +36,9 @@ returns-clause-found g c =
     x.ensures.indexes in
     indexed (g.F.EntryForm.written c.args.form.now) m c.args.limits t.ensures.place t.target t.ensures.target
     t.ensures.kind c.args.room.now c.index_found.new.room x.told r
+
+pub returns-in_err-told-clause-kept : goal.returns-in_err-told-clause-kept
+returns-in_err-told-clause-kept g c =
+    let p = err_from_is_err_and c.from_residual-in_err-told.result c.from_residual-in_err-told.ensures.1 in
+    rw (p.1, p.2)
+    (kept-first c.in_err-told.field-0.0.visits c.args.room.now c.index_found.new.room c.in_err-told.ensures.kept)
