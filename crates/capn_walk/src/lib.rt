@@ -46,6 +46,7 @@ mod survey_loop;
 mod survey_visit;
 mod view;
 mod walk_answer;
+mod walk_below;
 mod walk_visits;
 
 pub use entry::{Entry, Index, Indexed};

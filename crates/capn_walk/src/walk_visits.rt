@@ -3,23 +3,24 @@
 //! A slot costs at most ten reads and turns: its turn, its word, and eight to find its target. The object that it names
 //! costs the words of its data, and a turn for each row, which is at most two for each word of its price.
 
-ghost use Rattle.std.specs.Prelude.{◌≡◌, ◌≤◌, ◌+◌, ◌*◌, Ok, length, IfErr, MatchResult};
-ghost use Rattle.capn_words.specs.Message.{segment_at, IsMessage, IsPlace};
+ghost use Rattle.std.specs.Prelude.{◌≡◌, ◌≤◌, ◌+◌, ◌*◌, Ok, IfErr, MatchResult};
+ghost use Rattle.capn_words.specs.Message.{IsMessage, IsPlace};
 ghost use Rattle.capn_value.specs.Cost.{most_cost};
 ghost use Rattle.capn_target.specs.Target as spec;
 ghost use Rattle.capn_target.specs.declared.target.Fault.TheVariants.{Memory};
 ghost use Rattle.capn_walk.specs.View.{IsEntered, stepped};
-ghost use Rattle.capn_walk.specs.inner.Outcomes.{Walks, WalksObject, WalksRows, WalksSlots};
+ghost use Rattle.capn_walk.specs.inner.Outcomes.{Walks, WalksObject};
 ghost use Rattle.capn_walk.specs.inner.OwnReads.{own_reads};
 ghost use Rattle.capn_target.specs.Shapes.{IsContent, RowsFit, extent, slot_count};
 
-use crate::found::{Found, FoundRows, FoundSlots};
+use crate::found::Found;
 use crate::lists::{list_at, words_at};
 use crate::step::price_within;
 use crate::walk_answer::{Stopped, out_of_memory, stop};
+use crate::walk_below::{walk_rows, walk_slots};
 use capn_target::counted::{CountedSpace, Reads, near, pointer_at, resolve, segment_length};
 use capn_target::{Fault, Shape, Target, place};
-use capn_value::{Body, Items, Value};
+use capn_value::Value;
 use capn_words::{Place, Pointer, Space, Width};
 use std::alloc::Allocator;
 use std::sync::ledger::Ledger;
@@ -28,7 +29,7 @@ use std::sync::ledger::Ledger;
 /// `base` beside its size. Near structs and near lists have an arm each, so that each is compiled for its form alone.
 #[cycle(walk)]
 #[inline(always)]
-fn walk_slot<S: Space, A: Allocator + Copy, L: Ledger>(
+pub fn walk_slot<S: Space, A: Allocator + Copy, L: Ledger>(
     alloc: A,
     space: &CountedSpace<'_, S, L>,
     at: Place,
@@ -252,119 +253,4 @@ fn object<S: Space, A: Allocator + Copy, L: Ledger>(
             Ok(below.into_list())
         }
     }
-}
-
-/// Reads the values of `count` slots from word `start` of `segment` on, one after the other.
-#[cycle(walk)]
-#[inline(never)]
-fn walk_slots<S: Space, A: Allocator + Copy, L: Ledger>(
-    alloc: A,
-    space: CountedSpace<'_, S, L>,
-    segment: u32,
-    start: u32,
-    count: u32,
-    depth: u32,
-    left: u32,
-    base: u32,
-    reads: &mut Reads<L>,
-) -> Result<FoundSlots<A>, Stopped>
-    requires message { IsMessage space }
-    requires inside { start + count ≤ length (segment_at space segment) }
-    requires left { left ≤ most_cost }
-    ensures answer { WalksSlots space.entry base depth left segment start count result }
-    ensures reads { MatchResult result (λ f. reads.new ≤ reads.old + 10 * f.visits + 2 * f.paid)
-        (λ s. reads.new ≤ reads.old + 10 * s.visits + 2 * s.paid) }
-{
-    let Ok(mut slots) = Vec::with_capacity(alloc, count as usize) else {
-        return Err(out_of_memory(place(segment, start)));
-    };
-    let mut paid = 0;
-    let mut visits = 0;
-    for i in 0..count {
-        reads.tick();
-        let at = place(segment, start + i);
-        match walk_slot(alloc, &space, at, depth, left - paid, base, reads) {
-            Ok(found) => {
-                paid += found.paid;
-                visits += found.visits;
-                slots.push_reserved(found.value);
-            }
-            Err(stopped) => return Err(stopped.behind(paid, visits)),
-        }
-    }
-    Ok(FoundSlots {
-        items: Items::from_vec(slots),
-        paid,
-        visits,
-    })
-}
-
-/// Reads the bodies of `count` rows, of `words` and `slots` each, from `start` on, one after the other.
-#[cycle(walk)]
-#[inline(never)]
-fn walk_rows<S: Space, A: Allocator + Copy, L: Ledger>(
-    alloc: A,
-    space: CountedSpace<'_, S, L>,
-    start: Place,
-    count: u32,
-    words: u16,
-    slots: u16,
-    depth: u32,
-    left: u32,
-    base: u32,
-    reads: &mut Reads<L>,
-) -> Result<FoundRows<A>, Stopped>
-    requires message { IsMessage space }
-    requires content { IsContent space start (count * (words + slots)) }
-    requires left { left ≤ most_cost }
-    requires count { count * slots ≤ most_cost }
-    ensures answer { WalksRows space.entry base depth left start words slots count result }
-    ensures reads { MatchResult result (λ f. reads.new ≤ reads.old + 10 * f.visits + 2 * f.paid + count * (1 + words))
-        (λ s. reads.new ≤ reads.old + 10 * s.visits + 2 * s.paid + count * (1 + words)) }
-{
-    let segment = start.segment;
-    let width = slots as u32;
-    let Ok(mut rows) = Vec::with_capacity(alloc, count as usize) else {
-        return Err(out_of_memory(start));
-    };
-    let mut paid = 0;
-    let mut visits = 0;
-    let mut next = start.word;
-    for i in 0..count {
-        reads.tick();
-        let at = place(segment, next);
-        let Ok(data) = words_at(alloc, &space, at, words as u32, reads) else {
-            return Err(out_of_memory(at).behind(paid, visits));
-        };
-        let first = next + words as u32;
-        let room = left - paid;
-        match walk_slots(
-            alloc,
-            space.again(),
-            segment,
-            first,
-            width,
-            depth,
-            room,
-            base,
-            reads,
-        ) {
-            Ok(below) => {
-                paid += below.paid;
-                visits += below.visits;
-                let body = Body {
-                    words: data,
-                    slots: below.items,
-                };
-                rows.push_reserved(body);
-            }
-            Err(stopped) => return Err(stopped.behind(paid, visits)),
-        }
-        next = first + width;
-    }
-    Ok(FoundRows {
-        rows: Items::from_vec(rows),
-        paid,
-        visits,
-    })
 }
