@@ -18,13 +18,12 @@
  * A call reads bytes, writes into a buffer of the caller's, and keeps nothing: no state, no handle, nothing to free.
  * Calls may run in any threads at once, also on the same input. A call that takes memory asks malloc for it, and gives
  * it back before it returns. capn_canonical_with_scratch asks for none, whatever the bytes. Of bare words and of a
- * stream of at most 64 segments, capn_canonical, capn_check, capn_survey, capn_same, capn_index and capn_is_canonical
- * ask for none, nor does a call whose name ends in `_segments` but capn_hash_segments. Memory is asked for by a packed
- * text, by a stream of more segments, for the bytes that are hashed, packed or unpacked, for the text of capn_show, for
- * a way and for the bytes that capn_departure compares; and by capn_first and capn_show for the table of a stream of
- * two segments or more. A call takes at most 16 KiB of stack, and 304 bytes more for each level of depth that the
- * limits allow, capn_show 432, capn_index 560, capn_same 576: 92 KiB at depth 256, capn_show 124 KiB, capn_index 156
- * KiB, capn_same 160 KiB.
+ * stream of at most 64 segments, capn_canonical, capn_check, capn_survey, capn_same, capn_index, capn_first and
+ * capn_is_canonical ask for none, nor does a call whose name ends in `_segments` but capn_hash_segments. Memory is
+ * asked for by a packed text, by a stream of more segments, for the bytes that are hashed, packed or unpacked, for the
+ * text of capn_show, for a way and for the bytes that capn_departure compares. A call takes at most 16 KiB of stack,
+ * and 304 bytes more for each level of depth that the limits allow, capn_show 432, capn_index 560, capn_same 576: 92
+ * KiB at depth 256, capn_show 124 KiB, capn_index 156 KiB, capn_same 160 KiB.
  *
  * Each call answers a status and fills its report in; a field that the status does not speak of is 0. */
 #ifndef CAPN_H
@@ -258,7 +257,7 @@ const char *capn_status_text(capn_status status);
  * CAPN_FRAME_EMPTY, CAPN_FRAME_CUT: it is not whole. No frame that begins so is shorter than `length` bytes, counted
  * from its start, and that is more than there are: have that many, and call again. It is 8, then the length of the
  * table, then that of the frame, at most 8 * (message_words + 2049): no byte after the frame is asked for.
- * Else the refusal. Nothing is walked. The table of two segments or more takes memory, once the frame is whole. */
+ * Else the refusal. Nothing is walked. The table of more than 64 segments takes memory, once the frame is whole. */
 capn_status capn_first(const uint8_t *bytes, size_t size, const capn_limits *limits, capn_report *report);
 
 /* The words of the whole groups that come first in a packed text, as many as have room, to unpack one in pieces.
@@ -296,7 +295,7 @@ capn_status capn_index(uint32_t form, const uint8_t *bytes, size_t size, const c
 /* The text of one message: to the byte what the program `capn show` writes of it in a style, the line `end` too. No
  * zero ends it. With too little room, also with none, it returns CAPN_NO_ROOM with the exact length.
  * It accepts and refuses what capn_check does; the report has `length`, `paid` and `visits`. Unless it answers CAPN_OK,
- * `out` is as it was. It takes memory for the table of two segments or more, for what is unpacked, and for the text of
+ * `out` is as it was. It takes memory for the table of more than 64 segments, for what is unpacked, and for the text of
  * a message that is accepted, with too little room too: the text of a small message may be long, so have limits. */
 capn_status capn_show(uint32_t form, const uint8_t *bytes, size_t size, const capn_limits *limits, uint32_t style,
                       char *out, size_t room, capn_report *report);

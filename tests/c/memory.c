@@ -149,7 +149,7 @@ static void in_turn(void) {
     const input stream = {CAPN_STREAM, framed, frame(framed, 2, deep, bare.size), limits};
     const input more = {CAPN_STREAM, many, frame(many, 65, deep, bare.size), limits};
     capn_report report;
-    if (capn_pack(framed, stream.size, text, ROOM, &report) != CAPN_OK) fail("pack", "refuses");
+    if (capn_pack(many, more.size, text, ROOM, &report) != CAPN_OK) fail("pack", "refuses");
     const input pack = {CAPN_PACKED, text, report.length, limits};
     each("canonical, 65 segments", canonical, &more, 2);
     each("canonical, packed", canonical, &pack, 4);
@@ -164,7 +164,7 @@ static void in_turn(void) {
     each("same, packed", compared, &pack, 5);
     each("pack", packed, &stream, 1);
     each("unpack", unpacked, &pack, 1);
-    each("first", first, &stream, 1);
+    each("first, 65 segments", first, &more, 1);
     each("survey, 65 segments", surveyed, &more, 1);
     each("survey, packed", surveyed, &pack, 2);
     each("index, 65 segments", indexed, &more, 2);
@@ -224,10 +224,11 @@ static void at_depth(uint32_t most, size_t depth, uint32_t wanted) {
 /* What is refused as it is read needs no memory: nothing to pack or unpack, no whole words, a first group that is cut
  * or too long, a table that is cut or announces too much, and no table of a whole frame. */
 static void unread(void) {
-    const uint8_t cut[9] = {255}, head[8] = {1, 0, 0, 0, 1}, count[8] = {255, 255}, whole[16] = {1};
+    const uint8_t cut[9] = {255}, head[8] = {1, 0, 0, 0, 1}, count[8] = {255, 255}, whole[16] = {1}, sizes[264] = {64};
     const input nothing = {CAPN_STREAM, NULL, 0, usual}, odd = {CAPN_BARE, cut, 9, usual};
     const input group = {CAPN_PACKED, cut, 9, usual}, table = {CAPN_STREAM, head, 8, usual};
     const input segments = {CAPN_STREAM, count, 8, usual}, trailing = {CAPN_STREAM, whole, 16, usual};
+    const input longer = {CAPN_STREAM, sizes, 264, usual};
     wants("pack of nothing", packed, &nothing, 0, CAPN_OK);
     wants("unpack of nothing", unpacked, &nothing, 0, CAPN_OK);
     wants("check of nothing", checked, &nothing, 0, CAPN_FRAME_EMPTY);
@@ -240,10 +241,12 @@ static void unread(void) {
     wants("first of a cut table", first, &table, 0, CAPN_FRAME_CUT);
     wants("first of nothing", first, &nothing, 0, CAPN_FRAME_EMPTY);
     wants("first of too many segments", first, &segments, 0, CAPN_TOO_MANY_SEGMENTS);
-    wants("first of two segments without words", first, &trailing, 1, CAPN_OK);
+    wants("first of two segments without words", first, &trailing, 0, CAPN_OK);
+    wants("first of 65 segments without words", first, &longer, 1, CAPN_OK);
     wants("check of a cut table", checked, &table, 0, CAPN_FRAME_CUT);
     wants("check of too many segments", checked, &segments, 0, CAPN_TOO_MANY_SEGMENTS);
     wants("check of two segments without words", checked, &trailing, 0, CAPN_NO_ROOT);
+    wants("check of 65 segments without words", checked, &longer, 1, CAPN_NO_ROOT);
     wants("survey of two segments without words", surveyed, &trailing, 0, CAPN_NO_ROOT);
 }
 

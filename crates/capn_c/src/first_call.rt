@@ -83,7 +83,7 @@ fn frame(alloc: Global, bytes: &[u8], most: u32, report: &mut CapnReport) -> u32
 /// 51: there are no bytes, or the frame is cut; it has at least `length` bytes, counted from its start. 49 and 50: too
 /// many segments or words are announced, `at`.
 ///
-/// It takes memory only for the ends of two segments or more, once their whole frame is there.
+/// It takes memory only for the ends of more than 64 segments, once their whole frame is there.
 #[unsafe(no_mangle)]
 pub extern "C" fn capn_first(
     alloc: Global,
@@ -112,7 +112,7 @@ pub extern "C" fn capn_first(
     // there is, and within what a frame can have.
     ensures needed { (result ≡ 48) ⊎ (result ≡ 51)
         → IsNeeded bytes.now limits.now.message_words report.new.length }
-    // Memory is needed only if a whole frame of two segments or more comes first.
+    // Memory is needed only if a whole frame of more than 64 segments comes first.
     ensures memory { result ≡ 8 → HasTable bytes.now limits.now.message_words }
 {
     *report = report_at(0);

@@ -11,7 +11,7 @@ use Rattle.capn_canon.specs.Denotes.{Denotes}
 use Rattle.capn_canon.specs.declared.form.Form.{Form}
 use Rattle.capn_canon.specs.declared.form.Form.TheVariants as forms
 
--- memory may be needed: never of bare words; of a stream, if a whole frame of two segments or more comes first; of a
+-- memory may be needed: never of bare words; of a stream, if a whole frame of more than 64 segments comes first; of a
 -- packed text, only if a whole group within the maximum comes first
 abbrev pub MayNeedMemory : Form → List ℕ → Bounds → Type 0
 MayNeedMemory forms.Bare bs limits = ⊥

@@ -1,6 +1,6 @@
 -- The numbers that the table of a stream announces, and the reason why the stream is refused. (Page: serialization over
 -- a stream; the order of the tests is our own.)
-use Rattle.std.specs.Prelude.{◌≡◌, ◌⊎◌, ℕ, zero, suc, ◌+◌, ◌*◌, ◌<◌, ◌≤◌, List, [], ◌∷◌, length, drop, sum, ⊤}
+use Rattle.std.specs.Prelude.{◌≡◌, ◌⊎◌, ℕ, zero, suc, ◌+◌, ◌*◌, ◌<◌, ◌≤◌, List, [], ◌∷◌, length, drop, sum, ⊤, refl}
 use Rattle.byteorder.specs.Endian.{little_number}
 use Rattle.capn_words.specs.Message.{most_segments}
 use Rattle.capn_stream.specs.Frames.{padding}
@@ -45,10 +45,24 @@ HasHead bs = HasCount bs × (head_length (announced_segments bs) ≤ length bs)
 abbrev pub IsWhole : List ℕ → ℕ → Type 0
 IsWhole bs most = HasHead bs × (announced_words bs ≤ most) × (frame_length bs ≤ length bs)
 
--- the announced frame is there and allowed, and its table has more than one segment, so that where they end has to
--- be kept
+-- the most segments of a message that is read without memory (own)
+abbrev pub most_few : ℕ
+most_few = 64
+
+-- the announced frame is there and allowed, and its table has more segments, so that memory is needed for where they
+-- end
 abbrev pub HasTable : List ℕ → ℕ → Type 0
-HasTable bs most = IsWhole bs most × (2 ≤ announced_segments bs)
+HasTable bs most = IsWhole bs most × (most_few < announced_segments bs)
+
+-- the count 63 announces as many as are read without memory,
+no_more : announced_segments (63 ∷ 0 ∷ 0 ∷ 0 ∷ []) ≡ most_few
+unfolding entry_number
+no_more = refl
+
+-- and the count 64 announces one more
+one_more : announced_segments (64 ∷ 0 ∷ 0 ∷ 0 ∷ []) ≡ most_few + 1
+unfolding entry_number
+one_more = refl
 
 -- the count is cut; or the segments announced are allowed, and the table or its padding is cut; or the words announced
 -- are allowed too, and the contents are cut

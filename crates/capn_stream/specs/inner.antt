@@ -2,3 +2,4 @@
 pub mod StoredWords
 pub mod FrameOutput
 pub mod Stages
+pub mod KeptEnds

@@ -5,15 +5,16 @@ ghost use Rattle.capn_words.specs.Message.{most_message_words};
 ghost use Rattle.capn_stream.specs.Frames.{StandsFirst};
 ghost use Rattle.capn_stream.specs.FrameRefusal.{HasTable, IsFrameRefused};
 
+use crate::ends::read_ends;
 use crate::fault::FrameFault;
 use crate::framed::Framed;
-use crate::table::{ends_of, entry_at, head_of, read_head};
+use crate::table::{entry_at, head_of, read_head};
 use capn_words::Bare;
 use std::alloc::Allocator;
 
 /// Reads the message whose frame comes first in `bytes`; returns it and the number of bytes that its frame takes.
 ///
-/// The message borrows `bytes`; memory is taken from `alloc` for a table of segments alone, and none for one segment.
+/// The message borrows `bytes`; memory is taken from `alloc` only for the ends of more than 64 segments.
 /// The refusals are tested in this order: `Empty`; `Cut` within the count; `TooManySegments`; `Cut` within the table or
 /// its padding; `TooManyWords`, with the sum of the sizes, if it is above `max_words`; `Cut` within the contents.
 /// `Memory` comes only if a growth was refused, after all of these; `Failed` never comes. Padding is ignored. (Page:
@@ -29,13 +30,13 @@ pub fn first<'a, A: Allocator + Copy>(
         → StandsFirst bytes.now max_words message taken
         → MatchResult result (λ answer. (answer.0 ≡ message) × (answer.1 ≡ taken)) (λ e. e ≡ FrameFault.Memory) }
     ensures refused { IfErr result (λ e. IsFrameRefused bytes.now max_words e) }
-    // Memory is needed only if a whole frame of two segments or more comes first.
+    // Memory is needed only if a whole frame of more than 64 segments comes first.
     ensures memory { IsErrOf result FrameFault.Memory → HasTable bytes.now max_words }
 {
     let head = read_head(bytes, max_words)?;
     let start = head_of(head.segments);
     let end = start + 8 * head.words;
-    let ends = ends_of(alloc, &bytes[4..], head.segments - 1)?;
+    let ends = read_ends(alloc, &bytes[4..], head.segments - 1)?;
     match Bare::new(&bytes[start..end]) {
         Ok(words) => Ok((Framed::new(words, ends), end)),
         Err(_) => unreachable!(),

@@ -2,30 +2,33 @@
 
 ghost use Rattle.std.specs.Prelude.{◌≡◌, ℕ, ◌+◌, ◌<◌, ◌≤◌, ◌∷◌, ◌++◌, [], length, slice_index};
 ghost use Rattle.capn_stream.specs.Cuts.{AreEnds, cut};
+ghost use Rattle.capn_stream.specs.inner.KeptEnds.{AreKept, kept};
 
+use crate::ends::Ends;
 use capn_words::{Bare, Place, Space};
 use std::alloc::{Allocator, Global};
 use std::marker::Model;
 
 /// A message whose segments follow one another in borrowed bytes.
 ///
-/// It copies none of them. Beside the borrow it keeps the ends of all segments but the last, so a message of one
-/// segment takes no memory, and every segment is found in constant time.
+/// It copies none of them. Beside the borrow it keeps the ends of all segments but the last: up to 63 in itself, so a
+/// message of at most 64 segments takes no memory. Every segment is found in constant time.
 #[derive(Debug, Drop)]
 pub struct Framed<'a, A: Allocator = Global> {
     words: Bare<'a>,
-    ends: Vec<u32, A>,
+    ends: Ends<A>,
 }
 
 impl<'a, A: Allocator> Model for Framed<'a, A> {
     ghost use Rattle.std.specs.Prelude.{ℕ, List};
     ghost use Rattle.capn_stream.specs.Cuts.{AreEnds, cut};
+    ghost use Rattle.capn_stream.specs.inner.KeptEnds.{AreKept, kept};
 
     ghost Value = { List (List ℕ) };
 
-    ghost view = { λ f. cut 0 f.ends.items f.words };
+    ghost view = { λ f. cut 0 (kept f.ends) f.words };
 
-    ghost invariant = { λ f. AreEnds f.ends.items f.words };
+    ghost invariant = { λ f. AreKept f.ends × AreEnds (kept f.ends) f.words };
 }
 
 /// Returns the word at which `segment` begins.
@@ -50,9 +53,10 @@ pub(crate) fn end_of(ends: &[u32], words: u32, segment: usize) -> u32
 
 impl<'a, A: Allocator> Framed<'a, A> {
     /// Cuts `words` at `ends`.
-    pub(crate) fn new(words: Bare<'a>, ends: Vec<u32, A>) -> Framed<'a, A>
-        requires { AreEnds ends.items words }
-        ensures { result ≡ cut 0 ends.items words.entry }
+    pub(crate) fn new(words: Bare<'a>, ends: Ends<A>) -> Framed<'a, A>
+        requires kept { AreKept ends }
+        requires ends { AreEnds (kept ends) words }
+        ensures { result ≡ cut 0 (kept ends) words.entry }
     {
         Framed { words, ends }
     }
@@ -62,20 +66,21 @@ impl<'a, A: Allocator> Space for Framed<'a, A> {
     ghost message = { λ m. m };
 
     fn segments(&self) -> u32 {
-        self.ends.len() as u32 + 1
+        self.ends.as_slice().len() as u32 + 1
     }
 
     fn words(&self, segment: u32) -> Option<u32> {
         let segment = segment as usize;
-        if segment > self.ends.len() {
+        let ends = self.ends.as_slice();
+        if segment > ends.len() {
             return None;
         }
         let all = self.words.words(0).unwrap_or(0);
-        Some(end_of(&self.ends, all, segment) - start_of(&self.ends, segment))
+        Some(end_of(ends, all, segment) - start_of(ends, segment))
     }
 
     fn word(&self, at: Place) -> u64 {
-        let start = start_of(&self.ends, at.segment as usize);
+        let start = start_of(self.ends.as_slice(), at.segment as usize);
         self.words.word(Place {
             segment: 0,
             word: start + at.word,
@@ -83,7 +88,7 @@ impl<'a, A: Allocator> Space for Framed<'a, A> {
     }
 
     fn bytes(&self, at: Place, len: usize) -> &[u8] {
-        let start = start_of(&self.ends, at.segment as usize);
+        let start = start_of(self.ends.as_slice(), at.segment as usize);
         self.words.bytes(
             Place {
                 segment: 0,

@@ -15,6 +15,7 @@
 //! segments in its own way.
 #![tactic(auto)]
 
+mod ends;
 mod fault;
 mod first_message;
 mod frame_bytes;

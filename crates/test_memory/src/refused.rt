@@ -241,16 +241,14 @@ fn the_first_message_is_written(rt: HostRuntime) -> Result<(), Fail> {
     Err(Fail::new("a thousand growths"))
 }
 
-/// A stream of null in one segment, and of a struct of one word that is in two.
-const TWO: [u64; 7] = [
-    0x1_0000_0000,
-    0,
-    0x1_0000_0001,
-    0x2,
-    0x1_0000_0002,
-    0x1_0000_0000,
-    5,
-];
+/// Returns a stream of null in one segment, and of a struct of one word that is in two segments of 65.
+fn two_messages(alloc: Global) -> Result<Vec<u8>, Fail> {
+    let mut stream = bytes_of(alloc, &[0x1_0000_0000, 0, 0x1_0000_0040, 0x2])?;
+    stream.extend_from_slice(&[0; 248])?;
+    let contents = bytes_of(alloc, &[0x1_0000_0002, 0x1_0000_0000, 5])?;
+    stream.extend_from_slice(contents.as_slice())?;
+    Ok(stream)
+}
 
 /// Tests whether no growth of a run had this `number`, and whether the run ended as done then, and else as `Memory`.
 fn ends_by(alloc: Global, command: &Command, input: &[u8], number: u64) -> (bool, bool) {
@@ -280,7 +278,7 @@ fn growths_of(alloc: Global, command: &Command, input: &[u8]) -> Option<u64> {
 /// Wherever a growth is refused the run ends as Memory, also for a message that is whole in a piece after another one.
 #[test]
 fn a_refused_growth_ends_a_run(rt: HostRuntime) -> Result<(), Fail> {
-    let stream = bytes_of(rt.alloc(), &TWO)?;
+    let stream = two_messages(rt.alloc())?;
     let packed = packed_of(rt.alloc(), stream.as_slice())?;
     let usual = limits(64);
     for (command, input) in [

@@ -1,4 +1,4 @@
--- Words that are cut into segments. (For `frame_bytes.rt`, `frame_output.rt`, `framed.rt`, `stored.rt` and capn_few.)
+-- Words that are cut into segments. (For `frame_bytes.rt`, `frame_output.rt`, `framed.rt` and `stored.rt`.)
 use Rattle.std.proofs.Common.{◌≡◌, ℕ, zero, suc, ◌+◌, ◌-◌, ◌*◌, ◌^◌, ◌<◌, ◌≤◌, List, [], ◌∷◌, ◌++◌, length, take, drop}
 use Rattle.std.proofs.Common.{slice_index, Some, None, refl, ap, sym, subst, inl, inr, ◌∙◌, arith, length-drop}
 use Rattle.std.proofs.Common.{length-take}

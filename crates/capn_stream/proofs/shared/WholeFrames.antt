@@ -1,4 +1,4 @@
--- Whole bytes are a frame. (For `first`, `read_table` and capn_few.)
+-- Whole bytes are a frame. (For `first` and `read_table`.)
 use Rattle.std.proofs.Common.{◌≡◌, ℕ, ◌+◌, ◌-◌, ◌*◌, ◌^◌, ◌≤◌, List, ◌++◌, length, take, drop, sum, map, ap, sym, subst}
 use Rattle.std.proofs.Common.{◌∙◌, arith, append_assoc, length-drop}
 use Rattle.std.specs.List.{flat_map}

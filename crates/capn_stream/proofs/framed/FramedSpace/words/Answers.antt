@@ -1,33 +1,36 @@
 use Rattle.std.proofs.Common.{◌≡◌, ◌<◌, Some, length, ap, sym, ◌∙◌, arith}
+use Rattle.capn_stream.specs.inner.KeptEnds.{kept}
 use Rattle.capn_stream.proofs.shared.Cutting.{seen_count, seen_order, seen_size, words_of-none, words_of-some}
 use Rattle.capn_stream.proofs.framed.FramedSpace.words.Goals as goal
 
-pub returns-then-segment-len : goal.returns-then-segment-len
-returns-then-segment-len g c =
-    let count = seen_count c.self.inside.ends.items c.self.inside.words c.args.self.now c.self.view_is
-    c.self.invariant in
-    sym (words_of-none c.args.self.now c.args.segment (omega (arith, count)))
+pub returns-then-segment-ends : goal.returns-then-segment-ends
+returns-then-segment-ends g c =
+    let count = seen_count (kept c.self.inside.ends) c.self.inside.words c.args.self.now c.self.view_is
+    c.self.invariant.1 in
+    sym (words_of-none c.args.self.now c.args.segment (omega (arith, ap length c.as_slice-ends.ensures, count)))
 
 pub overflow_sub-result : goal.overflow_sub-result
 overflow_sub-result g c =
-    let count = seen_count c.self.inside.ends.items c.self.inside.words c.args.self.now c.self.view_is
-    c.self.invariant in
-    let here : c.args.segment < length c.args.self.now = omega (arith, count) in
-    let order = seen_order c.self.inside.ends.items c.self.inside.words c.args.self.now c.self.view_is c.self.invariant
-    c.args.segment here in
+    let count = seen_count (kept c.self.inside.ends) c.self.inside.words c.args.self.now c.self.view_is
+    c.self.invariant.1 in
+    let here : c.args.segment < length c.args.self.now =
+    omega (arith, ap length c.as_slice-ends.ensures, count) in
+    let order = seen_order (kept c.self.inside.ends) c.self.inside.words c.args.self.now c.self.view_is
+    c.self.invariant.1 c.args.segment here in
     let all : c.unwrap_or-all.result ≡ length c.self.inside.words = cc in
-    let start = rw c.deref-2.ensures.value at c.start_of.ensures in
-    let end = rw (c.deref.ensures.value, all) at c.end_of.ensures in
+    let start = rw c.as_slice-ends.ensures at c.start_of.ensures in
+    let end = rw (c.as_slice-ends.ensures, all) at c.end_of.ensures in
     omega (arith, order, start, end)
 
 pub returns : goal.returns
 returns g c =
-    let count = seen_count c.self.inside.ends.items c.self.inside.words c.args.self.now c.self.view_is
-    c.self.invariant in
-    let here : c.args.segment < length c.args.self.now = omega (arith, count) in
-    let size = seen_size c.self.inside.ends.items c.self.inside.words c.args.self.now c.self.view_is c.self.invariant
+    let count = seen_count (kept c.self.inside.ends) c.self.inside.words c.args.self.now c.self.view_is
+    c.self.invariant.1 in
+    let here : c.args.segment < length c.args.self.now =
+    omega (arith, ap length c.as_slice-ends.ensures, count) in
+    let size = seen_size (kept c.self.inside.ends) c.self.inside.words c.args.self.now c.self.view_is c.self.invariant.1
     c.args.segment here in
     let all : c.unwrap_or-all.result ≡ length c.self.inside.words = cc in
-    let start = rw c.deref-2.ensures.value at c.start_of.ensures in
-    let end = rw (c.deref.ensures.value, all) at c.end_of.ensures in
+    let start = rw c.as_slice-ends.ensures at c.start_of.ensures in
+    let end = rw (c.as_slice-ends.ensures, all) at c.end_of.ensures in
     ap Some (omega (arith, size, start, end)) ∙ sym (words_of-some c.args.self.now c.args.segment here)

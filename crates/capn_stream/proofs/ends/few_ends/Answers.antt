@@ -1,0 +1,35 @@
+use Rattle.std.proofs.Common.{◌≡◌, ℕ, ◌+◌, ◌-◌, ◌*◌, List, [], ◌∷◌, ◌++◌, sum, drop, ap, sym, ◌∙◌, arith}
+use Rattle.std.proofs.lemmas.List.{take_more_set, length-set}
+use Rattle.capn_stream.specs.Cuts.{ends_from}
+use Rattle.capn_stream.specs.FrameRefusal.{entries, entry_number}
+use Rattle.capn_stream.proofs.shared.Entries.{entries_more, sum-entries_le, sum-entries_more}
+use Rattle.capn_stream.proofs.shared.Ends.{ends_from_push}
+use Rattle.capn_stream.proofs.ends.few_ends.Goals as goal
+
+pub overflow_add-end : goal.overflow_add-end
+overflow_add-end c =
+    let left : ℕ = c.args.count - (c.loop-index.index + 1) in
+    let all : c.loop-index.index + 1 + left ≡ c.args.count = omega arith in
+    let within = sum-entries_le (c.loop-index.index + 1) left c.args.sizes.now in
+    let whole = ap (λ (n : ℕ). sum (entries n c.args.sizes.now)) all in
+    omega (arith, within, whole, sum-entries_more c.loop-index.index c.args.sizes.now, c.requires.room)
+
+pub loop-index-preserved : goal.loop-index-preserved
+loop-index-preserved c =
+    let i : ℕ = c.loop-index.index in
+    let before : List ℕ = c.loop-index.ends in
+    let sizes : List ℕ = entries i c.args.sizes.now in
+    let size : ℕ = entry_number (drop (4 * i) c.args.sizes.now) in
+    let next : ℕ = c.loop-index.end + c.entry_at-end.result in
+    let end : next ≡ 0 + sum sizes + size =
+    omega (arith, c.loop-index.invariant.end, c.entry_at-end.ensures) in
+    record {
+      ends =
+          take_more_set before i next (omega (arith, c.loop-index.invariant.room, c.requires.few))
+          ∙ ap (λ (ends : List ℕ). ends ++ next ∷ []) c.loop-index.invariant.ends
+          ∙ ap (λ (n : ℕ). ends_from 0 sizes ++ n ∷ []) end
+          ∙ sym (ends_from_push 0 sizes size)
+          ∙ ap (λ (ns : List ℕ). ends_from 0 ns) (sym (entries_more i c.args.sizes.now));
+      room = length-set before i next ∙ c.loop-index.invariant.room;
+      end = omega (arith, sum-entries_more i c.args.sizes.now);
+    }
