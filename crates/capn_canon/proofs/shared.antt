@@ -5,3 +5,4 @@ pub mod OneReading
 pub mod NotRefused
 pub mod NotUnaccepted
 pub mod OneRefusal
+pub mod TaskRuns

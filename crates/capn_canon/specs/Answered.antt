@@ -19,3 +19,11 @@ abbrev pub IsAnswered : {T : Type 0} → Form → List ℕ → Bounds
 IsAnswered form bs limits answers r =
     ((message : List (List ℕ)) × Reads form bs limits.message_words message × answers message limits r)
     ⊎ ((e : Refusal) × (r ≡ Err e) × IsRefusedReading form bs limits e)
+
+-- the bytes are read as a message, of which a task reports this and comes from one state to another; or they are
+-- refused since they are not read, and the task is as it was (Own.)
+abbrev pub IsRun : {T S : Type 0} → Form → List ℕ → Bounds
+    → (S → List (List ℕ) → Bounds → Result T Refusal → S → Type 0) → S → Result T Refusal → S → Type 0
+IsRun form bs limits answers old r new =
+    ((message : List (List ℕ)) × Reads form bs limits.message_words message × answers old message limits r new)
+    ⊎ ((e : Refusal) × (r ≡ Err e) × IsRefusedReading form bs limits e × (new ≡ old))

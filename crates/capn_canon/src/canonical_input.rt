@@ -27,10 +27,10 @@ struct CanonicalBytes;
 impl<A: Allocator + Copy> MessageTask<A> for CanonicalBytes {
     type Answer = Canonical<A>;
 
-    ghost answers = { λ _ m limits r. IsCanonicalised m limits r (λ c. c.bytes.items) (λ c. c.paid) };
+    ghost answers = { λ _ m limits r _. IsCanonicalised m limits r (λ c. c.bytes.items) (λ c. c.paid) };
 
     fn run<S: Space>(
-        &self,
+        &mut self,
         alloc: A,
         message: &S,
         limits: Limits,
@@ -88,5 +88,5 @@ pub fn canonicalise<A: Allocator + Copy>(
     let _words = limits.message_words();
     let _budget = limits.budget();
     let _depth = limits.depth();
-    run_task(alloc, &CanonicalBytes, form, bytes, limits)
+    run_task(alloc, &mut CanonicalBytes, form, bytes, limits)
 }

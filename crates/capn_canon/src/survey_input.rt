@@ -27,9 +27,14 @@ struct Survey;
 impl<A: Allocator + Copy> MessageTask<A> for Survey {
     type Answer = Surveyed;
 
-    ghost answers = { λ _ m limits r. IsSurveyed m limits r };
+    ghost answers = { λ _ m limits r _. IsSurveyed m limits r };
 
-    fn run<S: Space>(&self, alloc: A, message: &S, limits: Limits) -> Result<Surveyed, Refusal> {
+    fn run<S: Space>(
+        &mut self,
+        alloc: A,
+        message: &S,
+        limits: Limits,
+    ) -> Result<Surveyed, Refusal> {
         survey(alloc, message, limits)
     }
 }
@@ -38,7 +43,7 @@ impl<A: Allocator + Copy> MessageTask<A> for Survey {
 /// number of its visits and its first capability.
 ///
 /// It refuses as [`crate::canonicalise`] does, but never for a capability. `Memory` comes only if a growth on `alloc`
-/// was refused: for the table of segments, or for what is unpacked.
+/// was refused: for the ends of more than 64 segments, or for what is unpacked.
 pub fn survey_bytes<A: Allocator + Copy>(
     alloc: A,
     form: Form,
@@ -52,7 +57,7 @@ pub fn survey_bytes<A: Allocator + Copy>(
         → MatchResult result (λ s. s.capability ≡ first_cap v) (λ e. e ≡ refusals.Memory) }
     // The meaning of each refusal.
     ensures refused { IfErr result (λ e. IsUnacceptedIn form bytes.now limits e) }
-    // Memory is needed only for the ends of two segments or more, and for what a text packs.
+    // Memory is needed only for the ends of more than 64 segments, and for what a text packs.
     ensures memory { IsErrOf result refusals.Memory → MayNeedMemory form bytes.now limits }
     // No walk pays beyond its budget.
     ensures bounded { MatchResult result (λ s. IsBounded limits.budget s.paid s.visits)
@@ -65,5 +70,5 @@ pub fn survey_bytes<A: Allocator + Copy>(
     let _words = limits.message_words();
     let _budget = limits.budget();
     let _depth = limits.depth();
-    run_task(alloc, &Survey, form, bytes, limits)
+    run_task(alloc, &mut Survey, form, bytes, limits)
 }

@@ -24,7 +24,7 @@ use Rattle.capn_canon.specs.SurveyedBytes.{Surveys}
 use Rattle.capn_canon.specs.RefusalOf.{IsOfFrame, IsOfPacked}
 use Rattle.capn_canon.specs.Refusal.{IsRefused, IsUnacceptedIn, IsPaidWithin}
 use Rattle.capn_canon.specs.MemoryNeed.{MayNeedMemory}
-use Rattle.capn_canon.specs.Answered.{IsAnswered, IsRefusedReading}
+use Rattle.capn_canon.specs.Answered.{IsRefusedReading, IsRun}
 use Rattle.capn_canon.specs.inner.Outcomes.{AreCanonicalised, AreSurveyed, IsCanonicalised, IsSurveyed}
 use Rattle.capn_canon.proofs.calls.Accounted.{surveyed_as}
 use Rattle.capn_canon.proofs.calls.InEachForm.{canonicalised_as}
@@ -82,55 +82,56 @@ wanted-unread form bs limits (refusals.Capability k) h r is w = absurd cc
 
 -- ---- faults of the steps
 
-module _ {T : Type 0} (answers : List (List ℕ) → Bounds → Result T Refusal → Type 0) (bs : List ℕ)
-    (limits : Bounds) where
+module _ {T S : Type 0} (answers : S → List (List ℕ) → Bounds → Result T Refusal → S → Type 0) (bs : List ℕ)
+    (limits : Bounds) (task : S) where
   -- of bare words,
   pub bare_unread : (r : Result T Refusal) (f : BareFault) → IsErrAnd r (λ e. e ≡ refusals.Bare f)
-      → ReadsBare bs (Err f) → IsAnswered forms.Bare bs limits answers r
+      → ReadsBare bs (Err f) → IsRun forms.Bare bs limits answers task r task
   bare_unread (Ok x) f is h = absurd is
   bare_unread (Err e) f is h =
-      inr (e, refl, subst (λ (x : Refusal). IsRefusedReading forms.Bare bs limits x) (sym is) h)
+      inr (e, refl, subst (λ (x : Refusal). IsRefusedReading forms.Bare bs limits x) (sym is) h, refl)
 
   -- of a frame,
   pub frame_unread : (r : Result T Refusal) (f : FrameFault) → IsErrAnd r (IsOfFrame f)
       → IsFrameRefused bs limits.message_words f → (f ≡ frame_faults.Memory → HasTable bs limits.message_words)
-      → IsAnswered forms.Stream bs limits answers r
+      → IsRun forms.Stream bs limits answers task r task
   frame_unread (Ok x) f is h m = absurd is
   frame_unread (Err e) f (inl (memory, is)) h m =
-      inr (e, refl, subst (λ (x : Refusal). IsRefusedReading forms.Stream bs limits x) (sym is) (m memory))
+      inr (e, refl, subst (λ (x : Refusal). IsRefusedReading forms.Stream bs limits x) (sym is) (m memory), refl)
   frame_unread (Err e) f (inr (other, is)) h m =
-      inr (e, refl, subst (λ (x : Refusal). IsRefusedReading forms.Stream bs limits x) (sym is) (other, h))
+      inr (e, refl, subst (λ (x : Refusal). IsRefusedReading forms.Stream bs limits x) (sym is) (other, h), refl)
 
   -- and of a packed text
   pub packed_unread : (r : Result T Refusal) (f : UnpackFault) → IsErrAnd r (IsOfPacked f)
       → IsUnpackRefused bs (limits.message_words + most_table_words) f
       → (f ≡ unpack_faults.Memory → StartsWithin bs (limits.message_words + most_table_words))
-      → IsAnswered forms.Packed bs limits answers r
+      → IsRun forms.Packed bs limits answers task r task
   packed_unread (Ok x) f is h m = absurd is
   packed_unread (Err e) f (inl (memory, is)) h m =
-      inr (e, refl, subst (λ (x : Refusal). IsRefusedReading forms.Packed bs limits x) (sym is) (m memory))
+      inr (e, refl, subst (λ (x : Refusal). IsRefusedReading forms.Packed bs limits x) (sym is) (m memory), refl)
   packed_unread (Err e) f (inr (other, is)) h m =
-      inr (e, refl, subst (λ (x : Refusal). IsRefusedReading forms.Packed bs limits x) (sym is) (other, h))
+      inr (e, refl, subst (λ (x : Refusal). IsRefusedReading forms.Packed bs limits x) (sym is) (other, h), refl)
 
 -- ---- answers
 
 -- what is reported of the unpacked frame is so of the packed text
-pub packed_answered : {T : Type 0} (bs text : List ℕ) (limits : Bounds)
-    (answers : List (List ℕ) → Bounds → Result T Refusal → Type 0) (r : Result T Refusal)
-    → Unpacks bs limits.message_words text → IsAnswered forms.Stream text limits answers r
-    → IsAnswered forms.Packed bs limits answers r
-packed_answered bs text limits answers r u (inl (m, is, h)) = inl (m, (text, u, is), h)
-packed_answered bs text limits answers r u (inr (e, is, h)) = inr (e, is, unread_so bs text limits e u h)
+pub packed_run : {T S : Type 0} (bs text : List ℕ) (limits : Bounds)
+    (answers : S → List (List ℕ) → Bounds → Result T Refusal → S → Type 0) (old : S) (r : Result T Refusal) (new : S)
+    → Unpacks bs limits.message_words text → IsRun forms.Stream text limits answers old r new
+    → IsRun forms.Packed bs limits answers old r new
+packed_run bs text limits answers old r new u (inl (m, is, h)) = inl (m, (text, u, is), h)
+packed_run bs text limits answers old r new u (inr (e, is, h, same)) =
+    inr (e, is, unread_so bs text limits e u h, same)
 
 -- what is reported of canonical bytes,
-pub canonicalised : {T : Type 0} (form : Form) (bs : List ℕ) (limits : Bounds) (r : Result T Refusal)
-    (bytes : T → List ℕ) (price : T → ℕ)
-    → IsAnswered form bs limits (λ m l x. IsCanonicalised m l x bytes price) r
+pub canonicalised : {T S : Type 0} (form : Form) (bs : List ℕ) (limits : Bounds) (r : Result T Refusal)
+    (bytes : T → List ℕ) (price : T → ℕ) (old new : S)
+    → IsRun form bs limits (λ task m l x after. IsCanonicalised m l x bytes price) old r new
     → AreCanonicalised form bs limits r bytes price
-canonicalised form bs limits r bytes price (inl (m, is, h)) =
+canonicalised form bs limits r bytes price old new (inl (m, is, h)) =
     canonicalised_as r bytes price form bs limits m is (bytes_wanted form bs limits m is) h.found h.refused h.wanted
     h.bounded
-canonicalised form bs limits r bytes price (inr (e, is, h)) =
+canonicalised form bs limits r bytes price old new (inr (e, is, h, same)) =
     let n = no-walk form bs limits e h in
     record {
       found = subst (λ x. IfOk x (λ c. Answers form bs limits (bytes c) (price c))) (sym is) tt;
@@ -141,10 +142,10 @@ canonicalised form bs limits r bytes price (inr (e, is, h)) =
     }
 
 -- and of a survey
-pub surveyed : (form : Form) (bs : List ℕ) (limits : Bounds) (r : Result Surveyed Refusal)
-    → IsAnswered form bs limits IsSurveyed r → AreSurveyed form bs limits r
-surveyed form bs limits r (inl (m, is, h)) = surveyed_as r form bs limits m is h
-surveyed form bs limits r (inr (e, is, h)) =
+pub surveyed : {S : Type 0} (form : Form) (bs : List ℕ) (limits : Bounds) (r : Result Surveyed Refusal) (old new : S)
+    → IsRun form bs limits (λ task m l x after. IsSurveyed m l x) old r new → AreSurveyed form bs limits r
+surveyed form bs limits r old new (inl (m, is, h)) = surveyed_as r form bs limits m is h
+surveyed form bs limits r old new (inr (e, is, h, same)) =
     let n = no-walk form bs limits e h in
     record {
       found = subst (λ x. IfOk x (λ s. Surveys form bs limits s)) (sym is) tt;

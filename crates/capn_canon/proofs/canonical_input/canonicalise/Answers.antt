@@ -8,82 +8,82 @@ use Rattle.capn_canon.proofs.canonical_input.canonicalise.Goals as goal
 
 pub returns-clause-found : goal.returns-clause-found
 returns-clause-found g c =
-    let told = canonicalised c.args.form c.args.bytes.now c.args.limits c.run_task.result _ _ c.run_task.ensures in
+    let told = canonicalised c.args.form c.args.bytes.now c.args.limits c.run_task.result _ _ _ _ c.run_task.ensures in
     told.found
 
 pub returns-clause-refused : goal.returns-clause-refused
 returns-clause-refused g c =
-    let told = canonicalised c.args.form c.args.bytes.now c.args.limits c.run_task.result _ _ c.run_task.ensures in
+    let told = canonicalised c.args.form c.args.bytes.now c.args.limits c.run_task.result _ _ _ _ c.run_task.ensures in
     told.refused
 
 pub returns-clause-memory : goal.returns-clause-memory
 returns-clause-memory g c =
-    let told = canonicalised c.args.form c.args.bytes.now c.args.limits c.run_task.result _ _ c.run_task.ensures in
+    let told = canonicalised c.args.form c.args.bytes.now c.args.limits c.run_task.result _ _ _ _ c.run_task.ensures in
     told.wanted
 
 pub returns-clause-bounded : goal.returns-clause-bounded
 returns-clause-bounded g c =
-    let told = canonicalised c.args.form c.args.bytes.now c.args.limits c.run_task.result _ _ c.run_task.ensures in
+    let told = canonicalised c.args.form c.args.bytes.now c.args.limits c.run_task.result _ _ _ _ c.run_task.ensures in
     told.bounded
 
 pub returns-clause-only : goal.returns-clause-only
 returns-clause-only g c =
-    let told = canonicalised c.args.form c.args.bytes.now c.args.limits c.run_task.result _ _ c.run_task.ensures in
+    let told = canonicalised c.args.form c.args.bytes.now c.args.limits c.run_task.result _ _ _ _ c.run_task.ensures in
     found_only c.run_task.result _ _ c.args.form c.args.bytes.now c.args.limits told.found
     told.refused
 
 pub returns-clause-short : goal.returns-clause-short
 returns-clause-short g c =
-    let told = canonicalised c.args.form c.args.bytes.now c.args.limits c.run_task.result _ _ c.run_task.ensures in
+    let told = canonicalised c.args.form c.args.bytes.now c.args.limits c.run_task.result _ _ _ _ c.run_task.ensures in
     found_short c.run_task.result _ _ c.args.form c.args.bytes.now c.args.limits (omega arith) (omega arith)
     (omega arith) told.found
 
 pub returns-clause-reads_back : goal.returns-clause-reads_back
 returns-clause-reads_back g c =
-    let told = canonicalised c.args.form c.args.bytes.now c.args.limits c.run_task.result _ _ c.run_task.ensures in
+    let told = canonicalised c.args.form c.args.bytes.now c.args.limits c.run_task.result _ _ _ _ c.run_task.ensures in
     found_form c.run_task.result _ _ c.args.form c.args.bytes.now c.args.limits _ (λ r v h. h.reads_back) (omega arith)
     (omega arith) (omega arith) told.found
 
 pub returns-clause-pays : goal.returns-clause-pays
 returns-clause-pays g c =
-    let told = canonicalised c.args.form c.args.bytes.now c.args.limits c.run_task.result _ _ c.run_task.ensures in
+    let told = canonicalised c.args.form c.args.bytes.now c.args.limits c.run_task.result _ _ _ _ c.run_task.ensures in
     found_form c.run_task.result _ _ c.args.form c.args.bytes.now c.args.limits _ (λ r v h. h.pays) (omega arith)
     (omega arith) (omega arith) told.found
 
 pub returns-clause-own : goal.returns-clause-own
 returns-clause-own g c =
-    let told = canonicalised c.args.form c.args.bytes.now c.args.limits c.run_task.result _ _ c.run_task.ensures in
+    let told = canonicalised c.args.form c.args.bytes.now c.args.limits c.run_task.result _ _ _ _ c.run_task.ensures in
     found_form c.run_task.result _ _ c.args.form c.args.bytes.now c.args.limits _ (λ r v h. h.own) (omega arith)
     (omega arith) (omega arith) told.found
 
 pub returns-clause-exactly : goal.returns-clause-exactly
 returns-clause-exactly g c =
-    let told = canonicalised c.args.form c.args.bytes.now c.args.limits c.run_task.result _ _ c.run_task.ensures in
+    let told = canonicalised c.args.form c.args.bytes.now c.args.limits c.run_task.result _ _ _ _ c.run_task.ensures in
     found_form c.run_task.result _ _ c.args.form c.args.bytes.now c.args.limits _ (λ r v h. h.exactly) (omega arith)
     (omega arith) (omega arith) told.found
 
 pub returns-clause-answered : goal.returns-clause-answered
 returns-clause-answered g c =
-    let told = canonicalised c.args.form c.args.bytes.now c.args.limits c.run_task.result _ _ c.run_task.ensures in
+    let told = canonicalised c.args.form c.args.bytes.now c.args.limits c.run_task.result _ _ _ _ c.run_task.ensures in
     answered c.args.form c.args.bytes.now c.args.limits c.run_task.result told.found
     told.refused
 
 pub returns-clause-equal : goal.returns-clause-equal
 returns-clause-equal g c =
-    let told = canonicalised c.args.form c.args.bytes.now c.args.limits c.run_task.result _ _ c.run_task.ensures in
+    let told = canonicalised c.args.form c.args.bytes.now c.args.limits c.run_task.result _ _ _ _ c.run_task.ensures in
     IfOk-weaker c.run_task.result _ _
     (λ x h. equal_exactly c.args.form c.args.bytes.now c.args.limits (omega arith) (omega arith) (omega arith) _ _ h)
     told.found
 
 pub returns-clause-second : goal.returns-clause-second
 returns-clause-second g c =
-    let told = canonicalised c.args.form c.args.bytes.now c.args.limits c.run_task.result _ _ c.run_task.ensures in
+    let told = canonicalised c.args.form c.args.bytes.now c.args.limits c.run_task.result _ _ _ _ c.run_task.ensures in
     IfOk-weaker c.run_task.result _ _
     (λ x h. own_form c.args.form c.args.bytes.now c.args.limits (omega arith) (omega arith) (omega arith) x h)
     told.found
 
 pub returns-clause-within : goal.returns-clause-within
 returns-clause-within g c =
-    let told = canonicalised c.args.form c.args.bytes.now c.args.limits c.run_task.result _ _ c.run_task.ensures in
+    let told = canonicalised c.args.form c.args.bytes.now c.args.limits c.run_task.result _ _ _ _ c.run_task.ensures in
     within_budget c.args.form c.args.bytes.now c.args.limits c.run_task.result told.found
     told.refused

@@ -11,6 +11,6 @@ returns g c =
 
 pub returns-in_err-space : goal.returns-in_err-space
 returns-in_err-space g c =
-    let answers = g.T.MessageTask.answers c.args.task.now in
-    bare_unread answers c.args.bytes.now c.args.limits c.from_residual.result c.in_err-space.field-0.0
+    let answers = g.T.MessageTask.answers in
+    bare_unread answers c.args.bytes.now c.args.limits c.args.task.now c.from_residual.result c.in_err-space.field-0.0
     c.from_residual.ensures.1 c.in_err-space.ensures.exact

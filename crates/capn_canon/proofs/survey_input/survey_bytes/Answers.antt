@@ -6,27 +6,27 @@ use Rattle.capn_canon.proofs.survey_input.survey_bytes.Goals as goal
 
 pub returns-clause-found : goal.returns-clause-found
 returns-clause-found g c =
-    (surveyed c.args.form c.args.bytes.now c.args.limits c.run_task.result c.run_task.ensures).found
+    (surveyed c.args.form c.args.bytes.now c.args.limits c.run_task.result _ _ c.run_task.ensures).found
 
 pub returns-clause-refused : goal.returns-clause-refused
 returns-clause-refused g c =
-    (surveyed c.args.form c.args.bytes.now c.args.limits c.run_task.result c.run_task.ensures).refused
+    (surveyed c.args.form c.args.bytes.now c.args.limits c.run_task.result _ _ c.run_task.ensures).refused
 
 pub returns-clause-memory : goal.returns-clause-memory
 returns-clause-memory g c =
-    (surveyed c.args.form c.args.bytes.now c.args.limits c.run_task.result c.run_task.ensures).wanted
+    (surveyed c.args.form c.args.bytes.now c.args.limits c.run_task.result _ _ c.run_task.ensures).wanted
 
 pub returns-clause-bounded : goal.returns-clause-bounded
 returns-clause-bounded g c =
-    (surveyed c.args.form c.args.bytes.now c.args.limits c.run_task.result c.run_task.ensures).bounded
+    (surveyed c.args.form c.args.bytes.now c.args.limits c.run_task.result _ _ c.run_task.ensures).bounded
 
 pub returns-clause-only : goal.returns-clause-only
 returns-clause-only g c =
-    let told = surveyed c.args.form c.args.bytes.now c.args.limits c.run_task.result c.run_task.ensures in
+    let told = surveyed c.args.form c.args.bytes.now c.args.limits c.run_task.result _ _ c.run_task.ensures in
     surveyed_only c.run_task.result c.args.form c.args.bytes.now c.args.limits told.found told.refused
 
 pub returns-clause-short : goal.returns-clause-short
 returns-clause-short g c =
-    let told = surveyed c.args.form c.args.bytes.now c.args.limits c.run_task.result c.run_task.ensures in
+    let told = surveyed c.args.form c.args.bytes.now c.args.limits c.run_task.result _ _ c.run_task.ensures in
     surveyed_short c.run_task.result c.args.form c.args.bytes.now c.args.limits (omega arith) (omega arith)
     (omega arith) told.found
