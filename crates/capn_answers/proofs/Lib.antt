@@ -1,5 +1,4 @@
 pub mod shared
-mod Asked
 mod WayLengths
 mod WalksTold
 mod SurveyedDepartures

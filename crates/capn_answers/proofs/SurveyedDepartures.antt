@@ -1,6 +1,6 @@
 -- A report on a message's departure and survey is true of the bytes that are read as it. (For
 -- `departure_and_survey_in`.)
-use Rattle.std.proofs.Common.{◌≡◌, ℕ, ◌*◌, ◌≤◌, inl, inr, refl, List, length, subst, Result, Ok, Err, IfOk, IfErr}
+use Rattle.std.proofs.Common.{◌≡◌, ℕ, ◌*◌, ◌≤◌, inl, inr, List, length, subst, Result, Ok, Err, IfOk, IfErr}
 use Rattle.std.proofs.Common.{IsErrOf, MatchResult}
 use Rattle.std.specs.Bool.{⊤}
 use Rattle.capn_value.specs.Tree.{Tree}
@@ -14,8 +14,7 @@ use Rattle.capn_canon.specs.declared.form.Form.{Form}
 use Rattle.capn_canon.specs.declared.refusal.Refusal.{Refusal}
 use Rattle.capn_canon.specs.declared.refusal.Refusal.TheVariants as refusals
 use Rattle.capn_canon.proofs.shared.NotUnaccepted.{not_unaccepted, unaccepted_message}
-use Rattle.capn_answers.specs.Departures.{IsDepartureIn, MayAskForDeparture, MayNeedDeparture, way_of}
-use Rattle.capn_answers.specs.MemoryAsked.{MayAskForAnswer}
+use Rattle.capn_answers.specs.Departures.{IsDepartureIn, MayNeedDeparture, way_of}
 use Rattle.capn_answers.specs.declared.departure_input.SurveyedDeparture.{SurveyedDeparture}
 use Rattle.capn_answers.specs.inner.Answered.{IsDepartureSurveyed}
 use Rattle.capn_answers.proofs.shared.Reading.{reading_unaccepted, reading_wanted, reading_within}
@@ -61,11 +60,6 @@ module _ {A : Type 0} (form : Form) (bs : List ℕ) (limits : Bounds) where
       → MayNeedDeparture form bs limits
   both_wanted r (inl (m, is, h)) w = inr (record { message = m; reads = is; departs = h.memory w })
   both_wanted r (inr (e, is, h)) w = inl (reading_wanted form bs limits r e is h w)
-
-  pub both_asked : MayAskForAnswer {T = SurveyedDeparture A} form bs limits (λ m l x. IsDepartureSurveyed m l x)
-      → MayAskForDeparture form bs limits
-  both_asked (inl asks) = inl asks
-  both_asked (inr (m, is, h)) = inr (record { message = m; reads = is; departs = h.memory refl })
 
   pub both_bounded : (r : Result (SurveyedDeparture A) Refusal) → AreTold r
       → MatchResult r (λ d. IsBounded limits.budget d.survey.paid d.survey.visits) (λ e. IsPaidWithin limits.budget e)

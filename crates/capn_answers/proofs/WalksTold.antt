@@ -12,8 +12,7 @@ use Rattle.capn_canon.specs.declared.refusal.Refusal.TheVariants as refusals
 use Rattle.capn_canon.proofs.shared.NotRefused.{accepted-not_refused}
 use Rattle.capn_canon.proofs.shared.NotUnaccepted.{not_unaccepted}
 use Rattle.capn_canon.proofs.shared.OneReading.{one_message}
-use Rattle.capn_answers.specs.MemoryAsked.{MayAskForAnswer}
-use Rattle.capn_answers.specs.Walked.{AnswersAccepted, IsWalkedIn, IsWalkedWithin, MayAskForItsWay, MayNeedItsWay}
+use Rattle.capn_answers.specs.Walked.{AnswersAccepted, IsWalkedIn, IsWalkedWithin, MayNeedItsWay}
 use Rattle.capn_answers.specs.Walked.{walked_way}
 use Rattle.capn_answers.specs.Ways.{IsUnread}
 use Rattle.capn_answers.specs.declared.walked.Walked.{Walked}
@@ -62,11 +61,6 @@ module _ {A : Type 0} (form : Form) (bs : List ℕ) (limits : Bounds) where
   walk_wanted (Err e) (inl (m, is, h)) w = let (s, stops) = h.memory.1 in inr (s, (m, is, stops))
   walk_wanted (Ok x) (inl (m, is, h)) w = absurd cc
   walk_wanted r (inr (e, is, h)) w = inl (reading_wanted form bs limits r e is h w)
-
-  pub walk_asked : MayAskForAnswer {T = Walked A} form bs limits (λ m l x. IsWalkTold m l x)
-      → MayAskForItsWay form bs limits
-  walk_asked (inl asks) = inl asks
-  walk_asked (inr (m, is, h)) = let (s, stops) = h.memory.1 in inr (s, (m, is, stops))
 
   pub walk_bounded : (r : Result (Walked A) Refusal) → AreTold r → IfOk r (λ w. IsWalkedWithin limits.budget w)
   walk_bounded (Ok w) (inl (m, is, h)) = h.bounded

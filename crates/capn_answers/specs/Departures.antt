@@ -9,7 +9,6 @@ use Rattle.capn_mismatch.specs.declared.answer.Departure.{Departure}
 use Rattle.capn_mismatch.specs.declared.answer.Departure.TheVariants.{Canonical, Segments, Capability, Word, After}
 use Rattle.capn_mismatch.specs.declared.whose.Whose.{Whose}
 use Rattle.capn_mismatch.specs.declared.whose.Whose.TheVariants.{Pointer, Tag, LastWord}
-use Rattle.capn_answers.specs.MemoryAsked.{MayAsk}
 
 -- the bytes are read as a message, of which this is answered
 pub record IsDepartureIn {A : Type 0} (form : Form) (bs : List ℕ) (limits : Bounds) (d : Departure A) : Type 0 where
@@ -26,10 +25,6 @@ pub record DepartIn (form : Form) (bs : List ℕ) (limits : Bounds) : Type 0 whe
 -- memory may be needed: for reading the bytes, or for such a message
 abbrev pub MayNeedDeparture : Form → List ℕ → Bounds → Type 0
 MayNeedDeparture form bs limits = MayNeedMemory form bs limits ⊎ DepartIn form bs limits
-
--- memory may be asked for: for reading the bytes, or for such a message
-abbrev pub MayAskForDeparture : Form → List ℕ → Bounds → Type 0
-MayAskForDeparture form bs limits = MayAsk form bs limits ⊎ DepartIn form bs limits
 
 module _ {A : Type 0} where
   -- the way to an owner's slot

@@ -1,4 +1,3 @@
-pub mod MemoryAsked
 pub mod Ways
 pub mod Walked
 pub mod Departures

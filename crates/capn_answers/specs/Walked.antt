@@ -7,7 +7,6 @@ use Rattle.capn_canon.specs.MemoryNeed.{MayNeedMemory}
 use Rattle.capn_canon.specs.Reads.{Reads}
 use Rattle.capn_canon.specs.SurveyedBytes.{Surveys}
 use Rattle.capn_canon.specs.declared.form.Form.{Form}
-use Rattle.capn_answers.specs.MemoryAsked.{MayAsk}
 use Rattle.capn_answers.specs.Ways.{IsStoppedIn}
 use Rattle.capn_answers.specs.declared.walked.Walked.{Walked}
 use Rattle.capn_answers.specs.declared.walked.Walked.TheVariants.{Accepted, Refused}
@@ -42,7 +41,3 @@ AreStopped form bs limits s = (message : List (List ℕ)) × Reads form bs limit
 -- memory may be needed: for a check, or for the way of a message that is refused by its walk
 abbrev pub MayNeedItsWay : Form → List ℕ → Bounds → Type 0
 MayNeedItsWay form bs limits = MayNeedMemory form bs limits ⊎ ((s : Stopped) × AreStopped form bs limits s)
-
--- memory may be asked for: for reading, or for that way
-abbrev pub MayAskForItsWay : Form → List ℕ → Bounds → Type 0
-MayAskForItsWay form bs limits = MayAsk form bs limits ⊎ ((s : Stopped) × AreStopped form bs limits s)

@@ -7,11 +7,10 @@ ghost use Rattle.capn_canon.specs.Denotes.{Denotes};
 ghost use Rattle.capn_canon.specs.Refusal.{IsPaidWithin, IsUnacceptedIn};
 ghost use Rattle.capn_canon.specs.SurveyedBytes.{Surveys};
 ghost use Rattle.capn_canon.specs.declared.refusal.Refusal.TheVariants as refusals;
-ghost use Rattle.capn_answers.specs.Departures.{IsDepartureIn, MayAskForDeparture, MayNeedDeparture, way_of};
+ghost use Rattle.capn_answers.specs.Departures.{IsDepartureIn, MayNeedDeparture, way_of};
 ghost use Rattle.capn_answers.specs.inner.Answered.{IsDepartureSurveyed};
 
-use crate::input::run_few;
-use capn_canon::{Form, MessageTask, Refusal, survey};
+use capn_canon::{Form, MessageTask, Refusal, run_task, survey};
 use capn_mismatch::{Departure, departure};
 use capn_walk::{Limits, Surveyed};
 use capn_words::Space;
@@ -33,10 +32,10 @@ struct SurveyedDeparts;
 impl<A: Allocator + Copy> MessageTask<A> for SurveyedDeparts {
     type Answer = SurveyedDeparture<A>;
 
-    ghost answers = { λ _ m limits r. IsDepartureSurveyed m limits r };
+    ghost answers = { λ _ m limits r _. IsDepartureSurveyed m limits r };
 
     fn run<S: Space>(
-        &self,
+        &mut self,
         alloc: A,
         message: &S,
         limits: Limits,
@@ -74,14 +73,12 @@ pub fn departure_and_survey_in<A: Allocator + Copy>(
     ensures short { IfOk result (λ d. length (way_of d.departure) ≤ 2 * limits.depth) }
     // The meaning of each refusal.
     ensures refused { IfErr result (λ e. IsUnacceptedIn form bytes.now limits e) }
-    // Memory is needed only for the ends of two segments or more, for what a text packs, and for a message of one
+    // Memory is needed only for the ends of more than 64 segments, for what a text packs, and for a message of one
     // segment that is not canonical.
     ensures memory { IsErrOf result refusals.Memory → MayNeedDeparture form bytes.now limits }
-    // Of those, it is asked for only by a frame of more than 64 segments, by a packed text, and by such a message.
-    ensures asked { IsErrOf result refusals.Memory → MayAskForDeparture form bytes.now limits }
     // No walk pays beyond its budget.
     ensures bounded { MatchResult result (λ d. IsBounded limits.budget d.survey.paid d.survey.visits)
         (λ e. IsPaidWithin limits.budget e) }
 {
-    run_few(alloc, &SurveyedDeparts, form, bytes, limits)
+    run_task(alloc, &mut SurveyedDeparts, form, bytes, limits)
 }

@@ -5,9 +5,7 @@
 //! - [`departure_and_survey_in`] finds the word at which an accepted message leaves its canonical bytes, and the
 //!   reason, and returns its survey.
 //!
-//! Both read the bytes once, and refuse those that are no message as [`capn_canon::survey_bytes`] does. They do so by
-//! [`run_few`], which runs any task of a message, and takes no memory for a stream of at most 64 segments; of these
-//! [`read_frame`] returns the message.
+//! Both read the bytes once, and refuse those that are no message as [`capn_canon::survey_bytes`] does.
 //!
 //! ```text
 //! match walk_in(alloc, Form::Packed, bytes, limits)? {
@@ -18,20 +16,15 @@
 #![tactic(auto)]
 
 mod departure_input;
-mod few_frame;
-mod input;
 mod walked;
 mod way_input;
 
 pub use departure_input::{SurveyedDeparture, departure_and_survey_in};
-pub use few_frame::read_frame;
-pub use input::run_few;
 pub use walked::Walked;
 pub use way_input::walk_in;
 
 // The types in the signatures above.
-pub use capn_canon::{Form, MessageTask, Refusal};
-pub use capn_few::FewSegments;
+pub use capn_canon::{Form, Refusal};
 pub use capn_mismatch::{Departure, Whose};
 pub use capn_path::Refused;
 pub use capn_walk::{Limits, Surveyed};

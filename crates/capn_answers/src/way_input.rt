@@ -5,13 +5,12 @@ ghost use Rattle.capn_value.specs.Tree.{Tree as Value};
 ghost use Rattle.capn_canon.specs.Denotes.{Denotes};
 ghost use Rattle.capn_canon.specs.declared.refusal.Refusal.TheVariants as refusals;
 ghost use Rattle.capn_answers.specs.Ways.{IsUnread};
-ghost use Rattle.capn_answers.specs.Walked.{AnswersAccepted, IsWalkedIn, IsWalkedWithin, MayAskForItsWay};
+ghost use Rattle.capn_answers.specs.Walked.{AnswersAccepted, IsWalkedIn, IsWalkedWithin};
 ghost use Rattle.capn_answers.specs.Walked.{MayNeedItsWay, walked_way};
 ghost use Rattle.capn_answers.specs.inner.Answered.{IsWalkTold};
 
-use crate::input::run_few;
 use crate::walked::Walked;
-use capn_canon::{Form, MessageTask, Refusal};
+use capn_canon::{Form, MessageTask, Refusal, run_task};
 use capn_path::{Refused, way_of_stop};
 use capn_walk::{Limits, survey};
 use capn_words::Space;
@@ -24,9 +23,14 @@ struct Walk;
 impl<A: Allocator + Copy> MessageTask<A> for Walk {
     type Answer = Walked<A>;
 
-    ghost answers = { λ _ m limits r. IsWalkTold m limits r };
+    ghost answers = { λ _ m limits r _. IsWalkTold m limits r };
 
-    fn run<S: Space>(&self, alloc: A, message: &S, limits: Limits) -> Result<Walked<A>, Refusal> {
+    fn run<S: Space>(
+        &mut self,
+        alloc: A,
+        message: &S,
+        limits: Limits,
+    ) -> Result<Walked<A>, Refusal> {
         match survey(alloc, message, limits) {
             Ok(surveyed) => Ok(Walked::Accepted(surveyed)),
             Err(stopped) => {
@@ -59,13 +63,11 @@ pub fn walk_in<A: Allocator + Copy>(
     ensures short { IfOk result (λ w. length (walked_way w) ≤ 2 * limits.depth) }
     // The meaning of each refusal.
     ensures refused { IfErr result (λ e. IsUnread form bytes.now limits e) }
-    // Memory is needed only for the ends of two segments or more, for what a text packs, and for the way of a message
+    // Memory is needed only for the ends of more than 64 segments, for what a text packs, and for the way of a message
     // that is refused by its walk.
     ensures memory { IsErrOf result refusals.Memory → MayNeedItsWay form bytes.now limits }
-    // Of those, it is asked for only by a frame of more than 64 segments, by a packed text, and for that way.
-    ensures asked { IsErrOf result refusals.Memory → MayAskForItsWay form bytes.now limits }
     // No walk pays beyond its budget.
     ensures bounded { IfOk result (λ w. IsWalkedWithin limits.budget w) }
 {
-    run_few(alloc, &Walk, form, bytes, limits)
+    run_task(alloc, &mut Walk, form, bytes, limits)
 }

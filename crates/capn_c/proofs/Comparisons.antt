@@ -1,5 +1,5 @@
 -- What is told of two messages is told of the bytes that are read as them. (For `compared.rt` and `compare`.)
-use Rattle.std.proofs.Common.{◌≡◌, ◌↔◌, inl, inr, ℕ, List, Bool, IsTrue, refl, subst}
+use Rattle.std.proofs.Common.{◌≡◌, ◌↔◌, inl, inr, ℕ, List, Bool, IsTrue, subst}
 use Rattle.std.proofs.Common.{Result, Ok, Err, IfOk, IfErr, IsErrOf}
 use Rattle.capn_value.specs.Tree.{Tree}
 use Rattle.capn_value.specs.Same.{Same}
@@ -16,7 +16,6 @@ use Rattle.capn_canon.specs.declared.refusal.Refusal.{Refusal}
 use Rattle.capn_canon.specs.declared.refusal.Refusal.TheVariants as refusals
 use Rattle.capn_canon.proofs.shared.NotRefused.{refused_message}
 use Rattle.capn_canon.proofs.shared.OneReading.{one_value}
-use Rattle.capn_answers.specs.MemoryAsked.{MayAsk, MayAskForAnswer}
 use Rattle.capn_answers.proofs.shared.Reading.{reading_unaccepted, reading_wanted, reading_within}
 use Rattle.capn_c.specs.Compared.{ComparesIn, DenoteBoth}
 use Rattle.capn_c.specs.inner.Told.{IsCompared, IsComparedTo, IsSameIn}
@@ -68,11 +67,6 @@ module _ (form : Form) (bs ds : List ℕ) (limits : Bounds) where
       absurd (h.no_memory same)
   compared_wanted (Ok s) (inl (m, is, h)) w = absurd cc
   compared_wanted r (inr (e, is, h)) w = reading_wanted form bs limits r e is h w
-
-  pub compared_asked : MayAskForAnswer {T = Result Bool Refusal} form bs limits (λ m l x. IsComparedTo form ds m l x)
-      → MayAsk form bs limits
-  compared_asked (inl asks) = asks
-  compared_asked (inr (m, is, h)) = absurd (h.no_memory refl)
 
   pub compared_bounded : (r : Result (Result Bool Refusal) Refusal) → AreTold r
       → IfErr r (λ e. IsPaidWithin limits.budget e)

@@ -1,18 +1,17 @@
 -- A report on a message's digest is true of the bytes that are read as it. (For `digest_in` and `refusal_way`.)
-use Rattle.std.proofs.Common.{◌≡◌, ◌≤◌, inl, inr, ℕ, List, refl, subst, Result, Ok, Err, IfOk, IfErr}
+use Rattle.std.proofs.Common.{◌≡◌, ◌≤◌, inl, inr, ℕ, List, subst, Result, Ok, Err, IfOk, IfErr}
 use Rattle.std.proofs.Common.{IsErrOf, MatchResult}
 use Rattle.sha2.specs.Sha256.{sha256}
 use Rattle.capn_walk.specs.Limits.{Bounds}
 use Rattle.capn_canon.specs.Answered.{IsAnswered, IsRefusedReading}
 use Rattle.capn_canon.specs.Denotes.{Answers}
-use Rattle.capn_canon.specs.MemoryNeed.{MayNeedBytesIn}
 use Rattle.capn_canon.specs.Refusal.{IsPaidWithin, IsRefused, IsUnacceptedIn}
 use Rattle.capn_canon.specs.declared.form.Form.{Form}
 use Rattle.capn_canon.specs.declared.refusal.Refusal.{Refusal}
 use Rattle.capn_canon.specs.declared.refusal.Refusal.TheVariants as refusals
 use Rattle.capn_canon.proofs.shared.NotRefused.{refused_message}
-use Rattle.capn_answers.specs.MemoryAsked.{MayAskForAnswer, MayAskOrMake}
 use Rattle.capn_answers.proofs.shared.Reading.{reading_unaccepted, reading_wanted, reading_within}
+use Rattle.capn_c.specs.MadeBytes.{MayNeedToMake}
 use Rattle.capn_c.specs.declared.message_digest.Digested.{Digested}
 use Rattle.capn_c.specs.inner.Told.{IsDigestTold}
 
@@ -49,19 +48,11 @@ module _ (form : Form) (bs : List ℕ) (limits : Bounds) where
   digest_refused (Ok d) told = tt
 
   pub digest_wanted : (r : Result Digested Refusal) → AreTold r → IsErrOf r refusals.Memory
-      → MayNeedBytesIn form bs limits
+      → MayNeedToMake form bs limits
   digest_wanted r (inl (m, is, h)) w =
       let (v, value, free) = h.memory w in
-      inr (v, record { message = m; reads = is; value = value }, free)
+      inr (record { message = m; reads = is; value = v; is = value; free = free; not = h.made w v value })
   digest_wanted r (inr (e, is, h)) w = inl (reading_wanted form bs limits r e is h w)
-
-  pub digest_asked : MayAskForAnswer {T = Digested} form bs limits (λ m l x. IsDigestTold m l x)
-      → MayAskOrMake form bs limits
-  digest_asked (inl asks) = inl asks
-  digest_asked (inr (m, is, h)) =
-      let (v, value, free) = h.memory refl in
-      inr
-      (record { message = m; reads = is; value = v; is = value; free = free; not = h.made refl v value })
 
   pub digest_bounded : (r : Result Digested Refusal) → AreTold r
       → MatchResult r (λ d. d.paid ≤ limits.budget) (λ e. IsPaidWithin limits.budget e)

@@ -9,6 +9,7 @@ pub mod Held
 pub mod AsFramed
 pub mod Shown
 pub mod Lent
+pub mod MadeBytes
 pub mod WayNumbers
 pub mod Departed
 pub mod inner

@@ -9,18 +9,16 @@ ghost use Rattle.capn_canon.specs.Denotes.{Denotes};
 ghost use Rattle.capn_canon.specs.Denotes.{Answers};
 ghost use Rattle.capn_canon.specs.Canonicity.{IsCanonicalForm};
 ghost use Rattle.capn_canon.specs.Refusal.{IsRefused};
-ghost use Rattle.capn_canon.specs.MemoryNeed.{MayNeedMemory, MayNeedBytesIn};
+ghost use Rattle.capn_canon.specs.MemoryNeed.{MayNeedMemory};
 ghost use Rattle.capn_canon.specs.declared.refusal.Refusal.{Refusal as Refusals};
-ghost use Rattle.capn_answers.specs.MemoryAsked.{MayAsk};
 ghost use Rattle.capn_abi.specs.Calls.{IsForm, form_named, GiveLimits, IsTariff, bounds_of, Serves};
 ghost use Rattle.capn_abi.specs.StatusCodes.{Reports, answered, at_number, is_status};
 
 use crate::canonical_fill::fill;
-use crate::survey_bytes::survey_bytes;
 use capn_abi::{
     BAD_FORM, CapnLimits, CapnReport, NO_ROOM, answer_of, form_of, limits_of, refuse, report_at,
 };
-use capn_canon::{Form, Refusal};
+use capn_canon::{Form, Refusal, survey_bytes};
 use capn_walk::Limits;
 use std::alloc::Global;
 
@@ -41,7 +39,6 @@ fn survey_length(
     ensures listed { IsTrue (is_status result) }
     ensures refused { 8 ≤ result → (e : Refusals) × Reports result report.new e × IsRefused form bytes.now limits e }
     ensures memory { result ≡ 8 → MayNeedMemory form bytes.now limits }
-    ensures asked { result ≡ 8 → MayAsk form bytes.now limits }
     ensures bounded { IsBounded limits.budget report.new.paid report.new.visits }
 {
     match survey_bytes(alloc, form, bytes, limits) {
@@ -93,13 +90,8 @@ pub extern "C" fn capn_canonical(
     // The meaning of each refusal; no other status stands for it.
     ensures refused { 5 ≤ result → (e : Refusals) × Reports result report.new e
         × IsRefused (form_named form) bytes.now (bounds_of limits.now) e }
-    // Memory is needed only for the ends of two segments or more, for what a text packs, and, if there is room, for
-    // canonical bytes.
-    ensures memory { result ≡ 8 → MayNeedBytesIn (form_named form) bytes.now (bounds_of limits.now) }
-    ensures measuring { result ≡ 8 → length out.old ≡ 0
-        → MayNeedMemory (form_named form) bytes.now (bounds_of limits.now) }
-    // Of those, it is asked for only by a frame of more than 64 segments, and by a packed text.
-    ensures asked { result ≡ 8 → MayAsk (form_named form) bytes.now (bounds_of limits.now) }
+    // Memory is needed only for the ends of more than 64 segments, and for what a text packs.
+    ensures memory { result ≡ 8 → MayNeedMemory (form_named form) bytes.now (bounds_of limits.now) }
     // No walk reports more paid than its budget.
     ensures bounded { IsBounded limits.now.budget report.new.paid report.new.visits }
     ensures short { result ≤ 1 → report.new.length ≤ 8 * (report.new.paid + 1) }

@@ -8,16 +8,15 @@ ghost use Rattle.capn_canon.specs.Layout.{canon};
 ghost use Rattle.capn_canon.specs.Denotes.{Denotes, Answers};
 ghost use Rattle.capn_canon.specs.Canonicity.{IsCanonicalForm};
 ghost use Rattle.capn_canon.specs.Refusal.{IsRefused};
-ghost use Rattle.capn_canon.specs.MemoryNeed.{MayNeedBytesIn};
+ghost use Rattle.capn_canon.specs.MemoryNeed.{MayNeedBytesIn, MayNeedMemory};
 ghost use Rattle.capn_canon.specs.declared.form.Form.TheVariants as forms;
 ghost use Rattle.capn_canon.specs.declared.refusal.Refusal.{Refusal as Refusals};
-ghost use Rattle.capn_answers.specs.MemoryAsked.{MayAsk};
 ghost use Rattle.capn_abi.specs.Calls.{Delivers};
 ghost use Rattle.capn_abi.specs.StatusCodes.{Reports, answered, is_status};
 
+use crate::frame::read_frame;
 use crate::written_message::write_message;
 use capn_abi::{CapnReport, answer_of, deliver, refuse};
-use capn_answers::read_frame;
 use capn_canon::{Form, Refusal, canonicalise};
 use capn_walk::Limits;
 use capn_words::Bare;
@@ -81,8 +80,8 @@ fn fill_bare(bytes: &[u8], limits: Limits, out: &mut [u8], report: &mut CapnRepo
     }
 }
 
-/// Writes the canonical bytes of a frame to `out`: those of at most 64 segments in place. The ends of the segments lie
-/// on its stack, and not on that of the other forms.
+/// Writes the canonical bytes of a frame to `out`, in place. The ends of its segments lie on its stack, and not on that
+/// of the other forms.
 #[inline(never)]
 fn fill_frame(
     alloc: Global,
@@ -100,18 +99,14 @@ fn fill_frame(
     ensures listed { IsTrue (is_status result) }
     ensures refused { 8 ≤ result → (e : Refusals) × Reports result report.new e
         × IsRefused forms.Stream bytes.now limits e }
-    ensures memory { result ≡ 8 → MayNeedBytesIn forms.Stream bytes.now limits }
-    ensures asked { result ≡ 8 → MayAsk forms.Stream bytes.now limits }
+    ensures memory { result ≡ 8 → MayNeedMemory forms.Stream bytes.now limits }
     ensures bounded { IsBounded limits.budget report.new.paid report.new.visits }
     ensures short { result ≤ 1 → report.new.length ≤ 8 * (report.new.paid + 1) }
     ensures kept { result ≢ 0 → out.new ≡ out.old }
     ensures canonical { result ≡ 0 → (v : Value) → Denotes forms.Stream bytes.now limits v
         → IsCanonicalForm (take report.new.length out.new) limits v }
 {
-    let Some(read) = read_frame(bytes, limits) else {
-        return fill_copied(alloc, Form::Stream, bytes, limits, out, report);
-    };
-    match read {
+    match read_frame(alloc, bytes, limits) {
         Ok(message) => write_message(&message, limits, out, report),
         Err(refusal) => refuse(refusal, report),
     }
@@ -135,8 +130,7 @@ pub fn fill(
     ensures rest { result ≤ 1 → report.new ≡ answered report.new.length report.new.paid 0 }
     ensures listed { IsTrue (is_status result) }
     ensures refused { 8 ≤ result → (e : Refusals) × Reports result report.new e × IsRefused form bytes.now limits e }
-    ensures memory { result ≡ 8 → MayNeedBytesIn form bytes.now limits }
-    ensures asked { result ≡ 8 → MayAsk form bytes.now limits }
+    ensures memory { result ≡ 8 → MayNeedMemory form bytes.now limits }
     ensures bounded { IsBounded limits.budget report.new.paid report.new.visits }
     ensures short { result ≤ 1 → report.new.length ≤ 8 * (report.new.paid + 1) }
     ensures kept { result ≢ 0 → out.new ≡ out.old }

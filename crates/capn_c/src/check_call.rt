@@ -9,15 +9,13 @@ ghost use Rattle.capn_canon.specs.Refusal.{IsUnacceptedIn};
 ghost use Rattle.capn_canon.specs.SurveyedBytes.{Surveys};
 ghost use Rattle.capn_canon.specs.MemoryNeed.{MayNeedMemory};
 ghost use Rattle.capn_canon.specs.declared.refusal.Refusal.{Refusal as Refusals};
-ghost use Rattle.capn_answers.specs.MemoryAsked.{MayAsk};
 ghost use Rattle.capn_abi.specs.Calls.{IsForm, form_named, GiveLimits, IsTariff, bounds_of};
 ghost use Rattle.capn_abi.specs.StatusCodes.{Reports, answered, at_number, is_status};
 
-use crate::survey_bytes::survey_bytes;
 use capn_abi::{
     BAD_FORM, CapnLimits, CapnReport, DONE, answer_of, form_of, limits_of, refuse, report_at,
 };
-use capn_canon::Form;
+use capn_canon::{Form, survey_bytes};
 use capn_walk::Limits;
 use std::alloc::Global;
 
@@ -31,7 +29,6 @@ fn check(alloc: Global, form: Form, bytes: &[u8], limits: Limits, report: &mut C
     ensures refused { 8 ≤ result → (e : Refusals) × Reports result report.new e
         × IsUnacceptedIn form bytes.now limits e }
     ensures memory { result ≡ 8 → MayNeedMemory form bytes.now limits }
-    ensures asked { result ≡ 8 → MayAsk form bytes.now limits }
     ensures bounded { IsBounded limits.budget report.new.paid report.new.visits }
 {
     match survey_bytes(alloc, form, bytes, limits) {
@@ -73,10 +70,8 @@ pub extern "C" fn capn_check(
     // The meaning of each refusal; no other status stands for it.
     ensures refused { 5 ≤ result → (e : Refusals) × Reports result report.new e
         × IsUnacceptedIn (form_named form) bytes.now (bounds_of limits.now) e }
-    // Memory is needed only for the ends of two segments or more, and for what a text packs.
+    // Memory is needed only for the ends of more than 64 segments, and for what a text packs.
     ensures memory { result ≡ 8 → MayNeedMemory (form_named form) bytes.now (bounds_of limits.now) }
-    // Of those, it is asked for only by a frame of more than 64 segments, and by a packed text.
-    ensures asked { result ≡ 8 → MayAsk (form_named form) bytes.now (bounds_of limits.now) }
     // No walk reports more paid than its budget.
     ensures bounded { IsBounded limits.now.budget report.new.paid report.new.visits }
 {

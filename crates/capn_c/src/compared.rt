@@ -6,14 +6,13 @@ ghost use Rattle.capn_canon.specs.MemoryNeed.{MayNeedMemory};
 ghost use Rattle.capn_canon.specs.Refusal.{IsPaidWithin, IsRefused, IsRefusedMessage};
 ghost use Rattle.capn_canon.specs.declared.form.Form.TheVariants as forms;
 ghost use Rattle.capn_canon.specs.declared.refusal.Refusal.TheVariants as refusals;
-ghost use Rattle.capn_answers.specs.MemoryAsked.{MayAsk};
 ghost use Rattle.capn_c.specs.inner.Told.{IsCompared, IsComparedTo, IsSameIn, IsSameTo};
 
+use crate::frame::read_frame;
 use crate::same_surveyed::same_surveyed;
-use capn_answers::{read_frame, run_few};
-use capn_canon::{Form, MessageTask, Refusal, survey};
+use capn_canon::{Form, MessageTask, Refusal, run_task, survey};
 use capn_pack::unpack;
-use capn_stream::{MOST_TABLE_WORDS, first as first_frame};
+use capn_stream::MOST_TABLE_WORDS;
 use capn_walk::Limits;
 use capn_words::{Bare, Space};
 use std::alloc::Global;
@@ -61,16 +60,9 @@ fn same_frame<A: Space>(
     ensures found { IfOk result (λ same. IsSameIn (A.message first.now) forms.Stream bytes.now limits same) }
     ensures refused { IfErr result (λ e. IsRefused forms.Stream bytes.now limits e) }
     ensures memory { IsErrOf result refusals.Memory → MayNeedMemory forms.Stream bytes.now limits }
-    ensures asked { IsErrOf result refusals.Memory → MayAsk forms.Stream bytes.now limits }
     ensures bounded { IfErr result (λ e. IsPaidWithin limits.budget e) }
 {
-    if let Some(read) = read_frame(bytes, limits) {
-        return same_message(alloc, first, &read?, limits);
-    }
-    let (second, taken) = first_frame(alloc, bytes, limits.message_words())?;
-    if taken < bytes.len() {
-        return Err(Refusal::Trailing(taken as u64));
-    }
+    let second = read_frame(alloc, bytes, limits)?;
     same_message(alloc, first, &second, limits)
 }
 
@@ -103,7 +95,6 @@ fn same_in<A: Space>(
     ensures found { IfOk result (λ same. IsSameIn (A.message first.now) form bytes.now limits same) }
     ensures refused { IfErr result (λ e. IsRefused form bytes.now limits e) }
     ensures memory { IsErrOf result refusals.Memory → MayNeedMemory form bytes.now limits }
-    ensures asked { IsErrOf result refusals.Memory → MayAsk form bytes.now limits }
     ensures bounded { IfErr result (λ e. IsPaidWithin limits.budget e) }
 {
     match form {
@@ -125,10 +116,10 @@ impl<'a> MessageTask<Global> for Compare<'a> {
     /// Whether the two are the same, or the refusal of the second.
     type Answer = Result<bool, Refusal>;
 
-    ghost answers = { λ task m limits r. IsComparedTo task.form task.second.now m limits r };
+    ghost answers = { λ task m limits r _. IsComparedTo task.form task.second.now m limits r };
 
     fn run<S: Space>(
-        &self,
+        &mut self,
         alloc: Global,
         message: &S,
         limits: Limits,
@@ -153,8 +144,8 @@ pub fn compared_in(
     ensures found { IfOk result (λ r. IsCompared form first.now second.now limits r) }
     ensures refused { IfErr result (λ e. IsRefused form first.now limits e) }
     ensures memory { IsErrOf result refusals.Memory → MayNeedMemory form first.now limits }
-    ensures asked { IsErrOf result refusals.Memory → MayAsk form first.now limits }
     ensures bounded { IfErr result (λ e. IsPaidWithin limits.budget e) }
 {
-    run_few(alloc, &Compare { form, second }, form, first, limits)
+    let mut task = Compare { form, second };
+    run_task(alloc, &mut task, form, first, limits)
 }

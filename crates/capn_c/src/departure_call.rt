@@ -10,7 +10,7 @@ ghost use Rattle.capn_canon.specs.SurveyedBytes.{Surveys};
 ghost use Rattle.capn_canon.specs.declared.form.Form.{Form as Forms};
 ghost use Rattle.capn_canon.specs.declared.refusal.Refusal.{Refusal as Refusals};
 ghost use Rattle.capn_answers.specs.Departures as departures;
-ghost use Rattle.capn_answers.specs.Departures.{IsDepartureIn, MayAskForDeparture, MayNeedDeparture};
+ghost use Rattle.capn_answers.specs.Departures.{IsDepartureIn, MayNeedDeparture};
 ghost use Rattle.capn_abi.specs.Calls.{IsForm, form_named, GiveLimits, IsTariff, bounds_of};
 ghost use Rattle.capn_c.specs.Departed.{TellsDeparture};
 ghost use Rattle.capn_abi.specs.StatusCodes.{Reports, at_number, is_status};
@@ -66,7 +66,6 @@ fn depart(
     ensures refused { 8 ≤ result → (e : Refusals) × Reports result report.new e
         × IsUnacceptedIn form bytes.now limits e }
     ensures memory { result ≡ 8 → MayNeedDeparture form bytes.now limits }
-    ensures asked { result ≡ 8 → MayAskForDeparture form bytes.now limits }
     ensures bounded { IsBounded limits.budget report.new.paid report.new.visits }
     ensures kept { result ≢ 0 → (departed.new ≡ departed.old) × (way.new ≡ way.old) }
 {
@@ -118,11 +117,9 @@ pub extern "C" fn capn_departure(
     // The meaning of each refusal; no other status stands for it.
     ensures refused { 5 ≤ result → (e : Refusals) × Reports result report.new e
         × IsUnacceptedIn (form_named form) bytes.now (bounds_of limits.now) e }
-    // Memory is needed only for the ends of two segments or more, for what a text packs, and for a message of one
+    // Memory is needed only for the ends of more than 64 segments, for what a text packs, and for a message of one
     // segment that is not canonical.
     ensures memory { result ≡ 8 → MayNeedDeparture (form_named form) bytes.now (bounds_of limits.now) }
-    // Of those, it is asked for only by a frame of more than 64 segments, by a packed text, and by such a message.
-    ensures asked { result ≡ 8 → MayAskForDeparture (form_named form) bytes.now (bounds_of limits.now) }
     // No walk reports more paid than its budget.
     ensures bounded { IsBounded limits.now.budget report.new.paid report.new.visits }
     // If nothing is reported, the departure and the room are as they were.

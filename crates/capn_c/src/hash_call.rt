@@ -8,11 +8,10 @@ ghost use Rattle.capn_walk.specs.Accepted.{IsBounded};
 ghost use Rattle.capn_canon.specs.Layout.{canon};
 ghost use Rattle.capn_canon.specs.Denotes.{Answers, Denotes};
 ghost use Rattle.capn_canon.specs.Refusal.{IsRefused};
-ghost use Rattle.capn_canon.specs.MemoryNeed.{MayNeedBytesIn};
 ghost use Rattle.capn_canon.specs.declared.refusal.Refusal.{Refusal as Refusals};
-ghost use Rattle.capn_answers.specs.MemoryAsked.{MayAskOrMake};
 ghost use Rattle.capn_abi.specs.Calls.{IsForm, form_named, GiveLimits, IsTariff, bounds_of};
 ghost use Rattle.capn_abi.specs.StatusCodes.{Reports, answered, at_number, is_status};
+ghost use Rattle.capn_c.specs.MadeBytes.{MayNeedToMake};
 
 use crate::message_digest::digest_in;
 use capn_abi::{
@@ -39,8 +38,7 @@ fn hash(
     ensures rest { result ≡ 0 → report.new ≡ answered 0 report.new.paid 0 }
     ensures listed { IsTrue (is_status result) }
     ensures refused { 8 ≤ result → (e : Refusals) × Reports result report.new e × IsRefused form bytes.now limits e }
-    ensures memory { result ≡ 8 → MayNeedBytesIn form bytes.now limits }
-    ensures asked { result ≡ 8 → MayAskOrMake form bytes.now limits }
+    ensures memory { result ≡ 8 → MayNeedToMake form bytes.now limits }
     ensures bounded { IsBounded limits.budget report.new.paid report.new.visits }
     ensures kept { result ≢ 0 → digest.new ≡ digest.old }
 {
@@ -87,11 +85,9 @@ pub extern "C" fn capn_hash(
     // The meaning of each refusal; no other status stands for it.
     ensures refused { 5 ≤ result → (e : Refusals) × Reports result report.new e
         × IsRefused (form_named form) bytes.now (bounds_of limits.now) e }
-    // Memory is needed only for the ends of two segments or more, for what a text packs, and for canonical bytes.
-    ensures memory { result ≡ 8 → MayNeedBytesIn (form_named form) bytes.now (bounds_of limits.now) }
-    // Of those, it is asked for only by a frame of more than 64 segments, by a packed text, and for the canonical bytes
+    // Memory is needed only for the ends of more than 64 segments, for what a text packs, and for the canonical bytes
     // of a message that is not canonical.
-    ensures asked { result ≡ 8 → MayAskOrMake (form_named form) bytes.now (bounds_of limits.now) }
+    ensures memory { result ≡ 8 → MayNeedToMake (form_named form) bytes.now (bounds_of limits.now) }
     // No walk reports more paid than its budget.
     ensures bounded { IsBounded limits.now.budget report.new.paid report.new.visits }
     // If nothing is answered, the buffer is as it was.

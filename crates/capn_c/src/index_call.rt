@@ -8,8 +8,8 @@ ghost use Rattle.capn_canon.specs.Denotes.{Denotes};
 ghost use Rattle.capn_canon.specs.Refusal.{IsUnacceptedIn};
 ghost use Rattle.capn_canon.specs.SurveyedBytes.{Surveys};
 ghost use Rattle.capn_canon.specs.MemoryNeed.{MayNeedMemory};
+ghost use Rattle.capn_canon.specs.declared.form.Form.TheVariants as forms;
 ghost use Rattle.capn_canon.specs.declared.refusal.Refusal.{Refusal as Refusals};
-ghost use Rattle.capn_answers.specs.MemoryAsked.{MayAsk};
 ghost use Rattle.capn_abi.specs.Calls.{form_named, GiveLimits, IsTariff, bounds_of};
 ghost use Rattle.capn_abi.specs.StatusCodes.{Reports, answered, at_number, is_status};
 ghost use Rattle.capn_c.specs.Entries.{HasEntries, IndexedIn};
@@ -23,7 +23,7 @@ use capn_walk::Limits;
 use capn_walk::laws::indexes;
 use std::alloc::Global;
 
-/// Writes the index of a message in this `form` to `out`; a packed text has none.
+/// Writes the index of a message in this `form`, a stream or bare words, to `out`.
 fn index_in(
     alloc: Global,
     form: Form,
@@ -32,6 +32,7 @@ fn index_in(
     out: &mut [CapnEntry],
     report: &mut CapnReport,
 ) -> u32
+    requires { (form ≡ forms.Stream) ⊎ (form ≡ forms.Bare) }
     ensures possible { (result ≤ 1) ⊎ (8 ≤ result) }
     ensures counted { result ≤ 1 → (s : Survey) × Surveys form bytes.now limits s
         × (report.new ≡ answered (24 * s.visits) s.paid s.visits) }
@@ -43,7 +44,7 @@ fn index_in(
     ensures refused { 8 ≤ result → (e : Refusals) × Reports result report.new e
         × IsUnacceptedIn form bytes.now limits e }
     ensures entries { result ≤ 1 → HasEntries form bytes.now limits report.new.visits }
-    ensures asked { result ≡ 8 → MayAsk form bytes.now limits }
+    ensures memory { result ≡ 8 → MayNeedMemory form bytes.now limits }
     ensures bounded { IsBounded limits.budget report.new.paid report.new.visits }
     ensures kept { result ≢ 0 → out.new ≡ out.old }
 {
@@ -98,8 +99,6 @@ pub extern "C" fn capn_index(
         × IsUnacceptedIn (form_named form) bytes.now (bounds_of limits.now) e }
     // Memory is needed only if `capn_check` may need it.
     ensures memory { result ≡ 8 → MayNeedMemory (form_named form) bytes.now (bounds_of limits.now) }
-    // It is asked for only by a stream of more than 64 segments.
-    ensures asked { result ≡ 8 → MayAsk (form_named form) bytes.now (bounds_of limits.now) }
     // No walk reports more paid than its budget.
     ensures bounded { IsBounded limits.now.budget report.new.paid report.new.visits }
     // If nothing is written, the room is as it was.

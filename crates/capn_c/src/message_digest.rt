@@ -6,14 +6,12 @@ ghost use Rattle.capn_value.specs.Tree.{Tree as Value};
 ghost use Rattle.capn_walk.specs.Accepted.{IsValueOf};
 ghost use Rattle.capn_canon.specs.Denotes.{Answers, AnswersMessage};
 ghost use Rattle.capn_canon.specs.Measure.{IsCanonicalOf};
-ghost use Rattle.capn_canon.specs.MemoryNeed.{MayNeedBytesIn};
 ghost use Rattle.capn_canon.specs.Refusal.{IsPaidWithin, IsRefused};
 ghost use Rattle.capn_canon.specs.declared.refusal.Refusal.TheVariants as refusals;
-ghost use Rattle.capn_answers.specs.MemoryAsked.{MayAskOrMake};
+ghost use Rattle.capn_c.specs.MadeBytes.{MayNeedToMake};
 ghost use Rattle.capn_c.specs.inner.Told.{IsDigestTold};
 
-use capn_answers::run_few;
-use capn_canon::{Form, MessageTask, Refusal, canonical_of, own_canonical};
+use capn_canon::{Form, MessageTask, Refusal, canonical_of, own_canonical, run_task};
 use capn_walk::Limits;
 use capn_words::Space;
 use sha2::{Digest, Sha256};
@@ -50,10 +48,10 @@ struct Hash;
 impl MessageTask<Global> for Hash {
     type Answer = Digested;
 
-    ghost answers = { λ _ m limits r. IsDigestTold m limits r };
+    ghost answers = { λ _ m limits r _. IsDigestTold m limits r };
 
     fn run<S: Space>(
-        &self,
+        &mut self,
         alloc: Global,
         message: &S,
         limits: Limits,
@@ -84,9 +82,8 @@ pub fn digest_in(
     ensures found { IfOk result (λ d. (text : List ℕ) × Answers form bytes.now limits text d.paid
         × (d.digest ≡ sha256 text)) }
     ensures refused { IfErr result (λ e. IsRefused form bytes.now limits e) }
-    ensures memory { IsErrOf result refusals.Memory → MayNeedBytesIn form bytes.now limits }
-    ensures asked { IsErrOf result refusals.Memory → MayAskOrMake form bytes.now limits }
+    ensures memory { IsErrOf result refusals.Memory → MayNeedToMake form bytes.now limits }
     ensures bounded { MatchResult result (λ d. d.paid ≤ limits.budget) (λ e. IsPaidWithin limits.budget e) }
 {
-    run_few(alloc, &Hash, form, bytes, limits)
+    run_task(alloc, &mut Hash, form, bytes, limits)
 }

@@ -6,14 +6,13 @@ ghost use Rattle.capn_canon.specs.Refusal.{IsUnacceptedIn, IsPaidWithin};
 ghost use Rattle.capn_canon.specs.MemoryNeed.{MayNeedMemory};
 ghost use Rattle.capn_canon.specs.declared.form.Form.TheVariants as forms;
 ghost use Rattle.capn_canon.specs.declared.refusal.Refusal.TheVariants as refusals;
-ghost use Rattle.capn_answers.specs.MemoryAsked.{MayAsk};
 ghost use Rattle.capn_c.specs.Figures.{FiguresIn};
 
 use crate::figures::{CapnFigures, figures_of};
-use capn_answers::read_frame;
+use crate::frame::read_frame;
 use capn_canon::{Form, Refusal};
 use capn_pack::unpack;
-use capn_stream::{MOST_TABLE_WORDS, first};
+use capn_stream::MOST_TABLE_WORDS;
 use capn_walk::Limits;
 use capn_words::Bare;
 use std::alloc::Global;
@@ -23,17 +22,10 @@ fn figures_of_frame(alloc: Global, bytes: &[u8], limits: Limits) -> Result<CapnF
     ensures found { IfOk result (λ f. FiguresIn forms.Stream bytes.now limits f) }
     ensures refused { IfErr result (λ e. IsUnacceptedIn forms.Stream bytes.now limits e) }
     ensures memory { IsErrOf result refusals.Memory → MayNeedMemory forms.Stream bytes.now limits }
-    ensures asked { IsErrOf result refusals.Memory → MayAsk forms.Stream bytes.now limits }
     ensures bounded { MatchResult result (λ f. IsBounded limits.budget f.paid f.visits)
         (λ e. IsPaidWithin limits.budget e) }
 {
-    if let Some(read) = read_frame(bytes, limits) {
-        return figures_of(alloc, &read?, limits);
-    }
-    let (message, taken) = first(alloc, bytes, limits.message_words())?;
-    if taken < bytes.len() {
-        return Err(Refusal::Trailing(taken as u64));
-    }
+    let message = read_frame(alloc, bytes, limits)?;
     figures_of(alloc, &message, limits)
 }
 
@@ -63,7 +55,6 @@ pub fn figures_in(
     ensures found { IfOk result (λ f. FiguresIn form bytes.now limits f) }
     ensures refused { IfErr result (λ e. IsUnacceptedIn form bytes.now limits e) }
     ensures memory { IsErrOf result refusals.Memory → MayNeedMemory form bytes.now limits }
-    ensures asked { IsErrOf result refusals.Memory → MayAsk form bytes.now limits }
     ensures bounded { MatchResult result (λ f. IsBounded limits.budget f.paid f.visits)
         (λ e. IsPaidWithin limits.budget e) }
 {

@@ -1,29 +1,26 @@
 //! Indexes of messages that are streams or bare.
 
-ghost use Rattle.std.specs.Prelude.{IsTrue, ◌≡◌, ◌≢◌, ◌⊎◌, ◌<◌, ◌≤◌, ◌*◌, ◌++◌, length, drop, false, IfOk, IfErr};
-ghost use Rattle.capn_few.specs.Few.{most_few};
-ghost use Rattle.capn_stream.specs.FrameRefusal.{head_length};
+ghost use Rattle.std.specs.Prelude.{IsTrue, ◌≡◌, ◌≢◌, ◌⊎◌, ◌<◌, ◌≤◌, ◌*◌, ◌++◌, length, drop, false};
+ghost use Rattle.capn_stream.specs.FrameRefusal.{head_length, most_few};
 ghost use Rattle.capn_value.specs.Tree.{Tree as Value};
 ghost use Rattle.capn_walk.specs.Accepted.{IsAccepted, IsBounded, IsValueOf};
 ghost use Rattle.capn_walk.specs.Index.{index_of};
 ghost use Rattle.capn_walk.specs.Surveyed.{IsSurvey};
 ghost use Rattle.capn_walk.specs.declared.survey_answer.Surveyed.{Surveyed as Survey};
 ghost use Rattle.capn_canon.specs.Denotes.{Denotes};
-ghost use Rattle.capn_canon.specs.Reads.{Reads};
-ghost use Rattle.capn_canon.specs.Refusal.{IsPaidWithin, IsUnaccepted, IsUnacceptedIn};
+ghost use Rattle.capn_canon.specs.MemoryNeed.{MayNeedMemory};
+ghost use Rattle.capn_canon.specs.Refusal.{IsUnaccepted, IsUnacceptedIn};
 ghost use Rattle.capn_canon.specs.SurveyedBytes.{Surveys};
 ghost use Rattle.capn_canon.specs.declared.form.Form.TheVariants as forms;
 ghost use Rattle.capn_canon.specs.declared.refusal.Refusal.{Refusal as Refusals};
-ghost use Rattle.capn_answers.specs.MemoryAsked.{MayAsk};
 ghost use Rattle.capn_c.specs.Entries.{IndexedIn, c_index, starts_from};
 ghost use Rattle.capn_abi.specs.StatusCodes.{Reports, answered, is_status};
 
 use crate::entries::{CapnEntry, Offsets, put_starts};
+use crate::frame::read_frame;
 use capn_abi::{CapnReport, DONE, NO_ROOM, answer_of, refuse};
-use capn_answers::read_frame;
 use capn_canon::{Refusal, survey};
 use capn_stream::table::head_of;
-use capn_stream::{Framed, first};
 use capn_walk::laws::indexes;
 use capn_walk::{Limits, Surveyed, index_into_form};
 use capn_words::{Bare, Space};
@@ -153,47 +150,6 @@ fn table_of<S: Space>(space: &S) -> u32
     head_of(space.segments() as usize) as u32
 }
 
-/// Reads a stream of one message, of any number of segments.
-fn read_many<'a>(alloc: Global, bytes: &'a [u8], limits: Limits) -> Result<Framed<'a>, Refusal>
-    ensures read { IfOk result (λ m. Reads forms.Stream bytes.now limits.message_words m) }
-    ensures refused { IfErr result (λ e. IsUnacceptedIn forms.Stream bytes.now limits e) }
-    ensures bounded { IfErr result (λ e. IsPaidWithin limits.budget e) }
-{
-    let (message, taken) = first(alloc, bytes, limits.message_words())?;
-    if taken < bytes.len() {
-        return Err(Refusal::Trailing(taken as u64));
-    }
-    Ok(message)
-}
-
-/// Writes the index of a stream of one message, of any number of segments, to `out`.
-#[inline(never)]
-fn index_many(
-    alloc: Global,
-    bytes: &[u8],
-    limits: Limits,
-    out: &mut [CapnEntry],
-    report: &mut CapnReport,
-) -> u32
-    ensures possible { (result ≤ 1) ⊎ (8 ≤ result) }
-    ensures counted { result ≤ 1 → (s : Survey) × Surveys forms.Stream bytes.now limits s
-        × (report.new ≡ answered (24 * s.visits) s.paid s.visits) }
-    ensures written { result ≡ 0 → (report.new.visits ≤ length out.old)
-        × IndexedIn forms.Stream bytes.now limits out.old out.new }
-    ensures no_room { result ≡ 1 → length out.old < report.new.visits }
-    ensures only { (v : Value) → Denotes forms.Stream bytes.now limits v → (result ≤ 1) ⊎ (result ≡ 8) }
-    ensures listed { IsTrue (is_status result) }
-    ensures refused { 8 ≤ result → (e : Refusals) × Reports result report.new e
-        × IsUnacceptedIn forms.Stream bytes.now limits e }
-    ensures bounded { IsBounded limits.budget report.new.paid report.new.visits }
-    ensures kept { result ≢ 0 → out.new ≡ out.old }
-{
-    match read_many(alloc, bytes, limits) {
-        Ok(message) => index_message(alloc, &message, limits, table_of(&message), out, report),
-        Err(refusal) => refuse(refusal, report),
-    }
-}
-
 /// Writes the index of the message of which `bytes` are the frame to `out`, within `limits`, with the `report`; returns
 /// the status. Memory is asked of `alloc` only by a frame of more than 64 segments.
 pub fn index_frame(
@@ -213,14 +169,11 @@ pub fn index_frame(
     ensures listed { IsTrue (is_status result) }
     ensures refused { 8 ≤ result → (e : Refusals) × Reports result report.new e
         × IsUnacceptedIn forms.Stream bytes.now limits e }
-    ensures asked { result ≡ 8 → MayAsk forms.Stream bytes.now limits }
+    ensures memory { result ≡ 8 → MayNeedMemory forms.Stream bytes.now limits }
     ensures bounded { IsBounded limits.budget report.new.paid report.new.visits }
     ensures kept { result ≢ 0 → out.new ≡ out.old }
 {
-    let Some(read) = read_frame(bytes, limits) else {
-        return index_many(alloc, bytes, limits, out, report);
-    };
-    match read {
+    match read_frame(alloc, bytes, limits) {
         Ok(message) => index_message(alloc, &message, limits, table_of(&message), out, report),
         Err(refusal) => refuse(refusal, report),
     }

@@ -61,10 +61,10 @@ struct Show {
 impl MessageTask<Global> for Show {
     type Answer = ShownText;
 
-    ghost answers = { λ task m limits r. IsTextTold m limits task.style r };
+    ghost answers = { λ task m limits r _. IsTextTold m limits task.style r };
 
     fn run<S: Space>(
-        &self,
+        &mut self,
         alloc: Global,
         message: &S,
         limits: Limits,
@@ -93,5 +93,6 @@ pub fn text_in(
     ensures bounded { MatchResult result (λ x. IsBounded limits.budget x.survey.paid x.survey.visits)
         (λ e. IsPaidWithin limits.budget e) }
 {
-    run_task(alloc, &Show { style }, form, bytes, limits)
+    let mut task = Show { style };
+    run_task(alloc, &mut task, form, bytes, limits)
 }

@@ -9,7 +9,7 @@ ghost use Rattle.capn_canon.specs.Denotes.{Denotes};
 ghost use Rattle.capn_canon.specs.Refusal.{IsUnacceptedIn};
 ghost use Rattle.capn_canon.specs.SurveyedBytes.{Surveys};
 ghost use Rattle.capn_canon.specs.declared.refusal.Refusal.{Refusal as Refusals};
-ghost use Rattle.capn_answers.specs.Walked.{MayAskForItsWay, MayNeedItsWay};
+ghost use Rattle.capn_answers.specs.Walked.{MayNeedItsWay};
 ghost use Rattle.capn_answers.specs.Ways.{IsStoppedIn};
 ghost use Rattle.capn_abi.specs.Calls.{IsForm, form_named, GiveLimits, IsTariff, bounds_of};
 ghost use Rattle.capn_abi.specs.StatusCodes.{Reports, answered, at_number, is_status};
@@ -44,7 +44,6 @@ fn refusal_way(
         × TellsWay result report.new s numbers way.old way.new }
     ensures short { 64 ≤ result → report.new.length ≤ 8 * limits.depth }
     ensures memory { result ≡ 8 → MayNeedItsWay form bytes.now limits }
-    ensures asked { result ≡ 8 → MayAskForItsWay form bytes.now limits }
     ensures bounded { IsBounded limits.budget report.new.paid report.new.visits }
     ensures kept { result < 64 → way.new ≡ way.old }
 {
@@ -105,8 +104,6 @@ pub extern "C" fn capn_refusal_way(
     ensures short { 64 ≤ result → report.new.length ≤ 8 * limits.now.depth }
     // Memory is needed only if a check may need it, and for a message that is refused by its walk.
     ensures memory { result ≡ 8 → MayNeedItsWay (form_named form) bytes.now (bounds_of limits.now) }
-    // Of those, it is asked for only by a frame of more than 64 segments, by a packed text, and by such a message.
-    ensures asked { result ≡ 8 → MayAskForItsWay (form_named form) bytes.now (bounds_of limits.now) }
     // No walk reports more paid than its budget.
     ensures bounded { IsBounded limits.now.budget report.new.paid report.new.visits }
     // At any other status the room is as it was.

@@ -9,7 +9,6 @@ ghost use Rattle.capn_canon.specs.Denotes.{Denotes};
 ghost use Rattle.capn_canon.specs.Refusal.{IsRefused};
 ghost use Rattle.capn_canon.specs.MemoryNeed.{MayNeedMemory};
 ghost use Rattle.capn_canon.specs.declared.refusal.Refusal.{Refusal as Refusals};
-ghost use Rattle.capn_answers.specs.MemoryAsked.{MayAsk};
 ghost use Rattle.capn_abi.specs.Calls.{IsForm, form_named, GiveLimits, IsTariff, bounds_of};
 ghost use Rattle.capn_abi.specs.StatusCodes.{Reports, at_number, is_status};
 ghost use Rattle.capn_c.specs.Compared.{ComparesIn, DenoteBoth, named};
@@ -46,7 +45,6 @@ fn compare(
     ensures second { which.new ≢ 0 → (which.new ≡ 1)
         × ((v : Value) × Denotes form first.now limits v × (first_cap v ≡ None)) }
     ensures memory { result ≡ 8 → MayNeedMemory form (named which.new first.now second.now) limits }
-    ensures asked { result ≡ 8 → MayAsk form (named which.new first.now second.now) limits }
     ensures bounded { IsBounded limits.budget report.new.paid report.new.visits }
 {
     // The clauses need the laws of canonical bytes, and what is promised of limits.
@@ -106,12 +104,9 @@ pub extern "C" fn capn_same(
     // The second one is refused only if the first has canonical bytes.
     ensures second { which.new ≢ 0 → (which.new ≡ 1)
         × ((v : Value) × Denotes (form_named form) first.now (bounds_of limits.now) v × (first_cap v ≡ None)) }
-    // Memory is needed only for the ends of two segments or more, and for what a text packs.
+    // Memory is needed only for the ends of more than 64 segments, and for what a text packs.
     ensures memory { result ≡ 8
         → MayNeedMemory (form_named form) (named which.new first.now second.now) (bounds_of limits.now) }
-    // Of those, it is asked for only by a frame of more than 64 segments, and by a packed text.
-    ensures asked { result ≡ 8
-        → MayAsk (form_named form) (named which.new first.now second.now) (bounds_of limits.now) }
     // No walk reports more paid than its budget.
     ensures bounded { IsBounded limits.now.budget report.new.paid report.new.visits }
 {

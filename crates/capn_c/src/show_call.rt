@@ -97,8 +97,8 @@ fn show_styled(
 ///
 /// 0: the text is at the start of the buffer. 1: the buffer has no room for it, and is as it was; `length` is what it
 /// needs, exactly. In both, `paid` and `visits` are those of the walk. 2, 3, 4 and 6: the form, a limit, the tariff or
-/// the style is out of its range. 8: memory was refused: for the ends of two segments or more, for what is unpacked, or
-/// for the text. Others: the refusal, which is never that of a capability.
+/// the style is out of its range. 8: memory was refused: for the ends of more than 64 segments, for what is unpacked,
+/// or for the text. Others: the refusal, which is never that of a capability.
 #[unsafe(no_mangle)]
 pub extern "C" fn capn_show(
     alloc: Global,
@@ -132,7 +132,7 @@ pub extern "C" fn capn_show(
     // The meaning of each refusal; no other status stands for it.
     ensures refused { 5 ≤ result → result ≢ 6 → (e : Refusals) × Reports result report.new e
         × IsUnacceptedIn (form_named form) bytes.now (bounds_of limits.now) e }
-    // Memory is needed only for the ends of two segments or more, for what a text packs, and for the text of a message
+    // Memory is needed only for the ends of more than 64 segments, for what a text packs, and for the text of a message
     // that is accepted.
     ensures memory { result ≡ 8 → MayNeedText (form_named form) bytes.now (bounds_of limits.now) }
     // No walk reports more paid than its budget.

@@ -7,7 +7,6 @@ ghost use Rattle.capn_canon.specs.Denotes.{Denotes};
 ghost use Rattle.capn_canon.specs.Refusal.{IsUnacceptedIn};
 ghost use Rattle.capn_canon.specs.MemoryNeed.{MayNeedMemory};
 ghost use Rattle.capn_canon.specs.declared.refusal.Refusal.{Refusal as Refusals};
-ghost use Rattle.capn_answers.specs.MemoryAsked.{MayAsk};
 ghost use Rattle.capn_abi.specs.Calls.{IsForm, form_named, GiveLimits, IsTariff, bounds_of};
 ghost use Rattle.capn_abi.specs.StatusCodes.{Reports, answered, at_number, is_status};
 ghost use Rattle.capn_c.specs.Figures.{FiguresIn};
@@ -38,7 +37,6 @@ fn survey_in(
     ensures refused { 8 ≤ result → (e : Refusals) × Reports result report.new e
         × IsUnacceptedIn form bytes.now limits e }
     ensures memory { result ≡ 8 → MayNeedMemory form bytes.now limits }
-    ensures asked { result ≡ 8 → MayAsk form bytes.now limits }
     ensures bounded { IsBounded limits.budget report.new.paid report.new.visits }
     ensures kept { result ≢ 0 → figures.new ≡ figures.old }
 {
@@ -86,10 +84,8 @@ pub extern "C" fn capn_survey(
     // The meaning of each refusal; no other status stands for it.
     ensures refused { 5 ≤ result → (e : Refusals) × Reports result report.new e
         × IsUnacceptedIn (form_named form) bytes.now (bounds_of limits.now) e }
-    // Memory is needed only for the ends of two segments or more, and for what a text packs.
+    // Memory is needed only for the ends of more than 64 segments, and for what a text packs.
     ensures memory { result ≡ 8 → MayNeedMemory (form_named form) bytes.now (bounds_of limits.now) }
-    // Of those, it is asked for only by a frame of more than 64 segments, and by a packed text.
-    ensures asked { result ≡ 8 → MayAsk (form_named form) bytes.now (bounds_of limits.now) }
     // No walk pays beyond its budget.
     ensures bounded { IsBounded limits.now.budget report.new.paid report.new.visits }
     // If the call has no answer, the figures are as they were.

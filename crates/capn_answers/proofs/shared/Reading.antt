@@ -1,9 +1,9 @@
--- Bytes that can't be read are refused as that, not accepted, and not paid for. (For `of_frame` and capn_c.)
+-- Bytes that can't be read are refused as that, not accepted, and not paid for. (For `walk_in` and capn_c.)
 use Rattle.std.proofs.Common.{◌≡◌, ◌∙◌, ℕ, List, refl, sym, subst, Result, Err}
 use Rattle.capn_walk.specs.Limits.{Bounds}
 use Rattle.capn_canon.specs.Answered.{IsRefusedReading}
 use Rattle.capn_canon.specs.MemoryNeed.{MayNeedMemory}
-use Rattle.capn_canon.specs.Refusal.{IsMisframed, IsMisread, IsPaidWithin, IsUnacceptedIn}
+use Rattle.capn_canon.specs.Refusal.{IsMisread, IsPaidWithin, IsUnacceptedIn}
 use Rattle.capn_canon.specs.declared.form.Form.{Form}
 use Rattle.capn_canon.specs.declared.form.Form.TheVariants as forms
 use Rattle.capn_canon.specs.declared.refusal.Refusal.{Refusal}
@@ -59,18 +59,7 @@ reading_within forms.Bare bs limits (refusals.Walk s) h = absurd h
 reading_within forms.Stream bs limits (refusals.Walk s) h = absurd h
 reading_within forms.Packed bs limits (refusals.Walk s) h = absurd h.2
 
--- a stream that is no frame is not read
-pub misframed_reading : (bs : List ℕ) (limits : Bounds) (e : Refusal) → IsMisframed bs limits.message_words e
-    → IsRefusedReading forms.Stream bs limits e
-misframed_reading bs limits (refusals.Frame e) h = h
-misframed_reading bs limits (refusals.Trailing at) h = h
-misframed_reading bs limits (refusals.Bare e) h = absurd h
-misframed_reading bs limits (refusals.Packed e) h = absurd h
-misframed_reading bs limits (refusals.Walk s) h = absurd h
-misframed_reading bs limits (refusals.Capability k) h = absurd h
-misframed_reading bs limits refusals.Memory h = absurd h
-
--- and bytes that are not read, whatever is said of memory, are not accepted
+-- bytes that are not read, whatever is said of memory, are not accepted
 pub unread_unaccepted : (form : Form) (bs : List ℕ) (limits : Bounds) (e : Refusal) → IsUnread form bs limits e
     → IsUnacceptedIn form bs limits e
 unread_unaccepted form bs limits refusals.Memory h = tt

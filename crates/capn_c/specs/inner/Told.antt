@@ -18,7 +18,6 @@ use Rattle.capn_canon.specs.Refusal.{IsPaidWithin, IsRefused, IsRefusedMessage, 
 use Rattle.capn_canon.specs.declared.form.Form.{Form}
 use Rattle.capn_canon.specs.declared.refusal.Refusal.{Refusal}
 use Rattle.capn_canon.specs.declared.refusal.Refusal.TheVariants as refusals
-use Rattle.capn_answers.specs.MemoryAsked.{MayAsk}
 use Rattle.capn_c.specs.Shown.{ShowsMessage}
 use Rattle.capn_c.specs.declared.message_digest.Digested.{Digested}
 use Rattle.capn_c.specs.declared.message_text.ShownText.{ShownText}
@@ -53,13 +52,12 @@ IsSameIn first form bs limits told = (second : List (List ℕ)) × Reads form bs
     × IsSameTo first second limits told
 
 -- it is told whether bytes have the value of a first message, or why they have no canonical bytes; memory ran out only
--- where reading them may ask for it
+-- where reading them may need it
 pub record IsSecondTold (first : List (List ℕ)) (form : Form) (bs : List ℕ) (limits : Bounds) (r : Result Bool Refusal)
     : Type 0 where
   pub found : IfOk r (λ told. IsSameIn first form bs limits told)
   pub refused : IfErr r (λ e. IsRefused form bs limits e)
   pub memory : IsErrOf r refusals.Memory → MayNeedMemory form bs limits
-  pub asked : IsErrOf r refusals.Memory → MayAsk form bs limits
   pub bounded : IfErr r (λ e. IsPaidWithin limits.budget e)
 
 -- a message has canonical bytes, and is compared with bytes; or why it has none

@@ -1,28 +1,26 @@
 -- What is told of two messages is told of the bytes.
-use Rattle.capn_c.proofs.Comparisons.{compared_asked, compared_bounded, compared_found, compared_refused}
+use Rattle.capn_canon.proofs.shared.TaskRuns.{run_answered}
+use Rattle.capn_c.specs.inner.Told.{IsComparedTo}
+use Rattle.capn_c.proofs.Comparisons.{compared_bounded, compared_found, compared_refused}
 use Rattle.capn_c.proofs.Comparisons.{compared_wanted}
 use Rattle.capn_c.proofs.compared.compared_in.Goals as goal
 
 pub returns-clause-found : goal.returns-clause-found
 returns-clause-found c =
-    compared_found c.args.form c.args.first.now c.args.second.now c.args.limits c.run_few.result
-    c.run_few.ensures.answered
+    compared_found c.args.form c.args.first.now c.args.second.now c.args.limits c.run_task.result
+    (run_answered (λ m l x. IsComparedTo c.args.form c.args.second.now m l x) _ _ _ _ _ _ c.run_task.ensures)
 
 pub returns-clause-refused : goal.returns-clause-refused
 returns-clause-refused c =
-    compared_refused c.args.form c.args.first.now c.args.second.now c.args.limits c.run_few.result
-    c.run_few.ensures.answered
+    compared_refused c.args.form c.args.first.now c.args.second.now c.args.limits c.run_task.result
+    (run_answered (λ m l x. IsComparedTo c.args.form c.args.second.now m l x) _ _ _ _ _ _ c.run_task.ensures)
 
 pub returns-clause-memory : goal.returns-clause-memory
 returns-clause-memory c w =
-    compared_wanted c.args.form c.args.first.now c.args.second.now c.args.limits c.run_few.result
-    c.run_few.ensures.answered w
-
-pub returns-clause-asked : goal.returns-clause-asked
-returns-clause-asked c w =
-    compared_asked c.args.form c.args.first.now c.args.second.now c.args.limits (c.run_few.ensures.asked w)
+    compared_wanted c.args.form c.args.first.now c.args.second.now c.args.limits c.run_task.result
+    (run_answered (λ m l x. IsComparedTo c.args.form c.args.second.now m l x) _ _ _ _ _ _ c.run_task.ensures) w
 
 pub returns-clause-bounded : goal.returns-clause-bounded
 returns-clause-bounded c =
-    compared_bounded c.args.form c.args.first.now c.args.second.now c.args.limits c.run_few.result
-    c.run_few.ensures.answered
+    compared_bounded c.args.form c.args.first.now c.args.second.now c.args.limits c.run_task.result
+    (run_answered (λ m l x. IsComparedTo c.args.form c.args.second.now m l x) _ _ _ _ _ _ c.run_task.ensures)

@@ -13,10 +13,3 @@ returns-in-Err-clause-memory c e =
     (ap Err
     (unaccepted_memory c.args.form c.args.bytes.now c.args.limits c.in-Err.refusal c.in-Err.ensures.refused
     (sym c.refuse.ensures.status_is ∙ e)))
-
-pub returns-in-Err-clause-asked : goal.returns-in-Err-clause-asked
-returns-in-Err-clause-asked c e =
-    c.in-Err.ensures.asked
-    (ap Err
-    (unaccepted_memory c.args.form c.args.bytes.now c.args.limits c.in-Err.refusal c.in-Err.ensures.refused
-    (sym c.refuse.ensures.status_is ∙ e)))

@@ -14,13 +14,6 @@ returns-in-Err-clause-memory c e =
     (refused_memory c.args.form c.args.bytes.now c.args.limits c.in-Err.refusal c.in-Err.ensures.refused
     (sym c.refuse.ensures.status_is ∙ e)))
 
-pub returns-in-Err-clause-asked : goal.returns-in-Err-clause-asked
-returns-in-Err-clause-asked c e =
-    c.in-Err.ensures.asked
-    (ap Err
-    (refused_memory c.args.form c.args.bytes.now c.args.limits c.in-Err.refusal c.in-Err.ensures.refused
-    (sym c.refuse.ensures.status_is ∙ e)))
-
 pub returns-in-Err-clause-only : goal.returns-in-Err-clause-only
 returns-in-Err-clause-only c v d free =
     inl (c.refuse.ensures.status_is ∙ ap code

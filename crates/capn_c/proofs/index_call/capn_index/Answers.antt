@@ -5,7 +5,6 @@ use Rattle.capn_canon.specs.declared.form.Form.{Form}
 use Rattle.capn_canon.specs.Denotes.{Denotes}
 use Rattle.capn_canon.specs.MemoryNeed.{MayNeedMemory}
 use Rattle.capn_abi.specs.Calls.{bounds_of}
-use Rattle.capn_c.proofs.OutOfMemory.{flat_needs}
 use Rattle.capn_c.proofs.index_call.capn_index.Goals as goal
 
 pub returns-in-Ok-clause-only : goal.returns-in-Ok-clause-only
@@ -18,4 +17,4 @@ pub returns-in-Ok-clause-memory : goal.returns-in-Ok-clause-memory
 returns-in-Ok-clause-memory c e =
     subst (λ (x : Form). MayNeedMemory x c.args.bytes.now (bounds_of c.args.limits.now)) c.in-Some.ensures.value
     (subst (λ (x : Bounds). MayNeedMemory c.in-Some.form c.args.bytes.now x) c.in-Ok.ensures.value
-    (flat_needs c.in-Some.form c.args.bytes.now _ c.in-Some.ensures.flat (c.index_in.ensures.asked e)))
+    (c.index_in.ensures.memory e))

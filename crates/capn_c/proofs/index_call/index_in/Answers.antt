@@ -4,6 +4,7 @@ use Rattle.capn_canon.specs.Denotes.{Denotes}
 use Rattle.capn_canon.specs.declared.form.Form.{Form}
 use Rattle.capn_canon.specs.declared.form.Form.TheVariants as forms
 use Rattle.capn_c.proofs.Counted.{entries_told}
+use Rattle.capn_c.proofs.OutOfMemory.{flat_packed}
 use Rattle.capn_c.proofs.index_call.index_in.Goals as goal
 
 pub returns-in-Stream-clause-entries : goal.returns-in-Stream-clause-entries
@@ -25,3 +26,6 @@ returns-in-Bare-clause-entries c e =
 pub returns-in-Bare-clause-only : goal.returns-in-Bare-clause-only
 returns-in-Bare-clause-only c v d =
     c.index_bare.ensures.only v (subst (λ (f : Form). Denotes f c.args.bytes.now c.args.limits v) c.in-Bare.is d)
+
+pub returns-in-Packed-clause-memory : goal.returns-in-Packed-clause-memory
+returns-in-Packed-clause-memory c e = absurd (flat_packed c.args.form c.requires c.in-Packed.is)

@@ -76,13 +76,6 @@ returns-in-Refused-clause-memory c h =
     (rw c.in-Refused.is at c.in-Ok.ensures.found) in
     absurd (omega (arith, h, much, c.tell_way.ensures.told.reports.status_is))
 
-pub returns-in-Refused-clause-asked : goal.returns-in-Refused-clause-asked
-returns-in-Refused-clause-asked c h =
-    let f = c.in-Refused.refused in
-    let much = stop_status c.args.form c.args.bytes.now c.args.limits f.stopped f.way.items
-    (rw c.in-Refused.is at c.in-Ok.ensures.found) in
-    absurd (omega (arith, h, much, c.tell_way.ensures.told.reports.status_is))
-
 pub returns-in-Refused-clause-bounded : goal.returns-in-Refused-clause-bounded
 returns-in-Refused-clause-bounded c =
     let within = (rw c.in-Refused.is at c.in-Ok.ensures.bounded) in
@@ -132,15 +125,6 @@ returns-in-Err-clause-memory c e =
     let unaccepted = unread_unaccepted c.args.form c.args.bytes.now c.args.limits c.in-Err.refusal
     c.in-Err.ensures.refused in
     c.in-Err.ensures.memory
-    (ap Err
-    (unaccepted_memory c.args.form c.args.bytes.now c.args.limits c.in-Err.refusal unaccepted
-    (sym c.refuse.ensures.status_is ∙ e)))
-
-pub returns-in-Err-clause-asked : goal.returns-in-Err-clause-asked
-returns-in-Err-clause-asked c e =
-    let unaccepted = unread_unaccepted c.args.form c.args.bytes.now c.args.limits c.in-Err.refusal
-    c.in-Err.ensures.refused in
-    c.in-Err.ensures.asked
     (ap Err
     (unaccepted_memory c.args.form c.args.bytes.now c.args.limits c.in-Err.refusal unaccepted
     (sym c.refuse.ensures.status_is ∙ e)))

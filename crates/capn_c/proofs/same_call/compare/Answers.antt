@@ -6,7 +6,6 @@ use Rattle.capn_walk.specs.Limits.{AreLimits}
 use Rattle.capn_canon.specs.MemoryNeed.{MayNeedMemory}
 use Rattle.capn_canon.specs.declared.refusal.Refusal.{Refusal}
 use Rattle.capn_canon.proofs.shared.NotRefused.{not_refused}
-use Rattle.capn_answers.specs.MemoryAsked.{MayAsk}
 use Rattle.capn_abi.specs.StatusCodes.{code}
 use Rattle.capn_c.specs.Compared.{named}
 use Rattle.capn_c.specs.inner.Told.{IsCompared}
@@ -98,16 +97,6 @@ returns-in-Err-compared-clause-memory c e =
     (refused_memory c.args.form c.args.second.now l c.in-Err-compared.refusal h.second.refused
     (sym c.refuse.ensures.status_is ∙ e)))
 
-pub returns-in-Err-compared-clause-asked : goal.returns-in-Err-compared-clause-asked
-returns-in-Err-compared-clause-asked c e =
-    let l = c.args.limits in
-    let h = subst (λ (r : Result Bool Refusal). IsCompared c.args.form c.args.first.now c.args.second.now l r)
-    c.in-Err-compared.is c.in-Ok.ensures.found in
-    h.second.asked
-    (ap Err
-    (refused_memory c.args.form c.args.second.now l c.in-Err-compared.refusal h.second.refused
-    (sym c.refuse.ensures.status_is ∙ e)))
-
 -- ---- the first one is
 
 pub returns-in-Err-clause-only : goal.returns-in-Err-clause-only
@@ -121,15 +110,6 @@ returns-in-Err-clause-memory c e =
     subst (λ (n : ℕ). MayNeedMemory c.args.form (named n c.args.first.now c.args.second.now) c.args.limits)
     (sym c.requires.blank.0)
     (c.in-Err.ensures.memory
-    (ap Err
-    (refused_memory c.args.form c.args.first.now c.args.limits c.in-Err.refusal c.in-Err.ensures.refused
-    (sym c.refuse-in-Err.ensures.status_is ∙ e))))
-
-pub returns-in-Err-clause-asked : goal.returns-in-Err-clause-asked
-returns-in-Err-clause-asked c e =
-    subst (λ (n : ℕ). MayAsk c.args.form (named n c.args.first.now c.args.second.now) c.args.limits)
-    (sym c.requires.blank.0)
-    (c.in-Err.ensures.asked
     (ap Err
     (refused_memory c.args.form c.args.first.now c.args.limits c.in-Err.refusal c.in-Err.ensures.refused
     (sym c.refuse-in-Err.ensures.status_is ∙ e))))

@@ -1,5 +1,6 @@
 -- The message of a frame stands first, or none does.
-use Rattle.std.proofs.Common.{subst, ℕ, ap, Err}
+use Rattle.std.proofs.Common.{subst, ℕ, ap, [], ◌∷◌, Err}
+use Rattle.capn_stream.specs.Frames.{StandsFirst}
 use Rattle.capn_stream.specs.FrameRefusal.{HasTable, IsFrameRefused}
 use Rattle.capn_stream.specs.declared.fault.FrameFault.{FrameFault}
 use Rattle.capn_canon.proofs.calls.ReadInput.{frame_unread}

@@ -1,0 +1,23 @@
+-- The messages whose canonical bytes have to be made, and the cases in which memory may be needed for that. (Own.)
+use Rattle.std.specs.Prelude.{◌≡◌, ◌⊎◌, ℕ, List, None}
+use Rattle.capn_value.specs.Tree.{Tree}
+use Rattle.capn_value.specs.FirstCap.{first_cap}
+use Rattle.capn_walk.specs.Accepted.{IsValueOf}
+use Rattle.capn_walk.specs.Limits.{Bounds}
+use Rattle.capn_canon.specs.Measure.{IsCanonicalOf}
+use Rattle.capn_canon.specs.MemoryNeed.{MayNeedMemory}
+use Rattle.capn_canon.specs.Reads.{Reads}
+use Rattle.capn_canon.specs.declared.form.Form.{Form}
+
+-- the bytes are read as an accepted message, whose value has canonical bytes, and which isn't canonical
+pub record MustMake (form : Form) (bs : List ℕ) (limits : Bounds) : Type 0 where
+  pub message : List (List ℕ)
+  pub reads : Reads form bs limits.message_words message
+  pub value : Tree
+  pub is : IsValueOf message limits value
+  pub free : first_cap value ≡ None
+  pub not : IsCanonicalOf message value → ⊥
+
+-- memory may be needed: for reading, or for canonical bytes that have to be made
+abbrev pub MayNeedToMake : Form → List ℕ → Bounds → Type 0
+MayNeedToMake form bs limits = MayNeedMemory form bs limits ⊎ MustMake form bs limits
