@@ -3,7 +3,7 @@ use Rattle.std.proofs.Common.{◌≡◌, ℕ, suc, [], ◌∷◌, ◌-◌, ◌*�
 use Rattle.std.proofs.Math.Nat.{min-eq_left}
 use Rattle.std.proofs.lemmas.List.Sums.{sum_by-cons}
 use Rattle.capn_words.specs.Message.{segment_at, total}
-use Rattle.capn_segments.specs.Segments.{IsHeld}
+use Rattle.capn_stream.specs.Segments.{IsHeld}
 use Rattle.capn_stream.specs.Frames.{Frames}
 use Rattle.capn_stream.specs.declared.fault.FrameFault.{FrameFault}
 use Rattle.capn_stream.specs.declared.fault.FrameFault.TheVariants as frame

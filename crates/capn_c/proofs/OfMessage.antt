@@ -12,7 +12,7 @@ use Rattle.capn_canon.specs.Reads.{Reads}
 use Rattle.capn_canon.specs.Refusal.{IsRefusedMessage}
 use Rattle.capn_canon.proofs.shared.OneReading.{one_message}
 use Rattle.capn_abi.specs.StatusCodes.{code}
-use Rattle.capn_segments.specs.Segments.{IsHeld}
+use Rattle.capn_stream.specs.Segments.{IsHeld}
 use Rattle.capn_c.specs.Held.{IsHeldOr, IsRefusedHeld}
 use Rattle.capn_c.proofs.OutOfMemory.{held_memory}
 

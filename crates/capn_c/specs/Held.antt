@@ -1,7 +1,7 @@
 -- The answers for a message that is held in segments. (Own.)
 use Rattle.std.specs.Prelude.{◌≡◌, ℕ, List, ⊤, Result, Ok, Err}
-use Rattle.capn_segments.specs.Segments.{IsHeld, IsUnheld}
-use Rattle.capn_segments.specs.declared.fault.SegmentsFault.TheVariants as segments
+use Rattle.capn_stream.specs.Segments.{IsHeld, IsUnheld}
+use Rattle.capn_stream.specs.declared.segments_fault.SegmentsFault.TheVariants as segments
 use Rattle.capn_stream.specs.declared.fault.FrameFault.{FrameFault}
 use Rattle.capn_stream.specs.declared.fault.FrameFault.TheVariants as frame
 use Rattle.capn_value.specs.Tree.{Tree}

@@ -11,14 +11,13 @@ ghost use Rattle.capn_canon.specs.Canonicity.{IsCanonicalForm};
 ghost use Rattle.capn_canon.specs.MemoryNeed.{MayNeedBytes};
 ghost use Rattle.capn_canon.specs.Refusal.{IsPaidWithin, IsUnaccepted};
 ghost use Rattle.capn_canon.specs.declared.refusal.Refusal.TheVariants as refusals;
-ghost use Rattle.capn_segments.specs.Segments.{IsHeld, message_of};
+ghost use Rattle.capn_stream.specs.Segments.{IsHeld, message_of};
 ghost use Rattle.capn_c.specs.Held.{AnswersHeld, DenotesHeld, FiguresHeld, IsHeldOr, IsRefusedHeld};
 ghost use Rattle.capn_c.specs.Held.{IsUnacceptedHeld, SurveysHeld};
 
 use crate::figures::{CapnFigures, figures_of};
 use capn_canon::{Canonical, Refusal, canonical_of, survey};
-use capn_segments::{Segments, SegmentsFault};
-use capn_stream::FrameFault;
+use capn_stream::{FrameFault, Segments, SegmentsFault};
 use capn_walk::{Limits, Surveyed};
 use capn_words::Space;
 use std::alloc::Global;

@@ -7,3 +7,5 @@ pub mod Sent
 pub mod ReadFirst
 pub mod FrameRows
 pub mod OneSegment
+mod Joined
+mod Held

@@ -6,3 +6,4 @@ pub mod StreamPieces
 pub mod NextMessage
 pub mod Laws
 pub mod Display
+pub mod Segments

@@ -12,7 +12,8 @@
 //! `first` answers a message if and only if a frame within the limits comes first, and else says why none does. What a
 //! table announces is never allocated. [`laws`] has what holds of frames apart from any call: one frame comes first at
 //! most, and bytes are refused for one reason. [`table`] reads a table alone, for a caller that keeps the ends of the
-//! segments in its own way.
+//! segments in its own way. [`Segments`] is a message whose segments lie apart, as a builder holds them: it is read as
+//! the frame of the same segments is, and takes no memory.
 #![tactic(auto)]
 
 mod ends;
@@ -24,6 +25,9 @@ mod framed;
 mod framer;
 pub mod laws;
 mod next_message;
+mod segment_bytes;
+mod segments;
+mod segments_fault;
 mod stage;
 mod stored;
 pub mod table;
@@ -35,8 +39,10 @@ pub use frame_output::write_message;
 pub use framed::Framed;
 pub use framer::Framer;
 pub use next_message::read_message;
+pub use segments::Segments;
+pub use segments_fault::SegmentsFault;
 pub use stored::Stored;
 pub use table::MOST_TABLE_WORDS;
 
 // The types in the signatures above.
-pub use capn_words::Memory;
+pub use capn_words::{Memory, Place, Space};

@@ -1,6 +1,6 @@
 -- What is written of the message that segments hold is written of the segments.
 use Rattle.std.proofs.Common.{ℕ, List, subst, sym, ◌∙◌}
-use Rattle.capn_segments.specs.Segments.{message_of}
+use Rattle.capn_stream.specs.Segments.{message_of}
 use Rattle.capn_walk.specs.Accepted.{IsValueOf}
 use Rattle.capn_c.proofs.OfMessage.{held_asks}
 use Rattle.capn_c.proofs.canonical_segments_call.fill_held.Goals as goal

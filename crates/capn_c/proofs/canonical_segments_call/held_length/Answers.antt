@@ -1,7 +1,7 @@
 -- A survey answers a price and a length that is enough; no refusal has the status 8, since no memory is needed.
 use Rattle.std.proofs.Common.{ap, sym, refl, ◌∙◌, arith}
 use Rattle.capn_canon.specs.Layout.{canon}
-use Rattle.capn_segments.specs.Segments.{message_of}
+use Rattle.capn_stream.specs.Segments.{message_of}
 use Rattle.capn_abi.specs.declared.report.CapnReport.{CapnReport}
 use Rattle.capn_c.proofs.OutOfMemory.{unaccepted_held_memory}
 use Rattle.capn_c.proofs.canonical_segments_call.held_length.Goals as goal

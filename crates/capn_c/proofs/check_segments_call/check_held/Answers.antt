@@ -1,6 +1,6 @@
 -- No refusal has the status 8, since no memory is needed.
 use Rattle.std.proofs.Common.{sym, ◌∙◌}
-use Rattle.capn_segments.specs.Segments.{message_of}
+use Rattle.capn_stream.specs.Segments.{message_of}
 use Rattle.capn_c.proofs.OutOfMemory.{unaccepted_held_memory}
 use Rattle.capn_c.proofs.check_segments_call.check_held.Goals as goal
 

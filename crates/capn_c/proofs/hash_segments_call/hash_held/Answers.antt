@@ -1,6 +1,6 @@
 -- A refusal with the status 8 says that memory ran out.
 use Rattle.std.proofs.Common.{ap, sym, ◌∙◌, Err}
-use Rattle.capn_segments.specs.Segments.{message_of}
+use Rattle.capn_stream.specs.Segments.{message_of}
 use Rattle.capn_c.proofs.OutOfMemory.{held_memory}
 use Rattle.capn_c.proofs.hash_segments_call.hash_held.Goals as goal
 

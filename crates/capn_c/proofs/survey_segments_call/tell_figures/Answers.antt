@@ -1,6 +1,6 @@
 -- No refusal has the status 8, since no memory is needed.
 use Rattle.std.proofs.Common.{sym, ◌∙◌}
-use Rattle.capn_segments.specs.Segments.{message_of}
+use Rattle.capn_stream.specs.Segments.{message_of}
 use Rattle.capn_c.proofs.OutOfMemory.{unaccepted_held_memory}
 use Rattle.capn_c.proofs.survey_segments_call.tell_figures.Goals as goal
 

@@ -8,7 +8,7 @@ use Rattle.std.proofs.lemmas.List.Sums.{sum_by-cons, sum_by_more, sum_by_more_le
 use Rattle.capn_words.specs.Message.{AreWords, IsMessage, bytes, segment_at, total}
 use Rattle.capn_words.specs.Message.{word_number, words_of, most_words}
 use Rattle.capn_words.proofs.shared.Words.{word_bytes-number, word_number-lt}
-use Rattle.capn_segments.specs.Segments.{IsHeld, IsWord, joined, message_of}
+use Rattle.capn_stream.specs.Segments.{IsHeld, IsWord, joined, message_of}
 
 -- segments, as a contract sees them
 abbrev pub Held : Type 0

@@ -1,7 +1,7 @@
 -- Some bytes of a segment.
 use Rattle.std.proofs.Common.{◌∙◌, arith}
-use Rattle.capn_segments.proofs.Held.{none, seen_bytes, seen_count, seen_length}
-use Rattle.capn_segments.proofs.segments.SegmentsSpace.bytes.Goals as goal
+use Rattle.capn_stream.proofs.Held.{none, seen_bytes, seen_count, seen_length}
+use Rattle.capn_stream.proofs.segments.SegmentsSpace.bytes.Goals as goal
 
 pub part-requires : goal.part-requires
 part-requires c =

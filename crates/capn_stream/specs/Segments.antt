@@ -3,8 +3,8 @@ use Rattle.std.specs.Prelude.{◌≡◌, ℕ, ◌-◌, ◌^◌, ◌<◌, ◌≤�
 use Rattle.std.specs.Borrow.{Bor}
 use Rattle.std.specs.List.{flat_map}
 use Rattle.capn_words.specs.Message.{most_segments, total, word_number, AreBytes}
-use Rattle.capn_segments.specs.declared.fault.SegmentsFault.{SegmentsFault}
-use Rattle.capn_segments.specs.declared.fault.SegmentsFault.TheVariants.{Empty, TooManySegments, TooManyWords}
+use Rattle.capn_stream.specs.declared.segments_fault.SegmentsFault.{SegmentsFault}
+use Rattle.capn_stream.specs.declared.segments_fault.SegmentsFault.TheVariants.{Empty, TooManySegments, TooManyWords}
 
 -- the message that segments hold: a word is the number of its 8 bytes, the least significant first
 abbrev pub message_of : List (Bor (List (List ℕ))) → List (List ℕ)

@@ -2,10 +2,10 @@
 
 ghost use Rattle.std.specs.Prelude.{◌≡◌, ◌≤◌, ◌<◌, length, All, List, ℕ, Ok};
 ghost use Rattle.capn_words.specs.Message.{most_message_words};
-ghost use Rattle.capn_segments.specs.Segments.{counted_words, IsHeld, IsWord, message_of, ReadsSegments};
+ghost use Rattle.capn_stream.specs.Segments.{counted_words, IsHeld, IsWord, message_of, ReadsSegments};
 
-use crate::bytes::{bytes_of, part, word_at};
-use crate::fault::SegmentsFault;
+use crate::segment_bytes::{bytes_of, part, word_at};
+use crate::segments_fault::SegmentsFault;
 use capn_words::{MOST_SEGMENTS, Place, Space};
 use std::marker::Model;
 
@@ -41,7 +41,7 @@ pub struct Segments<'a> {
 impl<'a> Model for Segments<'a> {
     ghost use Rattle.std.specs.Prelude.{ℕ, List, All};
     ghost use Rattle.capn_words.specs.Message.{most_words};
-    ghost use Rattle.capn_segments.specs.Segments.{IsHeld, IsWord, message_of};
+    ghost use Rattle.capn_stream.specs.Segments.{IsHeld, IsWord, message_of};
 
     ghost Value = { List (List ℕ) };
 

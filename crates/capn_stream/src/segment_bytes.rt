@@ -2,7 +2,7 @@
 
 ghost use Rattle.std.specs.Prelude.{◌≡◌, ◌+◌, ◌*◌, ◌<◌, ◌≤◌, ◌^◌, [], length, take, drop, All, slice_index_or};
 ghost use Rattle.capn_words.specs.Message.{AreBytes, word_number};
-ghost use Rattle.capn_segments.specs.Segments.{IsWord, joined};
+ghost use Rattle.capn_stream.specs.Segments.{IsWord, joined};
 
 use byteorder::{ByteOrder, LittleEndian};
 use std::slice;

@@ -1,7 +1,7 @@
 use Rattle.std.proofs.Common.{◌≡◌, ◌-◌, ◌^◌, length, take, min, All}
 use Rattle.std.specs.List.{sum_by}
-use Rattle.capn_segments.specs.Segments.{IsWord}
-use Rattle.capn_segments.proofs.segments.words_in.Given as goal
+use Rattle.capn_stream.specs.Segments.{IsWord}
+use Rattle.capn_stream.proofs.segments.words_in.Given as goal
 
 -- the words of the segments so far
 abbrev pub invariant-loop-segment : goal.invariant-loop-segment

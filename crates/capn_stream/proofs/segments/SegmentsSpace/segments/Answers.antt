@@ -1,8 +1,8 @@
 -- What is held is a message.
 use Rattle.std.proofs.Common.{subst}
 use Rattle.capn_words.specs.Message.{IsMessage}
-use Rattle.capn_segments.proofs.Held.{held_message}
-use Rattle.capn_segments.proofs.segments.SegmentsSpace.segments.Goals as goal
+use Rattle.capn_stream.proofs.Held.{held_message}
+use Rattle.capn_stream.proofs.segments.SegmentsSpace.segments.Goals as goal
 
 pub returns-clause-bounds : goal.returns-clause-bounds
 returns-clause-bounds c =

@@ -3,9 +3,9 @@ use Rattle.std.proofs.Common.{◌-◌, ◌^◌, length, min, All, refl, ℕ, ap,
 use Rattle.std.specs.List.{sum_by}
 use Rattle.std.proofs.lemmas.List.{take_all}
 use Rattle.std.proofs.lemmas.List.Elements.{All-more}
-use Rattle.capn_segments.specs.Segments.{IsWord}
-use Rattle.capn_segments.proofs.Held.{AreHeld, Held, counted_more, none, total_of}
-use Rattle.capn_segments.proofs.segments.words_in.Goals as goal
+use Rattle.capn_stream.specs.Segments.{IsWord}
+use Rattle.capn_stream.proofs.Held.{AreHeld, Held, counted_more, none, total_of}
+use Rattle.capn_stream.proofs.segments.words_in.Goals as goal
 
 pub loop-segment-init : goal.loop-segment-init
 loop-segment-init c = (refl, λ k d l. absurd (omega (arith, l)))

@@ -16,7 +16,7 @@ pub enum SegmentsFault {
 
 impl fmt::Display for SegmentsFault {
     ghost use Rattle.std.specs.Prelude.{Some};
-    ghost use Rattle.capn_segments.specs.Display.{segments_text};
+    ghost use Rattle.capn_stream.specs.Display.{segments_text};
 
     ghost output = { λ fault. Some (segments_text fault) };
 

@@ -1,7 +1,7 @@
 -- As many words as a segment holds.
 use Rattle.std.proofs.Common.{ap, length, sym, arith}
-use Rattle.capn_segments.proofs.Held.{count_of, none, seen_room, seen_words, words_of-none}
-use Rattle.capn_segments.proofs.segments.SegmentsSpace.words.Goals as goal
+use Rattle.capn_stream.proofs.Held.{count_of, none, seen_room, seen_words, words_of-none}
+use Rattle.capn_stream.proofs.segments.SegmentsSpace.words.Goals as goal
 
 pub overflow_cast-result-2 : goal.overflow_cast-result-2
 overflow_cast-result-2 c =

@@ -2,7 +2,7 @@
 use Rattle.std.proofs.Common.{◌≡◌, ℕ, zero, suc, ◌*◌, ◌<◌, List, [], ◌∷◌, ◌++◌, length}
 use Rattle.std.proofs.Common.{slice_index_or, All, refl, arith, length-append}
 use Rattle.capn_words.specs.Message.{AreBytes}
-use Rattle.capn_segments.specs.Segments.{IsWord, joined}
+use Rattle.capn_stream.specs.Segments.{IsWord, joined}
 
 -- each of some words has 8 bytes
 abbrev pub HaveEight : List (List ℕ) → Type 0

@@ -2,7 +2,7 @@
 -- raw pointer.
 use Rattle.std.proofs.Common.{◌≡◌, ℕ, ◌+◌, ◌*◌, ◌^◌, ◌<◌, List, [], ◌∷◌, ◌++◌, length, refl, subst}
 use Rattle.std.proofs.Common.{arith, w64, Bor}
-use Rattle.capn_segments.specs.Segments.{joined}
+use Rattle.capn_stream.specs.Segments.{joined}
 use seplogic.Ra.Ura.{Ura}
 use mir.Syntax.{Body, named, w64, seq, assign, place, rv_opd, copy, return}
 use mir.Val.{Val, vint}
@@ -37,10 +37,10 @@ use denote.Triple.Spec.{Meets, triple_of}
 use denote.Triple.Table.{entered}
 use denote.Triple.Walked.{says, needs, Stays, stay_dropped, walk_of, ends_at, walked, Goes-dropped, walk_Meets}
 use borrow.Table.Elements.{at, at_mul}
-use Rattle.capn_segments.specs.contracts.bytes.joined_bytes.Key.{name as key}
-use Rattle.capn_segments.specs.contracts.bytes.joined_bytes as F
-use Rattle.capn_segments.proofs.bytes.joined_bytes.Statement as stated
-use Rattle.capn_segments.proofs.bytes.joined_bytes.Code as code
+use Rattle.capn_stream.specs.contracts.segment_bytes.joined_bytes.Key.{name as key}
+use Rattle.capn_stream.specs.contracts.segment_bytes.joined_bytes as F
+use Rattle.capn_stream.proofs.segment_bytes.joined_bytes.Statement as stated
+use Rattle.capn_stream.proofs.segment_bytes.joined_bytes.Code as code
 
 -- lists joined
 abbrev flat : {X : Type 0} → List (List X) → List X

@@ -1,7 +1,7 @@
 -- A word of a segment.
 use Rattle.std.proofs.Common.{◌∙◌, arith}
-use Rattle.capn_segments.proofs.Held.{none, seen_here, seen_length, seen_word}
-use Rattle.capn_segments.proofs.segments.SegmentsSpace.word.Goals as goal
+use Rattle.capn_stream.proofs.Held.{none, seen_here, seen_length, seen_word}
+use Rattle.capn_stream.proofs.segments.SegmentsSpace.word.Goals as goal
 
 pub word_at-requires : goal.word_at-requires
 word_at-requires c =

@@ -1,8 +1,8 @@
 -- The bytes of words of 8 bytes each.
 use Rattle.std.proofs.Common.{length, ap, sym, ◌∙◌, rules, subst}
 use Rattle.capn_words.specs.Message.{AreBytes}
-use Rattle.capn_segments.proofs.Joined.{length-joined, all_words}
-use Rattle.capn_segments.proofs.bytes.bytes_of.Goals as goal
+use Rattle.capn_stream.proofs.Joined.{length-joined, all_words}
+use Rattle.capn_stream.proofs.segment_bytes.bytes_of.Goals as goal
 
 pub joined_bytes-requires : goal.joined_bytes-requires
 joined_bytes-requires c = (length-joined c.args.words.now c.told-words, search rules)

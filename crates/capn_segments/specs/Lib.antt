@@ -1,2 +1,0 @@
-pub mod Display
-pub mod Segments
