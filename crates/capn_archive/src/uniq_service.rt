@@ -1,9 +1,10 @@
 //! The service of `uniq`.
 
-ghost use Rattle.std.specs.Prelude.{◌≡◌, false};
+ghost use Rattle.std.specs.Prelude.{◌≡◌, false, OnErr};
 ghost use Rattle.std.specs.FinSet as set;
 ghost use Rattle.capn_words.specs.Watched.{inner_of, has_failed};
 ghost use Rattle.capn_archive.specs.CanonicalFrame.{AddsText};
+ghost use Rattle.capn_digests.specs.Digests.{MayGrow};
 ghost use Rattle.capn_archive.specs.UniqMessages as spec;
 ghost use Rattle.capn_archive.specs.UniqMessages.{InsertsDigest, TriesToDeduplicate};
 ghost use Rattle.capn_serve.specs.Outgoing.{outgoing};
@@ -43,7 +44,7 @@ impl<A: Allocator> Model for UniqService<A> {
     ghost coded = { Prim.hlevel (codes, set.code {R = slice_cmp nat_cmp} (coded_list coded_ℕ)) };
 
     ghost view = { λ s.
-        record { order = s.order; digests = s.digests; served = s.served; skipped = s.skipped } };
+        record { order = s.order; digests = s.digests.seen; served = s.served; skipped = s.skipped } };
 }
 
 /// Inserts a digest, and answers whether it was among those before.
@@ -51,7 +52,8 @@ fn insert_digest<A: Allocator + Copy>(
     digests: &mut DigestSet<A>,
     digest: [u8; 32],
 ) -> Result<bool, ServeFault>
-    ensures { InsertsDigest digests.old digests.new digest result }
+    ensures inserts { InsertsDigest digests.old.seen digests.new.seen digest result }
+    ensures memory { OnErr result (MayGrow digests.old digest) }
 {
     match digests.insert(digest) {
         Ok(is_duplicate) => Ok(is_duplicate),

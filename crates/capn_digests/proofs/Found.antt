@@ -1,7 +1,6 @@
 -- What is found stays so.
 use Rattle.std.proofs.Common.{◌≡◌, ℕ, ◌+◌, ◌-◌, ◌*◌, ◌/◌, ◌%◌, ◌<◌, ◌≤◌, ◌≢◌, inl, inr, ◌⊎◌, List, [], ◌∷◌, ◌++◌}
 use Rattle.std.proofs.Common.{length, get_or, set, true, false, nat_eq, arith, ap, sym, ◌∙◌, subst, refl, length-append}
-use Rattle.std.specs.List.{All}
 use Rattle.std.specs.BTreeSet.{insert_key}
 use Rattle.std.specs.Ordering.{nat_cmp}
 use Rattle.std.specs.Cmp.Lexicographic.{slice_cmp}
@@ -216,7 +215,7 @@ module _ (list : List (List ℕ)) (heads : List Head) (table : List (List Slot))
       (ap (λ (s : Slot). get_or list s.at []) e ∙ is)
 
 -- the head and the bucket of a tag are the same where each stands twice
-same_twice : {X : Type 0} (xs : List X) (d : X) (n t : ℕ) → length xs ≡ n → t % n < n
+pub same_twice : {X : Type 0} (xs : List X) (d : X) (n t : ℕ) → length xs ≡ n → t % n < n
     → (t % (n + n) < n + n) × (get_or (xs ++ xs) (t % (n + n)) d ≡ get_or xs (t % n) d)
 same_twice xs d n t same below =
     let less : t % (n + n) < n + n = mod-lt t {m = n + n} (omega arith) in

@@ -2,3 +2,4 @@ pub mod Marks
 pub mod Kept
 pub mod Found
 pub mod Sets
+pub mod Grown

@@ -1,5 +1,5 @@
 -- Digests found by a table of buckets.
-use Rattle.std.specs.Prelude.{◌≡◌, ℕ, ◌+◌, ◌<◌, ◌≤◌, ◌/◌, ◌%◌, ◌⊎◌, List, length, [], ◌++◌, true, false}
+use Rattle.std.specs.Prelude.{◌≡◌, ℕ, ◌+◌, ◌<◌, ◌%◌, List, length, [], ◌++◌, true, false}
 use Rattle.std.specs.Prelude.{slice_index_or, bit_and}
 use Rattle.std.specs.List.{All}
 use Rattle.std.specs.Ordering.{nat_cmp}
@@ -63,8 +63,3 @@ pub record IsIndexed (list : List (List ℕ)) (heads : List Head) (table : List 
     : Type 0 where
   pub found : IsFound list heads table rest
   pub counted : set.len (digests_of list rest) ≡ length list + length rest
-
--- for one digest more the list has to grow, which is as long as its capacity, or the table, which has an eighth as many
--- buckets as there are digests
-abbrev pub HasToGrow : ℕ → ℕ → ℕ → Type 0
-HasToGrow count capacity buckets = (capacity ≤ count) ⊎ (buckets ≤ count / 8)

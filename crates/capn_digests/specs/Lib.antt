@@ -1,2 +1,3 @@
 pub mod Tag
 pub mod Buckets
+pub mod Digests

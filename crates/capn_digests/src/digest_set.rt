@@ -1,7 +1,8 @@
 //! The set of digests.
 
-ghost use Rattle.std.specs.Prelude.{◌≡◌, false, OnOk, OnErr, IfOk};
+ghost use Rattle.std.specs.Prelude.{◌≡◌, true, false, OnOk, OnErr, IfOk};
 ghost use Rattle.std.specs.FinSet as set;
+ghost use Rattle.capn_digests.specs.Digests.{MayGrow, HasGrown, no_digests};
 
 use crate::doubling::make_room;
 use crate::look::is_among;
@@ -23,17 +24,24 @@ pub struct DigestSet<A: Allocator> {
 }
 
 impl<A: Allocator> Model for DigestSet<A> {
+    ghost use Rattle.std.specs.Prelude.{length, vec_capacity};
     ghost use Rattle.std.specs.FinSet as set;
     ghost use Rattle.std.specs.Ordering.{nat_cmp};
     ghost use Rattle.std.specs.Cmp.Lexicographic.{slice_cmp};
-    ghost use Rattle.std.specs.Coded.{coded_ℕ, coded_list};
+    ghost use Rattle.std.specs.Coded.{codes, coded_ℕ, coded_list};
     ghost use Rattle.capn_digests.specs.Buckets.{IsIndexed, digests_of};
+    ghost use Rattle.capn_digests.specs.Digests.{Digests, counts};
 
-    ghost Value = { set.FinSet (slice_cmp nat_cmp) };
+    ghost Value = { Digests };
 
-    ghost coded = { set.code (coded_list coded_ℕ) };
+    ghost coded = { Prim.hlevel (codes, set.code {R = slice_cmp nat_cmp} (coded_list coded_ℕ)) };
 
-    ghost view = { λ s. digests_of s.list.items s.rest.keys };
+    ghost view = { λ s. record {
+      seen = digests_of s.list.items s.rest.keys;
+      listed = length s.list.items;
+      room = vec_capacity s.list;
+      taken = counts s.heads.items;
+    } };
 
     ghost invariant = { λ s. IsIndexed s.list.items s.heads.items s.table.items s.rest.keys };
 }
@@ -41,7 +49,7 @@ impl<A: Allocator> Model for DigestSet<A> {
 impl<A: Allocator + Copy> DigestSet<A> {
     /// The empty set. It takes no memory.
     pub fn new(alloc: A) -> DigestSet<A>
-        ensures { result ≡ set.empty }
+        ensures { result ≡ no_digests }
     {
         DigestSet {
             list: Vec::new(alloc),
@@ -53,13 +61,17 @@ impl<A: Allocator + Copy> DigestSet<A> {
 
     /// Inserts `digest`, and returns whether it was there.
     ///
-    /// `AllocError` comes only for a digest that was not there, if a growth was refused: of the list, of the table or
-    /// of the tree. Then the set is as it was.
+    /// `AllocError` comes only for a digest that was not there, and only if a growth was refused: of the list, which
+    /// was full; of the table, which had at least eight digests for each bucket; or of the tree, since the bucket of
+    /// `digest` was full or the list had 2^32 - 1 digests. Then the set has what it had.
     pub fn insert(&mut self, digest: [u8; 32]) -> Result<bool, AllocError>
-        ensures answer { IfOk result (λ was. was ≡ set.contains self.old digest) }
-        ensures inserted { OnOk result (self.new ≡ set.insert self.old digest) }
-        ensures refused { OnErr result (self.new ≡ self.old) }
-        ensures memory { OnErr result (set.contains self.old digest ≡ false) }
+        ensures answer { IfOk result (λ was. was ≡ set.contains self.old.seen digest) }
+        ensures inserted { OnOk result (self.new.seen ≡ set.insert self.old.seen digest) }
+        ensures refused { OnErr result (self.new.seen ≡ self.old.seen) }
+        ensures grown { OnOk result (set.contains self.old.seen digest ≡ false → HasGrown self.old self.new digest) }
+        ensures kept { set.contains self.old.seen digest ≡ true → self.new ≡ self.old }
+        ensures lacked { OnErr result (set.contains self.old.seen digest ≡ false) }
+        ensures memory { OnErr result (MayGrow self.old digest) }
     {
         if self.contains(&digest) {
             return Ok(true);
@@ -71,9 +83,11 @@ impl<A: Allocator + Copy> DigestSet<A> {
     /// Adds a digest that the set does not have. If memory is refused, the set is as it was.
     #[inline(always)]
     fn add(&mut self, digest: [u8; 32]) -> Result<(), AllocError>
-        requires { set.contains self.old digest ≡ false }
-        ensures added { OnOk result (self.new ≡ set.insert self.old digest) }
-        ensures refused { OnErr result (self.new ≡ self.old) }
+        requires { set.contains self.old.seen digest ≡ false }
+        ensures added { OnOk result (self.new.seen ≡ set.insert self.old.seen digest) }
+        ensures grown { OnOk result (HasGrown self.old self.new digest) }
+        ensures refused { OnErr result (self.new.seen ≡ self.old.seen) }
+        ensures memory { OnErr result (MayGrow self.old digest) }
     {
         make_room(&mut self.list, &mut self.heads, &mut self.table)?;
         let tag = tag_of(&digest);
@@ -99,7 +113,7 @@ impl<A: Allocator + Copy> DigestSet<A> {
 impl<A: Allocator> DigestSet<A> {
     /// The number of digests.
     pub fn len(&self) -> usize
-        ensures { result ≡ set.len self.now }
+        ensures { result ≡ set.len self.now.seen }
     {
         self.list.len() + self.rest.len()
     }
@@ -107,7 +121,7 @@ impl<A: Allocator> DigestSet<A> {
     /// Tests whether the set has a digest.
     #[inline(always)]
     pub fn contains(&self, digest: &[u8; 32]) -> bool
-        ensures { result ≡ set.contains self.now digest.now }
+        ensures { result ≡ set.contains self.now.seen digest.now }
     {
         if self.heads.is_empty() {
             return false;
@@ -150,8 +164,8 @@ mod tests {
         Ok(())
     }
 
-    /// With ample memory none of 1,000,001 digests is refused. A body that gives up at a number of them ends there:
-    /// callers see no table, so no clause of theirs says when that has to grow.
+    /// With ample memory none of 1,000,001 digests is refused. A body that asks for no memory where it has to grow, and
+    /// gives up, ends there: no clause can say that memory is there.
     #[test]
     fn more_than_a_million_digests(rt: HostRuntime) -> Result<(), Fail> {
         let mut digests = DigestSet::new(rt.alloc());

@@ -1,8 +1,10 @@
 //! The table with twice as many buckets.
 
-ghost use Rattle.std.specs.Prelude.{◌≡◌, ℕ, ◌+◌, ◌<◌, ◌%◌, List, length, vec_capacity, OnOk, OnErr};
+ghost use Rattle.std.specs.Prelude.{◌≡◌, ℕ, ◌+◌, ◌*◌, ◌<◌, ◌≤◌, ◌/◌, ◌%◌, List, length, vec_capacity, OnOk};
+ghost use Rattle.std.specs.Prelude.{OnErr, slice_index_or};
 ghost use Rattle.capn_digests.specs.declared.slot.Slot.{Slot as SlotValue};
-ghost use Rattle.capn_digests.specs.Buckets.{HasToGrow, IsHeld, IsFound};
+ghost use Rattle.capn_digests.specs.Buckets.{IsHeld, IsFound, no_head};
+ghost use Rattle.capn_digests.specs.Digests.{HasToGrow, count_of};
 
 use crate::slot::{Head, NO_HEAD, NO_SLOT, SLOTS, Slot};
 use std::alloc::{AllocError, Allocator};
@@ -12,6 +14,7 @@ fn kept(head: Head, bucket: &[Slot; SLOTS], at: usize, buckets: usize) -> (Head,
     requires { 0 < buckets }
     ensures held { (s : SlotValue) → s.tag % buckets ≡ at → IsHeld head bucket.now s → IsHeld result.0 result.1 s }
     ensures overflowed { result.0.overflowed ≡ head.overflowed }
+    ensures fewer { result.0.count ≤ head.count }
 {
     let mut kept = [NO_SLOT; SLOTS];
     let mut new = Head {
@@ -32,7 +35,8 @@ fn kept(head: Head, bucket: &[Slot; SLOTS], at: usize, buckets: usize) -> (Head,
 fn keep_own(heads: &mut [Head], table: &mut [[Slot; SLOTS]], at: usize)
     requires within { at < length heads.old }
     requires even { length table.old ≡ length heads.old }
-    ensures { (list rest : List (List ℕ)) → IsFound list heads.old table.old rest
+    ensures fewer { (i : ℕ) → (slice_index_or heads.new i no_head).count ≤ (slice_index_or heads.old i no_head).count }
+    ensures found { (list rest : List (List ℕ)) → IsFound list heads.old table.old rest
         → IsFound list heads.new table.new rest }
 {
     let (head, bucket) = kept(heads[at], &table[at], at, heads.len());
@@ -43,7 +47,8 @@ fn keep_own(heads: &mut [Head], table: &mut [[Slot; SLOTS]], at: usize)
 /// Has each bucket keep the slots alone whose tags are its own.
 fn keep_each_own(heads: &mut [Head], table: &mut [[Slot; SLOTS]])
     requires { length table.old ≡ length heads.old }
-    ensures { (list rest : List (List ℕ)) → IsFound list heads.old table.old rest
+    ensures fewer { (i : ℕ) → (slice_index_or heads.new i no_head).count ≤ (slice_index_or heads.old i no_head).count }
+    ensures found { (list rest : List (List ℕ)) → IsFound list heads.old table.old rest
         → IsFound list heads.new table.new rest }
 {
     for at in 0..heads.len() {
@@ -61,6 +66,8 @@ fn double<A: Allocator>(
     ensures found { (list rest : List (List ℕ)) → IsFound list heads.old.items table.old.items rest
         → IsFound list heads.new.items table.new.items rest }
     ensures some { OnOk result (0 < length heads.new.items) }
+    ensures twice { OnOk result (2 * length heads.old.items ≤ length heads.new.items) }
+    ensures fewer { OnOk result ((t : ℕ) → count_of heads.new.items t ≤ count_of heads.old.items t) }
 {
     let count = heads.len().max(1);
     heads.try_reserve_exact(count)?;
@@ -93,6 +100,13 @@ pub(crate) fn make_room<A: Allocator>(
     ensures same { list.new.items ≡ list.old.items }
     ensures some { OnOk result (0 < length heads.new.items) }
     ensures spare { OnOk result (length list.new.items < vec_capacity list.new) }
+    ensures room { vec_capacity list.old ≤ vec_capacity list.new }
+    ensures eighth { OnOk result (vec_capacity list.old ≤ length list.old.items
+        → length list.old.items + (length list.old.items / 8 + 16) ≤ vec_capacity list.new) }
+    ensures twice { OnOk result (length heads.old.items ≤ length list.old.items / 8
+        → 2 * length heads.old.items ≤ length heads.new.items) }
+    ensures fewer { OnOk result ((t : ℕ) → count_of heads.new.items t ≤ count_of heads.old.items t) }
+    ensures still { length list.old.items / 8 < length heads.old.items → heads.new.items ≡ heads.old.items }
     ensures memory { OnErr result
         (HasToGrow (length list.old.items) (vec_capacity list.old) (length heads.old.items)) }
 {

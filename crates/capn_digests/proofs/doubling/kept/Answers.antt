@@ -1,9 +1,9 @@
-use Rattle.std.proofs.Common.{◌≡◌, ◌+◌, ◌<◌, ◌≤◌, ◌%◌, ℕ, List, length, get_or, set, arith, sym, ap, ◌∙◌, subst}
+use Rattle.std.proofs.Common.{◌%◌, List, length, get_or, set, arith, sym, ap, ◌∙◌, subst}
 use Rattle.std.proofs.lemmas.List.{length-set}
 use Rattle.capn_digests.specs.declared.slot.Slot.{Slot}
 use Rattle.capn_digests.specs.declared.slot.Head.{Head}
 use Rattle.capn_digests.specs.Buckets.{IsHeld, no_slot}
-use Rattle.capn_digests.proofs.Kept.{IsKept, kept_one, kept_none}
+use Rattle.capn_digests.proofs.Kept.{kept_one, kept_none}
 use Rattle.capn_digests.proofs.doubling.kept.Goals as goal
 use Rattle.capn_digests.proofs.doubling.kept.Goals.{then-j-head+then-slot-buckets, else-j-head}
 use Rattle.capn_digests.proofs.doubling.kept.Goals.{else-j-head-via-then-j-head+else-slot-buckets}
@@ -19,6 +19,7 @@ loop-j-preserved c =
           record {
             sized = ap (λ (b : List Slot). length b) w.kept-is ∙ (length-set c.loop-j.kept c.loop-j.new.count _ ∙ z);
             few = let e = ap (λ (h : Head). h.count) w.new-is in omega arith;
+            fewer = let e = ap (λ (h : Head). h.count) w.new-is in let b = w.if-j-head.true in omega arith;
             overflowed = ap (λ (h : Head). h.overflowed) w.new-is
                 ∙ (w.and_one-new.ensures.overflowed ∙ c.loop-j.invariant.overflowed);
             held = λ k below taken own.
@@ -34,6 +35,7 @@ loop-j-preserved c =
         | else-j-head-via-then-j-head+else-slot-buckets u ↦ record {
           sized = ap (λ (b : List Slot). length b) w.kept-is ∙ c.loop-j.invariant.sized;
           few = let e = ap (λ (h : Head). h.count) w.new-is in let i = c.loop-j.invariant.few in omega arith;
+          fewer = let e = ap (λ (h : Head). h.count) w.new-is in let i = c.loop-j.invariant.fewer in omega arith;
           overflowed = ap (λ (h : Head). h.overflowed) w.new-is ∙ c.loop-j.invariant.overflowed;
           held = λ k below taken own.
               subst (λ (b : List Slot). IsHeld c.if-j-head.new b (get_or c.args.bucket.now k no_slot)) (sym w.kept-is)
@@ -44,6 +46,7 @@ loop-j-preserved c =
         | else-j-head-via-else-j-head u ↦ record {
           sized = ap (λ (b : List Slot). length b) w.kept-is ∙ c.loop-j.invariant.sized;
           few = let e = ap (λ (h : Head). h.count) w.new-is in let i = c.loop-j.invariant.few in omega arith;
+          fewer = let e = ap (λ (h : Head). h.count) w.new-is in let i = c.loop-j.invariant.fewer in omega arith;
           overflowed = ap (λ (h : Head). h.overflowed) w.new-is ∙ c.loop-j.invariant.overflowed;
           held = λ k below taken own.
               subst (λ (b : List Slot). IsHeld c.if-j-head.new b (get_or c.args.bucket.now k no_slot)) (sym w.kept-is)

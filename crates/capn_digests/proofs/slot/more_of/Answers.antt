@@ -1,4 +1,4 @@
-use Rattle.std.proofs.Common.{◌<◌, ◌/◌, ◌%◌, arith, lit<}
+use Rattle.std.proofs.Common.{◌/◌, ◌%◌, lit<}
 use Rattle.std.proofs.lemmas.Nat.{one_shl, mod_below}
 use Rattle.capn_digests.specs.Tag.{more}
 use Rattle.capn_digests.proofs.slot.more_of.Goals as goal

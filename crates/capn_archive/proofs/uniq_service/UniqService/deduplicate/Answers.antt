@@ -10,10 +10,12 @@ returns g c =
     (outgoing (g.W.Write.contents (inner_of c.args.writer.now)) c.args.text.now.items)
     (outgoing (g.W.Write.contents (inner_of c.add_kept.new.writer)) c.add_kept.new.text.items)
     (has_failed c.add_kept.new.writer) _ _
-    (deduplicates c.self.inside.order c.self.inside.digests c.self.inside.served c.self.inside.skipped c.args.self.now
+    (deduplicates c.self.inside.order c.self.inside.digests.seen
+    c.self.inside.served c.self.inside.skipped c.args.self.now
     c.self.view_is c.args.frame.now c.in_ok-digest.digest (g.S.Space.message c.args.message.now)
-    c.in_ok-digest.ensures c.in_ok-is_duplicate.is_duplicate c.in_ok-is_duplicate.ensures.0 c.insert_digest.new.digests
-    c.in_ok-is_duplicate.ensures.1 c.saturating_add-self-inside.result c.saturating_add-self-inside.ensures)
+    c.in_ok-digest.ensures c.in_ok-is_duplicate.is_duplicate c.in_ok-is_duplicate.ensures.inserts.0
+    c.insert_digest.new.digests.seen
+    c.in_ok-is_duplicate.ensures.inserts.1 c.saturating_add-self-inside.result c.saturating_add-self-inside.ensures)
     c.add_kept.result c.add_kept.ensures
 
 pub returns-in_err-is_duplicate : goal.returns-in_err-is_duplicate
@@ -21,4 +23,4 @@ returns-in_err-is_duplicate g c =
     let a = outgoing (g.W.Write.contents (inner_of c.args.writer.now)) c.args.text.now.items in
     memory_refused c.args.self.now c.args.frame.now (g.S.Space.message c.args.message.now) a a
     (has_failed c.args.writer.now) _ c.in_err-is_duplicate.field-0.0 c.from_residual-in_err-is_duplicate.result
-    c.from_residual-in_err-is_duplicate.ensures.1 c.in_err-is_duplicate.ensures (added_none a) c.requires
+    c.from_residual-in_err-is_duplicate.ensures.1 c.in_err-is_duplicate.ensures.inserts (added_none a) c.requires

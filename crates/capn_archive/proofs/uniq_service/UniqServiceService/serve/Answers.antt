@@ -18,7 +18,7 @@ returns-else-not-self g c =
     let same = c.self.view_is ∙ known.2 in (
       (
         [],
-        inr (is_skipped c.self.inside.order c.self.inside.digests c.self.inside.served c.self.inside.skipped
+        inr (is_skipped c.self.inside.order c.self.inside.digests.seen c.self.inside.served c.self.inside.skipped
             c.args.self.now same c.args.at (g.S.Space.message c.args.message.now) c.in-Refused.refusal
             (subst (λ (s : UniqState). IsUndigested (g.S.Space.message c.args.message.now) s.order.limits
             c.in-Refused.refusal) (sym same) known.0)

@@ -1,11 +1,8 @@
 use Rattle.std.proofs.Common.{◌≡◌, ◌<◌, ◌%◌, ℕ, List, length, get_or, [], ap, sym, ◌∙◌, subst, refl}
 use Rattle.std.specs.FinSet as set
-use Rattle.std.specs.Ordering.{nat_cmp}
-use Rattle.std.specs.Cmp.Lexicographic.{slice_cmp}
 use Rattle.std.proofs.lemmas.Bool.{false≢true}
-use Rattle.capn_digests.specs.declared.slot.Slot.{Slot}
-use Rattle.capn_digests.specs.declared.slot.Head.{Head}
 use Rattle.capn_digests.specs.Tag.{tag}
+use Rattle.capn_digests.specs.Digests.{Digests}
 use Rattle.capn_digests.specs.Buckets.{IsMarked, no_head, no_slot}
 use Rattle.capn_digests.proofs.Found.{none_listed, none_other, unmarked_listed, unmarked_other, unled}
 use Rattle.capn_digests.proofs.Found.{zero_of, some_of, read_at_home}
@@ -18,7 +15,7 @@ returns-then-is_empty g c =
     let q = c.args.digest.now in
     let f = c.self.invariant.found in
     let zero : length s.heads.items ≡ 0 = sym s.heads.ok.0 ∙ zero_of s.heads.len c.if-is_empty.ensures in
-    sym (sym (ap (λ (v : set.FinSet (slice_cmp nat_cmp)). set.contains v q) c.self.view_is)
+    sym (sym (ap (λ (v : Digests). set.contains v.seen q) c.self.view_is)
     ∙ absent s.list.items s.rest.keys q
     (none_listed s.list.items s.heads.items s.table.items s.rest.keys q f zero)
     (none_other s.list.items s.heads.items s.table.items s.rest.keys q f zero))
@@ -36,7 +33,7 @@ returns-then-not-may_have g c =
     c.tag_of-tag.ensures count some refl c.index.ensures in
     let marked : IsMarked c.index.result.now (tag q) → ⊥ = λ m. false≢true (sym c.if-not-may_have.true
     ∙ c.may_have.ensures.marked (subst (λ (t : ℕ). IsMarked c.index.result.now t) (sym c.tag_of-tag.ensures) m)) in
-    sym (sym (ap (λ (v : set.FinSet (slice_cmp nat_cmp)). set.contains v q) c.self.view_is)
+    sym (sym (ap (λ (v : Digests). set.contains v.seen q) c.self.view_is)
     ∙ absent s.list.items s.rest.keys q
     (unmarked_listed s.list.items s.heads.items s.table.items s.rest.keys q f c.index.result.now head marked)
     (unmarked_other s.list.items s.heads.items s.table.items s.rest.keys q f c.index.result.now head
@@ -47,7 +44,7 @@ returns-then-is_among g c =
     let s = c.self.inside in
     let q = c.args.digest.now in
     c.if-is_among.true
-    ∙ sym (sym (ap (λ (v : set.FinSet (slice_cmp nat_cmp)). set.contains v q) c.self.view_is)
+    ∙ sym (sym (ap (λ (v : Digests). set.contains v.seen q) c.self.view_is)
     ∙ present s.list.items s.rest.keys q
     (subst (λ (xs : List (List ℕ)). (at : ℕ) × (at < length xs) × (get_or xs at [] ≡ q)) c.deref.ensures.value
     (c.is_among.ensures.found c.if-is_among.true)))
@@ -65,7 +62,7 @@ returns-else-is_among g c =
     c.tag_of-tag.ensures count some (f.tabled ∙ sym f.headed) c.index-2.ensures in
     let missing = c.is_among.ensures.missing c.if-is_among.false in
     c.contains.ensures
-    ∙ sym (sym (ap (λ (v : set.FinSet (slice_cmp nat_cmp)). set.contains v q) c.self.view_is)
+    ∙ sym (sym (ap (λ (v : Digests). set.contains v.seen q) c.self.view_is)
     ∙ asked s.list.items s.rest.keys q
     (unled s.list.items s.heads.items s.table.items s.rest.keys q f c.index-2.result.now bucket
     (λ k below same inside. subst (λ (xs : List (List ℕ)).
