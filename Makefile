@@ -59,8 +59,8 @@ run: program
 PAGE_LINES := .ci/lines .ci/docs .ci/borders .ci/toolchain .ci/version .ci/lists .ci/readings .ci/counts .ci/places \
 	release/completions tests/pages/touched tests/cases release/symbols release/manual release/links \
 	tests/release/steps
-BUILT_LINES := tests/program/statuses tests/program/full-disk tests/program/failures tests/vectors .ci/library \
-	release/installs release/twice
+BUILT_LINES := release/recursion tests/program/statuses tests/program/full-disk tests/program/failures tests/vectors \
+	.ci/library release/installs release/twice
 
 # The gate: every crate of the product is proved, every test and stored case is run. It fails where edits are due.
 test:
