@@ -1,50 +1,27 @@
-//! An input with texts between quotes, made and written as it comes.
+//! Texts with lists of bytes between quotes, as a sink before that of texts.
 
-ghost use Rattle.std.specs.Prelude.{◌≡◌, ◌<◌, ◌≤◌, ◌+◌, ◌^◌, ℕ, List, [], false, length, MatchOption, MatchResult};
-ghost use Rattle.capn_words.specs.Watched.{inner_of, has_failed};
-ghost use Rattle.capn_text.specs.Unquoting.{own_at};
+ghost use Rattle.std.specs.Prelude.{◌≡◌, ◌<◌, ◌≤◌, ◌+◌, ◌^◌, MatchOption};
+ghost use Rattle.capn_text.specs.Unquoting.{first_unquoting, own_at};
 ghost use Rattle.capn_make.specs.MadeTexts as texts;
-ghost use Rattle.capn_make.specs.inner.TextsParts.{EndsTextsMaking, HasStoppedTexts, IsTextsRun, ReadsTexts};
-ghost use Rattle.capn_make.specs.inner.TextsParts.{ending_at};
+ghost use Rattle.capn_make.specs.inner.RunParts.{IsFresh};
 
-use crate::end_line::is_due;
 use crate::fault::MakeFault;
-use crate::laws::{following, refusing};
-use crate::progress::{Outcome, Progress};
+use crate::laws::following;
+use crate::progress::Progress;
+use crate::sink::Sink;
 use capn_canon::Form;
 use capn_text::Unquoter;
 use capn_words::Watched;
 use std::alloc::Allocator;
-use std::io::{Read, Write};
+use std::io::Write;
 
-/// The most bytes that one call of a reader is asked for.
-const CHUNK: usize = 65_536;
-
-/// Reads once, appends the plain form of the lines that are whole by now to `rest`, what is left of the input, and
-/// returns the number of bytes that came. At the end there are none, and a line without its end is added.
-fn read_lines<R: Read, A: Allocator + Copy>(
-    reader: &mut Watched<R>,
-    chunk: &mut [u8],
-    unquoter: &mut Unquoter<A>,
-    rest: &mut Vec<u8, A>,
-) -> Result<usize, MakeFault>
-    requires fine { has_failed reader.old ≡ false }
-    requires some { 0 < length chunk.old }
-    requires few { length chunk.old ≤ 65536 }
-    ensures { ReadsTexts (R.remaining (inner_of reader.old)) (R.remaining (inner_of reader.new)) (has_failed reader.new)
-        unquoter.old unquoter.new rest.old.items rest.new.items result }
-{
-    match reader.read(chunk) {
-        Err(_) => Err(MakeFault::Io),
-        Ok(0) => {
-            unquoter.finish(rest)?;
-            Ok(0)
-        }
-        Ok(count) => {
-            unquoter.push(&chunk[..count], rest)?;
-            Ok(count)
-        }
-    }
+/// Texts with lists of bytes between quotes: each line that is whole goes on to the texts in its plain form.
+#[derive(Drop)]
+pub(crate) struct QuotedTexts<A: Allocator + Copy> {
+    unquoter: Unquoter<A>,
+    texts: Progress<A>,
+    /// The number of bytes that came, and of those of their plain form.
+    taken: u64,
 }
 
 /// Returns the number of bytes that came and that they added, `count` and `added` after `taken`, unless they are 2^64
@@ -71,72 +48,90 @@ fn at_own<A: Allocator + Copy>(unquoter: &Unquoter<A>, fault: MakeFault) -> Make
     }
 }
 
-/// Returns `outcome` with its fault at the line of the input.
-fn own_outcome<A: Allocator + Copy>(unquoter: &Unquoter<A>, outcome: Outcome<A>) -> Outcome<A>
-    ensures text { result.text.items ≡ outcome.text.items }
-    ensures ending { result.ending ≡ ending_at (own_at unquoter.now) outcome.ending }
-{
-    let Outcome { text, ending } = outcome;
-    match ending {
-        Ok(()) => Outcome { text, ending },
-        Err(fault) => Outcome {
-            text,
-            ending: Err(at_own(unquoter, fault)),
-        },
+impl<A: Allocator + Copy> QuotedTexts<A> {
+    /// Returns the beginning of an input. It takes no memory.
+    pub(crate) fn new(alloc: A, form: Form) -> QuotedTexts<A>
+        ensures form { result.texts.form ≡ form }
+        ensures new { IsFresh result.texts.made.items result.texts.rest.items result.texts.line result.texts.tested }
+        ensures unread { result.unquoter ≡ first_unquoting }
+        ensures none { result.taken ≡ 0 }
+    {
+        QuotedTexts {
+            unquoter: Unquoter::new(alloc),
+            texts: Progress::new(alloc, form),
+            taken: 0,
+        }
     }
 }
 
-/// Reads an input to its end, or until it is known to be refused whatever follows, makes each text of its plain form
-/// once it is whole, and writes the messages that were made before it reads again. In form bare nothing is written.
-/// Returns what is still to be written.
-///
-/// The rest is looked at as `make` looks at it, without a line that is unfinished.
-pub(crate) fn make_texts_input<R: Read, W: Write, A: Allocator + Copy>(
-    alloc: A,
-    form: Form,
-    reader: &mut Watched<R>,
-    writer: &mut Watched<W>,
-) -> Result<Outcome<A>, MakeFault>
-    requires reader_fine { has_failed reader.old ≡ false }
-    requires writer_fine { has_failed writer.old ≡ false }
-    ensures { (bytes : List ℕ) × IsTextsRun form (R.remaining (inner_of reader.old))
-        (R.remaining (inner_of reader.new)) (W.contents (inner_of writer.old)) (W.contents (inner_of writer.new)) bytes
-        × MatchResult result
-        (λ o. EndsTextsMaking form (R.remaining (inner_of reader.new)) (W.contents (inner_of writer.old))
-        (W.contents (inner_of writer.new)) (has_failed reader.new) (has_failed writer.new) bytes o.text.items o.ending)
-        (λ fault. HasStoppedTexts form (R.remaining (inner_of reader.new)) (W.contents (inner_of writer.old))
-        (W.contents (inner_of writer.new)) (has_failed reader.new) (has_failed writer.new) bytes fault) }
-{
-    refusing();
-    following();
-    let mut progress = Progress {
-        made: Vec::new(alloc),
-        rest: Vec::new(alloc),
-        line: 1,
-    };
-    let mut unquoter = Unquoter::new(alloc);
-    let mut chunk = [0; CHUNK];
-    let mut tested = 0;
-    let mut taken: u64 = 0;
-    'chunks: loop {
-        let before = progress.rest.len();
-        let count = read_lines(reader, &mut chunk, &mut unquoter, &mut progress.rest)?;
-        let added = progress.rest.len() - before;
-        let Some(sum) = counted(taken, count, added) else {
+impl<A: Allocator + Copy> Sink for QuotedTexts<A> {
+    ghost use Rattle.std.specs.Prelude.{◌-◌, false};
+    ghost use Rattle.capn_make.specs.inner.TextsParts.{GivesTexts, IsUnderTexts};
+    ghost use Rattle.capn_make.specs.declared.fault.MakeFault.TheVariants as faults;
+
+    type Fault = MakeFault;
+
+    ghost takes = { λ first now bytes c d. (now.texts.form ≡ first.texts.form)
+        × IsUnderTexts first.texts.form bytes c d now.texts.made.items now.texts.rest.items now.texts.line
+        now.texts.tested now.taken now.unquoter };
+
+    ghost gives = { λ first bytes more c d r. GivesTexts first.texts.form bytes more c d r };
+
+    ghost most = { λ _. 2 ^ 64 - 1 };
+
+    ghost done = { λ _. false };
+
+    ghost io = { faults.Io };
+
+    fn most_bytes(&self) -> u64 {
+        u64::MAX
+    }
+
+    fn broken() -> MakeFault {
+        MakeFault::Io
+    }
+
+    fn is_done(&self) -> bool {
+        false
+    }
+
+    fn feed<W: Write>(&mut self, piece: &[u8], writer: &mut Watched<W>) -> Result<(), MakeFault> {
+        following();
+        let before = self.texts.rest.len();
+        self.unquoter.push(piece, &mut self.texts.rest)?;
+        let added = self.texts.rest.len() - before;
+        let Some(sum) = counted(self.taken, piece.len(), added) else {
             return Err(MakeFault::InputTooLong);
         };
-        taken = sum;
-        if count == 0 {
-            let outcome = progress.finish(alloc, form)?;
-            return Ok(own_outcome(&unquoter, outcome));
-        }
-        if is_due(&progress.rest, before, tested) {
-            if let Some(fault) = progress.find_refusal(alloc, form)? {
-                return Ok(own_outcome(&unquoter, progress.end(form, Err(fault))));
+        self.taken = sum;
+        match self.texts.look(before, writer) {
+            Ok(()) => {
+                self.unquoter.forget(self.texts.line);
+                Ok(())
             }
-            progress.write_made(form, writer)?;
-            unquoter.forget(progress.line);
-            tested = progress.rest.len();
+            Err(fault) => Err(at_own(&self.unquoter, fault)),
+        }
+    }
+
+    fn finish<W: Write>(
+        &mut self,
+        is_longer: bool,
+        writer: &mut Watched<W>,
+    ) -> Result<(), MakeFault> {
+        following();
+        if is_longer {
+            return Err(MakeFault::InputTooLong);
+        }
+        let before = self.texts.rest.len();
+        self.unquoter.finish(&mut self.texts.rest)?;
+        let added = self.texts.rest.len() - before;
+        let Some(sum) = counted(self.taken, 0, added) else {
+            return Err(MakeFault::InputTooLong);
+        };
+        self.taken = sum;
+        match self.texts.end(writer) {
+            Ok(()) => Ok(()),
+            Err(fault) => Err(at_own(&self.unquoter, fault)),
         }
     }
 }
