@@ -1,5 +1,5 @@
 -- A run over texts with quotes. (For `feed` and `finish` of `QuotedTexts`.)
-use Rattle.std.proofs.Common.{◌≡◌, ◌≢◌, ◌⊎◌, inl, inr, ℕ, ◌+◌, ◌^◌, ◌≤◌, List, [], ◌∷◌, ◌++◌, length}
+use Rattle.std.proofs.Common.{◌≡◌, ◌≢◌, inl, inr, ℕ, ◌+◌, ◌^◌, ◌≤◌, List, [], ◌∷◌, ◌++◌, length}
 use Rattle.std.proofs.Common.{Bool, true, Option, Result, Ok, Err}
 use Rattle.std.proofs.Common.{refl, sym, ap, subst, ◌∙◌, append_assoc, arith}
 use Rattle.std.proofs.lemmas.Bool.{cases_lt}
@@ -13,17 +13,17 @@ use Rattle.capn_make.specs.MadeInput.{IsUnended, Makes}
 use Rattle.capn_make.specs.Endings.{IsFrom}
 use Rattle.capn_make.specs.Laws.{RefusalStays, OneEnding, RefusedAfter, UnendedIsLast}
 use Rattle.capn_make.specs.MakeRun.{AreInTime, EndsAs, HasBegunText, HasServed}
-use Rattle.capn_make.specs.MadeTexts.{EndsTexts, MakesTexts, IsInTime, at_own}
-use Rattle.capn_make.specs.inner.RunParts.{FailsAs, GivesMade, HasCome, HasMade, IsFresh, IsUnderWay}
+use Rattle.capn_make.specs.MadeTexts.{EndsTexts, IsInTime, at_own}
+use Rattle.capn_make.specs.inner.RunParts.{GivesMade, HasCome, IsFresh, IsUnderWay}
 use Rattle.capn_make.specs.inner.TextsParts.{GivesTexts, HasSeen, IsUnderTexts, ending_at}
+use Rattle.capn_make.specs.inner.SinkRun.{Writes}
 use Rattle.capn_make.specs.declared.fault.MakeFault.{MakeFault}
 use Rattle.capn_make.specs.declared.fault.MakeFault.TheVariants as faults
 use Rattle.capn_make.proofs.FirstTexts.{lines_append}
-use Rattle.capn_make.proofs.NextTexts.{none_left}
 use Rattle.capn_make.proofs.SeenTexts.{forgotten_on, nothing_seen, of_lines, seen_lines, seen_on, seen_plain, some_seen}
 use Rattle.capn_make.proofs.TestedInput.{some_after}
 use Rattle.capn_make.proofs.Unended.{front_of}
-use Rattle.capn_make.proofs.UnderWay.{begins as begins_plain, begun_by, come_at, has_room, served as served_plain}
+use Rattle.capn_make.proofs.UnderWay.{begins as begins_plain, begun_by, come_at, served as served_plain}
 use Rattle.capn_make.proofs.UnderWay.{served_by, timely as timely_plain}
 use Rattle.capn_make.proofs.WhateverFollows.{first_on}
 
@@ -75,16 +75,18 @@ memory_back own (faults.Capability n index) e = absurd cc
 memory_back own (faults.Another n) e = absurd cc
 memory_back own faults.NoText e = absurd cc
 
-pub fails_at : (own : ℕ → ℕ) (failed : Bool) (r : Result (Unit {0}) MakeFault) → FailsAs failed r
-    → FailsAs failed (ending_at own r)
-fails_at own failed (Ok u) h = (λ e. absurd cc, λ f. let e = h.1 f in absurd cc)
-fails_at own failed (Err fault) h = (
-  λ e.
-      let same : at_own own fault ≡ faults.Io = cc in
-      h.0 (ap (λ x. Err x) (io_back own fault same)),
-  λ f.
-      let is : fault ≡ faults.Io = (let e = h.1 f in cc) in
-      ap (λ x. Err (at_own own x)) is,
+pub writes_at : (own : ℕ → ℕ) (c d : Option (List ℕ)) (failed : Bool) (fault : MakeFault)
+    → Writes faults.Io c d failed (Err fault) → Writes faults.Io c d failed (Err (at_own own fault))
+writes_at own c d failed fault w = (
+  w.0,
+  (
+    λ e.
+        let same : at_own own fault ≡ faults.Io = cc in
+        w.1.0 (ap (λ x. Err x) (io_back own fault same)),
+    λ f.
+        let is : fault ≡ faults.Io = (let e = w.1.1 f in cc) in
+        ap (λ x. Err (at_own own x)) is,
+  ),
 )
 
 memory_of : (own : ℕ → ℕ) (r : Result (Unit {0}) MakeFault) → ending_at own r ≡ Err faults.Memory
@@ -130,16 +132,15 @@ module _ (form : Form) (bytes more input rest : List ℕ) (whole : plain (bytes 
 -- before the first
 pub begins : OneEnding → (form : Form) (c : Option (List ℕ)) (made rest : List ℕ) (line tested : ℕ) (q : Unquoting)
     → IsFresh made rest line tested → q ≡ first_unquoting
-    → IsUnderTexts form [] c c made rest line tested 0 q
+    → IsUnderTexts form [] c c made rest line tested q
 begins one form c made rest line tested q fresh is = record {
   input = [];
-  size = refl;
   seen = rw (is, fresh.2) nothing_seen;
   way = begins_plain one form c made rest line tested fresh;
 }
 
-module _ (form : Form) (bytes : List ℕ) (c d : Option (List ℕ)) (made rest : List ℕ) (line tested taken : ℕ)
-    (q : Unquoting) (u : IsUnderTexts form bytes c d made rest line tested taken q) where
+module _ (form : Form) (bytes : List ℕ) (c d : Option (List ℕ)) (made rest : List ℕ) (line tested : ℕ)
+    (q : Unquoting) (u : IsUnderTexts form bytes c d made rest line tested q) where
   pub served : HasServed form (plain bytes) c d
   served =
       let w = u.way in
@@ -186,11 +187,11 @@ module _ (form : Form) (bytes : List ℕ) (c d : Option (List ℕ)) (made rest :
   unheld_last some = (inl refl, begun_at [], λ e. some_seen q line bytes u.input u.seen some)
 
   -- the input is longer than what is taken
-  pub longer : (beyond more : List ℕ) → 2 ^ 64 ≤ length (bytes ++ beyond)
-      → GivesTexts form (bytes ++ beyond) more c d (Err faults.InputTooLong)
-  longer beyond more long =
-      let all = length-append (bytes ++ beyond) more in
-      (inr (inr (inl (refl, omega arith))), begun_past beyond more, λ e. absurd cc)
+  pub longer : (piece more : List ℕ) → 2 ^ 64 ≤ length (bytes ++ piece)
+      → GivesTexts form (bytes ++ piece) more c d (Err faults.InputTooLong)
+  longer piece more long =
+      let all = length-append (bytes ++ piece) more in
+      (inr (inr (inl (refl, omega arith))), begun_past piece more, λ e. absurd cc)
 
   -- a piece came, and was read
   module _ (v : Unquoting) (piece added : List ℕ) (some : piece ≢ []) (next : Unquotes q v piece added)
@@ -198,24 +199,14 @@ module _ (form : Form) (bytes : List ℕ) (c d : Option (List ℕ)) (made rest :
     seen : HasSeen v line (bytes ++ piece) (u.input ++ added)
     seen = seen_on q v line bytes u.input piece added u.seen next quiet empty
 
-    pub come : HasCome form (u.input ++ added) c d made (rest ++ added) line tested (length rest)
-    come = come_at form u.input c d made rest line tested u.way added
-
-    -- it is too long
-    pub too_long : 2 ^ 64 ≤ taken + (length piece + length added) → (more : List ℕ)
-        → GivesTexts form (bytes ++ piece) more c d (Err faults.InputTooLong)
-    too_long long more =
-        let size = u.size in
-        let a = length-append bytes piece in
-        let b = length-append u.input added in
-        let e = length-append (bytes ++ piece) more in
-        let f = ap length (seen.plain more) ∙ length-append (u.input ++ added) (plain_on v more) in
-        (inr (inr (inl (refl, omega arith))), begun_past piece more, λ e. absurd cc)
+    pub come : (new : List ℕ) (before : ℕ) → new ≡ rest ++ added → before ≡ length rest
+        → HasCome form (u.input ++ added) c d made new line tested before
+    come new before = come_at form u.input c d made rest line tested u.way added new before
 
     from_here : RefusedAfter → (more text : List ℕ) (fault : MakeFault)
         → Makes form (plain ((bytes ++ piece) ++ more)) text (Err fault) → IsFrom line fault
     from_here after more text fault makes =
-        let m = come.made_so_far in
+        let m = (come (rest ++ added) (length rest) refl refl).made_so_far in
         let first = first_on m.values (u.input ++ added) (rest ++ added) (plain_on v more) m.first in
         subst (λ n. IsFrom n fault) (sym m.line)
         (after form m.values ((u.input ++ added) ++ plain_on v more) ((rest ++ added) ++ plain_on v more) text fault
@@ -233,12 +224,9 @@ module _ (form : Form) (bytes : List ℕ) (c d : Option (List ℕ)) (made rest :
     -- it is under way
     pub goes_on : UnendedIsLast → (e : Option (List ℕ)) (after left : List ℕ) (at now : ℕ) (w : Unquoting)
         → IsUnderWay form (u.input ++ added) c e after left at now → Forgets at v w
-        → IsUnderTexts form (bytes ++ piece) c e after left at now (taken + (length piece + length added)) w
+        → IsUnderTexts form (bytes ++ piece) c e after left at now w
     goes_on last e after left at now w way forgets =
-        let size = u.size in
-        let a = length-append bytes piece in
-        let b = length-append u.input added in
-        let old = come.made_so_far in
+        let old = (come (rest ++ added) (length rest) refl refl).made_so_far in
         let new = way.made_so_far in
         let one = old.line in
         let two = new.line in
@@ -246,32 +234,24 @@ module _ (form : Form) (bytes : List ℕ) (c d : Option (List ℕ)) (made rest :
         way.unended in
         record {
           input = u.input ++ added;
-          size = omega arith;
           seen = forgotten_on v w line at (bytes ++ piece) (u.input ++ added) (omega arith) seen forgets;
           way = way;
         }
 
   -- ---- the input ended
 
-  pub come_last : HasCome form (u.input ++ q.front) c d made (rest ++ q.front) line tested (length rest)
-  come_last = come_at form u.input c d made rest line tested u.way q.front
+  pub come_last : (new : List ℕ) → new ≡ rest ++ q.front
+      → HasCome form (u.input ++ q.front) c d made new line tested (length rest)
+  come_last new grown = come_at form u.input c d made rest line tested u.way q.front new (length rest) grown refl
 
   last_plain : plain (bytes ++ []) ≡ (u.input ++ q.front) ++ []
   last_plain = ap plain (append-nil bytes) ∙ seen_plain q line bytes u.input u.seen
       ∙ sym (append-nil (u.input ++ q.front))
 
-  pub too_long_last : 2 ^ 64 ≤ taken + length q.front → GivesTexts form bytes [] c d (Err faults.InputTooLong)
-  too_long_last long =
-      let size = u.size in
-      let b = length-append u.input q.front in
-      let e = length-append bytes [] in
-      let f = ap length last_plain ∙ length-append (u.input ++ q.front) [] in
-      (inr (inr (inl (refl, omega arith))), begun_at [], λ e. absurd cc)
-
   from_last : RefusedAfter → (text : List ℕ) (fault : MakeFault) → Makes form (plain (bytes ++ [])) text (Err fault)
       → IsFrom line fault
   from_last after text fault makes =
-      let m = come_last.made_so_far in
+      let m = (come_last (rest ++ q.front) refl).made_so_far in
       let is = last_plain ∙ append-nil (u.input ++ q.front) in
       subst (λ n. IsFrom n fault) (sym m.line)
       (after form m.values (u.input ++ q.front) (rest ++ q.front) text fault m.first m.few
@@ -286,27 +266,3 @@ module _ (form : Form) (bytes : List ℕ) (c d : Option (List ℕ)) (made rest :
   ended after e r gives =
       gives_lines form bytes [] (u.input ++ q.front) [] last_plain (own_at q) line
       (seen_lines q line bytes u.input u.seen) (from_last after) c e some_last r gives
-
--- ---- the same, as a sink
-
-pub took_texts : (first old new : Form) (bytes : List ℕ) (c e : Option (List ℕ)) (made rest : List ℕ)
-    (line tested taken sum : ℕ) (q : Unquoting) → old ≡ first → new ≡ old → sum ≡ taken
-    → IsUnderTexts first bytes c e made rest line tested taken q
-    → (new ≡ first) × IsUnderTexts first bytes c e made rest line tested sum q
-took_texts first old new bytes c e made rest line tested taken sum q is same count u = (
-  same ∙ is,
-  subst (λ n. IsUnderTexts first bytes c e made rest line tested n q) (sym count) u,
-)
-
-pub came_so : (first old : Form) (input : List ℕ) (c e : Option (List ℕ)) (made rest new : List ℕ)
-    (line tested before count : ℕ) → old ≡ first → new ≡ rest → before ≡ count
-    → HasCome first input c e made rest line tested count → HasCome old input c e made new line tested before
-came_so first old input c e made rest new line tested before count is grown size h = rw (is, grown, size) h
-
--- nothing follows
-pub ended_by : (form : Form) (bytes beyond more : List ℕ) (c d : Option (List ℕ)) (r : Result (Unit {0}) MakeFault)
-    → beyond ≡ [] → more ≡ [] → GivesTexts form bytes [] c d r → GivesTexts form (bytes ++ beyond) more c d r
-ended_by form bytes beyond more c d r none nothing gives =
-    let whole : bytes ≡ bytes ++ beyond = sym (append-nil bytes) ∙ ap (λ t. bytes ++ t) (sym none) in
-    subst (λ m. GivesTexts form (bytes ++ beyond) m c d r) (sym nothing)
-    (subst (λ t. GivesTexts form t [] c d r) whole gives)

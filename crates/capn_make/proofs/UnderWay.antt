@@ -1,12 +1,13 @@
 -- An input that is made, and written, as it comes. (For `look` and `end`.)
-use Rattle.std.proofs.Common.{◌≡◌, ◌≢◌, ◌⊎◌, inl, inr, ℕ, zero, suc, ◌+◌, ◌*◌, ◌-◌, ◌^◌, ◌≤◌, ◌<◌, List, []}
+use Rattle.std.proofs.Common.{◌≡◌, ◌≢◌, inl, inr, ℕ, zero, suc, ◌+◌, ◌*◌, ◌-◌, ◌^◌, ◌≤◌, ◌<◌, List, []}
 use Rattle.std.proofs.Common.{◌∷◌, ◌++◌, length, take, drop}
 use Rattle.std.proofs.Common.{Bool, true, false, Option, Some, None, Result, Ok, Err, OnOk, OnErr, IsOkUnless}
 use Rattle.std.proofs.Common.{refl, sym, ap, ap₂, subst, ◌∙◌, append_assoc, arith}
+use Rattle.std.proofs.lemmas.Bool.{cases_lt}
 use Rattle.std.proofs.lemmas.List.{append-nil, length-append}
 use Rattle.std.proofs.Math.Seq.{take_all}
-use Rattle.std.specs.Io.KnownBytes.{Appends, Consumes, IsAtEnd}
-use Rattle.std.proofs.KnownBytes.{Appends-nil, Appends-trans, Consumes-nil, Consumes-trans}
+use Rattle.std.specs.Io.KnownBytes.{Appends}
+use Rattle.std.proofs.KnownBytes.{Appends-nil, Appends-trans}
 use Rattle.capn_value.specs.Tree.{Tree}
 use Rattle.capn_value.specs.Text.{show_text}
 use Rattle.capn_text.specs.Streams.{Place, end_line, ended_lines, stream_text}
@@ -14,13 +15,13 @@ use Rattle.capn_words.specs.Watched.{HasBegun}
 use Rattle.capn_canon.specs.declared.form.Form.{Form}
 use Rattle.capn_canon.specs.declared.form.Form.TheVariants as forms
 use Rattle.capn_make.specs.WrittenValue.{AreMade}
-use Rattle.capn_make.specs.MadeInput.{AreFirst, IsNotOne, IsUnended, Makes, line_after}
+use Rattle.capn_make.specs.MadeInput.{AreFirst, IsNotOne, Makes, line_after}
 use Rattle.capn_make.specs.Laws.{RefusalStays, OneEnding}
-use Rattle.capn_make.specs.MakeRun.{AreInTime, EndsAs, HasBegunText, HasServed, IsAhead, IsServed}
-use Rattle.capn_make.specs.inner.RunParts.{FailsAs, GivesMade, GoesOn, HasCome, HasMade, HasRoom}
-use Rattle.capn_make.specs.inner.RunParts.{HasTested, HoldsNoEnd, IsFresh, IsKept, IsMadeSo, IsUnderWay, LooksOn}
+use Rattle.capn_make.specs.MakeRun.{AreInTime, HasBegunText, HasServed, IsServed}
+use Rattle.capn_make.specs.inner.RunParts.{GivesMade, GoesOn, HasCome, HasMade, HasRoom}
+use Rattle.capn_make.specs.inner.RunParts.{HoldsNoEnd, IsFresh, IsKept, IsMadeSo, IsUnderWay}
 use Rattle.capn_make.specs.inner.RunParts.{TellsRefusal, WritesMade}
-use Rattle.capn_make.specs.inner.SinkRun.{Feeds}
+use Rattle.capn_make.specs.inner.SinkRun.{Writes}
 use Rattle.capn_make.specs.declared.fault.MakeFault.{MakeFault}
 use Rattle.capn_make.specs.declared.fault.MakeFault.TheVariants as faults
 use Rattle.capn_make.proofs.FirstTexts.{lines_append, lines_within}
@@ -47,11 +48,16 @@ room_after (v ∷ vs) input rest first all left =
     let t = lines_within (stream_text vs) in
     omega arith
 
-pub has_room : (form : Form) (input made rest : List ℕ) (line : ℕ)
-    → HasMade form input (record { rest = rest; line = line }) made → length input < 2 ^ 64 → length rest < 2 ^ 63
-    → HasRoom line rest
-has_room form input made rest line m all left =
-    subst (λ n. HasRoom n rest) (sym m.line) (room_after m.values input rest m.first all left)
+-- more lines than that are of as many bytes
+pub many_bytes : (form : Form) (input made rest : List ℕ) (line : ℕ)
+    → HasMade form input (record { rest = rest; line = line }) made → 2 ^ 64 ≤ line + length rest
+    → length rest < 2 ^ 63 → 2 ^ 64 ≤ length input
+many_bytes form input made rest line m many left =
+    let at = m.line in
+    elim (cases_lt (length input) (2 ^ 64)) [
+      | inl less ↦ (let room = room_after m.values input rest m.first less left in absurd (omega arith))
+      | inr all ↦ all
+    ]
 
 -- ---- what was written
 
@@ -73,16 +79,6 @@ begun_on c d e written text wrote begun = (
   subst (Appends c e) (sym (take_past written text begun.0))
       (Appends-trans c d e written (take begun.0 text) wrote begun.1),
 )
-
-pub ahead_on : (W : List ℕ → Option (List ℕ) → Option (List ℕ) → Type 0) (bytes : List ℕ)
-    (c d e : Option (List ℕ)) (text : List ℕ) → IsAhead W bytes c d → Appends d e text → IsAhead W bytes c e
-ahead_on W bytes c d e text h wrote =
-    (h.0, h.1, h.2, h.3 ++ text, h.4, h.5, h.6, Appends-trans h.2 d e h.3 text h.7 wrote)
-
-pub kept_none : (form : Form) (written made : List ℕ) → IsKept form written made → form ≡ forms.Bare → written ≡ []
-kept_none forms.Stream written made kept bare = absurd cc
-kept_none forms.Packed written made kept bare = absurd cc
-kept_none forms.Bare written made kept bare = kept
 
 pub kept_on : (form : Form) (written made text new : List ℕ) → IsKept form written made → IsKept form text new
     → IsKept form (written ++ text) new
@@ -233,8 +229,9 @@ module _ (form : Form) (input : List ℕ) (c d : Option (List ℕ)) (made rest :
   )
 
   -- a piece came
-  pub come_at : (piece : List ℕ) → HasCome form (input ++ piece) c d made (rest ++ piece) line tested (length rest)
-  come_at piece = record {
+  pub come_at : (piece new : List ℕ) (before : ℕ) → new ≡ rest ++ piece → before ≡ length rest
+      → HasCome form (input ++ piece) c d made new line tested before
+  come_at piece new before grown size = rw (grown, size) record {
     written = u.written;
     wrote = u.wrote;
     kept = u.kept;
@@ -257,24 +254,23 @@ module _ (form : Form) (input : List ℕ) (c d : Option (List ℕ)) (made rest :
     begun = λ more. begun_by form input more c d served;
   }
 
-  pub room_on : (piece : List ℕ) → length (input ++ piece) < 2 ^ 64 → length (rest ++ piece) < 2 ^ 63
-      → HasRoom line (rest ++ piece)
-  room_on piece few left =
-      has_room form (input ++ piece) (u.written ++ made) (rest ++ piece) line
-      (made_on form input (u.written ++ made) rest piece line u.made_so_far) few left
-
   -- the input is longer than what is taken
-  pub longer : (beyond more : List ℕ) → 2 ^ 64 ≤ length (input ++ beyond)
-      → GivesMade form (input ++ beyond) more c d (Err faults.InputTooLong)
-  longer beyond more long =
-      let all = length-append (input ++ beyond) more in (
+  pub longer : (piece more : List ℕ) → 2 ^ 64 ≤ length (input ++ piece)
+      → GivesMade form (input ++ piece) more c d (Err faults.InputTooLong)
+  longer piece more long =
+      let all = length-append (input ++ piece) more in (
         inr (inr (inl (refl, omega arith))),
-        subst (λ t. HasBegunText form t c d) (sym (append_assoc input beyond more))
-            (begun_by form input (beyond ++ more) c d served),
+        subst (λ t. HasBegunText form t c d) (sym (append_assoc input piece more))
+            (begun_by form input (piece ++ more) c d served),
         λ e. absurd cc,
       )
 
 -- ---- bytes that came are looked at
+
+-- nothing was written
+pub no_writes : (d : Option (List ℕ)) (failed : Bool) (r : Result (Unit {0}) MakeFault) → failed ≡ false
+    → (r ≡ Err faults.Io → ⊥) → Writes faults.Io d d failed r
+no_writes d failed r fine other = (([], Appends-nil d), (λ e. absurd (other e), λ f. absurd cc))
 
 module _ (form : Form) (input : List ℕ) (c d : Option (List ℕ)) (made rest : List ℕ) (line tested before : ℕ)
     (h : HasCome form input c d made rest line tested before) where
@@ -299,97 +295,96 @@ module _ (form : Form) (input : List ℕ) (c d : Option (List ℕ)) (made rest :
     λ e. some_left form input (h.written ++ made) (record { rest = rest; line = line }) h.made_so_far some,
   )
 
-  module _ (after left : List ℕ) (at : ℕ) (e : Option (List ℕ)) (broken : Bool) (new : List ℕ) where
-    -- the writer failed at what was made
-    pub part_at : (told : Option MakeFault) (fault : MakeFault)
-        → TellsRefusal form input (record { rest = left; line = at }) (h.written ++ after) told
-        → WritesMade form d e broken after new (Err fault)
-        → ((more : List ℕ) → GivesMade form input more c e (Err fault)) × FailsAs broken (Err fault)
-    part_at told fault tells w =
-        let io = w.1 in
-        let begun = begun_on c d e h.written after h.wrote w.3 in (
-          λ more. (
-            inr (inl io),
-            refused_begun form input more (h.written ++ after) (record { rest = left; line = at }) c e told w.2 tells
-                begun,
-            λ is. absurd cc,
-          ),
-          (λ is. w.0, λ f. ap (λ x. Err x) io),
-        )
+  -- there are more lines than 64 bits count
+  pub too_long_at : 2 ^ 64 ≤ line + length rest → length rest < 2 ^ 63 → (more : List ℕ)
+      → GivesMade form input more c d (Err faults.InputTooLong)
+  too_long_at many left more =
+      let least = many_bytes form input (h.written ++ made) rest line h.made_so_far many left in
+      let all = length-append input more in
+      (inr (inr (inl (refl, omega arith))), h.begun more, λ e. absurd cc)
 
-    -- a whole input is refused, and what was made is written
-    refused_so : (all : List ℕ) (fault : MakeFault) (u : Unit {0}) → IsMadeSo form all (h.written ++ after) (Err fault)
-        → WritesMade form d e broken after new (Ok u)
-        → EndsAs form c e (Err fault) all × HasBegunText form all c e × (fault ≡ faults.Memory → ⊥)
-        × (fault ≡ faults.Io → ⊥)
-    refused_so all fault u so w =
+  module _ (after left : List ℕ) (at : ℕ) (e : Option (List ℕ)) (broken : Bool) (new : List ℕ) where
+    abbrev place : Place
+    place = record { rest = left; line = at }
+
+    -- the writer failed at what was made
+    broken_at : (io : MakeFault) (more : List ℕ) → WritesMade form d e broken after new (Err io)
+        → (HasBegun c e (h.written ++ after) → HasBegunText form (input ++ more) c e)
+        → GivesMade form input more c e (Err io)
+    broken_at io more w begun = (inr (inl w.1), begun (begun_on c d e h.written after h.wrote w.3), λ is. absurd cc)
+
+    broken_writes : (io : MakeFault) → WritesMade form d e broken after new (Err io)
+        → Writes faults.Io d e broken (Err io)
+    broken_writes io w = ((take w.3.0 after, w.3.1), (λ is. w.0, λ f. ap err_of w.1))
+
+    pub part_at : (told : Option MakeFault) (io : MakeFault) → TellsRefusal form input place (h.written ++ after) told
+        → WritesMade form d e broken after new (Err io)
+        → ((more : List ℕ) → GivesMade form input more c e (Err io)) × Writes faults.Io d e broken (Err io)
+    part_at told io tells w = (
+      λ more. broken_at io more w (refused_begun form input more (h.written ++ after) place c e told w.2 tells),
+      broken_writes io w,
+    )
+
+    -- what was made is written
+    pub made_writes : (u : Unit {0}) (r : Result (Unit {0}) MakeFault) → WritesMade form d e broken after new (Ok u)
+        → (r ≡ Err faults.Io → ⊥) → Writes faults.Io d e broken r
+    made_writes u r w other = ((w.1, w.2), (λ is. absurd (other is), λ f. let fine = w.0 in absurd cc))
+
+    -- and a whole input is refused
+    refused_so : (more : List ℕ) (fault : MakeFault) (u : Unit {0})
+        → IsMadeSo form (input ++ more) (h.written ++ after) (Err fault) → WritesMade form d e broken after new (Ok u)
+        → GivesMade form input more c e (Err fault) × Writes faults.Io d e broken (Err fault)
+    refused_so more fault u so w =
+        let all = input ++ more in
         let text = w.1 in
         let wrote = Appends-trans c d e h.written text h.wrote w.2 in
         let parts = ap (λ t. h.written ++ t) w.3 ∙ sym (append_assoc h.written text new) in
         let kept = kept_on form h.written made text new h.kept w.4 in
         let makes = refused_ends form all (h.written ++ text) new fault kept
         (subst (λ t. IsMadeSo form all t (Err fault)) parts so) in (
-          inr (inr (inr (h.written ++ text, makes, wrote))),
-          text_begun form all (h.written ++ text) c e (Err fault) makes (all_begun c e (h.written ++ text) wrote),
-          λ is. not_memory form all (h.written ++ text)
-              (subst (λ f. Makes form all (h.written ++ text) (Err f)) is makes),
-          λ is. not_io form all (h.written ++ text) (subst (λ f. Makes form all (h.written ++ text) (Err f)) is makes),
-        )
-
-    fails_never : (fault : MakeFault) (u : Unit {0}) → (fault ≡ faults.Io → ⊥)
-        → WritesMade form d e broken after new (Ok u) → FailsAs broken (Err fault)
-    fails_never fault u other w =
-        let fine = w.0 in (
-          λ is. absurd (other (err_inj fault faults.Io is)),
-          λ f. absurd cc,
+          (
+            inr (inr (inr (h.written ++ text, makes, wrote))),
+            text_begun form all (h.written ++ text) c e (Err fault) makes (all_begun c e (h.written ++ text) wrote),
+            λ is. absurd (not_memory form all (h.written ++ text)
+                (subst (λ f. Makes form all (h.written ++ text) (Err f)) (err_inj fault faults.Memory is) makes)),
+          ),
+          made_writes u (Err fault) w (λ is. not_io form all (h.written ++ text)
+              (subst (λ f. Makes form all (h.written ++ text) (Err f)) (err_inj fault faults.Io is) makes)),
         )
 
     -- it is refused whatever follows
     pub refuses_at : (fault : MakeFault) (u : Unit {0})
-        → TellsRefusal form input (record { rest = left; line = at }) (h.written ++ after) (Some fault)
+        → TellsRefusal form input place (h.written ++ after) (Some fault)
         → WritesMade form d e broken after new (Ok u)
-        → ((more : List ℕ) → GivesMade form input more c e (Err fault)) × FailsAs broken (Err fault)
-    refuses_at fault u tells w = (
-      λ more.
-          let so = refused_so (input ++ more) fault u (tells more) w in
-          (so.0, so.1, λ is. absurd (so.2 (err_inj fault faults.Memory is))),
-      fails_never fault u (refused_so (input ++ []) fault u (tells []) w).3 w,
-    )
+        → ((more : List ℕ) → GivesMade form input more c e (Err fault)) × Writes faults.Io d e broken (Err fault)
+    refuses_at fault u tells w =
+        (λ more. (refused_so more fault u (tells more) w).0, (refused_so [] fault u (tells []) w).1)
 
     -- an input that ended is refused
+    ended_so : (fault : MakeFault) → (fault ≡ faults.Memory → ⊥)
+        → GoesOn form input place (h.written ++ after) (Err fault)
+        → IsMadeSo form (input ++ []) (h.written ++ after) (Err fault)
+    ended_so fault other goes =
+        subst (λ t. IsMadeSo form t (h.written ++ after) (Err fault)) (sym (append-nil input))
+        (so_made form input (h.written ++ after) place fault other goes)
+
     pub ended_refused : (fault : MakeFault) (u : Unit {0}) → (fault ≡ faults.Memory → ⊥)
-        → GoesOn form input (record { rest = left; line = at }) (h.written ++ after) (Err fault)
-        → WritesMade form d e broken after new (Ok u)
-        → GivesMade form input [] c e (Err fault) × FailsAs broken (Err fault)
-    ended_refused fault u other goes w =
-        let made_so =
-        so_made form input (h.written ++ after) (record { rest = left; line = at }) fault other goes in
-        let so = refused_so (input ++ []) fault u
-        (subst (λ t. IsMadeSo form t (h.written ++ after) (Err fault)) (sym (append-nil input)) made_so) w in
-        ((so.0, so.1, λ is. absurd (so.2 (err_inj fault faults.Memory is))), fails_never fault u so.3 w)
+        → GoesOn form input place (h.written ++ after) (Err fault) → WritesMade form d e broken after new (Ok u)
+        → GivesMade form input [] c e (Err fault) × Writes faults.Io d e broken (Err fault)
+    ended_refused fault u other goes w = refused_so [] fault u (ended_so fault other goes) w
 
     -- or the writer failed before
     pub ended_broken : (fault io : MakeFault) → (fault ≡ faults.Memory → ⊥)
-        → GoesOn form input (record { rest = left; line = at }) (h.written ++ after) (Err fault)
-        → WritesMade form d e broken after new (Err io)
-        → GivesMade form input [] c e (Err io) × FailsAs broken (Err io)
-    ended_broken fault io other goes w =
-        let is_io = w.1 in
-        let made_so =
-        so_made form input (h.written ++ after) (record { rest = left; line = at }) fault other goes in
-        let begun = begun_on c d e h.written after h.wrote w.3 in (
-          (
-            inr (inl is_io),
-            subst (λ t. HasBegunText form t c e) (sym (append-nil input))
-                (so_begun form input (h.written ++ after) c e fault w.2 made_so begun),
-            λ is. absurd cc,
-          ),
-          (λ is. w.0, λ f. ap (λ x. Err x) is_io),
-        )
+        → GoesOn form input place (h.written ++ after) (Err fault) → WritesMade form d e broken after new (Err io)
+        → GivesMade form input [] c e (Err io) × Writes faults.Io d e broken (Err io)
+    ended_broken fault io other goes w = (
+      broken_at io [] w
+          (so_begun form (input ++ []) (h.written ++ after) c e fault w.2 (ended_so fault other goes)),
+      broken_writes io w,
+    )
 
     -- what was made was written
-    pub written_at : (u : Unit {0})
-        → TellsRefusal form input (record { rest = left; line = at }) (h.written ++ after) None
+    pub written_at : (u : Unit {0}) → TellsRefusal form input place (h.written ++ after) None
         → WritesMade form d e broken after new (Ok u) → IsUnderWay form input c e new left at (length left)
     written_at u told w =
         let text = w.1 in
@@ -398,79 +393,33 @@ module _ (form : Form) (input : List ℕ) (c d : Option (List ℕ)) (made rest :
           written = h.written ++ text;
           wrote = Appends-trans c d e h.written text h.wrote w.2;
           kept = kept_on form h.written made text new h.kept w.4;
-          made_so_far = subst (HasMade form input (record { rest = left; line = at })) all told.0;
+          made_so_far = subst (HasMade form input place) all told.0;
           tested_so_far = all_tested form input left told.1;
           short = omega arith;
           unended = told.2;
         }
 
-    -- what was made of all is written, if it is made well
-    pub ended_well : (u : Unit {0}) → GoesOn form input (record { rest = left; line = at }) (h.written ++ after) (Ok u)
-        → Appends d e after → GivesMade form input [] c e (Ok u)
-    ended_well u goes wrote =
-        let all = Appends-trans c d e h.written after h.wrote wrote in
-        let makes = made_well form input (h.written ++ after) u goes.1 in
-        let whole = sym (append-nil input) in (
-          (h.written ++ after, subst (λ t. Makes form t (h.written ++ after) (Ok u)) whole makes, all),
-          subst (λ t. HasBegunText form t c e) whole (text_begun form input (h.written ++ after) c e (Ok u) makes
-              (all_begun c e (h.written ++ after) all)),
-          λ is. absurd cc,
-        )
+    ended_by : (u : Unit {0}) (r : Result (Unit {0}) MakeFault) → Makes form (input ++ []) (h.written ++ after) (Ok u)
+        → HasBegunText form (input ++ []) c e → HasBegun d e after → OnOk r (Appends d e after)
+        → OnOk r (broken ≡ false) → OnErr r (broken ≡ true) → IsOkUnless r faults.Io
+        → GivesMade form input [] c e r × Writes faults.Io d e broken r
+    ended_by u (Ok v) makes started begun all fine failed only = (
+      ((h.written ++ after, makes, Appends-trans c d e h.written after h.wrote all), started, λ is. absurd cc),
+      ((after, all), (λ is. absurd cc, λ f. absurd cc)),
+    )
+    ended_by u (Err fault) makes started begun all fine failed only = (
+      (inr (inl only), started, λ is. absurd cc),
+      ((take begun.0 after, begun.1), (λ is. failed, λ f. ap err_of only)),
+    )
 
-    -- or the writer failed at it
-    pub ended_part : (u : Unit {0}) (fault : MakeFault)
-        → GoesOn form input (record { rest = left; line = at }) (h.written ++ after) (Ok u)
-        → fault ≡ faults.Io → HasBegun d e after → GivesMade form input [] c e (Err fault)
-    ended_part u fault goes io begun =
-        let makes = made_well form input (h.written ++ after) u goes.1 in
-        let whole = sym (append-nil input) in (
-          inr (inl io),
-          subst (λ t. HasBegunText form t c e) whole (text_begun form input (h.written ++ after) c e (Ok u) makes
-              (begun_on c d e h.written after h.wrote begun)),
-          λ is. absurd cc,
-        )
-
-    -- either, by the last write
+    -- what was made of all is written, or the writer failed at it
     pub ended_as : (u : Unit {0}) (r : Result (Unit {0}) MakeFault)
-        → GoesOn form input (record { rest = left; line = at }) (h.written ++ after) (Ok u)
+        → GoesOn form input place (h.written ++ after) (Ok u)
         → OnOk r (Appends d e after) → HasBegun d e after → OnOk r (broken ≡ false) → OnErr r (broken ≡ true)
-        → IsOkUnless r faults.Io → GivesMade form input [] c e r × FailsAs broken r
-    ended_as u (Ok v) goes all begun fine failed only =
-        (ended_well v goes all, (λ is. absurd cc, λ f. absurd cc))
-    ended_as u (Err fault) goes all begun fine failed only =
-        (ended_part u fault goes only begun, (λ is. failed, λ f. ap (λ x. Err x) only))
-
--- ---- the same, as a sink
-
-pub fed_by : (first old new : Form) (input : List ℕ) (c d : Option (List ℕ)) (made rest : List ℕ) (line tested : ℕ)
-    (r : Result (Unit {0}) MakeFault) → old ≡ first → new ≡ old → LooksOn old input c d made rest line tested r
-    → Feeds (λ bytes a b. (new ≡ first) × IsUnderWay first bytes a b made rest line tested) (GivesMade first) input c
-    d r
-fed_by first old new input c d made rest line tested (Ok u) is same looks =
-    (same ∙ is, subst (λ f. IsUnderWay f input c d made rest line tested) is looks)
-fed_by first old new input c d made rest line tested (Err fault) is same looks =
-    λ more. subst (λ f. GivesMade f input more c d (Err fault)) is (looks more)
-
-pub come_so : (first old : Form) (input piece : List ℕ) (c d : Option (List ℕ)) (made rest new : List ℕ)
-    (line tested before : ℕ) → old ≡ first → IsUnderWay first input c d made rest line tested → new ≡ rest ++ piece
-    → before ≡ length rest → HasCome old (input ++ piece) c d made new line tested before
-come_so first old input piece c d made rest new line tested before is u grown size =
-    rw (is, grown, size) (come_at first input c d made rest line tested u piece)
-
-pub come_end : (first old : Form) (input : List ℕ) (c d : Option (List ℕ)) (made rest : List ℕ) (line tested : ℕ)
-    → old ≡ first → IsUnderWay first input c d made rest line tested
-    → HasCome old input c d made rest line tested (length rest)
-come_end first old input c d made rest line tested is u =
-    rw is (come_last first input c d made rest line tested u)
-
-pub ended_by : (first old : Form) (bytes beyond more : List ℕ) (c d : Option (List ℕ))
-    (r : Result (Unit {0}) MakeFault) → old ≡ first → beyond ≡ [] → more ≡ [] → GivesMade old bytes [] c d r
-    → GivesMade first (bytes ++ beyond) more c d r
-ended_by first old bytes beyond more c d r is none nothing gives =
-    let whole : bytes ≡ bytes ++ beyond = sym (append-nil bytes) ∙ ap (λ t. bytes ++ t) (sym none) in
-    subst (λ m. GivesMade first (bytes ++ beyond) m c d r) (sym nothing)
-    (subst (λ t. GivesMade first t [] c d r) whole (subst (λ f. GivesMade f bytes [] c d r) is gives))
-
-pub past_most : (bytes beyond : List ℕ) → length bytes ≡ 2 ^ 64 - 1 → beyond ≢ [] → 2 ^ 64 ≤ length (bytes ++ beyond)
-past_most bytes [] full some = absurd (some refl)
-past_most bytes (x ∷ xs) full some = let all = length-append bytes (x ∷ xs) in omega arith
+        → IsOkUnless r faults.Io → GivesMade form input [] c e r × Writes faults.Io d e broken r
+    ended_as u r goes all begun fine failed only =
+        let makes = subst (λ t. Makes form t (h.written ++ after) (Ok u)) (sym (append-nil input))
+        (made_well form input (h.written ++ after) u goes.1) in
+        let started = text_begun form (input ++ []) (h.written ++ after) c e (Ok u) makes
+        (begun_on c d e h.written after h.wrote begun) in
+        ended_by u r makes started begun all fine failed only

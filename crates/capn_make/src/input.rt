@@ -1,44 +1,38 @@
 //! Texts as a sink.
 
-ghost use Rattle.std.specs.Prelude.{◌≡◌, false};
 ghost use Rattle.capn_words.specs.Watched.{inner_of, has_failed};
 
 use crate::fault::MakeFault;
 use crate::progress::Progress;
 use crate::sink::Sink;
+use capn_canon::Form;
 use capn_words::Watched;
 use std::alloc::Allocator;
 use std::io::Write;
 
 /// Texts are taken as they come, and their messages are written before more of them.
 impl<A: Allocator + Copy> Sink for Progress<A> {
-    ghost use Rattle.std.specs.Prelude.{◌-◌, ◌^◌};
     ghost use Rattle.capn_make.specs.inner.RunParts.{GivesMade, IsUnderWay};
     ghost use Rattle.capn_make.specs.declared.fault.MakeFault.TheVariants as faults;
 
     type Fault = MakeFault;
 
-    ghost takes = { λ first now bytes c d. (now.form ≡ first.form)
-        × IsUnderWay first.form bytes c d now.made.items now.rest.items now.line now.tested };
+    type Task = Form;
 
-    ghost gives = { λ first bytes more c d r. GivesMade first.form bytes more c d r };
+    ghost task = { λ now. now.form };
 
-    ghost most = { λ _. 2 ^ 64 - 1 };
+    ghost takes = { λ now bytes c d. IsUnderWay now.form bytes c d now.made.items now.rest.items now.line now.tested };
 
-    ghost done = { λ _. false };
+    ghost gives = { λ form bytes more c d r. GivesMade form bytes more c d r };
 
     ghost io = { faults.Io };
-
-    fn most_bytes(&self) -> u64 {
-        u64::MAX
-    }
 
     fn broken() -> MakeFault {
         MakeFault::Io
     }
 
-    fn is_done(&self) -> bool {
-        false
+    fn too_long(&self) -> MakeFault {
+        MakeFault::InputTooLong
     }
 
     fn feed<W: Write>(&mut self, piece: &[u8], writer: &mut Watched<W>) -> Result<(), MakeFault> {
@@ -47,14 +41,7 @@ impl<A: Allocator + Copy> Sink for Progress<A> {
         self.look(before, writer)
     }
 
-    fn finish<W: Write>(
-        &mut self,
-        is_longer: bool,
-        writer: &mut Watched<W>,
-    ) -> Result<(), MakeFault> {
-        if is_longer {
-            return Err(MakeFault::InputTooLong);
-        }
+    fn finish<W: Write>(&mut self, writer: &mut Watched<W>) -> Result<(), MakeFault> {
         self.end(writer)
     }
 }

@@ -1,11 +1,12 @@
 //! The messages made of an input that comes in pieces.
 
-ghost use Rattle.std.specs.Prelude.{◌≡◌, ◌≢◌, ◌≤◌, ℕ, List, [], ◌++◌, length, drop, true, false};
+ghost use Rattle.std.specs.Prelude.{◌≡◌, ◌≢◌, ◌≤◌, ◌+◌, ◌^◌, ℕ, List, [], ◌++◌, length, drop, true, false};
 ghost use Rattle.std.specs.Prelude.{Option, IfOk, IfErr, IsErrOf, OnErr};
 ghost use Rattle.capn_words.specs.Watched.{inner_of, has_failed};
 ghost use Rattle.capn_make.specs.inner.RunParts as spec;
-ghost use Rattle.capn_make.specs.inner.RunParts.{AppendsSome, FailsAs, GivesMade, GoesOn, HasCome, HasMade, HasRoom};
-ghost use Rattle.capn_make.specs.inner.RunParts.{IsFresh, IsWholeFrom, LooksOn, TellsCut, TellsRefusal, WritesMade};
+ghost use Rattle.capn_make.specs.inner.RunParts.{GivesMade, GoesOn, HasCome, HasMade, HasRoom, IsFresh, IsUnderWay};
+ghost use Rattle.capn_make.specs.inner.RunParts.{IsWholeFrom, TellsCut, TellsRefusal, WritesMade};
+ghost use Rattle.capn_make.specs.inner.SinkRun.{Feeds, Writes};
 
 use crate::end_line::is_due;
 use crate::fault::MakeFault;
@@ -42,6 +43,14 @@ fn drop_front<A: Allocator>(bytes: &mut Vec<u8, A>, count: usize)
     let len = bytes.len();
     bytes.copy_within(count..len, 0);
     bytes.truncate(len - count);
+}
+
+/// Returns `true` if 64 bits count the lines of `rest`, what is left of an input from `line` on.
+fn has_room(line: u64, rest: &[u8]) -> bool
+    ensures room { result ≡ true → HasRoom line rest.now }
+    ensures none { result ≡ false → 2 ^ 64 ≤ line + length rest.now }
+{
+    rest.len() as u64 <= u64::MAX - line
 }
 
 /// Returns `true` if the subject of `fault` is complete in `rest`, what is left from `line` on.
@@ -170,17 +179,20 @@ impl<A: Allocator + Copy> Progress<A> {
     ) -> Result<(), MakeFault>
         requires fine { has_failed writer.old ≡ false }
         requires within { before ≤ length self.old.rest.items }
-        requires room { HasRoom self.old.line self.old.rest.items }
         ensures looked { (input : List ℕ) (c : Option (List ℕ))
             → HasCome self.old.form input c (W.contents (inner_of writer.old)) self.old.made.items
             self.old.rest.items self.old.line self.old.tested before
-            → LooksOn self.old.form input c (W.contents (inner_of writer.new)) self.new.made.items
-            self.new.rest.items self.new.line self.new.tested result × FailsAs (has_failed writer.new) result }
+            → Feeds (λ bytes a b. IsUnderWay self.new.form bytes a b self.new.made.items self.new.rest.items
+            self.new.line self.new.tested) (GivesMade self.old.form) input c (W.contents (inner_of writer.new)) result
+            × Writes MakeFault.Io (W.contents (inner_of writer.old)) (W.contents (inner_of writer.new))
+            (has_failed writer.new) result }
         ensures form { self.new.form ≡ self.old.form }
-        ensures wrote { AppendsSome (W.contents (inner_of writer.old)) (W.contents (inner_of writer.new)) }
     {
         if !is_due(&self.rest, before, self.tested) {
             return Ok(());
+        }
+        if !has_room(self.line, &self.rest) {
+            return Err(MakeFault::InputTooLong);
         }
         let refusal = self.find_refusal()?;
         self.write_made(writer)?;
@@ -193,15 +205,17 @@ impl<A: Allocator + Copy> Progress<A> {
 
     /// Makes the texts of an input to which nothing follows, and writes what is left to write.
     pub(crate) fn end<W: Write>(&mut self, writer: &mut Watched<W>) -> Result<(), MakeFault>
-        requires fine { has_failed writer.old ≡ false }
-        requires room { HasRoom self.old.line self.old.rest.items }
-        ensures ended { (input : List ℕ) (c : Option (List ℕ)) (before : ℕ)
+        requires { has_failed writer.old ≡ false }
+        ensures { (input : List ℕ) (c : Option (List ℕ)) (before : ℕ)
             → HasCome self.old.form input c (W.contents (inner_of writer.old)) self.old.made.items
             self.old.rest.items self.old.line self.old.tested before
             → GivesMade self.old.form input [] c (W.contents (inner_of writer.new)) result
-            × FailsAs (has_failed writer.new) result }
-        ensures wrote { AppendsSome (W.contents (inner_of writer.old)) (W.contents (inner_of writer.new)) }
+            × Writes MakeFault.Io (W.contents (inner_of writer.old)) (W.contents (inner_of writer.new))
+            (has_failed writer.new) result }
     {
+        if !has_room(self.line, &self.rest) {
+            return Err(MakeFault::InputTooLong);
+        }
         let mut cut = false;
         match self.go_on(&mut cut) {
             Ok(()) => write_all(writer, &self.made),

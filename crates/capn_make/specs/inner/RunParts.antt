@@ -1,5 +1,5 @@
 -- The parts of a run.
-use Rattle.std.specs.Prelude.{◌≡◌, ◌≢◌, ◌⊎◌, ◌↔◌, ◌≤◌, ◌<◌, ⊤, ℕ, ◌+◌, ◌*◌, ◌-◌, ◌^◌, ◌==◌, List, [], ◌∷◌, ◌++◌}
+use Rattle.std.specs.Prelude.{◌≡◌, ◌≢◌, ◌⊎◌, ◌≤◌, ◌<◌, ⊤, ℕ, ◌+◌, ◌*◌, ◌-◌, ◌^◌, ◌==◌, List, [], ◌∷◌, ◌++◌}
 use Rattle.std.specs.Prelude.{length, take, drop}
 use Rattle.std.specs.Prelude.{Bool, true, false, not, cond}
 use Rattle.std.specs.Prelude.{Option, Some, None, Result, Ok, Err, Vec}
@@ -14,7 +14,7 @@ use Rattle.capn_text.specs.declared.fault.TextFault.TheVariants as texts
 use Rattle.capn_canon.specs.declared.form.Form.{Form}
 use Rattle.capn_canon.specs.declared.form.Form.TheVariants as forms
 use Rattle.capn_make.specs.WrittenValue.{IsMakeable, IsWrittenValue, AreMade}
-use Rattle.capn_make.specs.MadeInput.{AreFirst, IsTextRefused, IsUnended, IsWrong, IsNotOne, Follows, Makes}
+use Rattle.capn_make.specs.MadeInput.{AreFirst, IsTextRefused, IsUnended, IsWrong, IsNotOne, Follows}
 use Rattle.capn_make.specs.MadeInput.{line_after, MakesEach, MakesOne}
 use Rattle.capn_make.specs.MakeRun.{EndsAs, HasBegunText}
 use Rattle.capn_make.specs.Endings.{IsRefusedForGood, IsLostForGood}
@@ -187,20 +187,6 @@ pub record HasCome (form : Form) (input : List ℕ) (c d : Option (List ℕ)) (m
 abbrev pub GivesMade : Form → List ℕ → List ℕ → Option (List ℕ) → Option (List ℕ) → Result (Unit {0}) MakeFault → Type 0
 GivesMade form bytes more c d r = EndsAs form c d r (bytes ++ more) × HasBegunText form (bytes ++ more) c d
     × (r ≡ Err faults.Memory → bytes ≢ [])
-
--- bytes that came are made as far as they go; or the run ends so, whatever follows
-abbrev pub LooksOn : Form → List ℕ → Option (List ℕ) → Option (List ℕ) → List ℕ → List ℕ → ℕ → ℕ
-    → Result (Unit {0}) MakeFault → Type 0
-LooksOn form input c d made rest line tested (Ok u) = IsUnderWay form input c d made rest line tested
-LooksOn form input c d made rest line tested (Err fault) = (more : List ℕ) → GivesMade form input more c d (Err fault)
-
--- the writer failed if and only if this is so
-abbrev pub FailsAs : Bool → Result (Unit {0}) MakeFault → Type 0
-FailsAs failed r = (r ≡ Err faults.Io) ↔ (failed ≡ true)
-
--- something was appended
-abbrev pub AppendsSome : Option (List ℕ) → Option (List ℕ) → Type 0
-AppendsSome c d = (text : List ℕ) × Appends c d text
 
 -- true if the fault of a text is that of an unfinished one
 abbrev pub is_cut : TextFault → Bool

@@ -1,5 +1,5 @@
 -- The parts of a run over texts with quotes.
-use Rattle.std.specs.Prelude.{◌≡◌, ◌≢◌, ◌≤◌, ℕ, ◌+◌, List, [], ◌++◌, length, Bool, true}
+use Rattle.std.specs.Prelude.{◌≡◌, ◌≢◌, ◌≤◌, ℕ, ◌+◌, List, [], ◌++◌, length, true}
 use Rattle.std.specs.Prelude.{Option, Result, Ok, Err}
 use Rattle.capn_text.specs.Streams.{ended_lines}
 use Rattle.capn_text.specs.PlainForm.{plain, plain_after, digits_after, count_to}
@@ -23,11 +23,10 @@ pub record HasSeen (q : Unquoting) (line : ℕ) (bytes input : List ℕ) : Type 
   pub quiet : ended_lines q.front ≡ 0
   pub empty : q.through ≡ true → q.front ≡ []
 
--- These bytes were read, and the plain form of their whole lines is under way. So many bytes are counted of both.
+-- These bytes were read, and the plain form of their whole lines is under way.
 pub record IsUnderTexts (form : Form) (bytes : List ℕ) (c d : Option (List ℕ)) (made rest : List ℕ)
-    (line tested taken : ℕ) (q : Unquoting) : Type 0 where
+    (line tested : ℕ) (q : Unquoting) : Type 0 where
   pub input : List ℕ
-  pub size : length bytes + length input ≡ taken
   pub seen : HasSeen q line bytes input
   pub way : IsUnderWay form input c d made rest line tested
 
