@@ -30,11 +30,11 @@ returns-then-count-eq0 g c =
     c.pieces.taken i.way _ _ _ _ c.in-Some.count c.in-Some.ensures c.finish.new.self _ c.finish.result
     c.if-count-eq0.true ended.0 ended.1
 
-pub returns-in_default-2 : goal.returns-in_default-2
-returns-in_default-2 g c =
+pub returns-in_default-counted : goal.returns-in_default-counted
+returns-in_default-counted g c =
     let i = c.pieces.invariant in
     let task = g.S.Sink.task c.args.sink.now in
-    let many = c.in_default-2.ensures in
+    let many = c.in_default-counted.ensures in
     let long = rw i.way.takes.0 at c.too_long.ensures.long in
     run_too_long (Holds g.S.Sink.task g.S.Sink.takes task) (g.S.Sink.gives task) g.S.Sink.io c.pieces.sink _ _ _ _
     c.pieces.taken i.way _ _ _ _ c.in-Some.count c.in-Some.ensures c.too_long.result c.too_long.ensures.other i.kept
@@ -59,7 +59,7 @@ pub pieces-preserved : goal.pieces-preserved
 pieces-preserved g c =
     let i = c.pieces.invariant in
     let task = g.S.Sink.task c.args.sink.now in
-    let sum = c.in-Some-2.ensures in
+    let sum = c.in-Some-counted.ensures in
     let fed = c.in_default-feed.ensures.fed i.way.bytes _ i.way.takes.1 in
     record {
       fine = c.in-Some.ensures.0;
