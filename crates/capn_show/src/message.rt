@@ -38,7 +38,15 @@ pub fn show_message<S: Space, W: Write, A: Allocator, B: Allocator + Copy>(
     let _bounds = space.segments();
     survey(alloc, space, limits)?;
     let depth = limits.depth();
-    match show_slot(text, writer, &mut Lines::<false>, space, Place::ROOT, 0, depth) {
+    match show_slot(
+        text,
+        writer,
+        &mut Lines::<false>,
+        space,
+        Place::ROOT,
+        0,
+        depth,
+    ) {
         Ok(()) => Ok(()),
         Err(broken) => Err(fault_of(broken)),
     }

@@ -147,7 +147,14 @@ pub fn show_numbers<S: Space, W: Write, A: Allocator, E: Emitter>(
     let size = element_bytes(width);
     for i in 0..count {
         let number = number_at(space, start, width, i);
-        show_number(text, writer, emitter, first + i as u128 * size, level, number)?;
+        show_number(
+            text,
+            writer,
+            emitter,
+            first + i as u128 * size,
+            level,
+            number,
+        )?;
     }
     Ok(())
 }

@@ -832,8 +832,8 @@ rows::show_slots-returns-in_err-show_below-clause-cut g t c =
     r _
     (omega arith) (c.loop-i.invariant.rest ts h n)
     (otherwise-broken q r _ _ _ (item-is m rule c.args.level way _ _ c.loop-i.invariant.kept.rule
-          c.loop-i.invariant.kept.way (nth c.args.first) ts i) (c.in_err-show_below.ensures.cut (tree_at ts i)
-          (h i below)))))
+    c.loop-i.invariant.kept.way (nth c.args.first) ts i) (c.in_err-show_below.ensures.cut (tree_at ts i)
+    (h i below)))))
 
 -- ---- rows, one after the other
 
@@ -914,7 +914,7 @@ rows::show_rows-returns-in_err-show_row-clause-cut g t c =
     (rows_listed bs) i r _
     (omega arith) (c.loop-row.invariant.rest bs h n)
     (otherwise-broken q r _ _ _ (row-is m rule c.args.level way _ _ c.loop-row.invariant.kept.rule
-          c.loop-row.invariant.kept.way c.args.first a b c.loop-row.next bs i next)
+    c.loop-row.invariant.kept.way c.args.first a b c.loop-row.next bs i next)
     (c.in_err-show_row.ensures.cut (words_of_row bs i) (slots_of_row bs i)
     (subst (λ (w : ℕ). ShowsStruct m (struct_at s w a b) (words_of_row bs i) (slots_of_row bs i)) (sym next)
     (h i below))))))
