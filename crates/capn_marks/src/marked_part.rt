@@ -16,8 +16,9 @@ ghost use Rattle.capn_show.specs.ReadyPlaces.{Holds, IsFound, IsReady};
 use crate::annotated::Annotated;
 use crate::marks::{Marks, push_number};
 use crate::starts::words_before;
-use capn_show::{Broken, Emitter, Part, ShowFault};
-use capn_show::{fault_of, named, plain_line, put, show_found, step_down};
+use capn_show::{
+    Broken, Emitter, Part, ShowFault, fault_of, named, plain_line, put, show_found, step_down,
+};
 use capn_walk::laws::values;
 use capn_walk::{Limits, survey};
 use capn_words::{Place, Space, Watched};

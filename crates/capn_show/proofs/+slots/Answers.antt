@@ -39,16 +39,19 @@ slots::show_slot-show_found-requires g t c κs live =
         (
           live.1.0,
           (
-            live.1.1,
+            live.1.1.0,
             (
-              c.requires.message,
+              live.1.1.1,
               (
-                c.requires.of,
+                c.requires.message,
                 (
-                  c.in-Ok.ensures.inside,
+                  c.requires.of,
                   (
-                    ready,
-                    c.requires.room,
+                    c.in-Ok.ensures.inside,
+                    (
+                      ready,
+                      c.requires.room,
+                    ),
                   ),
                 ),
               ),
@@ -79,12 +82,15 @@ slots::show_body-show_slots-requires g t c κs live =
         (
           live.1.0,
           (
-            live.1.1,
+            live.1.1.0,
             (
-              c.requires.message,
+              live.1.1.1,
               (
-                c.requires.of,
-                (content, (ready, c.requires.room)),
+                c.requires.message,
+                (
+                  c.requires.of,
+                  (content, (ready, c.requires.room)),
+                ),
               ),
             ),
           ),
@@ -136,12 +142,15 @@ slots::show_found-show_body-requires g t c κs live =
         (
           live.1.0,
           (
-            live.1.1,
+            live.1.1.0,
             (
-              c.requires.message,
+              live.1.1.1,
               (
-                c.requires.of,
-                (content, (ready, omega arith)),
+                c.requires.message,
+                (
+                  c.requires.of,
+                  (content, (ready, omega arith)),
+                ),
               ),
             ),
           ),
@@ -171,12 +180,15 @@ slots::show_found-show_slots-requires g t c κs live =
         (
           live.1.0,
           (
-            live.1.1,
+            live.1.1.0,
             (
-              c.requires.message,
+              live.1.1.1,
               (
-                c.requires.of,
-                (content, (ready, omega arith)),
+                c.requires.message,
+                (
+                  c.requires.of,
+                  (content, (ready, omega arith)),
+                ),
               ),
             ),
           ),
@@ -206,12 +218,15 @@ slots::show_found-show_rows-requires g t c κs live =
         (
           live.1.0,
           (
-            live.1.1,
+            live.1.1.0,
             (
-              c.requires.message,
+              live.1.1.1,
               (
-                c.requires.of,
-                (content, (ready, omega arith)),
+                c.requires.message,
+                (
+                  c.requires.of,
+                  (content, (ready, omega arith)),
+                ),
               ),
             ),
           ),
@@ -565,12 +580,15 @@ rows::show_slots-show_below-requires g t c κs live =
         (
           live.1.0,
           (
-            live.1.1,
+            live.1.1.0,
             (
-              c.requires.message,
+              live.1.1.1,
               (
-                c.loop-i.invariant.kept.of (g.S.Space.message c.args.space.now) c.requires.of,
-                (omega arith, (ready, c.requires.room)),
+                c.requires.message,
+                (
+                  c.loop-i.invariant.kept.of (g.S.Space.message c.args.space.now) c.requires.of,
+                  (omega arith, (ready, c.requires.room)),
+                ),
               ),
             ),
           ),
@@ -597,18 +615,35 @@ rows::show_rows-show_row-requires g t c κs live =
         (
           live.1.0,
           (
-            live.1.1,
+            live.1.1.0,
             (
-              c.requires.message,
+              live.1.1.1,
               (
-                c.loop-row.invariant.kept.of (g.S.Space.message c.args.space.now) c.requires.of,
-                (content, (ready, c.requires.room)),
+                c.requires.message,
+                (
+                  c.loop-row.invariant.kept.of (g.S.Space.message c.args.space.now) c.requires.of,
+                  (content, (ready, c.requires.room)),
+                ),
               ),
             ),
           ),
         ),
       ),
     )
+
+-- ---- the emitter, as it was
+
+pub slots::show_found-returns-in-Nil-clause-kept : goal.slots::show_found-returns-in-Nil-clause-kept
+slots::show_found-returns-in-Nil-clause-kept g t c =
+    on_ok_weaker c.plain_line.result (λ h. record { rule = refl; way = refl; of = λ m k. k }) c.plain_line.ensures.shown
+
+pub slots::show_found-returns-in-Cap-clause-kept : goal.slots::show_found-returns-in-Cap-clause-kept
+slots::show_found-returns-in-Cap-clause-kept g t c =
+    on_ok_weaker c.named_line.result (λ h. record { rule = refl; way = refl; of = λ m k. k }) c.named_line.ensures.shown
+
+pub slots::show_found-returns-in_default-clause-kept : goal.slots::show_found-returns-in_default-clause-kept
+slots::show_found-returns-in_default-clause-kept g t c =
+    on_ok_weaker c.show_list.result (λ h. record { rule = refl; way = refl; of = λ m k. k }) c.show_list.ensures.shown
 
 -- ---- the text of a slot
 
@@ -661,6 +696,22 @@ slots::show_slot-returns-in_err-put_mark-clause-cut g t c =
 
 -- ---- the text of the slot of a number
 
+pub rows::show_below-show_slot-requires : goal.rows::show_below-show_slot-requires
+rows::show_below-show_slot-requires g t c κs live =
+    let of = c.in_ok-step_below.ensures.of (g.S.Space.message c.args.space.now) c.requires.of in (
+      omega arith,
+      (
+        live.0,
+        (
+          live.1.0,
+          (
+            live.1.1.0,
+            (live.1.1.1, (c.requires.message, (of, (c.requires.place, (c.requires.ready, c.requires.room))))),
+          ),
+        ),
+      ),
+    )
+
 pub rows::show_below-returns-clause-shown : goal.rows::show_below-returns-clause-shown
 rows::show_below-returns-clause-shown g t c =
     let m = (g.S.Space.message c.args.space.now) in
@@ -696,6 +747,22 @@ rows::show_below-returns-in_err-show_slot-clause-cut g t c =
     c.args.at c.in_err-show_slot.ensures.cut)
 
 -- ---- the text of a row
+
+pub rows::show_row-show_body-requires : goal.rows::show_row-show_body-requires
+rows::show_row-show_body-requires g t c κs live =
+    let of = c.in_ok-step_below.ensures.of (g.S.Space.message c.args.space.now) c.requires.of in (
+      omega arith,
+      (
+        live.0,
+        (
+          live.1.0,
+          (
+            live.1.1.0,
+            (live.1.1.1, (c.requires.message, (of, (c.requires.content, (c.requires.ready, c.requires.room))))),
+          ),
+        ),
+      ),
+    )
 
 pub rows::show_row-returns-clause-shown : goal.rows::show_row-returns-clause-shown
 rows::show_row-returns-clause-shown g t c =
