@@ -1,7 +1,6 @@
 //! Bytes left to a reader after a refused growth.
 
-use crate::refused::STREAM;
-use crate::words::bytes_of;
+use crate::refused::stream_of_65;
 use capn_stream::{ReadFault, read_message};
 use capn_words::{MOST_MESSAGE_WORDS, Watched};
 use std::alloc::Global;
@@ -28,7 +27,7 @@ fn left_by(alloc: Global, stream: &[u8], number: u64) -> (bool, Option<usize>) {
 /// No byte of the next message is read where memory is refused for the one before.
 #[test]
 fn no_byte_of_the_next_message_is_read(rt: HostRuntime) -> Result<(), Fail> {
-    let mut twice = bytes_of(rt.alloc(), &STREAM)?;
+    let mut twice = stream_of_65(rt.alloc())?;
     let once = twice.len();
     twice.extend_from_within(..)?;
     for number in 1..1_000u64 {

@@ -15,11 +15,9 @@ use std::process::Abort;
 use std::test::Fail;
 use test_allocator::Refusing;
 
-/// A message of three segments: a struct with a word, a text, two rows, two pointers, and a double-far pointer to a
-/// struct.
-pub(crate) const STREAM: [u64; 20] = [
-    0xf_0000_0002,
-    0x1_0000_0002,
+/// The contents of a message: a struct with a word, a text, two rows, two pointers, and a double-far pointer to a
+/// struct, in segments of 15, 2 and 1 words.
+const CONTENTS: [u64; 18] = [
     0x4_0001_0000_0000,
     5,
     0x1a_0000_000d,
@@ -39,6 +37,14 @@ pub(crate) const STREAM: [u64; 20] = [
     0x1_0000_0000,
     9,
 ];
+
+/// Returns a stream of a message in 65 segments, all but the first three of them empty: so its table takes memory.
+pub(crate) fn stream_of_65(alloc: Global) -> Result<Vec<u8>, Fail> {
+    let mut stream = bytes_of(alloc, &[0xf_0000_0040, 0x1_0000_0002])?;
+    stream.extend_from_slice(&[0; 248])?;
+    stream.extend_from_slice(bytes_of(alloc, &CONTENTS)?.as_slice())?;
+    Ok(stream)
+}
 
 /// A command that is run. Its limits can't be in a constant, so it is named apart from them.
 #[derive(Clone, Copy)]
@@ -196,7 +202,7 @@ fn refuse_each(rt: &impl Abort, of: &Subject, name: &str, call: Call) {
 
 #[test]
 fn each_call(rt: HostRuntime) -> Result<(), Fail> {
-    let stream = bytes_of(rt.alloc(), &STREAM)?;
+    let stream = stream_of_65(rt.alloc())?;
     let of = subject_of(rt.alloc(), stream.as_slice())?;
     for (name, call) in CALLS {
         refuse_each(&rt, &of, name, call);
@@ -224,8 +230,8 @@ fn shows_twice(alloc: Global, twice: &[u8], text: &[u8], number: u64) -> (bool, 
 /// If a growth for the second of two messages is refused, the text of the first is written all the same.
 #[test]
 fn the_first_message_is_written(rt: HostRuntime) -> Result<(), Fail> {
-    let once = bytes_of(rt.alloc(), &STREAM)?;
-    let mut twice = bytes_of(rt.alloc(), &STREAM)?;
+    let once = stream_of_65(rt.alloc())?;
+    let mut twice = stream_of_65(rt.alloc())?;
     twice.extend_from_slice(once.as_slice())?;
     let heap = Refusing::nth(rt.alloc(), 0);
     let (outcome, text) = output(rt.alloc(), &heap, command_of(Order::Show), once.as_slice());
