@@ -1,49 +1,67 @@
-//! The ends of the segments of a message, which are kept in place while they are few.
+//! The ends of the segments of a message, of which the first are kept in place.
 
-ghost use Rattle.std.specs.Prelude.{◌≡◌, ◌+◌, ◌*◌, ◌^◌, ◌<◌, ◌≤◌, ◌∷◌, ◌++◌, [], length, take, sum, slice_index, IfOk};
-ghost use Rattle.std.specs.Prelude.{OnErr};
+ghost use Rattle.std.specs.Prelude.{◌≡◌, ◌+◌, ◌-◌, ◌*◌, ◌^◌, ◌<◌, ◌≤◌, ◌∷◌, ◌++◌, [], length, take, sum};
+ghost use Rattle.std.specs.Prelude.{slice_index, IfOk, OnErr};
 ghost use Rattle.capn_words.specs.Message.{most_segments};
 ghost use Rattle.capn_stream.specs.Cuts.{ends_from};
 ghost use Rattle.capn_stream.specs.FrameRefusal.{entries, most_few};
 ghost use Rattle.capn_stream.specs.inner.KeptEnds.{AreKept, kept};
 
-use crate::table::{ends_of, entry_at};
+use crate::table::{ends_of, entry_at, total_of};
 use std::alloc::{AllocError, Allocator};
 
 /// The most ends that are kept in place.
 const MOST_KEPT: usize = 63;
 
-/// The ends of all segments of a message but the last. Those of one segment are a case of their own, for which no place
-/// is cleared.
+/// The ends of all segments of a message but the last: the first 63 in place, and the others in a list. Which of both
+/// has the end of a segment is known by its number alone.
 #[derive(Debug, Drop)]
-pub(crate) enum Ends<A: Allocator> {
-    /// There are none.
-    One,
-    /// They are the first of these, as many as are counted.
-    Few([u32; MOST_KEPT], usize),
-    /// There may be any number.
-    Many(Vec<u32, A>),
-}
-
-/// Returns the first `count` of `ends`.
-fn first_of(ends: &[u32; MOST_KEPT], count: usize) -> &[u32]
-    requires { count ≤ 63 }
-    ensures { result.now ≡ take count ends.now }
-{
-    &ends[..count]
+pub(crate) struct Ends<A: Allocator> {
+    /// How many there are.
+    count: usize,
+    /// The first, as many as there are.
+    few: [u32; MOST_KEPT],
+    /// The others.
+    rest: Vec<u32, A>,
 }
 
 impl<A: Allocator> Ends<A> {
-    /// Returns the ends.
+    /// Returns how many there are.
     #[inline]
-    pub(crate) fn as_slice(&self) -> &[u32]
+    pub(crate) fn count(&self) -> usize
         requires { AreKept self.now }
-        ensures { result.now ≡ kept self.now }
+        ensures { result ≡ length (kept self.now) }
     {
-        match self {
-            Ends::One => &[],
-            Ends::Few(ends, count) => first_of(ends, *count),
-            Ends::Many(ends) => ends.as_slice(),
+        self.count
+    }
+
+    /// Returns the word at which `segment` begins.
+    #[inline]
+    pub(crate) fn start_of(&self, segment: usize) -> u32
+        requires kept { AreKept self.now }
+        requires inside { segment ≤ length (kept self.now) }
+        ensures { result ≡ slice_index (0 ∷ kept self.now) segment }
+    {
+        if segment == 0 {
+            return 0;
+        }
+        if segment <= MOST_KEPT {
+            return self.few[segment - 1];
+        }
+        self.rest[segment - MOST_KEPT - 1]
+    }
+
+    /// Returns the word at which `segment` ends: for the last one, the end of the message, which has `words` words.
+    #[inline]
+    pub(crate) fn end_of(&self, words: u32, segment: usize) -> u32
+        requires kept { AreKept self.now }
+        requires inside { segment ≤ length (kept self.now) }
+        ensures { result ≡ slice_index (kept self.now ++ words ∷ []) segment }
+    {
+        if segment == self.count {
+            words
+        } else {
+            self.start_of(segment + 1)
         }
     }
 }
@@ -64,6 +82,27 @@ fn few_ends(sizes: &[u8], count: usize) -> [u32; MOST_KEPT]
     ends
 }
 
+/// Returns the ends of the segments of `sizes` from number `first` on and below `count`, in words. It takes memory only
+/// if there is one.
+fn rest_ends<A: Allocator>(
+    alloc: A,
+    sizes: &[u8],
+    first: usize,
+    count: usize,
+) -> Result<Vec<u32, A>, AllocError>
+    requires few { count ≤ most_segments }
+    requires front { first ≤ count }
+    requires inside { 4 * count ≤ length sizes.now }
+    requires room { sum (entries count sizes.now) < 2 ^ 32 }
+    ensures ends { IfOk result (λ v.
+        ends_from 0 (entries first sizes.now) ++ v.items ≡ ends_from 0 (entries count sizes.now)) }
+    ensures number { IfOk result (λ v. length v.items ≡ count - first) }
+    ensures memory { OnErr result (first < count) }
+{
+    let from = total_of(sizes, first) as u32;
+    ends_of(alloc, &sizes[4 * first..], count - first, from)
+}
+
 /// Returns the ends of the first `count` segments of `sizes`, in words. It takes memory only for more than 63.
 pub(crate) fn read_ends<A: Allocator>(
     alloc: A,
@@ -77,12 +116,18 @@ pub(crate) fn read_ends<A: Allocator>(
     ensures ends { IfOk result (λ e. kept e ≡ ends_from 0 (entries count sizes.now)) }
     ensures memory { OnErr result (most_few ≤ count) }
 {
-    if count == 0 {
-        return Ok(Ends::One);
-    }
     if count <= MOST_KEPT {
-        return Ok(Ends::Few(few_ends(sizes, count), count));
+        return Ok(Ends {
+            count,
+            few: few_ends(sizes, count),
+            rest: Vec::new(alloc),
+        });
     }
-    let ends = ends_of(alloc, sizes, count)?;
-    Ok(Ends::Many(ends))
+    let few = count.min(MOST_KEPT);
+    let rest = rest_ends(alloc, sizes, few, count)?;
+    Ok(Ends {
+        count,
+        few: few_ends(sizes, few),
+        rest,
+    })
 }

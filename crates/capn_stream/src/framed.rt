@@ -1,6 +1,6 @@
 //! A message of several segments, borrowed.
 
-ghost use Rattle.std.specs.Prelude.{◌≡◌, ℕ, ◌+◌, ◌<◌, ◌≤◌, ◌∷◌, ◌++◌, [], length, slice_index};
+ghost use Rattle.std.specs.Prelude.{◌≡◌, ℕ, ◌+◌, ◌<◌};
 ghost use Rattle.capn_stream.specs.Cuts.{AreEnds, cut};
 ghost use Rattle.capn_stream.specs.inner.KeptEnds.{AreKept, kept};
 
@@ -31,26 +31,6 @@ impl<'a, A: Allocator> Model for Framed<'a, A> {
     ghost invariant = { λ f. AreKept f.ends × AreEnds (kept f.ends) f.words };
 }
 
-/// Returns the word at which `segment` begins.
-pub(crate) fn start_of(ends: &[u32], segment: usize) -> u32
-    requires { segment ≤ length ends.now }
-    ensures { result ≡ slice_index (0 ∷ ends.now) segment }
-{
-    if segment == 0 { 0 } else { ends[segment - 1] }
-}
-
-/// Returns the word at which `segment` ends: for the last one, the end of the message, which has `words` words.
-pub(crate) fn end_of(ends: &[u32], words: u32, segment: usize) -> u32
-    requires { segment ≤ length ends.now }
-    ensures { result ≡ slice_index (ends.now ++ words ∷ []) segment }
-{
-    if segment == ends.len() {
-        words
-    } else {
-        ends[segment]
-    }
-}
-
 impl<'a, A: Allocator> Framed<'a, A> {
     /// Cuts `words` at `ends`.
     pub(crate) fn new(words: Bare<'a>, ends: Ends<A>) -> Framed<'a, A>
@@ -66,21 +46,20 @@ impl<'a, A: Allocator> Space for Framed<'a, A> {
     ghost message = { λ m. m };
 
     fn segments(&self) -> u32 {
-        self.ends.as_slice().len() as u32 + 1
+        self.ends.count() as u32 + 1
     }
 
     fn words(&self, segment: u32) -> Option<u32> {
         let segment = segment as usize;
-        let ends = self.ends.as_slice();
-        if segment > ends.len() {
+        if segment > self.ends.count() {
             return None;
         }
         let all = self.words.words(0).unwrap_or(0);
-        Some(end_of(ends, all, segment) - start_of(ends, segment))
+        Some(self.ends.end_of(all, segment) - self.ends.start_of(segment))
     }
 
     fn word(&self, at: Place) -> u64 {
-        let start = start_of(self.ends.as_slice(), at.segment as usize);
+        let start = self.ends.start_of(at.segment as usize);
         self.words.word(Place {
             segment: 0,
             word: start + at.word,
@@ -88,7 +67,7 @@ impl<'a, A: Allocator> Space for Framed<'a, A> {
     }
 
     fn bytes(&self, at: Place, len: usize) -> &[u8] {
-        let start = start_of(self.ends.as_slice(), at.segment as usize);
+        let start = self.ends.start_of(at.segment as usize);
         self.words.bytes(
             Place {
                 segment: 0,

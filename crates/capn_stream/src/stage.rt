@@ -121,7 +121,7 @@ fn read_table<A: Allocator>(
     if words > most as u64 {
         return Err(FrameFault::TooManyWords(words));
     }
-    let ends = ends_of(alloc, &bytes[4..], segments - 1)?;
+    let ends = ends_of(alloc, &bytes[4..], segments - 1, 0)?;
     let start = head_of(segments);
     Ok(Bounds {
         start,

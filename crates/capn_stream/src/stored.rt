@@ -1,11 +1,11 @@
 //! A message with segments of its own.
 
-ghost use Rattle.std.specs.Prelude.{◌≡◌, ℕ, ◌+◌, ◌-◌, ◌*◌, ◌/◌, ◌%◌, ◌<◌, ◌≤◌, List, length, slice_index, take, drop};
+ghost use Rattle.std.specs.Prelude.{◌≡◌, ℕ, ◌+◌, ◌-◌, ◌*◌, ◌/◌, ◌%◌, ◌<◌, ◌≤◌, ◌∷◌, ◌++◌, [], List};
+ghost use Rattle.std.specs.Prelude.{length, slice_index, take, drop};
 ghost use Rattle.capn_words.specs.Message.{AreBytes, bytes, word_number, words_in};
 ghost use Rattle.capn_stream.specs.Cuts.{AreEnds, cut};
 ghost use Rattle.capn_stream.specs.inner.StoredWords.{IsTail};
 
-use crate::framed::{end_of, start_of};
 use byteorder::{ByteOrder, LittleEndian};
 use capn_words::{Place, Space};
 use std::alloc::{Allocator, Global};
@@ -79,6 +79,26 @@ impl<A: Allocator> Words<A> {
         ensures { result.now ≡ take len (drop (8 * index) (bytes self.now)) }
     {
         part(&self.frame, self.start, 8 * index, len)
+    }
+}
+
+/// Returns the word at which `segment` begins.
+fn start_of(ends: &[u32], segment: usize) -> u32
+    requires { segment ≤ length ends.now }
+    ensures { result ≡ slice_index (0 ∷ ends.now) segment }
+{
+    if segment == 0 { 0 } else { ends[segment - 1] }
+}
+
+/// Returns the word at which `segment` ends: for the last one, the end of the message, which has `words` words.
+fn end_of(ends: &[u32], words: u32, segment: usize) -> u32
+    requires { segment ≤ length ends.now }
+    ensures { result ≡ slice_index (ends.now ++ words ∷ []) segment }
+{
+    if segment == ends.len() {
+        words
+    } else {
+        ends[segment]
     }
 }
 

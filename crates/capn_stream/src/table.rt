@@ -39,22 +39,23 @@ pub fn total_of(sizes: &[u8], count: usize) -> u64
     total
 }
 
-/// Returns the ends of the first `count` segments of `sizes`, in words. Its one growth is for exactly the sizes, which
-/// are there.
+/// Returns the ends of the first `count` segments of `sizes`, in words, where the first begins at word `from`. Its one
+/// growth is for exactly the sizes, which are there.
 pub(crate) fn ends_of<A: Allocator>(
     alloc: A,
     sizes: &[u8],
     count: usize,
+    from: u32,
 ) -> Result<Vec<u32, A>, AllocError>
     requires few { count ≤ most_segments }
     requires inside { 4 * count ≤ length sizes.now }
-    requires room { sum (entries count sizes.now) < 2 ^ 32 }
-    ensures ends { IfOk result (λ v. v.items ≡ ends_from 0 (entries count sizes.now)) }
+    requires room { from + sum (entries count sizes.now) < 2 ^ 32 }
+    ensures ends { IfOk result (λ v. v.items ≡ ends_from from (entries count sizes.now)) }
     ensures room { IfOk result (λ v. vec_capacity v ≡ count) }
     ensures memory { OnErr result (0 < count) }
 {
     let mut ends = Vec::with_capacity(alloc, count)?;
-    let mut end: u32 = 0;
+    let mut end = from;
     for index in 0..count {
         end += entry_at(sizes, index);
         ends.push_reserved(end);

@@ -1,4 +1,4 @@
--- The ends of segments of given sizes. (For `ends_of` and `few_ends`.)
+-- The ends of segments of given sizes. (For `ends_of`, `few_ends` and `rest_ends`.)
 use Rattle.std.proofs.Common.{◌≡◌, ℕ, ◌+◌, ◌-◌, ◌≤◌, List, [], ◌∷◌, ◌++◌, length, take, drop, sum, map, refl, ap, sym}
 use Rattle.std.proofs.Common.{◌∙◌, arith, append_assoc, length-append, length-drop, length-take}
 use Rattle.std.specs.List.{flat_map}
@@ -23,6 +23,16 @@ ends_from_push from (first ∷ sizes) size =
     let e : from + first + sum sizes + size ≡ from + sum (first ∷ sizes) + size = omega (arith, cons) in
     ap (λ (ends : List ℕ). (from + first) ∷ ends) (ends_from_push (from + first) sizes size
     ∙ ap (λ (n : ℕ). ends_from (from + first) sizes ++ n ∷ []) e)
+
+-- more segments behind some
+pub ends_from-append : (from : ℕ) (xs ys : List ℕ)
+    → ends_from from (xs ++ ys) ≡ ends_from from xs ++ ends_from (from + sum xs) ys
+ends_from-append from [] ys = let e : from ≡ from + 0 = omega arith in ap (λ (n : ℕ). ends_from n ys) e
+ends_from-append from (x ∷ xs) ys =
+    let cons = sum_by-cons (λ (n : ℕ). n) x xs in
+    let e : from + x + sum xs ≡ from + sum (x ∷ xs) = omega (arith, cons) in
+    ap (λ (ends : List ℕ). (from + x) ∷ ends) (ends_from-append (from + x) xs ys
+    ∙ ap (λ (n : ℕ). ends_from (from + x) xs ++ ends_from n ys) e)
 
 -- sizes within the words give ends that rise within them
 pub AreRising-ends_from : (from : ℕ) (sizes : List ℕ) (len : ℕ) → from + sum sizes ≤ len

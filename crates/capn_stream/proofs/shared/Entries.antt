@@ -1,4 +1,5 @@
--- Numbers of 4 bytes, one and many. (For `ends_of`, `few_ends`, `total_of` and capn_explain.)
+-- Numbers of 4 bytes, one and many. (For `ends_of`, `few_ends`, `rest_ends`,
+-- `total_of` and capn_explain.)
 use Rattle.std.proofs.Common.{◌≡◌, ℕ, zero, suc, ◌+◌, ◌*◌, ◌^◌, ◌<◌, ◌≤◌, List, [], ◌∷◌, ◌++◌, length, take, drop, sum}
 use Rattle.std.proofs.Common.{slice_index, refl, ap, ◌∙◌, arith, append_assoc, length-append, length-drop}
 use Rattle.std.specs.Int.{w32, from_le_bytes}
@@ -74,6 +75,17 @@ entries-suc (suc n) bs =
 -- the same, with the sum the other way round
 pub entries_more : (n : ℕ) (bs : List ℕ) → entries (n + 1) bs ≡ entries n bs ++ entry_number (drop (4 * n) bs) ∷ []
 entries_more n bs = let e : n + 1 ≡ suc n = omega arith in ap (λ (m : ℕ). entries m bs) e ∙ entries-suc n bs
+
+-- and many more
+pub entries_then : (m n : ℕ) (bs : List ℕ) → entries (m + n) bs ≡ entries m bs ++ entries n (drop (4 * m) bs)
+entries_then zero n bs = let e : zero + n ≡ n = omega arith in ap (λ (k : ℕ). entries k bs) e
+entries_then (suc m) n bs =
+    let e : suc m + n ≡ suc (m + n) = omega arith in
+    let four : 4 + 4 * m ≡ 4 * suc m = omega arith in
+    let at = drop-drop (4 * m) 4 bs ∙ ap (λ (j : ℕ). drop j bs) four in
+    ap (λ (k : ℕ). entries k bs) e
+    ∙ ap (λ (ns : List ℕ). entry_number bs ∷ ns) (entries_then m n (drop 4 bs)
+    ∙ ap (λ (xs : List ℕ). entries m (drop 4 bs) ++ entries n xs) at)
 
 -- their sum and one more's
 pub sum-entries_more : (n : ℕ) (bs : List ℕ)

@@ -1,4 +1,4 @@
-use Rattle.std.proofs.Common.{◌≡◌, length, sum, vec_capacity}
+use Rattle.std.proofs.Common.{◌≡◌, ◌+◌, length, sum, vec_capacity}
 use Rattle.capn_stream.specs.Cuts.{ends_from}
 use Rattle.capn_stream.specs.FrameRefusal.{entries}
 use Rattle.capn_stream.proofs.table.ends_of.Given as goal
@@ -7,8 +7,8 @@ use Rattle.capn_stream.proofs.table.ends_of.Given as goal
 abbrev pub invariant-loop-index : goal.invariant-loop-index
 invariant-loop-index g l =
     record {
-      ends : l.ends.items ≡ ends_from 0 (entries l.index l.sizes);
+      ends : l.ends.items ≡ ends_from l.from (entries l.index l.sizes);
       number : length l.ends.items ≡ l.index;
       room : vec_capacity l.ends ≡ l.count;
-      end : l.end ≡ sum (entries l.index l.sizes);
+      end : l.end ≡ l.from + sum (entries l.index l.sizes);
     }

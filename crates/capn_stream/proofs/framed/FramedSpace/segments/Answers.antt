@@ -1,4 +1,4 @@
-use Rattle.std.proofs.Common.{ap, length, arith}
+use Rattle.std.proofs.Common.{arith}
 use Rattle.capn_stream.specs.inner.KeptEnds.{kept}
 use Rattle.capn_stream.proofs.shared.Cutting.{seen_count, seen_message}
 use Rattle.capn_stream.proofs.framed.FramedSpace.segments.Goals as goal
@@ -7,7 +7,7 @@ pub returns-clause-count : goal.returns-clause-count
 returns-clause-count g c =
     omega (
       arith,
-      ap length c.as_slice.ensures,
+      c.count.ensures,
       seen_count (kept c.self.inside.ends) c.self.inside.words c.args.self.now c.self.view_is c.self.invariant.1,
     )
 

@@ -8,28 +8,27 @@ start_of-start-requires g c =
     let here = place_segment c.args.self.now c.args.at.segment c.args.at.word c.requires in
     let count = seen_count (kept c.self.inside.ends) c.self.inside.words c.args.self.now c.self.view_is
     c.self.invariant.1 in
-    rw c.as_slice.ensures (omega (arith, here, count))
+    record { kept = c.self.invariant.0; inside = omega (arith, here, count) }
 
 pub overflow_add-start : goal.overflow_add-start
 overflow_add-start g c =
     let here = place_segment c.args.self.now c.args.at.segment c.args.at.word c.requires in
     let inside = seen_inside (kept c.self.inside.ends) c.self.inside.words c.args.self.now c.self.view_is
     c.self.invariant.1 c.args.at.segment here in
-    let start = rw c.as_slice.ensures at c.start_of-start.ensures in
-    omega (arith, inside, start, c.self.invariant.1.room)
+    omega (arith, inside, c.start_of-start.ensures, c.self.invariant.1.room)
 
 pub word-requires : goal.word-requires
 word-requires g c =
     let here = place_segment c.args.self.now c.args.at.segment c.args.at.word c.requires in
     let inside = seen_inside (kept c.self.inside.ends) c.self.inside.words c.args.self.now c.self.view_is
     c.self.invariant.1 c.args.at.segment here in
-    let start = rw c.as_slice.ensures at c.start_of-start.ensures in
-    omega (arith, inside, start)
+    omega (arith, inside, c.start_of-start.ensures)
 
 pub returns : goal.returns
 returns g c =
     let here = place_segment c.args.self.now c.args.at.segment c.args.at.word c.requires in
     let word = seen_word (kept c.self.inside.ends) c.self.inside.words c.args.self.now c.self.view_is c.self.invariant.1
     c.args.at.segment c.args.at.word here c.requires in
-    let start = rw c.as_slice.ensures at c.start_of-start.ensures in
-    c.word.ensures ∙ ap (λ (n : ℕ). slice_index c.self.inside.words (n + c.args.at.word)) start ∙ word
+    c.word.ensures
+    ∙ ap (λ (n : ℕ). slice_index c.self.inside.words (n + c.args.at.word)) c.start_of-start.ensures
+    ∙ word
