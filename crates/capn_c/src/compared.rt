@@ -113,7 +113,7 @@ struct Compare<'a> {
 }
 
 impl<'a> MessageTask<Global> for Compare<'a> {
-    /// Whether the two are the same, or the refusal of the second.
+    /// True if the two are the same, false if they aren't; or the refusal of the second.
     type Answer = Result<bool, Refusal>;
 
     ghost answers = { λ task m limits r _. IsComparedTo task.form task.second.now m limits r };

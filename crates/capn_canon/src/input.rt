@@ -1,9 +1,10 @@
 //! Messages read from bytes in any form, for a task.
 
-ghost use Rattle.std.specs.Prelude.{ℕ, List, Result};
-ghost use Rattle.capn_stream.specs.Frames.{StandsFirst};
+ghost use Rattle.std.specs.Prelude.{◌≡◌, ◌<◌, ◌≤◌, ℕ, List, Result, None, [], ◌∷◌, length};
+ghost use Rattle.std.specs.Prelude.{IfOk, OnOk, IfErr, IfSome};
 ghost use Rattle.capn_walk.specs.Limits.{Bounds};
-ghost use Rattle.capn_canon.specs.Answered.{IsRun};
+ghost use Rattle.capn_canon.specs.Answered.{IsRefusedReading, IsRun};
+ghost use Rattle.capn_canon.specs.Reads.{Reads};
 ghost use Rattle.capn_canon.specs.declared.form.Form.TheVariants as forms;
 ghost use Rattle.capn_canon.specs.declared.refusal.Refusal.{Refusal as Refusals};
 
@@ -33,38 +34,36 @@ pub trait MessageTask<A: Allocator + Copy> {
         ensures { answers self.old (S.message message.now) limits result self.new };
 }
 
-/// Does the task on the words of one segment.
-fn of_bare<T: MessageTask<A>, A: Allocator + Copy>(
-    alloc: A,
-    task: &mut T,
-    bytes: &[u8],
-    limits: Limits,
-) -> Result<T::Answer, Refusal>
-    ensures { IsRun forms.Bare bytes.now limits T.answers task.old result task.new }
-{
-    let space = Bare::new(bytes)?;
-    task.run(alloc, &space, limits)
-}
-
-/// Does the task on the message whose frame comes first in `bytes` and takes `taken` of them, if no other byte follows.
-fn of_first<T: MessageTask<A>, S: Space, A: Allocator + Copy>(
-    alloc: A,
-    task: &mut T,
-    message: &S,
-    taken: usize,
-    bytes: &[u8],
-    limits: Limits,
-) -> Result<T::Answer, Refusal>
-    requires { StandsFirst bytes.now limits.message_words (S.message message.now) taken }
-    ensures { IsRun forms.Stream bytes.now limits T.answers task.old result task.new }
+/// Refuses the bytes that follow a frame, which comes first in `bytes` and takes `taken` of them.
+fn refuse_trailing(taken: usize, bytes: &[u8]) -> Result<(), Refusal>
+    ensures ends { OnOk result (length bytes.now ≤ taken) }
+    ensures refused { IfErr result (λ e. (taken < length bytes.now) × (e ≡ Refusals.Trailing taken)) }
 {
     if taken < bytes.len() {
         return Err(Refusal::Trailing(taken as u64));
     }
-    task.run(alloc, message, limits)
+    Ok(())
 }
 
-/// Does the task on a frame. One segment is read as its words alone, which is faster.
+/// Returns the message of one segment that `bytes` are in this `form`, which isn't packed: bare words, or a frame. For
+/// any other frame it returns `None`.
+fn one_segment<'b>(form: Form, bytes: &'b [u8], limits: Limits) -> Result<Option<Bare<'b>>, Refusal>
+    requires plain { form ≡ forms.Packed → ⊥ }
+    ensures read { IfOk result (λ o. IfSome o (λ w. Reads form bytes.now limits.message_words (w ∷ []))) }
+    ensures frame { IfOk result (λ o. o ≡ None → form ≡ forms.Stream) }
+    ensures refused { IfErr result (λ e. IsRefusedReading form bytes.now limits e) }
+{
+    if let Form::Bare = form {
+        return Ok(Some(Bare::new(bytes)?));
+    }
+    let Some((message, taken)) = first_bare(bytes, limits.message_words()) else {
+        return Ok(None);
+    };
+    refuse_trailing(taken, bytes)?;
+    Ok(Some(message))
+}
+
+/// Does the task on a frame of any number of segments.
 fn of_frame<T: MessageTask<A>, A: Allocator + Copy>(
     alloc: A,
     task: &mut T,
@@ -73,12 +72,27 @@ fn of_frame<T: MessageTask<A>, A: Allocator + Copy>(
 ) -> Result<T::Answer, Refusal>
     ensures { IsRun forms.Stream bytes.now limits T.answers task.old result task.new }
 {
-    let most = limits.message_words();
-    if let Some((message, taken)) = first_bare(bytes, most) {
-        return of_first(alloc, task, &message, taken, bytes, limits);
+    let (message, taken) = first(alloc, bytes, limits.message_words())?;
+    refuse_trailing(taken, bytes)?;
+    task.run(alloc, &message, limits)
+}
+
+/// Does the task on the message that `bytes` are in this `form`, which isn't packed. One segment is read as its words
+/// alone, which is faster, and the task is called for it in one place, so that it is compiled into this.
+fn of_plain<T: MessageTask<A>, A: Allocator + Copy>(
+    alloc: A,
+    task: &mut T,
+    form: Form,
+    bytes: &[u8],
+    limits: Limits,
+) -> Result<T::Answer, Refusal>
+    requires plain { form ≡ forms.Packed → ⊥ }
+    ensures { IsRun form bytes.now limits T.answers task.old result task.new }
+{
+    match one_segment(form, bytes, limits)? {
+        Some(message) => task.run(alloc, &message, limits),
+        None => of_frame(alloc, task, bytes, limits),
     }
-    let (message, taken) = first(alloc, bytes, most)?;
-    of_first(alloc, task, &message, taken, bytes, limits)
 }
 
 /// Does the task on the packed text of a frame.
@@ -91,7 +105,7 @@ fn of_packed<T: MessageTask<A>, A: Allocator + Copy>(
     ensures { IsRun forms.Packed bytes.now limits T.answers task.old result task.new }
 {
     let text = unpack(alloc, bytes, limits.message_words() + MOST_TABLE_WORDS)?;
-    of_frame(alloc, task, text.as_slice(), limits)
+    of_plain(alloc, task, Form::Stream, text.as_slice(), limits)
 }
 
 /// Reads `bytes` in this `form` as a message, once, and returns the answer of `task` to it, within `limits`.
@@ -109,8 +123,7 @@ pub fn run_task<T: MessageTask<A>, A: Allocator + Copy>(
     ensures { IsRun form bytes.now limits T.answers task.old result task.new }
 {
     match form {
-        Form::Stream => of_frame(alloc, task, bytes, limits),
         Form::Packed => of_packed(alloc, task, bytes, limits),
-        Form::Bare => of_bare(alloc, task, bytes, limits),
+        Form::Stream | Form::Bare => of_plain(alloc, task, form, bytes, limits),
     }
 }

@@ -1,11 +1,7 @@
--- An answer or a refusal for a message is one for bytes that are read as it. (For `canonicalise`, `of_bare` and
--- `of_frame`.)
-use Rattle.std.proofs.Common.{◌≡◌, ℕ, ◌+◌, ◌*◌, ◌^◌, ◌≤◌, List, [], ◌∷◌, length, take, ap, subst, ◌∙◌, arith, Result}
+-- An answer or a refusal for a message is one for bytes that are read as it. (For `canonicalise`.)
+use Rattle.std.proofs.Common.{◌≡◌, ℕ, ◌+◌, ◌*◌, ◌^◌, ◌≤◌, List, [], length, Result}
 use Rattle.std.proofs.Common.{Ok, Err, MatchResult, IfOk, IfErr, IsErrOf, None}
-use Rattle.std.proofs.Math.Seq.{take-length}
 use Rattle.std.proofs.lemmas.Result.{IfOk-weaker, IfErr-weaker}
-use Rattle.capn_words.specs.Message.{IsBare}
-use Rattle.capn_stream.specs.Frames.{Frames, StandsFirst}
 use Rattle.capn_value.specs.Tree.{Tree}
 use Rattle.capn_value.specs.FirstCap.{first_cap}
 use Rattle.capn_walk.specs.Limits.{Bounds}
@@ -14,7 +10,7 @@ use Rattle.capn_canon.specs.declared.form.Form.TheVariants as forms
 use Rattle.capn_canon.specs.declared.refusal.Refusal.{Refusal}
 use Rattle.capn_canon.specs.declared.refusal.Refusal.TheVariants as refusals
 use Rattle.capn_layout.specs.Layout.{canon}
-use Rattle.capn_canon.specs.Reads.{IsFramed, Reads}
+use Rattle.capn_canon.specs.Reads.{Reads}
 use Rattle.capn_canon.specs.Denotes.{Denotes, AnswersMessage, Answers}
 use Rattle.capn_canon.specs.Refusal.{IsRefusedMessage, IsRefused, IsPaidWithin}
 use Rattle.capn_canon.specs.MemoryNeed.{MayNeedBytes, MayNeedBytesIn}
@@ -22,18 +18,6 @@ use Rattle.capn_canon.specs.Canonicity.{IsCanonicalForm}
 use Rattle.capn_canon.specs.inner.Outcomes.{AreCanonicalised}
 use Rattle.capn_canon.proofs.calls.Answered.{answers_only, answers_length, answers_form}
 use Rattle.capn_canon.proofs.shared.NotRefused.{not_refused}
-
--- the words of bare bytes are read
-pub bare_reads : (bs ws : List ℕ) (most : ℕ) → IsBare bs ws → Reads forms.Bare bs most (ws ∷ [])
-bare_reads bs ws most h = (ws, h, λ i. ws ∷ [])
-
--- a frame that comes first and takes all bytes is read
-pub frame_reads : (bs : List ℕ) (most : ℕ) (m : List (List ℕ)) (taken : ℕ) → StandsFirst bs most m taken
-    → length bs ≤ taken → IsFramed bs most m
-frame_reads bs most m taken h l =
-    let e : taken ≡ length bs = let i = h.inside in omega arith in
-    let all : take taken bs ≡ bs = ap (λ (n : ℕ). take n bs) e ∙ take-length bs in
-    record { frame = subst (λ (xs : List ℕ). Frames xs m) all h.frame; room = h.room }
 
 -- why a message is refused is why the bytes are that are read as it
 refused_as : (form : Form) (bs : List ℕ) (limits : Bounds) (m : List (List ℕ)) → Reads form bs limits.message_words m

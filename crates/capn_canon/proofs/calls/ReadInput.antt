@@ -2,8 +2,6 @@
 -- `canonical_input.rt`, `input.rt` and `survey_input.rt`.)
 use Rattle.std.proofs.Common.{◌≡◌, ℕ, ◌+◌, ◌≤◌, inl, inr, List, refl, sym, subst, Result, Ok, Err, IfOk, IfErr}
 use Rattle.std.proofs.Common.{IsErrAnd, IsErrOf, MatchResult}
-use Rattle.capn_words.specs.Message.{ReadsBare}
-use Rattle.capn_words.specs.declared.bare.BareFault.{BareFault}
 use Rattle.capn_pack.specs.UnpackRefusal.{IsUnpackRefused, StartsWithin}
 use Rattle.capn_pack.specs.declared.fault.UnpackFault.{UnpackFault}
 use Rattle.capn_pack.specs.declared.fault.UnpackFault.TheVariants as unpack_faults
@@ -84,13 +82,6 @@ wanted-unread form bs limits (refusals.Capability k) h r is w = absurd cc
 
 module _ {T S : Type 0} (answers : S → List (List ℕ) → Bounds → Result T Refusal → S → Type 0) (bs : List ℕ)
     (limits : Bounds) (task : S) where
-  -- of bare words,
-  pub bare_unread : (r : Result T Refusal) (f : BareFault) → IsErrAnd r (λ e. e ≡ refusals.Bare f)
-      → ReadsBare bs (Err f) → IsRun forms.Bare bs limits answers task r task
-  bare_unread (Ok x) f is h = absurd is
-  bare_unread (Err e) f is h =
-      inr (e, refl, subst (λ (x : Refusal). IsRefusedReading forms.Bare bs limits x) (sym is) h, refl)
-
   -- of a frame,
   pub frame_unread : (r : Result T Refusal) (f : FrameFault) → IsErrAnd r (IsOfFrame f)
       → IsFrameRefused bs limits.message_words f → (f ≡ frame_faults.Memory → HasTable bs limits.message_words)

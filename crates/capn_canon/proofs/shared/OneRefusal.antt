@@ -1,5 +1,5 @@
--- Bytes are refused for one reason, and not where they are read. (For `denotation`, capn_archive, capn_commands and
--- capn_parts.)
+-- Bytes are refused for one reason, and not where they are read. (For `denotation`, capn_archive and
+-- capn_commands.)
 use Rattle.std.proofs.Common.{◌≡◌, ◌⊎◌, inl, inr, ℕ, ◌+◌, List, length, Some, Err, refl, ap, sym, subst, ◌∙◌, arith}
 use Rattle.capn_words.specs.Message.{ReadsBare}
 use Rattle.capn_words.specs.declared.bare.BareFault.{BareFault}

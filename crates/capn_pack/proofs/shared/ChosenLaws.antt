@@ -1,4 +1,4 @@
--- The packer has one text for given words. (For `pack`, capn_commands and capn_flow.)
+-- The packer has one text for given words. (For `pack` and capn_commands.)
 use Rattle.std.proofs.Common.{◌≡◌, ◌↔◌, ◌%◌, ℕ, zero, suc, ◌+◌, ◌-◌, ◌*◌, ◌<◌, ◌≤◌, inl, inr, List, [], ◌∷◌, ◌++◌}
 use Rattle.std.proofs.Common.{length, take, drop, replicate, refl, sym, ap, ◌∙◌, subst, arith, append_assoc}
 use Rattle.std.proofs.Common.{length-append, take_all, take-append-drop, drop-drop, length-drop, length-take}

@@ -1,5 +1,5 @@
 -- The growth of a text, and its breaking off: by the bytes that are added, those that are written, and one text after
--- another. (For `bits.rt`, `byte_digits.rt`, `bytes.rt`, capn_commands, capn_marks and capn_parts.)
+-- another. (For `bits.rt`, `byte_digits.rt`, `bytes.rt`, capn_commands and capn_marks.)
 use Rattle.std.proofs.Common.{◌≡◌, ℕ, ◌+◌, Bool, List, IsErrAnd, [], ◌++◌, length, take, drop}
 use Rattle.std.proofs.Common.{refl, ◌∙◌, sym, ap, subst, append_assoc}
 use Rattle.std.specs.Prelude.{Option, Result, Ok, Err, OnOk, IfErr, is_err, true, false, ◌||◌}

@@ -1,6 +1,5 @@
--- The message of a frame stands first, or none does.
-use Rattle.std.proofs.Common.{subst, ℕ, ap, [], ◌∷◌, Err}
-use Rattle.capn_stream.specs.Frames.{StandsFirst}
+-- The message of a frame stands first, or none does; bytes that follow it are refused.
+use Rattle.std.proofs.Common.{subst, ℕ, ap, Err}
 use Rattle.capn_stream.specs.FrameRefusal.{HasTable, IsFrameRefused}
 use Rattle.capn_stream.specs.declared.fault.FrameFault.{FrameFault}
 use Rattle.capn_canon.proofs.calls.ReadInput.{frame_unread}
@@ -12,6 +11,6 @@ returns-in_err-message g c =
     let bs = c.args.bytes.now in
     let f = c.in_err-message.field-0.0 in
     frame_unread answers bs c.args.limits c.args.task.now c.from_residual.result f c.from_residual.ensures.1
-    (subst (λ (n : ℕ). IsFrameRefused bs n f) c.message_words-most.ensures.value c.in_err-message.ensures.refused)
-    (λ e. subst (λ (n : ℕ). HasTable bs n) c.message_words-most.ensures.value
+    (subst (λ (n : ℕ). IsFrameRefused bs n f) c.message_words.ensures.value c.in_err-message.ensures.refused)
+    (λ e. subst (λ (n : ℕ). HasTable bs n) c.message_words.ensures.value
     (c.in_err-message.ensures.memory (ap (λ (x : FrameFault). Err x) e)))
