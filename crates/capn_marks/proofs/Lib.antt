@@ -1,9 +1,5 @@
+mod AnnotatedTexts
 mod Before
-mod ItemTexts
 mod LedSteps
-mod MarkedItems
-mod MarkedTexts
 mod NameBlocks
-mod Sequels
 mod WithoutMarks
-mod WithoutWays

@@ -1,3 +1,4 @@
+pub mod Annotation
 pub mod Laws
 pub mod Marked
 pub mod MarkedPart

@@ -22,40 +22,6 @@ pub record CountsBefore (m : List (List ℕ)) (before : List ℕ) : Type 0 where
   pub each : (s : ℕ) → s < length m → slice_index before s ≡ total (take s m)
 
 module _ (m : List (List ℕ)) where
-  -- of the text of data words, by how it is made
-  abbrev pub WordsMarked : ℕ → ℕ → ℕ → (List ℕ → List ℕ) → (List ℕ → Type 0) → Type 0
-  WordsMarked s w number text Says = (ws : List ℕ) → AreDataWords m s w ws → length ws ≡ number → Says (text ws)
-
-  module _ (marks : Marks) (level : ℕ) (way : List ℕ) where
-    -- of the text of the value at a place
-    abbrev pub IsMarked : Place → (List ℕ → Type 0) → Type 0
-    IsMarked at Says = (v : Tree) → IsAt m at v → Says (marked_slot m marks level way at v)
-
-    -- of that of the value which a pointer names, behind its first mark
-    abbrev pub IsFoundMarked : Target → (List ℕ → Type 0) → Type 0
-    IsFoundMarked found Says = (v : Tree) → Shows m found v → Says (unmarked m marks level way found v)
-
-    -- of that of a struct, behind its first mark
-    abbrev pub IsBodyMarked : ℕ → ℕ → ℕ → ℕ → (List ℕ → Type 0) → Type 0
-    IsBodyMarked s w a b Says = (ws : List ℕ) (ss : Trees) → ShowsStruct m (struct_at s w a b) ws ss
-        → Says (unmarked_body m marks level way (struct_at s w a b) ws ss)
-
-    -- of that of a row
-    abbrev pub IsRowMarked : ℕ → ℕ → ℕ → ℕ → (List ℕ → Type 0) → Type 0
-    IsRowMarked s w a b Says = (ws : List ℕ) (ss : Trees) → ShowsStruct m (struct_at s w a b) ws ss
-        → Says (mark marks (byte_at m marks (begin (struct_at s w a b))) way
-        ++ unmarked_body m marks level way (struct_at s w a b) ws ss)
-
-    -- of those of slots
-    abbrev pub AreMarked : ℕ → ℕ → ℕ → (List ℕ → Type 0) → Type 0
-    AreMarked s w number Says = (ts : Trees) → AreSlots m s w ts → count ts ≡ number
-        → Says (marked_slots m marks level way (λ i. record { segment = s; word = w + i }) 0 ts)
-
-    -- of those of rows
-    abbrev pub RowsMarked : ℕ → ℕ → ℕ → ℕ → ℕ → (List ℕ → Type 0) → Type 0
-    RowsMarked s w number a b Says = (bs : Bodies) → AreRowsAt m s w a b bs → count_rows bs ≡ number
-        → Says (marked_rows m marks level way (λ i. struct_at s (w + i * (a + b)) a b) 0 bs)
-
   -- of the text of a part, at a way
   abbrev pub IsThereMarked : Marks → List ℕ → Place → Target → (List ℕ → Type 0) → Type 0
   IsThereMarked marks way at found Says = (v : Tree) → Shows m found v

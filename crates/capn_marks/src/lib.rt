@@ -4,14 +4,9 @@
 //! The byte of a line is that of a stream in which the message begins at [`Marks::offset`], behind a table.
 #![tactic(auto)]
 
+mod annotated;
 pub mod laws;
-mod marked;
-mod marked_bytes;
-mod marked_lines;
-mod marked_lists;
 mod marked_part;
-mod marked_rows;
-mod marked_slots;
 mod marks;
 mod starts;
 

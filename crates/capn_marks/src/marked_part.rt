@@ -13,10 +13,12 @@ ghost use Rattle.capn_show.specs.Written.{IsWritten, IsUnwritten};
 ghost use Rattle.capn_marks.specs.MarkedPlaces.{IsLed, IsLedMarked, IsPartMarked, IsThereMarked, CountsBefore};
 ghost use Rattle.capn_show.specs.ReadyPlaces.{Holds, IsFound, IsReady};
 
-use crate::marked::mark_found;
-use crate::marks::{Marks, push_number, put_mark};
-use crate::starts::{byte_of, words_before};
-use capn_show::{Broken, Part, ShowFault, fault_of, named, plain_line, put, step_down};
+use crate::annotated::Annotated;
+use crate::marks::{Marks, push_number};
+use crate::starts::words_before;
+use capn_show::{
+    Broken, Emitter, Part, ShowFault, fault_of, named, plain_line, put, show_found, step_down,
+};
 use capn_walk::laws::values;
 use capn_walk::{Limits, survey};
 use capn_words::{Place, Space, Watched};
@@ -107,36 +109,40 @@ fn mark_counted<S: Space, W: Write, A: Allocator>(
 {
     let mut way = Vec::new(alloc);
     match lead(&mut way, space, numbers) {
-        Ok(found) => mark_led(text, writer, &mut way, space, before, marks, found, depth),
+        Ok(found) => {
+            let marks = *marks;
+            let mut annotated = Annotated { marks, before, way };
+            mark_led(text, writer, &mut annotated, space, found, depth)
+        }
         Err(broken) => Err(broken),
     }
 }
 
-/// Appends the text of `found`, at this `way`, to `text`; or the line for no value.
+/// Appends the text of `found`, to which the way of `annotated` leads, to `text`; or the line for no value.
 fn mark_led<S: Space, W: Write, A: Allocator>(
     text: &mut Vec<u8, A>,
     writer: &mut Watched<W>,
-    way: &mut Vec<u8, A>,
+    annotated: &mut Annotated<A>,
     space: &S,
-    before: &[u32],
-    marks: &Marks,
     found: Option<Part>,
     depth: u32,
 ) -> Result<(), Broken>
     requires message { IsMessage (S.message space.now) }
-    requires counts { CountsBefore (S.message space.now) before.now }
+    requires counts { CountsBefore (S.message space.now) annotated.old.before.now }
     requires place { IfSome found (λ p. IsContent (S.message space.now) p.at 0) }
     requires inside { IfSome found (λ p. IsInMessage (S.message space.now) p.found) }
     requires ready { IfSome found (λ p. IsFound (S.message space.now) p.found depth) }
     requires room { 2 * depth < 2 ^ 32 }
-    ensures shown { OnOk result (IsLedMarked (S.message space.now) marks.now way.old.items found (Adds
+    ensures shown { OnOk result
+        (IsLedMarked (S.message space.now) annotated.old.marks annotated.old.way.items found (Adds
         (outgoing W.contents writer.old text.old.items) (outgoing W.contents writer.new text.new.items))) }
-    ensures cut { IfErr result (λ e. IsLedMarked (S.message space.now) marks.now way.old.items found (BreaksOff
+    ensures cut { IfErr result (λ e.
+        IsLedMarked (S.message space.now) annotated.old.marks annotated.old.way.items found (BreaksOff
         (outgoing W.contents writer.old text.old.items) (outgoing W.contents writer.new text.new.items) e)) }
 {
     match found {
-        Some(part) => mark_there(text, writer, way, space, before, marks, part, depth),
-        None => mark_none(text, writer, marks),
+        Some(part) => mark_there(text, writer, annotated, space, part, depth),
+        None => mark_none(text, writer, &annotated.marks),
     }
 }
 
@@ -171,34 +177,32 @@ fn lead<S: Space, A: Allocator>(
     Ok(Some(part))
 }
 
-/// Appends the text of `part`, at this `way`, to `text`.
+/// Appends the text of `part`, to which the way of `annotated` leads, to `text`.
 fn mark_there<S: Space, W: Write, A: Allocator>(
     text: &mut Vec<u8, A>,
     writer: &mut Watched<W>,
-    way: &mut Vec<u8, A>,
+    annotated: &mut Annotated<A>,
     space: &S,
-    before: &[u32],
-    marks: &Marks,
     part: Part,
     depth: u32,
 ) -> Result<(), Broken>
     requires message { IsMessage (S.message space.now) }
-    requires counts { CountsBefore (S.message space.now) before.now }
+    requires counts { CountsBefore (S.message space.now) annotated.old.before.now }
     requires place { IsContent (S.message space.now) part.at 0 }
     requires inside { IsInMessage (S.message space.now) part.found }
     requires ready { IsFound (S.message space.now) part.found depth }
     requires room { 2 * depth < 2 ^ 32 }
-    ensures shown { OnOk result (IsThereMarked (S.message space.now) marks.now way.old.items part.at part.found (Adds
+    ensures shown { OnOk result
+        (IsThereMarked (S.message space.now) annotated.old.marks annotated.old.way.items part.at part.found (Adds
         (outgoing W.contents writer.old text.old.items) (outgoing W.contents writer.new text.new.items))) }
-    ensures cut { IfErr result (λ e. IsThereMarked (S.message space.now) marks.now way.old.items part.at part.found
+    ensures cut { IfErr result (λ e.
+        IsThereMarked (S.message space.now) annotated.old.marks annotated.old.way.items part.at part.found
         (BreaksOff
         (outgoing W.contents writer.old text.old.items) (outgoing W.contents writer.new text.new.items) e)) }
 {
-    let byte = byte_of(space, marks, before, part.at);
-    put_mark(text, writer, marks, way.as_slice(), byte)?;
-    mark_found(
-        text, writer, way, space, before, marks, part.found, 0, depth,
-    )
+    let byte = annotated.byte_of(space, part.at);
+    annotated.put_mark(text, writer, byte)?;
+    show_found(text, writer, annotated, space, part.found, 0, depth)
 }
 
 /// Appends a tab to `text`, if it is `marked`.

@@ -3,13 +3,8 @@ use Rattle.std.proofs.Common.{◌≡◌, ℕ, Bool, List, not, eqb, ap}
 use Rattle.std.proofs.lemmas.Bool.{ne_eqb}
 use Rattle.capn_show.specs.JsonTexts.{text_or_digits}
 use Rattle.capn_show.specs.inner.JsonPlaces.{bytes_json_of}
-use Rattle.capn_show.specs.ReadyPlaces.{bytes_of}
 
--- by the bits of the parameter, whether a text is written between quotes
-abbrev pub by_bits : ℕ → ℕ → List ℕ → List ℕ
-by_bits n = bytes_of (not (eqb n 0))
-
--- the same in JSON
+-- by the bits of the parameter, whether a text is written as one in JSON
 abbrev pub json_bits_of : ℕ → List ℕ → List ℕ
 json_bits_of n = bytes_json_of (not (eqb n 0))
 

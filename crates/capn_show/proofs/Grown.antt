@@ -1,13 +1,12 @@
--- A loop that appends a text for each element of a list: one more, and all of them. (For `bits.rt`, `byte_digits.rt`,
--- `escapes.rt` and `numbers.rt`.)
+-- A loop that appends a text for each element of a list: one more, and all of them. (For `bits.rt`, `byte_digits.rt`
+-- and `escapes.rt`.)
 use Rattle.std.proofs.Common.{◌≡◌, ℕ, zero, suc, ◌+◌, ◌*◌, ◌<◌, List, [], ◌∷◌, ◌++◌, Bool}
 use Rattle.std.proofs.Common.{length, take, drop}
-use Rattle.std.proofs.Common.{get_or, replicate, codes, refl, sym, ap, ◌∙◌, arith, append_assoc}
-use Rattle.std.specs.Fmt.{decimal}
+use Rattle.std.proofs.Common.{get_or, replicate, refl, sym, ap, ◌∙◌, arith, append_assoc}
 use Rattle.std.proofs.Math.Seq.{take-add}
 use Rattle.std.proofs.lemmas.List.{append-nil, take_all, take_more, take-append-drop}
 use Rattle.hex.specs.Hex.{encode_lower}
-use Rattle.capn_value.specs.Text.{line, one_line, hex16, word_lines, number_lines, digit, digits_of}
+use Rattle.capn_value.specs.Text.{line, one_line, digit, digits_of}
 use Rattle.capn_show.specs.Quoting.{escapes_by}
 use Rattle.capn_show.specs.declared.fault.Broken.{Broken}
 use Rattle.capn_show.specs.Outgoing.{Outgoing, Adds, BreaksOff}
@@ -64,22 +63,6 @@ module _ {A : Type 0} (F : List A → List ℕ) (joins : (xs ys : List A) → F 
       ∙ ap F (take-append-drop (i + k) xs))
       (broken-before p r e (front ++ here) rest (then-broken p q r e front here h j))
 
-word_lines-joined : (level : ℕ) (xs ys : List ℕ)
-    → word_lines level (xs ++ ys) ≡ word_lines level xs ++ word_lines level ys
-word_lines-joined level [] ys = refl
-word_lines-joined level (x ∷ xs) ys =
-    let l = line level (codes "word " ++ hex16 x) in
-    ap (λ (r : List ℕ). l ++ r) (word_lines-joined level xs ys)
-    ∙ sym (append_assoc l (word_lines level xs) (word_lines level ys))
-
-number_lines-joined : (level : ℕ) (xs ys : List ℕ)
-    → number_lines level (xs ++ ys) ≡ number_lines level xs ++ number_lines level ys
-number_lines-joined level [] ys = refl
-number_lines-joined level (x ∷ xs) ys =
-    let l = line level (decimal x) in
-    ap (λ (r : List ℕ). l ++ r) (number_lines-joined level xs ys)
-    ∙ sym (append_assoc l (number_lines level xs) (number_lines level ys))
-
 digits_of-joined : (xs ys : List Bool) → digits_of (xs ++ ys) ≡ digits_of xs ++ digits_of ys
 digits_of-joined [] ys = refl
 digits_of-joined (x ∷ xs) ys = ap (λ (l : List ℕ). digit x ∷ l) (digits_of-joined xs ys)
@@ -127,48 +110,6 @@ module _ (by : ℕ → List ℕ) (p q : Outgoing) where
           block-cut (escapes_by by) (escapes-joined by) p q r xs i k e h (otherwise-broken q r e _ _ run-is j)
 
 module _ (p q : Outgoing) where
-  module _ (level : ℕ) (xs : List ℕ) (i : ℕ) where
-    pub word-more : (r : Outgoing) (x : ℕ) → i < length xs → x ≡ get_or xs i 0
-        → Adds p q (word_lines level (take i xs)) → Adds q r (line level (codes "word " ++ hex16 x))
-        → Adds p r (word_lines level (take (i + 1) xs))
-    word-more r x below e h k =
-        more (word_lines level) (word_lines-joined level) p q xs i r 0 below h
-        (otherwise q r (line level (codes "word " ++ hex16 x)) (word_lines level (get_or xs i 0 ∷ []))
-        (ap (λ (n : ℕ). line level (codes "word " ++ hex16 n)) e
-        ∙ sym (append-nil (line level (codes "word " ++ hex16 (get_or xs i 0))))) k)
-
-    pub word-cut : (r : Outgoing) (e : Broken) (x : ℕ) → i < length xs → x ≡ get_or xs i 0
-        → Adds p q (word_lines level (take i xs)) → BreaksOff q r e (line level (codes "word " ++ hex16 x))
-        → BreaksOff p r e (word_lines level xs)
-    word-cut r e x below is h k =
-        cut (word_lines level) (word_lines-joined level) p q xs i r e 0 below h
-        (otherwise-broken q r e (line level (codes "word " ++ hex16 x)) (word_lines level (get_or xs i 0 ∷ []))
-        (ap (λ (n : ℕ). line level (codes "word " ++ hex16 n)) is
-        ∙ sym (append-nil (line level (codes "word " ++ hex16 (get_or xs i 0))))) k)
-
-    pub words-all : i ≡ length xs → Adds p q (word_lines level (take i xs)) → Adds p q (word_lines level xs)
-    words-all = all (word_lines level) (word_lines-joined level) p q xs i
-
-    pub number-more : (r : Outgoing) (x : ℕ) → i < length xs → x ≡ get_or xs i 0
-        → Adds p q (number_lines level (take i xs)) → Adds q r (line level (decimal x))
-        → Adds p r (number_lines level (take (i + 1) xs))
-    number-more r x below e h k =
-        more (number_lines level) (number_lines-joined level) p q xs i r 0 below h
-        (otherwise q r (line level (decimal x)) (number_lines level (get_or xs i 0 ∷ []))
-        (ap (λ (n : ℕ). line level (decimal n)) e ∙ sym (append-nil (line level (decimal (get_or xs i 0))))) k)
-
-    pub number-cut : (r : Outgoing) (e : Broken) (x : ℕ) → i < length xs → x ≡ get_or xs i 0
-        → Adds p q (number_lines level (take i xs)) → BreaksOff q r e (line level (decimal x))
-        → BreaksOff p r e (number_lines level xs)
-    number-cut r e x below is h k =
-        cut (number_lines level) (number_lines-joined level) p q xs i r e 0 below h
-        (otherwise-broken q r e (line level (decimal x)) (number_lines level (get_or xs i 0 ∷ []))
-        (ap (λ (n : ℕ). line level (decimal n)) is ∙ sym (append-nil (line level (decimal (get_or xs i 0))))) k)
-
-    pub numbers-all : i ≡ length xs → Adds p q (number_lines level (take i xs))
-        → Adds p q (number_lines level xs)
-    numbers-all = all (number_lines level) (number_lines-joined level) p q xs i
-
   module _ (xs : List ℕ) where
     pub bytes-more : (r : Outgoing) (i k : ℕ) (digits : List ℕ) → digits ≡ encode_lower (take k (drop i xs))
         → Adds p q (encode_lower (take i xs)) → Adds q r digits → Adds p r (encode_lower (take (i + k) xs))

@@ -4,10 +4,11 @@ mod LineTexts
 mod TextBytes
 mod ClearTexts
 mod Grown
-mod RowFront
 mod Chosen
 mod SlotTexts
-mod ListTexts
+mod ItemTexts
+mod EmittedItems
+mod EmittedTexts
 mod PartSteps
 mod BlockDigits
 mod BitDigits

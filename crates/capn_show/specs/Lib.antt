@@ -1,5 +1,7 @@
 pub mod inner
 pub mod Descent
+pub mod Emitted
+pub mod EmittedPlaces
 pub mod Json
 pub mod JsonTexts
 pub mod Laws

@@ -8,7 +8,6 @@ use Rattle.capn_words.specs.declared.pointer.Width.{Width}
 use Rattle.capn_words.specs.declared.pointer.Width.TheVariants.{W0, W1, Link, Rows}
 use Rattle.capn_value.specs.Tree.{Tree, Trees, Bodies, count, count_rows, tree_at}
 use Rattle.capn_value.specs.Cost.{height, greatest, greatest_in_rows}
-use Rattle.capn_value.specs.Text.{body_line, word_lines}
 use Rattle.capn_target.specs.declared.target.Target.{Target}
 use Rattle.capn_target.specs.declared.target.Target.TheVariants as targets
 use Rattle.capn_target.specs.declared.target.Shape.TheVariants as shapes
@@ -17,7 +16,7 @@ use Rattle.capn_walk.specs.View.{number_in}
 use Rattle.capn_walk.specs.ShownValue.{Shows, ShowsStruct, words_of_row, slots_of_row}
 use Rattle.capn_walk.specs.Accepted.{root}
 use Rattle.capn_show.specs.JsonTexts.{json_escaped}
-use Rattle.capn_show.specs.Quoting.{escaped, plain_bytes, quoted_bytes, shown_by, shown_each_by, shown_rows_by}
+use Rattle.capn_show.specs.Quoting.{escaped, plain_bytes, quoted_bytes, shown_by}
 use Rattle.capn_show.specs.Styled.{part_in, styled}
 use Rattle.capn_show.specs.declared.style.Style.{Style}
 use Rattle.capn_show.specs.declared.style.Style.TheVariants as styles
@@ -41,11 +40,6 @@ HasNumbers _ = ⊤
 -- a struct of a words and b slots whose content starts at a word
 abbrev pub struct_at : ℕ → ℕ → ℕ → ℕ → Target
 struct_at s w a b = targets.Content s w (shapes.Node a b) 0
-
--- the text of a struct
-abbrev pub shown_body : (ℕ → List ℕ → List ℕ) → ℕ → List ℕ → Trees → List ℕ
-shown_body by level ws ss = body_line level (length ws) (count ss)
-    ++ (word_lines (level + 1) ws ++ shown_each_by by (level + 1) ss)
 
 -- the text of a list of bytes, by whether a text is put between quotes
 abbrev pub bytes_of : Bool → ℕ → List ℕ → List ℕ
@@ -143,33 +137,9 @@ module _ (m : List (List ℕ)) where
 
   -- ---- statements on the text, as that it is added, or breaks off, by the writing of lists of bytes
 
-  -- of that of the value at a place
-  abbrev pub IsShown : (ℕ → List ℕ → List ℕ) → Place → ℕ → (List ℕ → Type 0) → Type 0
-  IsShown by at level Says = (v : Tree) → IsAt m at v → Says (shown_by by level v)
-
   -- of that of the value which a pointer names
   abbrev pub IsFoundShown : (ℕ → List ℕ → List ℕ) → Target → ℕ → (List ℕ → Type 0) → Type 0
   IsFoundShown by found level Says = (v : Tree) → Shows m found v → Says (shown_by by level v)
-
-  -- of that of a struct
-  abbrev pub IsBodyShown : (ℕ → List ℕ → List ℕ) → ℕ → ℕ → ℕ → ℕ → ℕ → (List ℕ → Type 0) → Type 0
-  IsBodyShown by s w a b level Says = (ws : List ℕ) (ss : Trees) → ShowsStruct m (struct_at s w a b) ws ss
-      → Says (shown_body by level ws ss)
-
-  -- of those of slots
-  abbrev pub AreShown : (ℕ → List ℕ → List ℕ) → ℕ → ℕ → ℕ → ℕ → (List ℕ → Type 0) → Type 0
-  AreShown by s w number level Says = (ts : Trees) → AreSlots s w ts → count ts ≡ number
-      → Says (shown_each_by by level ts)
-
-  -- of those of rows
-  abbrev pub RowsShown : (ℕ → List ℕ → List ℕ) → ℕ → ℕ → ℕ → ℕ → ℕ → ℕ → (List ℕ → Type 0) → Type 0
-  RowsShown by s w number a b level Says = (bs : Bodies) → AreRowsAt s w a b bs → count_rows bs ≡ number
-      → Says (shown_rows_by by level bs)
-
-  -- of that of data words
-  abbrev pub WordsShown : ℕ → ℕ → ℕ → ℕ → (List ℕ → Type 0) → Type 0
-  WordsShown s w number level Says = (ws : List ℕ) → AreDataWords s w ws → length ws ≡ number
-      → Says (word_lines level ws)
 
   -- of that of numbers, by how their text is made
   abbrev pub NumbersShown : ℕ → ℕ → Width → ℕ → (List ℕ → List ℕ) → (List ℕ → Type 0) → Type 0

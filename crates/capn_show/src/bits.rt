@@ -6,9 +6,11 @@ ghost use Rattle.capn_words.specs.declared.pointer.Width.TheVariants as widths;
 ghost use Rattle.capn_value.specs.Text as form;
 ghost use Rattle.capn_target.specs.Shapes.{IsContent};
 ghost use Rattle.capn_target.specs.Target.{content_words};
+ghost use Rattle.capn_show.specs.Emitted as spec;
 ghost use Rattle.capn_show.specs.ReadyPlaces.{BitsShown};
 ghost use Rattle.capn_show.specs.Outgoing.{Adds, BreaksOff, outgoing};
 
+use crate::emitter::Emitter;
 use crate::fault::Broken;
 use crate::lines::{end_line, indent, word_bits};
 use crate::numbers::number_at;
@@ -17,9 +19,40 @@ use capn_words::{Place, Space, Watched, Width};
 use std::alloc::Allocator;
 use std::io::Write;
 
+/// Appends one line of the bits of the list of `count` bits at `start` to `text`, at this `level`, with its mark;
+/// nothing, if it is empty.
+pub fn show_bits<S: Space, W: Write, A: Allocator, E: Emitter>(
+    text: &mut Vec<u8, A>,
+    writer: &mut Watched<W>,
+    emitter: &E,
+    space: &S,
+    start: Place,
+    count: u32,
+    level: u32,
+) -> Result<(), Broken>
+    requires message { IsMessage (S.message space.now) }
+    requires of { E.is_of emitter.now (S.message space.now) }
+    requires content { IsContent (S.message space.now) start (content_words widths.W1 count) }
+    ensures shown { OnOk result (BitsShown (S.message space.now) start.segment start.word count
+        (λ xs. spec.emitted_digits (E.rule emitter.now) level (E.way emitter.now)
+        ((E.rule emitter.now).lies (S.message space.now) start) (length xs) (form.digits_of xs))
+        (Adds (outgoing W.contents writer.old text.old.items) (outgoing W.contents writer.new text.new.items))) }
+    ensures cut { IfErr result (λ e. BitsShown (S.message space.now) start.segment start.word count
+        (λ xs. spec.emitted_digits (E.rule emitter.now) level (E.way emitter.now)
+        ((E.rule emitter.now).lies (S.message space.now) start) (length xs) (form.digits_of xs))
+        (BreaksOff (outgoing W.contents writer.old text.old.items) (outgoing W.contents writer.new text.new.items) e)) }
+{
+    if count == 0 {
+        return Ok(());
+    }
+    let first = emitter.byte_of(space, start);
+    emitter.put_mark(text, writer, first)?;
+    bits_line(text, writer, space, start, count, level)
+}
+
 /// Appends one line of the bits of the list of `count` bits at `start` to `text`, at this `level`; nothing, if it is
 /// empty.
-pub fn show_bits<S: Space, W: Write, A: Allocator>(
+fn bits_line<S: Space, W: Write, A: Allocator>(
     text: &mut Vec<u8, A>,
     writer: &mut Watched<W>,
     space: &S,

@@ -7,9 +7,11 @@ ghost use Rattle.capn_words.specs.declared.pointer.Width.TheVariants as widths;
 ghost use Rattle.capn_value.specs.Text as form;
 ghost use Rattle.capn_target.specs.Shapes.{IsContent};
 ghost use Rattle.capn_target.specs.Target.{content_words};
+ghost use Rattle.capn_show.specs.Emitted as spec;
 ghost use Rattle.capn_show.specs.ReadyPlaces.{NumbersShown};
 ghost use Rattle.capn_show.specs.Outgoing.{Adds, BreaksOff, outgoing};
 
+use crate::emitter::Emitter;
 use crate::fault::Broken;
 use crate::lines::{end_line, indent, word_digits};
 use crate::numbers::number_at;
@@ -18,9 +20,40 @@ use capn_words::{Place, Space, Watched, Width};
 use std::alloc::Allocator;
 use std::io::Write;
 
+/// Appends one line of the digits of the list of `count` bytes at `start` to `text`, at this `level`, with its mark;
+/// nothing, if it is empty.
+pub fn show_bytes<S: Space, W: Write, A: Allocator, E: Emitter>(
+    text: &mut Vec<u8, A>,
+    writer: &mut Watched<W>,
+    emitter: &E,
+    space: &S,
+    start: Place,
+    count: u32,
+    level: u32,
+) -> Result<(), Broken>
+    requires message { IsMessage (S.message space.now) }
+    requires of { E.is_of emitter.now (S.message space.now) }
+    requires content { IsContent (S.message space.now) start (content_words widths.W8 count) }
+    ensures shown { OnOk result (NumbersShown (S.message space.now) start.segment start.word widths.W8 count
+        (λ xs. spec.emitted_digits (E.rule emitter.now) level (E.way emitter.now)
+        ((E.rule emitter.now).lies (S.message space.now) start) (length xs) (encode_lower xs))
+        (Adds (outgoing W.contents writer.old text.old.items) (outgoing W.contents writer.new text.new.items))) }
+    ensures cut { IfErr result (λ e. NumbersShown (S.message space.now) start.segment start.word widths.W8 count
+        (λ xs. spec.emitted_digits (E.rule emitter.now) level (E.way emitter.now)
+        ((E.rule emitter.now).lies (S.message space.now) start) (length xs) (encode_lower xs))
+        (BreaksOff (outgoing W.contents writer.old text.old.items) (outgoing W.contents writer.new text.new.items) e)) }
+{
+    if count == 0 {
+        return Ok(());
+    }
+    let first = emitter.byte_of(space, start);
+    emitter.put_mark(text, writer, first)?;
+    bytes_line(text, writer, space, start, count, level)
+}
+
 /// Appends one line of the digits of the list of `count` bytes at `start` to `text`, at this `level`; nothing, if it is
 /// empty.
-pub fn show_bytes<S: Space, W: Write, A: Allocator>(
+fn bytes_line<S: Space, W: Write, A: Allocator>(
     text: &mut Vec<u8, A>,
     writer: &mut Watched<W>,
     space: &S,

@@ -3,14 +3,17 @@
 ghost use Rattle.std.specs.Prelude.{◌≡◌, ◌<◌, ◌+◌, ◌^◌, ◌||◌, ◌==◌, IfErr, OnOk};
 ghost use Rattle.capn_words.specs.Message.{IsMessage};
 ghost use Rattle.capn_words.specs.declared.pointer.Width.TheVariants as widths;
+ghost use Rattle.capn_value.specs.NumberWidth as kinds;
 ghost use Rattle.capn_target.specs.Shapes.{IsContent};
 ghost use Rattle.capn_target.specs.Target.{content_words};
 ghost use Rattle.capn_show.specs.Outgoing.{Adds, BreaksOff, outgoing};
+ghost use Rattle.capn_show.specs.Emitted as spec;
 ghost use Rattle.capn_show.specs.Quoting as quoting;
 ghost use Rattle.capn_show.specs.ReadyPlaces as places;
 ghost use Rattle.capn_show.specs.ReadyPlaces.{NumbersShown};
 
 use crate::byte_digits::show_bytes;
+use crate::emitter::Emitter;
 use crate::escapes::put_escapes;
 use crate::fault::Broken;
 use crate::lines::{indent, named_line, put_number};
@@ -85,80 +88,93 @@ pub fn show_quoted<W: Write, A: Allocator>(
     put(text, writer, b"\"\n")
 }
 
-/// Appends the lines of the list of `count` bytes at `start` to `text`, at this `level`, in digits.
-fn show_digits<S: Space, W: Write, A: Allocator>(
+/// Appends the lines of the list of `count` bytes at `start` to `text`, at this `level`, in digits, behind the first
+/// mark.
+fn show_digits<S: Space, W: Write, A: Allocator, E: Emitter>(
     text: &mut Vec<u8, A>,
     writer: &mut Watched<W>,
+    emitter: &E,
     space: &S,
     start: Place,
     count: u32,
     level: u32,
 ) -> Result<(), Broken>
     requires message { IsMessage (S.message space.now) }
+    requires of { E.is_of emitter.now (S.message space.now) }
     requires content { IsContent (S.message space.now) start (content_words widths.W8 count) }
     requires room { level + 1 < 2 ^ 32 }
-    ensures shown { OnOk result (NumbersShown (S.message space.now) start.segment start.word widths.W8
-        count (quoting.plain_bytes level)
+    ensures shown { OnOk result (NumbersShown (S.message space.now) start.segment start.word widths.W8 count
+        (spec.digit_lines (E.rule emitter.now) level (E.way emitter.now)
+        ((E.rule emitter.now).lies (S.message space.now) start))
         (Adds (outgoing W.contents writer.old text.old.items) (outgoing W.contents writer.new text.new.items))) }
-    ensures cut { IfErr result (λ e. NumbersShown (S.message space.now) start.segment start.word widths.W8
-        count (quoting.plain_bytes level)
+    ensures cut { IfErr result (λ e. NumbersShown (S.message space.now) start.segment start.word widths.W8 count
+        (spec.digit_lines (E.rule emitter.now) level (E.way emitter.now)
+        ((E.rule emitter.now).lies (S.message space.now) start))
         (BreaksOff (outgoing W.contents writer.old text.old.items) (outgoing W.contents writer.new text.new.items) e)) }
 {
     named_line(text, writer, level, "bytes", count)?;
-    show_bytes(text, writer, space, start, count, level + 1)
+    show_bytes(text, writer, emitter, space, start, count, level + 1)
 }
 
-/// Appends the list of `count` bytes at `start` to `text`, at this `level`: the one line of a text, or the digits of
-/// one that is none.
-fn show_text_or_digits<S: Space, W: Write, A: Allocator>(
+/// Appends the list of `count` bytes at `start` to `text`, at this `level`, behind the first mark: the one line of a
+/// text, or the digits of one that is none.
+fn show_text_or_digits<S: Space, W: Write, A: Allocator, E: Emitter>(
     text: &mut Vec<u8, A>,
     writer: &mut Watched<W>,
+    emitter: &E,
     space: &S,
     start: Place,
     count: u32,
     level: u32,
 ) -> Result<(), Broken>
     requires message { IsMessage (S.message space.now) }
+    requires of { E.is_of emitter.now (S.message space.now) }
     requires content { IsContent (S.message space.now) start (content_words widths.W8 count) }
     requires room { level + 1 < 2 ^ 32 }
-    ensures shown { OnOk result (NumbersShown (S.message space.now) start.segment start.word widths.W8
-        count (quoting.quoted_bytes level)
+    ensures shown { OnOk result (NumbersShown (S.message space.now) start.segment start.word widths.W8 count
+        (spec.text_or_digits (E.rule emitter.now) level (E.way emitter.now)
+        ((E.rule emitter.now).lies (S.message space.now) start))
         (Adds (outgoing W.contents writer.old text.old.items) (outgoing W.contents writer.new text.new.items))) }
-    ensures cut { IfErr result (λ e. NumbersShown (S.message space.now) start.segment start.word widths.W8
-        count (quoting.quoted_bytes level)
+    ensures cut { IfErr result (λ e. NumbersShown (S.message space.now) start.segment start.word widths.W8 count
+        (spec.text_or_digits (E.rule emitter.now) level (E.way emitter.now)
+        ((E.rule emitter.now).lies (S.message space.now) start))
         (BreaksOff (outgoing W.contents writer.old text.old.items) (outgoing W.contents writer.new text.new.items) e)) }
 {
     let bytes = space.bytes(start, count as usize);
     if is_text(bytes) {
         show_quoted(text, writer, bytes, level)
     } else {
-        show_digits(text, writer, space, start, count, level)
+        show_digits(text, writer, emitter, space, start, count, level)
     }
 }
 
-/// Appends the lines of the list of `count` bytes at `start` to `text`, at this `level`: between quotes, if it is a
-/// text and quotes are asked for (`QUOTED`), else in digits.
-pub fn show_byte_list<S: Space, W: Write, A: Allocator, const QUOTED: bool>(
+/// Appends the lines of the list of `count` bytes at `start` to `text`, at this `level`, behind the first mark: between
+/// quotes, if it is a text and `emitter` asks for quotes, else in digits.
+pub fn show_byte_list<S: Space, W: Write, A: Allocator, E: Emitter>(
     text: &mut Vec<u8, A>,
     writer: &mut Watched<W>,
+    emitter: &E,
     space: &S,
     start: Place,
     count: u32,
     level: u32,
 ) -> Result<(), Broken>
     requires message { IsMessage (S.message space.now) }
+    requires of { E.is_of emitter.now (S.message space.now) }
     requires content { IsContent (S.message space.now) start (content_words widths.W8 count) }
     requires room { level + 1 < 2 ^ 32 }
-    ensures shown { OnOk result (NumbersShown (S.message space.now) start.segment start.word widths.W8
-        count (places.bytes_of QUOTED level)
+    ensures shown { OnOk result (NumbersShown (S.message space.now) start.segment start.word widths.W8 count
+        (spec.emitted_numbers (E.rule emitter.now) kinds.byte level (E.way emitter.now)
+        ((E.rule emitter.now).lies (S.message space.now) start))
         (Adds (outgoing W.contents writer.old text.old.items) (outgoing W.contents writer.new text.new.items))) }
-    ensures cut { IfErr result (λ e. NumbersShown (S.message space.now) start.segment start.word widths.W8
-        count (places.bytes_of QUOTED level)
+    ensures cut { IfErr result (λ e. NumbersShown (S.message space.now) start.segment start.word widths.W8 count
+        (spec.emitted_numbers (E.rule emitter.now) kinds.byte level (E.way emitter.now)
+        ((E.rule emitter.now).lies (S.message space.now) start))
         (BreaksOff (outgoing W.contents writer.old text.old.items) (outgoing W.contents writer.new text.new.items) e)) }
 {
-    if QUOTED {
-        show_text_or_digits(text, writer, space, start, count, level)
+    if emitter.is_quoted() {
+        show_text_or_digits(text, writer, emitter, space, start, count, level)
     } else {
-        show_digits(text, writer, space, start, count, level)
+        show_digits(text, writer, emitter, space, start, count, level)
     }
 }

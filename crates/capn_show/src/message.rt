@@ -5,6 +5,7 @@ ghost use Rattle.capn_value.specs.Text.{show_text};
 ghost use Rattle.capn_show.specs.Outgoing.{outgoing};
 ghost use Rattle.capn_show.specs.Written.{IsWritten, IsUnwritten};
 
+use crate::emitter::Lines;
 use crate::fault::{ShowFault, fault_of};
 use crate::slots::show_slot;
 use capn_walk::laws::values;
@@ -36,7 +37,16 @@ pub fn show_message<S: Space, W: Write, A: Allocator, B: Allocator + Copy>(
     values();
     let _bounds = space.segments();
     survey(alloc, space, limits)?;
-    match show_slot::<_, _, _, false>(text, writer, space, Place::ROOT, 0, limits.depth()) {
+    let depth = limits.depth();
+    match show_slot(
+        text,
+        writer,
+        &mut Lines::<false>,
+        space,
+        Place::ROOT,
+        0,
+        depth,
+    ) {
         Ok(()) => Ok(()),
         Err(broken) => Err(fault_of(broken)),
     }

@@ -1,16 +1,18 @@
 //! Lists of numbers, and data words: a line for each.
 //! They are read from the words of the message.
 
-ghost use Rattle.std.specs.Prelude.{◌≡◌, ◌+◌, ◌/◌, IfErr, OnOk};
+ghost use Rattle.std.specs.Prelude.{◌≡◌, ◌+◌, ◌/◌, ◌++◌, IfErr, OnOk};
 ghost use Rattle.capn_words.specs.Message.{IsMessage};
-ghost use Rattle.capn_value.specs.Text as form;
 ghost use Rattle.capn_walk.specs.ValueAt.{words_from};
 ghost use Rattle.capn_target.specs.Shapes.{IsContent};
 ghost use Rattle.capn_target.specs.Target.{content_words};
 ghost use Rattle.capn_walk.specs.View as seen;
-ghost use Rattle.capn_show.specs.ReadyPlaces.{HasNumbers, WordsShown, NumbersShown};
+ghost use Rattle.capn_show.specs.Emitted as spec;
+ghost use Rattle.capn_show.specs.EmittedPlaces.{WordsEmitted};
+ghost use Rattle.capn_show.specs.ReadyPlaces.{HasNumbers, NumbersShown};
 ghost use Rattle.capn_show.specs.Outgoing.{Adds, BreaksOff, outgoing};
 
+use crate::emitter::Emitter;
 use crate::fault::Broken;
 use crate::lines::{number_line, word_line};
 use capn_walk::{digit, per_word};
@@ -34,36 +36,94 @@ pub fn number_at<S: Space>(space: &S, start: Place, width: Width, i: u32) -> u64
     digit(width, word, i % many)
 }
 
-/// Appends a line for each of the `count` data words at `start` to `text`, at this `level`.
-pub fn show_words<S: Space, W: Write, A: Allocator>(
+/// Appends the line of a data `word`, which lies at `byte`, to `text`, with its mark.
+#[inline(always)]
+fn show_word<W: Write, A: Allocator, E: Emitter>(
     text: &mut Vec<u8, A>,
     writer: &mut Watched<W>,
+    emitter: &E,
+    byte: u128,
+    level: u32,
+    word: u64,
+) -> Result<(), Broken>
+    ensures shown { OnOk result (Adds (outgoing W.contents writer.old text.old.items)
+        (outgoing W.contents writer.new text.new.items)
+        ((E.rule emitter.now).mark byte (E.way emitter.now) ++ spec.word_line level word)) }
+    ensures cut { IfErr result (λ e. BreaksOff (outgoing W.contents writer.old text.old.items)
+        (outgoing W.contents writer.new text.new.items) e
+        ((E.rule emitter.now).mark byte (E.way emitter.now) ++ spec.word_line level word)) }
+{
+    emitter.put_mark(text, writer, byte)?;
+    word_line(text, writer, level, word)
+}
+
+/// Appends the line of the element `n`, which lies at `byte`, to `text`, with its mark.
+#[inline(always)]
+fn show_number<W: Write, A: Allocator, E: Emitter>(
+    text: &mut Vec<u8, A>,
+    writer: &mut Watched<W>,
+    emitter: &E,
+    byte: u128,
+    level: u32,
+    n: u64,
+) -> Result<(), Broken>
+    ensures shown { OnOk result (Adds (outgoing W.contents writer.old text.old.items)
+        (outgoing W.contents writer.new text.new.items)
+        ((E.rule emitter.now).mark byte (E.way emitter.now) ++ spec.number_line level n)) }
+    ensures cut { IfErr result (λ e. BreaksOff (outgoing W.contents writer.old text.old.items)
+        (outgoing W.contents writer.new text.new.items) e
+        ((E.rule emitter.now).mark byte (E.way emitter.now) ++ spec.number_line level n)) }
+{
+    emitter.put_mark(text, writer, byte)?;
+    number_line(text, writer, level, n)
+}
+
+/// Appends a line for each of the `count` data words at `start` to `text`, at this `level`, with its mark.
+pub fn show_words<S: Space, W: Write, A: Allocator, E: Emitter>(
+    text: &mut Vec<u8, A>,
+    writer: &mut Watched<W>,
+    emitter: &E,
     space: &S,
     start: Place,
     count: u16,
     level: u32,
 ) -> Result<(), Broken>
     requires message { IsMessage (S.message space.now) }
+    requires of { E.is_of emitter.now (S.message space.now) }
     requires content { IsContent (S.message space.now) start count }
-    ensures shown { OnOk result (WordsShown (S.message space.now) start.segment start.word count level
+    ensures shown { OnOk result (WordsEmitted (S.message space.now) start.segment start.word count
+        (spec.emitted_lines (E.rule emitter.now) 8 (spec.word_line level) (E.way emitter.now)
+        ((E.rule emitter.now).lies (S.message space.now) start))
         (Adds (outgoing W.contents writer.old text.old.items) (outgoing W.contents writer.new text.new.items))) }
-    ensures cut { IfErr result (λ e. WordsShown (S.message space.now) start.segment start.word count level
+    ensures cut { IfErr result (λ e. WordsEmitted (S.message space.now) start.segment start.word count
+        (spec.emitted_lines (E.rule emitter.now) 8 (spec.word_line level) (E.way emitter.now)
+        ((E.rule emitter.now).lies (S.message space.now) start))
         (BreaksOff (outgoing W.contents writer.old text.old.items) (outgoing W.contents writer.new text.new.items) e)) }
 {
+    let first = emitter.byte_of(space, start);
     for i in 0..count as u32 {
         let at = Place {
             segment: start.segment,
             word: start.word + i,
         };
-        word_line(text, writer, level, space.word(at))?;
+        let word = space.word(at);
+        show_word(text, writer, emitter, first + 8 * i as u128, level, word)?;
     }
     Ok(())
 }
 
-/// Appends a line for each of the `count` numbers of this `width` at `start` to `text`, at this `level`.
-pub fn show_numbers<S: Space, W: Write, A: Allocator>(
+/// Returns the bytes of an element of this `width`, if no word holds more than eight of them.
+fn element_bytes(width: Width) -> u128
+    ensures is { result ≡ 8 / seen.per_word width }
+{
+    8 / per_word(width) as u128
+}
+
+/// Appends a line for each of the `count` numbers of this `width` at `start` to `text`, at this `level`, with its mark.
+pub fn show_numbers<S: Space, W: Write, A: Allocator, E: Emitter>(
     text: &mut Vec<u8, A>,
     writer: &mut Watched<W>,
+    emitter: &E,
     space: &S,
     start: Place,
     width: Width,
@@ -71,17 +131,30 @@ pub fn show_numbers<S: Space, W: Write, A: Allocator>(
     level: u32,
 ) -> Result<(), Broken>
     requires message { IsMessage (S.message space.now) }
+    requires of { E.is_of emitter.now (S.message space.now) }
     requires content { IsContent (S.message space.now) start (content_words width count) }
     requires plain { HasNumbers width }
-    ensures shown { OnOk result (NumbersShown (S.message space.now) start.segment start.word width
-        count (form.number_lines level)
+    ensures shown { OnOk result (NumbersShown (S.message space.now) start.segment start.word width count
+        (spec.emitted_lines (E.rule emitter.now) (8 / seen.per_word width) (spec.number_line level) (E.way emitter.now)
+        ((E.rule emitter.now).lies (S.message space.now) start))
         (Adds (outgoing W.contents writer.old text.old.items) (outgoing W.contents writer.new text.new.items))) }
-    ensures cut { IfErr result (λ e. NumbersShown (S.message space.now) start.segment start.word width
-        count (form.number_lines level)
+    ensures cut { IfErr result (λ e. NumbersShown (S.message space.now) start.segment start.word width count
+        (spec.emitted_lines (E.rule emitter.now) (8 / seen.per_word width) (spec.number_line level) (E.way emitter.now)
+        ((E.rule emitter.now).lies (S.message space.now) start))
         (BreaksOff (outgoing W.contents writer.old text.old.items) (outgoing W.contents writer.new text.new.items) e)) }
 {
+    let first = emitter.byte_of(space, start);
+    let size = element_bytes(width);
     for i in 0..count {
-        number_line(text, writer, level, number_at(space, start, width, i))?;
+        let number = number_at(space, start, width, i);
+        show_number(
+            text,
+            writer,
+            emitter,
+            first + i as u128 * size,
+            level,
+            number,
+        )?;
     }
     Ok(())
 }

@@ -5,8 +5,9 @@ ghost use Rattle.capn_words.specs.Message.{IsMessage};
 ghost use Rattle.capn_target.specs.Shapes.{IsInMessage};
 ghost use Rattle.capn_show.specs.Outgoing.{Adds, BreaksOff, outgoing};
 ghost use Rattle.capn_show.specs.Styled.{part_in};
-ghost use Rattle.capn_show.specs.ReadyPlaces.{IsFound, IsThereShown, json_style};
+ghost use Rattle.capn_show.specs.ReadyPlaces.{IsFound, IsFoundShown, IsThereShown, bytes_of, json_style};
 
+use crate::emitter::Lines;
 use crate::fault::Broken;
 use crate::json::json_found;
 use crate::lines::{end_line, plain_line};
@@ -36,11 +37,32 @@ pub fn show_there<S: Space, W: Write, A: Allocator>(
         (outgoing W.contents writer.old text.old.items) (outgoing W.contents writer.new text.new.items) e)) }
 {
     match style {
-        Style::Lines => show_found::<_, _, _, false>(text, writer, space, found, 0, depth),
-        Style::Quoted => show_found::<_, _, _, true>(text, writer, space, found, 0, depth),
+        Style::Lines => show_lines::<_, _, _, false>(text, writer, space, found, depth),
+        Style::Quoted => show_lines::<_, _, _, true>(text, writer, space, found, depth),
         Style::Json => show_json::<_, _, _, false>(text, writer, space, found, depth),
         Style::JsonText => show_json::<_, _, _, true>(text, writer, space, found, depth),
     }
+}
+
+/// Appends the lines of the value with the target `found` to `text`: lists of bytes that are texts are written between
+/// quotes, if that is asked for (`QUOTED`).
+fn show_lines<S: Space, W: Write, A: Allocator, const QUOTED: bool>(
+    text: &mut Vec<u8, A>,
+    writer: &mut Watched<W>,
+    space: &S,
+    found: Target,
+    depth: u32,
+) -> Result<(), Broken>
+    requires message { IsMessage (S.message space.now) }
+    requires inside { IsInMessage (S.message space.now) found }
+    requires ready { IsFound (S.message space.now) found depth }
+    requires room { 2 * depth < 2 ^ 32 }
+    ensures shown { OnOk result (IsFoundShown (S.message space.now) (bytes_of QUOTED) found 0 (Adds
+        (outgoing W.contents writer.old text.old.items) (outgoing W.contents writer.new text.new.items))) }
+    ensures cut { IfErr result (λ e. IsFoundShown (S.message space.now) (bytes_of QUOTED) found 0 (BreaksOff
+        (outgoing W.contents writer.old text.old.items) (outgoing W.contents writer.new text.new.items) e)) }
+{
+    show_found(text, writer, &mut Lines::<QUOTED>, space, found, 0, depth)
 }
 
 /// Appends the line of JSON of the value with the target `found` to `text`.

@@ -1,5 +1,5 @@
 -- A step of the text's recursion: a place with a value has a target, and what is shown there is the value. (For the
--- cycle `json`, the cycle `slots` and capn_marks.)
+-- cycle `json` and the cycle `slots`.)
 use Rattle.std.proofs.Common.{◌≡◌, ℕ, ◌+◌, ◌*◌, ◌<◌, List, Ok, Err, sym, arith}
 use Rattle.capn_words.specs.declared.space.Place.{Place}
 use Rattle.capn_value.specs.Tree.{Tree, nil, node, voids, numbers, links, rows, cap}
@@ -10,7 +10,7 @@ use Rattle.capn_target.specs.declared.target.Fault.{Fault}
 use Rattle.capn_target.specs.Target.{target}
 use Rattle.capn_walk.specs.ValueAt.{IsAt}
 use Rattle.capn_walk.specs.ShownValue.{ViewsShow, words_of_row, slots_of_row}
-use Rattle.capn_show.specs.ReadyPlaces.{IsReady, IsFound, IsBody, AreReady, AreRows, IsShown, IsFoundShown}
+use Rattle.capn_show.specs.ReadyPlaces.{IsReady, IsFound, IsBody, AreReady, AreRows}
 use Rattle.capn_show.proofs.SlotTexts.{low-at, row-low}
 
 module _ (m : List (List ℕ)) where
@@ -32,12 +32,6 @@ module _ (m : List (List ℕ)) where
   pub found-ready : (laws : (message : List (List ℕ)) (at : Place) (t : Target) (v : Tree) → ViewsShow message at t v)
       (at : Place) (t : Target) (depth : ℕ) → target m at ≡ Ok t → IsReady m at depth → IsFound m t depth
   found-ready laws at t depth e r = record { value = r.value; is = laws m at t r.value e r.is; low = r.low }
-
-  pub found-shown : (by : ℕ → List ℕ → List ℕ) (laws : (message : List (List ℕ)) (at : Place) (t : Target) (v : Tree)
-      → ViewsShow message at t v)
-      (at : Place) (t : Target) (level : ℕ) (Says : List ℕ → Type 0) → target m at ≡ Ok t
-      → IsFoundShown m by t level Says → IsShown m by at level Says
-  found-shown by laws at t level Says e h v i = h v (laws m at t v e i)
 
   -- one of several slots
   pub slot-ready : (s w number depth i : ℕ) → i < number → AreReady m s w number depth

@@ -1,7 +1,7 @@
 use Rattle.std.proofs.lemmas.Result.{on_ok_weaker, IfErr-weaker}
 use Rattle.capn_show.specs.Outgoing.{Adds, BreaksOff, outgoing}
 use Rattle.capn_marks.proofs.LedSteps.{led-marked, led-ready}
-use Rattle.capn_marks.proofs.Sequels.{unbegun}
+use Rattle.capn_show.proofs.shared.Sequels.{unbegun}
 use Rattle.capn_marks.proofs.marked_part.mark_counted.Goals as goal
 
 pub returns-clause-cut : goal.returns-clause-cut

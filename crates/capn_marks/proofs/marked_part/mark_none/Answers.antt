@@ -1,7 +1,7 @@
 use Rattle.std.proofs.Common.{[], ◌∷◌, ◌++◌, codes, if◌then◌else◌}
 use Rattle.capn_value.specs.Text.{line}
 use Rattle.capn_show.specs.Outgoing.{outgoing}
-use Rattle.capn_marks.proofs.Sequels.{ok-then, err-then}
+use Rattle.capn_show.proofs.shared.Sequels.{ok-then, err-then}
 use Rattle.capn_show.proofs.shared.Appended.{passed, then-broken, broken-before}
 use Rattle.capn_marks.proofs.marked_part.mark_none.Goals as goal
 

@@ -1,6 +1,6 @@
 use Rattle.std.proofs.Common.{[], ◌∷◌}
 use Rattle.capn_show.specs.Outgoing.{outgoing}
-use Rattle.capn_marks.proofs.Sequels.{ok-then, err-then}
+use Rattle.capn_show.proofs.shared.Sequels.{ok-then, err-then}
 use Rattle.capn_show.proofs.shared.Appended.{passed, broken-before}
 use Rattle.capn_marks.proofs.marks.put_named.Goals as goal
 

@@ -1,7 +1,7 @@
 use Rattle.std.proofs.Common.{[], ◌∷◌, ◌∙◌}
 use Rattle.std.specs.Fmt.{decimal}
 use Rattle.capn_show.specs.Outgoing.{outgoing}
-use Rattle.capn_marks.proofs.Sequels.{ok-then, err-then}
+use Rattle.capn_show.proofs.shared.Sequels.{ok-then, err-then}
 use Rattle.capn_show.proofs.shared.Appended.{passed, broken-before, otherwise, otherwise-broken}
 use Rattle.capn_marks.proofs.marks.put_wide.Goals as goal
 

@@ -1,41 +1,57 @@
 use Rattle.std.proofs.Common.{ℕ, ◌+◌, ◌++◌, length, codes, ap, sym}
 use Rattle.std.proofs.lemmas.Result.{on_ok_weaker, IfErr-weaker}
 use Rattle.hex.specs.Hex.{encode_lower}
-use Rattle.capn_value.specs.Text.{line, named, one_line}
+use Rattle.capn_value.specs.Text.{line, named}
+use Rattle.capn_show.specs.Emitted.{emitted_digits}
 use Rattle.capn_show.specs.Outgoing.{outgoing}
 use Rattle.capn_show.proofs.shared.Appended.{both, otherwise, otherwise-broken, then-broken, broken-before, passed}
 use Rattle.capn_show.proofs.bytes.show_digits.Goals as goal
 
 pub returns-clause-shown : goal.returns-clause-shown
 returns-clause-shown g c =
-    let p = outgoing g.W.Write.contents c.args.writer.now c.args.text.now.items in
-    let q = outgoing g.W.Write.contents c.named_line.new.writer c.named_line.new.text.items in
-    let r = outgoing g.W.Write.contents c.show_bytes.new.writer c.show_bytes.new.text.items in
+    let rule = g.E.Emitter.rule c.args.emitter.now in
+    let way = g.E.Emitter.way c.args.emitter.now in
+    let lies = rule.lies (g.S.Space.message c.args.space.now) c.args.start in
+    let p = (outgoing g.W.Write.contents c.args.writer.now c.args.text.now.items) in
+    let q = (outgoing g.W.Write.contents c.named_line.new.writer c.named_line.new.text.items) in
+    let r = (outgoing g.W.Write.contents c.show_bytes.new.writer c.show_bytes.new.text.items) in
     on_ok_weaker c.show_bytes.result
-    (λ k xs h n. let rest = one_line (c.args.level + 1) (length xs) (encode_lower xs) in
-    otherwise p r _ _ (ap (λ (j : ℕ). line c.args.level (named (codes "bytes") j) ++ rest) (sym n))
-    (both p q r (line c.args.level (named (codes "bytes") c.args.count)) rest c.in_ok-named_line.ensures.shown
-    (k xs h n)))
+    (λ k xs h n. otherwise p r _ _
+    (ap (λ (j : ℕ). line c.args.level (named (codes "bytes") j) ++ emitted_digits rule
+    (c.args.level + 1) way lies (length xs) (encode_lower xs)) (sym n))
+    (both p q r (line c.args.level (named (codes "bytes") c.args.count))
+    (emitted_digits rule (c.args.level + 1) way lies (length xs) (encode_lower xs))
+    c.in_ok-named_line.ensures.shown (k xs h n)))
     c.show_bytes.ensures.shown
 
 pub returns-clause-cut : goal.returns-clause-cut
 returns-clause-cut g c =
-    let p = outgoing g.W.Write.contents c.args.writer.now c.args.text.now.items in
-    let q = outgoing g.W.Write.contents c.named_line.new.writer c.named_line.new.text.items in
-    let r = outgoing g.W.Write.contents c.show_bytes.new.writer c.show_bytes.new.text.items in
+    let rule = g.E.Emitter.rule c.args.emitter.now in
+    let way = g.E.Emitter.way c.args.emitter.now in
+    let lies = rule.lies (g.S.Space.message c.args.space.now) c.args.start in
+    let p = (outgoing g.W.Write.contents c.args.writer.now c.args.text.now.items) in
+    let q = (outgoing g.W.Write.contents c.named_line.new.writer c.named_line.new.text.items) in
+    let r = (outgoing g.W.Write.contents c.show_bytes.new.writer c.show_bytes.new.text.items) in
     IfErr-weaker c.show_bytes.result _ _
-    (λ e k xs h n. let rest = one_line (c.args.level + 1) (length xs) (encode_lower xs) in
-    otherwise-broken p r e _ _ (ap (λ (j : ℕ). line c.args.level (named (codes "bytes") j) ++ rest) (sym n))
-    (then-broken p q r e (line c.args.level (named (codes "bytes") c.args.count)) rest
+    (λ e k xs h n. otherwise-broken p r e _ _
+    (ap (λ (j : ℕ). line c.args.level (named (codes "bytes") j) ++ emitted_digits rule
+    (c.args.level + 1) way lies (length xs) (encode_lower xs)) (sym n))
+    (then-broken p q r e (line c.args.level (named (codes "bytes") c.args.count))
+    (emitted_digits rule (c.args.level + 1) way lies (length xs) (encode_lower xs))
     c.in_ok-named_line.ensures.shown (k xs h n)))
     c.show_bytes.ensures.cut
 
 pub returns-in_err-named_line-clause-cut : goal.returns-in_err-named_line-clause-cut
 returns-in_err-named_line-clause-cut g c =
-    let p = outgoing g.W.Write.contents c.args.writer.now c.args.text.now.items in
-    let q = outgoing g.W.Write.contents c.named_line.new.writer c.named_line.new.text.items in
+    let rule = g.E.Emitter.rule c.args.emitter.now in
+    let way = g.E.Emitter.way c.args.emitter.now in
+    let lies = rule.lies (g.S.Space.message c.args.space.now) c.args.start in
     passed c.from_residual.result c.in_err-named_line.field-0.0 _ c.from_residual.ensures.1
-    (λ xs h n. let rest = one_line (c.args.level + 1) (length xs) (encode_lower xs) in
-    otherwise-broken p q _ _ _ (ap (λ (j : ℕ). line c.args.level (named (codes "bytes") j) ++ rest) (sym n))
-    (broken-before p q _ (line c.args.level (named (codes "bytes") c.args.count)) rest
+    (λ xs h n. let p = (outgoing g.W.Write.contents c.args.writer.now c.args.text.now.items) in
+    let q = (outgoing g.W.Write.contents c.named_line.new.writer c.named_line.new.text.items) in
+    otherwise-broken p q _ _ _
+    (ap (λ (j : ℕ). line c.args.level (named (codes "bytes") j) ++ emitted_digits rule
+    (c.args.level + 1) way lies (length xs) (encode_lower xs)) (sym n))
+    (broken-before p q _ (line c.args.level (named (codes "bytes") c.args.count))
+    (emitted_digits rule (c.args.level + 1) way lies (length xs) (encode_lower xs))
     c.in_err-named_line.ensures.cut))

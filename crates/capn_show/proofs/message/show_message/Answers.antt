@@ -1,10 +1,21 @@
-use Rattle.std.proofs.Common.{arith}
+use Rattle.std.proofs.Common.{◌≡◌, ◌∙◌, ℕ, List, [], false, refl, arith}
+use Rattle.capn_target.specs.Target.{target}
+use Rattle.capn_value.specs.Tree.{Tree}
+use Rattle.capn_walk.specs.Accepted.{root}
+use Rattle.capn_show.specs.Descent.{named_by}
+use Rattle.capn_show.specs.Emitted.{emitted_slot, plain_rule}
 use Rattle.capn_show.specs.Outgoing.{outgoing}
 use Rattle.capn_value.specs.Text.{show_text}
 use Rattle.capn_show.proofs.shared.Ends.{unwritten}
+use Rattle.capn_show.proofs.shared.BareTexts.{bare}
 use Rattle.capn_show.proofs.shared.PlainTexts.{plain-shown}
 use Rattle.capn_show.proofs.shared.Appended.{otherwise, otherwise-broken}
 use Rattle.capn_show.proofs.message.show_message.Goals as goal
+
+-- the text by the rule of plain lines
+plain-text : (m : List (List ℕ)) (v : Tree) → emitted_slot m (plain_rule false) 0 [] root v ≡ show_text v
+plain-text m v =
+    bare (plain_rule false) (λ n way. refl) m 0 [] (named_by (target m root)) v ∙ plain-shown 0 v
 
 pub show_slot-requires-clause-ready : goal.show_slot-requires-clause-ready
 show_slot-requires-clause-ready g c =
@@ -19,7 +30,8 @@ returns-in-Ok-clause-shown g c =
     let f = c.in_ok-survey.ensures.found in
     let p = outgoing g.W.Write.contents c.args.writer.now c.args.text.now.items in
     let q = outgoing g.W.Write.contents c.show_slot.new.writer c.show_slot.new.text.items in
-    let text = otherwise p q _ _ (plain-shown 0 f.value) (c.in-Ok.ensures.shown f.value f.is.is) in
+    let text = otherwise p q _ _ (plain-text (g.S.Space.message c.args.space.now) f.value)
+    (c.in-Ok.ensures.shown f.value f.is.is) in
     record { value = f.value; is = f.is; text = text }
 
 pub returns-in-Err-clause-refused : goal.returns-in-Err-clause-refused
@@ -34,5 +46,5 @@ returns-in-Err-clause-refused g c =
       is = f.is;
       text = otherwise-broken (outgoing g.W.Write.contents c.args.writer.now c.args.text.now.items)
           (outgoing g.W.Write.contents c.show_slot.new.writer c.show_slot.new.text.items) c.in-Err.broken _ _
-          (plain-shown 0 f.value) (c.in-Err.ensures.cut f.value f.is.is);
+          (plain-text (g.S.Space.message c.args.space.now) f.value) (c.in-Err.ensures.cut f.value f.is.is);
     })

@@ -21,31 +21,31 @@ between-quotes style v e = ap (λ (s : Style). part_in s (Some v)) (sym e)
 pub returns-in-Lines-clause-shown : goal.returns-in-Lines-clause-shown
 returns-in-Lines-clause-shown g c =
     let p = outgoing g.W.Write.contents c.args.writer.now c.args.text.now.items in
-    let q = outgoing g.W.Write.contents c.show_found.new.writer c.show_found.new.text.items in
-    on_ok_weaker c.show_found.result
+    let q = outgoing g.W.Write.contents c.show_lines.new.writer c.show_lines.new.text.items in
+    on_ok_weaker c.show_lines.result
     (λ k v h. otherwise p q _ _ (in-lines c.args.style v c.in-Lines.is) (k v h))
-    c.show_found.ensures.shown
+    c.show_lines.ensures.shown
 
 pub returns-in-Lines-clause-cut : goal.returns-in-Lines-clause-cut
 returns-in-Lines-clause-cut g c =
     let p = outgoing g.W.Write.contents c.args.writer.now c.args.text.now.items in
-    let q = outgoing g.W.Write.contents c.show_found.new.writer c.show_found.new.text.items in
-    IfErr-weaker c.show_found.result _ _
+    let q = outgoing g.W.Write.contents c.show_lines.new.writer c.show_lines.new.text.items in
+    IfErr-weaker c.show_lines.result _ _
     (λ e k v h. otherwise-broken p q e _ _ (in-lines c.args.style v c.in-Lines.is) (k v h))
-    c.show_found.ensures.cut
+    c.show_lines.ensures.cut
 
 pub returns-in-Quoted-clause-shown : goal.returns-in-Quoted-clause-shown
 returns-in-Quoted-clause-shown g c =
     let p = outgoing g.W.Write.contents c.args.writer.now c.args.text.now.items in
-    let q = outgoing g.W.Write.contents c.show_found-in-Quoted.new.writer c.show_found-in-Quoted.new.text.items in
-    on_ok_weaker c.show_found-in-Quoted.result
+    let q = outgoing g.W.Write.contents c.show_lines-in-Quoted.new.writer c.show_lines-in-Quoted.new.text.items in
+    on_ok_weaker c.show_lines-in-Quoted.result
     (λ k v h. otherwise p q _ _ (between-quotes c.args.style v c.in-Quoted.is) (k v h))
-    c.show_found-in-Quoted.ensures.shown
+    c.show_lines-in-Quoted.ensures.shown
 
 pub returns-in-Quoted-clause-cut : goal.returns-in-Quoted-clause-cut
 returns-in-Quoted-clause-cut g c =
     let p = outgoing g.W.Write.contents c.args.writer.now c.args.text.now.items in
-    let q = outgoing g.W.Write.contents c.show_found-in-Quoted.new.writer c.show_found-in-Quoted.new.text.items in
-    IfErr-weaker c.show_found-in-Quoted.result _ _
+    let q = outgoing g.W.Write.contents c.show_lines-in-Quoted.new.writer c.show_lines-in-Quoted.new.text.items in
+    IfErr-weaker c.show_lines-in-Quoted.result _ _
     (λ e k v h. otherwise-broken p q e _ _ (between-quotes c.args.style v c.in-Quoted.is) (k v h))
-    c.show_found-in-Quoted.ensures.cut
+    c.show_lines-in-Quoted.ensures.cut

@@ -1,0 +1,18 @@
+-- Marks as the rule of an emitter.
+use Rattle.std.specs.Prelude.{ℕ, Bool, List, if◌then◌else◌}
+use Rattle.capn_show.specs.Emitted.{Rule}
+use Rattle.capn_marks.specs.declared.marks.Marks.{Marks}
+use Rattle.capn_marks.specs.Marked.{below, byte_at, mark}
+
+-- the way to the value of a number, if ways are asked for: else it stays, and nothing reads it
+abbrev pub stepped : Bool → List ℕ → ℕ → List ℕ
+stepped ways way i = if ways then below way i else way
+
+-- the rule of lines with these marks
+abbrev pub rule_of : Marks → Rule
+rule_of marks = record {
+  quoted = marks.quoted;
+  lies = λ m at. byte_at m marks at;
+  below = stepped marks.ways;
+  mark = mark marks;
+}

@@ -1,0 +1,66 @@
+//! The emitter of lines with marks.
+
+ghost use Rattle.std.specs.Prelude.{IfErr};
+ghost use Rattle.capn_marks.specs.Annotation.{rule_of};
+ghost use Rattle.capn_marks.specs.MarkedPlaces.{CountsBefore};
+
+use crate::marks::{Marks, put_mark, step_below, way_length};
+use crate::starts::byte_of;
+use capn_show::{Broken, Emitter};
+use capn_words::{Place, Space, Watched};
+use std::alloc::Allocator;
+use std::io::Write;
+
+/// The emitter of lines with `marks`.
+#[derive(Drop)]
+pub struct Annotated<'a, A: Allocator> {
+    /// The marks.
+    pub marks: Marks,
+    /// The words of the message before each of its segments.
+    pub before: &'a [u32],
+    /// The way to the value whose lines are written.
+    pub way: Vec<u8, A>,
+}
+
+impl<'a, A: Allocator> Emitter for Annotated<'a, A> {
+    ghost rule = { λ e. rule_of e.marks };
+
+    ghost way = { λ e. e.way.items };
+
+    ghost is_of = { λ e m. CountsBefore m e.before.now };
+
+    #[inline(always)]
+    fn is_quoted(&self) -> bool {
+        self.marks.quoted
+    }
+
+    #[inline(always)]
+    fn byte_of<S: Space>(&self, space: &S, at: Place) -> u128 {
+        byte_of(space, &self.marks, self.before, at)
+    }
+
+    #[inline(always)]
+    fn put_mark<W: Write, B: Allocator>(
+        &self,
+        text: &mut Vec<u8, B>,
+        writer: &mut Watched<W>,
+        byte: u128,
+    ) -> Result<(), Broken> {
+        put_mark(text, writer, &self.marks, self.way.as_slice(), byte)
+    }
+
+    #[inline(always)]
+    fn way_length(&self) -> usize {
+        way_length(&self.way)
+    }
+
+    #[inline(always)]
+    fn step_below(&mut self, number: u32) -> Result<(), Broken> {
+        step_below(&mut self.way, self.marks.ways, number as u64)
+    }
+
+    #[inline(always)]
+    fn step_back(&mut self, length: usize) {
+        self.way.truncate(length);
+    }
+}

@@ -1,0 +1,133 @@
+-- Lines, slots and rows with marks, as the texts of numbered items. (For the cycle `slots`, `show_numbers` and
+-- `show_words`.)
+use Rattle.std.proofs.Common.{◌≡◌, ℕ, zero, suc, ◌+◌, ◌*◌, List, [], ◌∷◌, ◌++◌, length, get_or}
+use Rattle.std.proofs.Common.{refl, sym, ap, ap₂, ◌∙◌, arith, append_assoc}
+use Rattle.capn_words.specs.declared.space.Place.{Place}
+use Rattle.capn_value.specs.Tree.{Tree, nil, Trees, no_trees, tree, Bodies, no_bodies, body, count, count_rows, tree_at}
+use Rattle.capn_target.specs.declared.target.Target.{Target}
+use Rattle.capn_walk.specs.ShownValue.{words_of_row, slots_of_row}
+use Rattle.capn_show.specs.Emitted.{Rule, emitted_lines, emitted_slot, emitted_slots, emitted_rows}
+use Rattle.capn_show.specs.Descent.{begin}
+use Rattle.capn_show.specs.Emitted.{emitted_body}
+use Rattle.capn_show.specs.ReadyPlaces.{struct_at}
+use Rattle.capn_show.proofs.ItemTexts.{texts}
+
+-- ---- lines
+
+module _ (rule : Rule) (size : ℕ) (line_of : ℕ → List ℕ) (way : List ℕ) (first : ℕ) where
+  -- the line of a number, by how many come before it
+  abbrev pub line_item : ℕ → ℕ → List ℕ
+  line_item i x = rule.mark (first + i * size) way ++ line_of x
+
+  lines-from : (k at : ℕ) (xs : List ℕ) → at ≡ first + k * size
+      → texts line_item k xs ≡ emitted_lines rule size line_of way at xs
+  lines-from k at [] e = refl
+  lines-from k at (x ∷ xs) e =
+      let next : suc k * size ≡ size + k * size = omega arith in
+      let rest = texts line_item (suc k) xs in
+      ap (λ (n : ℕ). (rule.mark n way ++ line_of x) ++ rest) (sym e)
+      ∙ append_assoc (rule.mark at way) (line_of x) rest
+      ∙ ap (λ (l : List ℕ). rule.mark at way ++ (line_of x ++ l)) (lines-from (suc k) (at + size) xs (omega arith))
+
+  pub lines-items : (xs : List ℕ) → texts line_item 0 xs ≡ emitted_lines rule size line_of way first xs
+  lines-items xs = lines-from 0 first xs (omega arith)
+
+-- ---- slots
+
+-- trees as a list
+abbrev pub listed : Trees → List Tree
+listed no_trees = []
+listed (tree t ts) = t ∷ listed ts
+
+pub length-listed : (ts : Trees) → length (listed ts) ≡ count ts
+length-listed no_trees = refl
+length-listed (tree t ts) = ap suc (length-listed ts)
+
+pub listed-at : (ts : Trees) (i : ℕ) → get_or (listed ts) i nil ≡ tree_at ts i
+listed-at no_trees i = refl
+listed-at (tree t ts) zero = refl
+listed-at (tree t ts) (suc i) = listed-at ts i
+
+-- a row: its words and its slots
+pub record Row : Type 0 where
+  pub words : List ℕ
+  pub slots : Trees
+
+-- rows as a list
+abbrev pub rows_listed : Bodies → List Row
+rows_listed no_bodies = []
+rows_listed (body ws ss bs) = record { words = ws; slots = ss } ∷ rows_listed bs
+
+-- no row
+abbrev pub no_row : Row
+no_row = record { words = []; slots = no_trees }
+
+pub length-rows_listed : (bs : Bodies) → length (rows_listed bs) ≡ count_rows bs
+length-rows_listed no_bodies = refl
+length-rows_listed (body ws ss bs) = ap suc (length-rows_listed bs)
+
+pub words-listed : (bs : Bodies) (i : ℕ) → (get_or (rows_listed bs) i no_row).words ≡ words_of_row bs i
+words-listed no_bodies i = refl
+words-listed (body ws ss bs) zero = refl
+words-listed (body ws ss bs) (suc i) = words-listed bs i
+
+pub slots-listed : (bs : Bodies) (i : ℕ) → (get_or (rows_listed bs) i no_row).slots ≡ slots_of_row bs i
+slots-listed no_bodies i = refl
+slots-listed (body ws ss bs) zero = refl
+slots-listed (body ws ss bs) (suc i) = slots-listed bs i
+
+module _ (m : List (List ℕ)) (rule : Rule) (level : ℕ) (way : List ℕ) where
+  -- the text in the slot of a number
+  abbrev pub slot_item : (ℕ → Place) → ℕ → Tree → List ℕ
+  slot_item place i t = emitted_slot m rule level (rule.below way i) (place i) t
+
+  pub slots-items : (place : ℕ → Place) (k : ℕ) (ts : Trees)
+      → texts (slot_item place) k (listed ts) ≡ emitted_slots m rule level way place k ts
+  slots-items place k no_trees = refl
+  slots-items place k (tree t ts) =
+      ap (λ (l : List ℕ). slot_item place k t ++ l) (slots-items place (suc k) ts)
+
+  -- the text of the row of a number
+  abbrev pub row_item : (ℕ → Target) → ℕ → Row → List ℕ
+  row_item row i r = rule.mark (rule.lies m (begin (row i))) (rule.below way i)
+      ++ emitted_body m rule level (rule.below way i) (row i) r.words r.slots
+
+  pub rows-items : (row : ℕ → Target) (k : ℕ) (bs : Bodies)
+      → texts (row_item row) k (rows_listed bs) ≡ emitted_rows m rule level way row k bs
+  rows-items row k no_bodies = refl
+  rows-items row k (body ws ss bs) =
+      let here = row_item row k (record { words = ws; slots = ss }) in
+      ap (λ (l : List ℕ). here ++ l) (rows-items row (suc k) bs)
+
+-- the place of slot k from the first on, and row k of a words and b slots
+abbrev pub nth : Place → ℕ → Place
+nth first k = record { segment = first.segment; word = first.word + k }
+
+abbrev pub nth_row : Place → ℕ → ℕ → ℕ → Target
+nth_row first a b k = struct_at first.segment (first.word + k * (a + b)) a b
+
+-- the text of one of these, written by the rule and at the way as they are
+module _ (m : List (List ℕ)) (rule : Rule) (level : ℕ) (way : List ℕ) (r : Rule) (here : List ℕ) (e : r ≡ rule)
+    (f : here ≡ way) where
+  pub item-is : (place : ℕ → Place) (ts : Trees) (i : ℕ)
+      → emitted_slot m r level (r.below here i) (place i) (tree_at ts i)
+      ≡ slot_item m rule level way place i (get_or (listed ts) i nil)
+  item-is place ts i =
+      ap₂ (λ (x : Rule) (w : List ℕ). emitted_slot m x level (x.below w i) (place i) (tree_at ts i)) e f
+      ∙ ap (slot_item m rule level way place i) (sym (listed-at ts i))
+
+  pub row-is : (first : Place) (a b next : ℕ) (bs : Bodies) (i : ℕ) → next ≡ first.word + i * (a + b)
+      → r.mark (r.lies m (begin (struct_at first.segment next a b))) (r.below here i)
+      ++ emitted_body m r level (r.below here i) (struct_at first.segment next a b) (words_of_row bs i)
+      (slots_of_row bs i)
+      ≡ row_item m rule level way (nth_row first a b) i (get_or (rows_listed bs) i no_row)
+  row-is first a b next bs i n =
+      ap₂ (λ (x : Rule) (w : List ℕ). x.mark (x.lies m (begin (struct_at first.segment next a b))) (x.below w i)
+      ++ emitted_body m x level (x.below w i) (struct_at first.segment next a b) (words_of_row bs i)
+      (slots_of_row bs i)) e f
+      ∙ ap (λ (k : ℕ). rule.mark (rule.lies m (begin (struct_at first.segment k a b))) (rule.below way i)
+      ++ emitted_body m rule level (rule.below way i) (struct_at first.segment k a b) (words_of_row bs i)
+      (slots_of_row bs i)) n
+      ∙ ap₂ (λ (ws : List ℕ) (ss : Trees). rule.mark (rule.lies m (begin (nth_row first a b i))) (rule.below way i)
+      ++ emitted_body m rule level (rule.below way i) (nth_row first a b i) ws ss)
+      (sym (words-listed bs i)) (sym (slots-listed bs i))

@@ -1,0 +1,38 @@
+use Rattle.capn_show.specs.Emitted.{word_line}
+use Rattle.capn_show.specs.Outgoing.{outgoing}
+use Rattle.capn_show.proofs.shared.Sequels.{ok-then, err-then}
+use Rattle.capn_show.proofs.shared.Appended.{passed, broken-before}
+use Rattle.capn_show.proofs.numbers.show_word.Goals as goal
+
+pub returns-clause-shown : goal.returns-clause-shown
+returns-clause-shown g c =
+    let rule = g.E.Emitter.rule c.args.emitter.now in
+    let way = g.E.Emitter.way c.args.emitter.now in
+    ok-then (outgoing g.W.Write.contents c.args.writer.now c.args.text.now.items)
+    (outgoing g.W.Write.contents c.put_mark.new.writer c.put_mark.new.text.items)
+    (outgoing g.W.Write.contents c.word_line.new.writer c.word_line.new.text.items)
+    (rule.mark c.args.byte way)
+    (word_line c.args.level c.args.word)
+    c.in_ok-put_mark.ensures.shown c.word_line.result c.word_line.ensures.shown
+
+pub returns-clause-cut : goal.returns-clause-cut
+returns-clause-cut g c =
+    let rule = g.E.Emitter.rule c.args.emitter.now in
+    let way = g.E.Emitter.way c.args.emitter.now in
+    err-then (outgoing g.W.Write.contents c.args.writer.now c.args.text.now.items)
+    (outgoing g.W.Write.contents c.put_mark.new.writer c.put_mark.new.text.items)
+    (outgoing g.W.Write.contents c.word_line.new.writer c.word_line.new.text.items)
+    (rule.mark c.args.byte way)
+    (word_line c.args.level c.args.word)
+    c.in_ok-put_mark.ensures.shown c.word_line.result c.word_line.ensures.cut
+
+pub returns-in_err-put_mark-clause-cut : goal.returns-in_err-put_mark-clause-cut
+returns-in_err-put_mark-clause-cut g c =
+    let rule = g.E.Emitter.rule c.args.emitter.now in
+    let way = g.E.Emitter.way c.args.emitter.now in
+    passed c.from_residual.result c.in_err-put_mark.field-0.0 _ c.from_residual.ensures.1
+    (broken-before (outgoing g.W.Write.contents c.args.writer.now c.args.text.now.items)
+    (outgoing g.W.Write.contents c.put_mark.new.writer c.put_mark.new.text.items) _
+    (rule.mark c.args.byte way)
+    (word_line c.args.level c.args.word)
+    c.in_err-put_mark.ensures.cut)

@@ -1,0 +1,27 @@
+use Rattle.std.proofs.Common.{[], refl, not, eqb}
+use Rattle.std.proofs.lemmas.Result.{on_ok_weaker, IfErr-weaker}
+use Rattle.capn_show.specs.Emitted.{plain_rule}
+use Rattle.capn_show.specs.Outgoing.{outgoing}
+use Rattle.capn_show.proofs.shared.Appended.{otherwise, otherwise-broken}
+use Rattle.capn_show.proofs.shared.BareTexts.{bare}
+use Rattle.capn_show.proofs.styled.show_lines.Goals as goal
+
+pub returns-clause-shown : goal.returns-clause-shown
+returns-clause-shown g c =
+    let m = g.S.Space.message c.args.space.now in
+    let p = outgoing g.W.Write.contents c.args.writer.now c.args.text.now.items in
+    let q = outgoing g.W.Write.contents c.show_found.new.writer c.show_found.new.text.items in
+    let rule = plain_rule (not (eqb g.row.QUOTED 0)) in
+    on_ok_weaker c.show_found.result
+    (λ k v h. otherwise p q _ _ (bare rule (λ n way. refl) m 0 [] c.args.found v) (k v h))
+    c.show_found.ensures.shown
+
+pub returns-clause-cut : goal.returns-clause-cut
+returns-clause-cut g c =
+    let m = g.S.Space.message c.args.space.now in
+    let p = outgoing g.W.Write.contents c.args.writer.now c.args.text.now.items in
+    let q = outgoing g.W.Write.contents c.show_found.new.writer c.show_found.new.text.items in
+    let rule = plain_rule (not (eqb g.row.QUOTED 0)) in
+    IfErr-weaker c.show_found.result _ _
+    (λ e k v h. otherwise-broken p q e _ _ (bare rule (λ n way. refl) m 0 [] c.args.found v) (k v h))
+    c.show_found.ensures.cut

@@ -1,0 +1,114 @@
+//! Emitters: what stands before each line of a text.
+
+ghost use Rattle.std.specs.Prelude.{◌≡◌, ℕ, ◌<◌, ◌≤◌, ◌^◌, List, [], length, take, ⊤, IfErr, OnOk};
+ghost use Rattle.capn_words.specs.Message.{IsMessage, segment_at};
+ghost use Rattle.capn_show.specs.declared.fault.Broken.TheVariants as broken;
+ghost use Rattle.capn_show.specs.Emitted.{Rule, plain_rule};
+ghost use Rattle.capn_show.specs.Outgoing.{Adds, BreaksOff, outgoing};
+
+use crate::fault::Broken;
+use capn_words::{Place, Space, Watched};
+use std::alloc::Allocator;
+use std::io::Write;
+
+/// An emitter of the lines of a text: it puts a mark, or nothing, before each, and keeps the way to the value whose
+/// lines are written.
+pub trait Emitter {
+    /// The rule of the text.
+    ghost rule: { Self → Rule };
+
+    /// The way to the value whose lines are written.
+    ghost way: { Self → List ℕ };
+
+    /// The emitter is one for a message.
+    ghost is_of: { Self → List (List ℕ) → Type 0 };
+
+    /// Returns `true` if a list of bytes that is a text is written between quotes.
+    fn is_quoted(&self) -> bool
+        ensures { result ≡ (rule self.now).quoted };
+
+    /// Returns the byte at which the word at `at`, or a segment's end, lies.
+    fn byte_of<S: Space>(&self, space: &S, at: Place) -> u128
+        requires message { IsMessage (S.message space.now) }
+        requires of { is_of self.now (S.message space.now) }
+        requires exists { at.segment < length (S.message space.now) }
+        requires within { at.word ≤ length (segment_at (S.message space.now) at.segment) }
+        ensures is { result ≡ (rule self.now).lies (S.message space.now) at }
+        ensures small { result < 2 ^ 66 };
+
+    /// Appends the mark of a line whose subject lies at `byte`, at the way that is kept, to `text`.
+    fn put_mark<W: Write, A: Allocator>(
+        &self,
+        text: &mut Vec<u8, A>,
+        writer: &mut Watched<W>,
+        byte: u128,
+    ) -> Result<(), Broken>
+        ensures shown { OnOk result (Adds (outgoing W.contents writer.old text.old.items)
+            (outgoing W.contents writer.new text.new.items) ((rule self.now).mark byte (way self.now))) }
+        ensures cut { IfErr result (λ e. BreaksOff (outgoing W.contents writer.old text.old.items)
+            (outgoing W.contents writer.new text.new.items) e ((rule self.now).mark byte (way self.now))) };
+
+    /// Returns the length of the way that is kept.
+    fn way_length(&self) -> usize
+        ensures { result ≡ length (way self.now) };
+
+    /// Appends `number` to the way that is kept.
+    fn step_below(&mut self, number: u32) -> Result<(), Broken>
+        ensures below { OnOk result (way self.new ≡ (rule self.old).below (way self.old) number) }
+        ensures back { OnOk result (take (length (way self.old)) (way self.new) ≡ way self.old) }
+        ensures rule { OnOk result (rule self.new ≡ rule self.old) }
+        ensures of { OnOk result ((m : List (List ℕ)) → is_of self.old m → is_of self.new m) }
+        ensures memory { IfErr result (λ e. e ≡ broken.Memory) };
+
+    /// Cuts the way that is kept to this `length`.
+    fn step_back(&mut self, length: usize)
+        ensures way { way self.new ≡ take length (way self.old) }
+        ensures rule { rule self.new ≡ rule self.old }
+        ensures of { (m : List (List ℕ)) → is_of self.old m → is_of self.new m };
+}
+
+/// The emitter of lines without marks, by whether lists of bytes that are texts are written between quotes. It takes no
+/// bytes.
+#[derive(Drop)]
+pub struct Lines<const QUOTED: bool>;
+
+impl<const QUOTED: bool> Emitter for Lines<QUOTED> {
+    ghost rule = { λ e. plain_rule QUOTED };
+
+    ghost way = { λ e. [] };
+
+    ghost is_of = { λ e m. ⊤ };
+
+    #[inline(always)]
+    fn is_quoted(&self) -> bool {
+        QUOTED
+    }
+
+    #[inline(always)]
+    fn byte_of<S: Space>(&self, _space: &S, _at: Place) -> u128 {
+        0
+    }
+
+    #[inline(always)]
+    fn put_mark<W: Write, A: Allocator>(
+        &self,
+        _text: &mut Vec<u8, A>,
+        _writer: &mut Watched<W>,
+        _byte: u128,
+    ) -> Result<(), Broken> {
+        Ok(())
+    }
+
+    #[inline(always)]
+    fn way_length(&self) -> usize {
+        0
+    }
+
+    #[inline(always)]
+    fn step_below(&mut self, _number: u32) -> Result<(), Broken> {
+        Ok(())
+    }
+
+    #[inline(always)]
+    fn step_back(&mut self, _length: usize) {}
+}
