@@ -1,15 +1,14 @@
 -- The text of what a pointer names, with marks, from its parts. (For the cycle `slots`, `show_bits`, `show_bytes` and
 -- `show_list`.)
 use Rattle.std.proofs.Common.{◌≡◌, ℕ, zero, suc, ◌+◌, ◌/◌, ◌<◌, arith, List, ◌++◌, Bool, length, codes}
-use Rattle.std.proofs.Common.{map, refl, subst, sym, ap, ap₂, ◌∙◌}
+use Rattle.std.proofs.Common.{refl, subst, sym, ap, ap₂, ◌∙◌}
 use Rattle.std.specs.Prelude.{Ok}
 use Rattle.capn_words.specs.declared.space.Place.{Place}
 use Rattle.capn_words.specs.declared.pointer.Width.{Width}
 use Rattle.capn_words.specs.declared.pointer.Width.TheVariants.{W0, W1, W8, Link}
-use Rattle.capn_value.specs.NumberWidth.{NumberWidth, bit, byte}
+use Rattle.capn_value.specs.NumberWidth.{NumberWidth, byte}
 use Rattle.capn_value.specs.Views.{length-bits}
 use Rattle.capn_value.proofs.shared.Bits.{bits_again}
-use Rattle.std.specs.Int.{from_bool}
 use Rattle.capn_value.specs.Tree.{Tree}
 use Rattle.capn_value.specs.Text.{line, named, one_line, body_line, digits_of, numbers_name}
 use Rattle.capn_target.specs.declared.target.Target.{Target}

@@ -22,7 +22,7 @@ show_slot-requires-clause-ready g c =
     let m = g.S.Space.message c.args.space.now in
     let f = c.in_ok-survey.ensures.found in
     let low = (c.values.ensures.cheap m c.args.limits f.value f.is).1 in
-    let depth = c.depth.ensures.value in
+    let depth = c.depth-depth.ensures.value in
     record { value = f.value; is = f.is.is; low = omega arith }
 
 pub returns-in-Ok-clause-shown : goal.returns-in-Ok-clause-shown
