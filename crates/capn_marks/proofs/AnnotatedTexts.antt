@@ -1,6 +1,6 @@
 -- The text by the rule of marks is that with these marks. (For `mark_there` and `without_marks`.)
 use Rattle.std.proofs.Common.{◌≡◌, ℕ, zero, suc, ◌+◌, ◌/◌, List, [], ◌∷◌, ◌++◌, Bool, true, false, length, codes, map}
-use Rattle.std.proofs.Common.{refl, sym, subst, ap, ap₂, ◌∙◌, if◌then◌else◌}
+use Rattle.std.proofs.Common.{refl, ap, ap₂, if◌then◌else◌}
 use Rattle.std.specs.Prelude.{⊤}
 use Rattle.hex.specs.Hex.{encode_lower}
 use Rattle.capn_words.specs.declared.space.Place.{Place}

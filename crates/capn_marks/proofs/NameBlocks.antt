@@ -1,6 +1,6 @@
 -- A name in a block of tabs, and the digits before it. (For `name_block`, `put_block` and `put_named`.)
 use Rattle.std.proofs.Common.{◌≡◌, ℕ, zero, suc, ◌+◌, ◌-◌, ◌≤◌, List, [], ◌∷◌, ◌++◌, length, take, drop, replicate}
-use Rattle.std.proofs.Common.{refl, sym, ap, ap₂, ◌∙◌, arith, append_assoc}
+use Rattle.std.proofs.Common.{sym, ap, ap₂, ◌∙◌, arith, append_assoc}
 
 -- a first part of what stands behind some digits
 behind : (d x : List ℕ) (j : ℕ) → take (length d + j) (d ++ x) ≡ d ++ take j x

@@ -1,20 +1,17 @@
 -- The places whose text is written with marks, and the growth of a text by it.
-use Rattle.std.specs.Prelude.{◌≡◌, ◌≤◌, ℕ, Option, Some, None, ◌+◌, ◌*◌, ◌<◌, List, ◌++◌, length, take, slice_index}
+use Rattle.std.specs.Prelude.{◌≡◌, ◌≤◌, ℕ, Option, Some, None, ◌<◌, List, ◌++◌, length, take, slice_index}
 use Rattle.capn_words.specs.Message.{total}
 use Rattle.capn_words.specs.declared.space.Place.{Place}
-use Rattle.capn_value.specs.Tree.{Tree, Trees, Bodies, count, count_rows}
+use Rattle.capn_value.specs.Tree.{Tree}
 use Rattle.capn_target.specs.declared.target.Target.{Target}
 use Rattle.capn_value.specs.Cost.{height}
 use Rattle.capn_walk.specs.Accepted.{root}
 use Rattle.capn_walk.specs.ValueAt.{IsAt}
-use Rattle.capn_walk.specs.ShownValue.{Shows, ShowsStruct}
+use Rattle.capn_walk.specs.ShownValue.{Shows}
 use Rattle.capn_marks.specs.declared.marks.Marks.{Marks}
-use Rattle.capn_marks.specs.Marked.{mark, byte_at, marked_slot, unmarked, unmarked_body, marked_slots}
-use Rattle.capn_show.specs.Descent.{begin}
-use Rattle.capn_marks.specs.Marked.{marked_rows}
+use Rattle.capn_marks.specs.Marked.{mark, byte_at, unmarked}
 use Rattle.capn_marks.specs.MarkedPart.{at_root, led, marked_at, none_line}
 use Rattle.capn_show.specs.declared.descent.Part.{Part}
-use Rattle.capn_show.specs.ReadyPlaces.{struct_at, AreDataWords, AreSlots, AreRowsAt}
 
 -- the number of words of a message before each of its segments
 pub record CountsBefore (m : List (List ℕ)) (before : List ℕ) : Type 0 where

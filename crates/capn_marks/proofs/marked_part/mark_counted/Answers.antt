@@ -4,8 +4,8 @@ use Rattle.capn_marks.proofs.LedSteps.{led-marked, led-ready}
 use Rattle.capn_show.proofs.shared.Sequels.{unbegun}
 use Rattle.capn_marks.proofs.marked_part.mark_counted.Goals as goal
 
-pub returns-clause-cut : goal.returns-clause-cut
-returns-clause-cut g c v i =
+pub returns-in-Err-clause-cut : goal.returns-in-Err-clause-cut
+returns-in-Err-clause-cut g c v i =
     unbegun (outgoing g.W.Write.contents c.args.writer.now c.args.text.now.items) _ c.in-Err.broken
     c.in-Err.ensures.memory
 
