@@ -1,4 +1,4 @@
 pub mod shared
-mod WayLengths
+mod PathLengths
 mod WalksTold
-mod SurveyedDepartures
+mod SurveyedMismatches

@@ -12,14 +12,14 @@ use Rattle.capn_canon.specs.declared.refusal.Refusal.TheVariants as refusals
 use Rattle.capn_canon.proofs.shared.NotRefused.{accepted-not_refused}
 use Rattle.capn_canon.proofs.shared.NotUnaccepted.{not_unaccepted}
 use Rattle.capn_canon.proofs.shared.OneReading.{one_message}
-use Rattle.capn_answers.specs.Walked.{AnswersAccepted, IsWalkedIn, IsWalkedWithin, MayNeedItsWay}
-use Rattle.capn_answers.specs.Walked.{walked_way}
-use Rattle.capn_answers.specs.Ways.{IsUnread}
+use Rattle.capn_answers.specs.Walked.{AnswersAccepted, IsWalkedIn, IsWalkedWithin, MayNeedItsPath}
+use Rattle.capn_answers.specs.Walked.{walked_path}
+use Rattle.capn_answers.specs.Paths.{IsUnread}
 use Rattle.capn_answers.specs.declared.walked.Walked.{Walked}
 use Rattle.capn_answers.specs.declared.walked.Walked.TheVariants.{Accepted, Refused}
 use Rattle.capn_answers.specs.inner.Answered.{IsWalkTold}
 use Rattle.capn_answers.proofs.shared.Reading.{misread, reading_wanted, unread_unaccepted}
-use Rattle.capn_answers.proofs.WayLengths.{stop_short}
+use Rattle.capn_answers.proofs.PathLengths.{stop_short}
 
 module _ {A : Type 0} (form : Form) (bs : List ℕ) (limits : Bounds) where
   -- how bytes are answered
@@ -32,9 +32,9 @@ module _ {A : Type 0} (form : Form) (bs : List ℕ) (limits : Bounds) where
   walk_found (Ok w) (inr (e, is, h)) = absurd cc
   walk_found (Err e) told = tt
 
-  pub walk_short : (r : Result (Walked A) Refusal) → AreTold r → IfOk r (λ w. length (walked_way w) ≤ 2 * limits.depth)
+  pub walk_short : (r : Result (Walked A) Refusal) → AreTold r → IfOk r (λ w. length (walked_path w) ≤ 2 * limits.depth)
   walk_short (Ok (Accepted s)) told = omega arith
-  walk_short (Ok (Refused f)) (inl (m, is, h)) = stop_short m limits f.stopped f.way.items h.found
+  walk_short (Ok (Refused f)) (inl (m, is, h)) = stop_short m limits f.stopped f.path.items h.found
   walk_short (Ok (Refused f)) (inr (e, is, h)) = absurd cc
   walk_short (Err e) told = tt
 
@@ -57,7 +57,7 @@ module _ {A : Type 0} (form : Form) (bs : List ℕ) (limits : Bounds) where
       not_unaccepted form bs limits v e d (unread_unaccepted form bs limits e (walk_unread (Err e) told))
 
   pub walk_wanted : (r : Result (Walked A) Refusal) → AreTold r → IsErrOf r refusals.Memory
-      → MayNeedItsWay form bs limits
+      → MayNeedItsPath form bs limits
   walk_wanted (Err e) (inl (m, is, h)) w = let (s, stops) = h.memory.1 in inr (s, (m, is, stops))
   walk_wanted (Ok x) (inl (m, is, h)) w = absurd cc
   walk_wanted r (inr (e, is, h)) w = inl (reading_wanted form bs limits r e is h w)

@@ -1,4 +1,4 @@
-pub mod Ways
+pub mod Paths
 pub mod Walked
-pub mod Departures
+pub mod Mismatches
 pub mod inner

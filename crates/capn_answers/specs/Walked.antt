@@ -7,26 +7,26 @@ use Rattle.capn_canon.specs.MemoryNeed.{MayNeedMemory}
 use Rattle.capn_canon.specs.Reads.{Reads}
 use Rattle.capn_canon.specs.SurveyedBytes.{Surveys}
 use Rattle.capn_canon.specs.declared.form.Form.{Form}
-use Rattle.capn_answers.specs.Ways.{IsStoppedIn}
+use Rattle.capn_answers.specs.Paths.{IsStoppedIn}
 use Rattle.capn_answers.specs.declared.walked.Walked.{Walked}
 use Rattle.capn_answers.specs.declared.walked.Walked.TheVariants.{Accepted, Refused}
 
 module _ {A : Type 0} where
-  -- the bytes are read as an accepted message, of which the survey is; or as one whose walk stops there, and the way
+  -- the bytes are read as an accepted message, of which the survey is; or as one whose walk stops there, and the path
   -- leads to that slot
   abbrev pub IsWalkedIn : Form → List ℕ → Bounds → Walked A → Type 0
   IsWalkedIn form bs limits (Accepted s) = Surveys form bs limits s
-  IsWalkedIn form bs limits (Refused f) = IsStoppedIn form bs limits f.stopped f.way.items
+  IsWalkedIn form bs limits (Refused f) = IsStoppedIn form bs limits f.stopped f.path.items
 
   -- the answer is that the message is accepted
   abbrev pub AnswersAccepted : Walked A → Type 0
   AnswersAccepted (Accepted s) = ⊤
   AnswersAccepted (Refused f) = ⊥
 
-  -- the way to where the walk stopped, or no numbers
-  abbrev pub walked_way : Walked A → List ℕ
-  walked_way (Accepted s) = []
-  walked_way (Refused f) = f.way.items
+  -- the path to where the walk stopped, or no numbers
+  abbrev pub walked_path : Walked A → List ℕ
+  walked_path (Accepted s) = []
+  walked_path (Refused f) = f.path.items
 
   -- the walk pays within a budget, and its visits are at most one more than it pays
   abbrev pub IsWalkedWithin : ℕ → Walked A → Type 0
@@ -38,6 +38,6 @@ abbrev pub AreStopped : Form → List ℕ → Bounds → Stopped → Type 0
 AreStopped form bs limits s = (message : List (List ℕ)) × Reads form bs limits.message_words message
     × IsWalkRefused message limits s.fault s.place s.paid s.visits
 
--- memory may be needed: for a check, or for the way of a message that is refused by its walk
-abbrev pub MayNeedItsWay : Form → List ℕ → Bounds → Type 0
-MayNeedItsWay form bs limits = MayNeedMemory form bs limits ⊎ ((s : Stopped) × AreStopped form bs limits s)
+-- memory may be needed: for a check, or for the path of a message that is refused by its walk
+abbrev pub MayNeedItsPath : Form → List ℕ → Bounds → Type 0
+MayNeedItsPath form bs limits = MayNeedMemory form bs limits ⊎ ((s : Stopped) × AreStopped form bs limits s)

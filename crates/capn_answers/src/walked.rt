@@ -9,6 +9,6 @@ use std::alloc::{Allocator, Global};
 pub enum Walked<A: Allocator = Global> {
     /// The message is accepted: the words that the walk pays, its visits, and the first capability.
     Accepted(Surveyed),
-    /// It is refused: the place and the reason at which the walk stopped, and the way to that slot.
+    /// It is refused: the place and the reason at which the walk stopped, and the path to that slot.
     Refused(Refused<A>),
 }

@@ -2,9 +2,9 @@ pub mod CommandLines
 pub mod Entered
 pub mod ReadValues
 pub mod OneMeaning
-pub mod OneOrder
-pub mod NamedOrders
+pub mod OneInvocation
+pub mod NamedInvocations
 pub mod WorkedLines
 pub mod Sources
-pub mod Ways
+pub mod Paths
 pub mod RangeLists

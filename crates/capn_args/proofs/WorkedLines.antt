@@ -5,8 +5,8 @@ use Rattle.clap.specs.Takes.{walk_passes}
 use Rattle.clap.specs.Walk.{walked}
 use Rattle.capn_commands.specs.declared.command.Command.TheVariants as commands
 use Rattle.capn_args.specs.CommandLine.{program_line}
-use Rattle.capn_args.specs.Meaning.{MeansOrder}
-use Rattle.capn_args.specs.declared.order.Order.TheVariants as orders
+use Rattle.capn_args.specs.Meaning.{MeansInvocation}
+use Rattle.capn_args.specs.declared.invocation.Invocation.TheVariants as invocations
 
 abbrev pack_words : List (List ℕ)
 pack_words = codes "capn" ∷ codes "pack" ∷ []
@@ -15,7 +15,7 @@ pack_taken : takes program_line pack_words ≡ true
 unfolding walk_passes walked
 pack_taken = refl
 
-pack_means : MeansOrder (subcommand_of program_line pack_words) (orders.Message commands.Pack)
+pack_means : MeansInvocation (subcommand_of program_line pack_words) (invocations.Message commands.Pack)
 unfolding walked
 pack_means = (refl, refl)
 

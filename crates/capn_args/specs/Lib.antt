@@ -1,5 +1,5 @@
 pub mod CommandLine
-pub mod Way
+pub mod Path
 pub mod RangeList
 pub mod MessageNumber
 pub mod OptionValues

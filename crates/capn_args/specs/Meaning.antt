@@ -25,16 +25,16 @@ use Rattle.capn_args.specs.CommandLine.{most_number}
 use Rattle.capn_args.specs.OptionValues.{FlagIs, FormIs, IsUsual, LimitsAre, NumberIn, UnpackedIs}
 use Rattle.capn_args.specs.MessageNumber.{number_of}
 use Rattle.capn_args.specs.RangeList.{ranges_in}
-use Rattle.capn_args.specs.Way.{way_of}
-use Rattle.capn_args.specs.declared.order.Explanation.{Explanation}
-use Rattle.capn_args.specs.declared.order.Explanation.TheVariants as explanations
-use Rattle.capn_args.specs.declared.order.Flow.{Flow}
-use Rattle.capn_args.specs.declared.order.Flow.TheVariants as flows
-use Rattle.capn_args.specs.declared.order.Make.{Make}
-use Rattle.capn_args.specs.declared.order.Only.{Only}
-use Rattle.capn_args.specs.declared.order.Show.{Show}
-use Rattle.capn_args.specs.declared.order.Order.{Order}
-use Rattle.capn_args.specs.declared.order.Order.TheVariants as orders
+use Rattle.capn_args.specs.Path.{path_of}
+use Rattle.capn_args.specs.declared.invocation.Explanation.{Explanation}
+use Rattle.capn_args.specs.declared.invocation.Explanation.TheVariants as explanations
+use Rattle.capn_args.specs.declared.invocation.Flow.{Flow}
+use Rattle.capn_args.specs.declared.invocation.Flow.TheVariants as flows
+use Rattle.capn_args.specs.declared.invocation.Make.{Make}
+use Rattle.capn_args.specs.declared.invocation.Only.{Only}
+use Rattle.capn_args.specs.declared.invocation.Show.{Show}
+use Rattle.capn_args.specs.declared.invocation.Invocation.{Invocation}
+use Rattle.capn_args.specs.declared.invocation.Invocation.TheVariants as invocations
 
 -- the options over an archive have these values
 abbrev pub AreOptions : List Row → ArchiveOrder → Type 0
@@ -144,16 +144,16 @@ is_plain styles.Quoted offsets ways = false
 is_plain styles.Json offsets ways = false
 is_plain styles.JsonText offsets ways = false
 
--- `--at` is given, and its value is a way; or it isn't, and the text is not that of a plain `show`
-abbrev pub WayIs : List Row → Bool → Option (Bor Text) → Type 0
-WayIs rows plain None = (first_of (codes "at") rows ≡ None) × (plain ≡ false)
-WayIs rows plain (Some way) = (first_of (codes "at") rows ≡ Some way.now) × IsSome (way_of way.now)
+-- `--at` is given, and its value is a path; or it isn't, and the text is not that of a plain `show`
+abbrev pub PathIs : List Row → Bool → Option (Bor Text) → Type 0
+PathIs rows plain None = (first_of (codes "at") rows ≡ None) × (plain ≡ false)
+PathIs rows plain (Some path) = (first_of (codes "at") rows ≡ Some path.now) × IsSome (path_of path.now)
 
 -- the options of `show` have these values: one of `--at`, `--text`, `--json`, `--offsets` and `--ways` is given
 abbrev pub ShowIs : List Row → Show → Type 0
 ShowIs rows show = FormIs rows show.form × LimitsAre rows show.limits × StyleIs rows show.style
     × MarksAre rows show.style show.offsets show.ways
-    × WayIs rows (is_plain show.style show.offsets show.ways) show.way
+    × PathIs rows (is_plain show.style show.offsets show.ways) show.path
     × FlagIs rows (codes "one") show.one
 
 -- the name of the subcommand that writes this of a message
@@ -195,40 +195,42 @@ HasNoFlag rows (commands.One pieces.Price form limits) = ⊤
 HasNoFlag rows (commands.One pieces.Digest form limits) = ⊤
 
 -- the subcommand of this name, with these values, orders this
-abbrev pub MeansOrder : Option (Text × List Row) → Order → Type 0
-MeansOrder None order = ⊥
-MeansOrder (Some s) (orders.Message command) = Means (Some s) command × HasNoFlag s.1 command
-MeansOrder (Some s) (orders.Show show) = (s.0 ≡ codes "show") × ShowIs s.1 show
-MeansOrder (Some s) (orders.Explain explain) = (s.0 ≡ codes "explain") × ExplanationIs s.1 explain
-MeansOrder (Some s) (orders.Archive archive) = IsTask s.0 s.1 archive.task × AreOptions s.1 archive
-MeansOrder (Some s) (orders.Uniq uniq) = (s.0 ≡ codes "uniq") × UniqIs s.1 uniq
-MeansOrder (Some s) (orders.Filter filter) = (s.0 ≡ codes "filter") × FilterIs s.1 filter
-MeansOrder (Some s) (orders.Cmp cmp) = (s.0 ≡ codes "cmp") × CmpIs s.1 cmp
-MeansOrder (Some s) (orders.Pick pick) = (s.0 ≡ codes "pick") × PickIs s.1 pick
-MeansOrder (Some s) (orders.Only only) = (s.0 ≡ codes "pick") × OnlyIs s.1 only
-MeansOrder (Some s) (orders.Flow flow) = IsFlow s.0 s.1 flow
-MeansOrder (Some s) (orders.Make make) = (s.0 ≡ codes "make") × MakeIs s.1 make
+abbrev pub MeansInvocation : Option (Text × List Row) → Invocation → Type 0
+MeansInvocation None invocation = ⊥
+MeansInvocation (Some s) (invocations.Message command) = Means (Some s) command × HasNoFlag s.1 command
+MeansInvocation (Some s) (invocations.Show show) = (s.0 ≡ codes "show") × ShowIs s.1 show
+MeansInvocation (Some s) (invocations.Explain explain) = (s.0 ≡ codes "explain") × ExplanationIs s.1 explain
+MeansInvocation (Some s) (invocations.Archive archive) = IsTask s.0 s.1 archive.task × AreOptions s.1 archive
+MeansInvocation (Some s) (invocations.Uniq uniq) = (s.0 ≡ codes "uniq") × UniqIs s.1 uniq
+MeansInvocation (Some s) (invocations.Filter filter) = (s.0 ≡ codes "filter") × FilterIs s.1 filter
+MeansInvocation (Some s) (invocations.Cmp cmp) = (s.0 ≡ codes "cmp") × CmpIs s.1 cmp
+MeansInvocation (Some s) (invocations.Pick pick) = (s.0 ≡ codes "pick") × PickIs s.1 pick
+MeansInvocation (Some s) (invocations.Only only) = (s.0 ≡ codes "pick") × OnlyIs s.1 only
+MeansInvocation (Some s) (invocations.Flow flow) = IsFlow s.0 s.1 flow
+MeansInvocation (Some s) (invocations.Make make) = (s.0 ≡ codes "make") × MakeIs s.1 make
 
 -- a meaning is that of one command at most
 abbrev pub MeansOne : Type 0
 MeansOne = (said : Option (Text × List Row)) (c d : Command) → Means said c → Means said d → c ≡ d
 
--- no way, or two whose texts are equal, wherever these are
-abbrev pub IsSameWay : Option (Bor Text) → Option (Bor Text) → Type 0
-IsSameWay None None = ⊤
-IsSameWay None (Some way) = ⊥
-IsSameWay (Some way) None = ⊥
-IsSameWay (Some way) (Some other) = way.now ≡ other.now
+-- no path, or two whose texts are equal, wherever these are
+abbrev pub IsSamePath : Option (Bor Text) → Option (Bor Text) → Type 0
+IsSamePath None None = ⊤
+IsSamePath None (Some path) = ⊥
+IsSamePath (Some path) None = ⊥
+IsSamePath (Some path) (Some other) = path.now ≡ other.now
 
--- two orders are the same: where messages or parts of them are shown, so are the texts of the ways, and where those of
--- a list are picked, so are the texts of the lists
-abbrev pub AreSame : Order → Order → Type 0
-AreSame (orders.Show s) (orders.Show t) =
+-- two invocations are the same: where messages or parts of them are shown, so are the texts of the paths, and where
+-- those of a list are picked, so are the texts of the lists
+abbrev pub AreSame : Invocation → Invocation → Type 0
+AreSame (invocations.Show s) (invocations.Show t) =
     (s.form ≡ t.form) × (s.limits ≡ t.limits) × (s.style ≡ t.style) × (s.offsets ≡ t.offsets) × (s.ways ≡ t.ways)
-    × IsSameWay s.way t.way × (s.one ≡ t.one)
-AreSame (orders.Only s) (orders.Only t) = (s.form ≡ t.form) × (s.limits ≡ t.limits) × (s.list.now ≡ t.list.now)
+    × IsSamePath s.path t.path × (s.one ≡ t.one)
+AreSame (invocations.Only s) (invocations.Only t) =
+    (s.form ≡ t.form) × (s.limits ≡ t.limits) × (s.list.now ≡ t.list.now)
 AreSame o p = o ≡ p
 
--- a meaning is that of one order at most
-abbrev pub MeansOneOrder : Type 0
-MeansOneOrder = (said : Option (Text × List Row)) (o p : Order) → MeansOrder said o → MeansOrder said p → AreSame o p
+-- a meaning is that of one invocation at most
+abbrev pub MeansOneInvocation : Type 0
+MeansOneInvocation =
+    (said : Option (Text × List Row)) (o p : Invocation) → MeansInvocation said o → MeansInvocation said p → AreSame o p

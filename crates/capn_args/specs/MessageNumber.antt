@@ -1,7 +1,7 @@
 -- The text of `--number`: the number of a message. (Own.)
 use Rattle.std.specs.Prelude.{◌≡◌, ℕ, ◌==◌, [], ◌∷◌, Option, Some, None, codes, cond, option_and_then, refl}
 use Rattle.clap.specs.Words.{Text}
-use Rattle.capn_args.specs.Way.{with_digit}
+use Rattle.capn_args.specs.Path.{with_digit}
 
 -- the number of a text that goes on with the digits of one that has begun so; it begins with no zero, and stays below
 -- 2^64

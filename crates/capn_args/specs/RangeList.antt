@@ -3,7 +3,7 @@ use Rattle.std.specs.Prelude.{◌≡◌, ℕ, ◌==◌, ◌&&◌, nat_le, nat_lt
 use Rattle.std.specs.Prelude.{option_and_then, option_map, unwrap_or, refl}
 use Rattle.clap.specs.Words.{Text}
 use Rattle.capn_serve.specs.declared.pick.Range.{Range}
-use Rattle.capn_args.specs.Way.{with_digit}
+use Rattle.capn_args.specs.Path.{with_digit}
 use Rattle.capn_args.specs.declared.range_list.Begun.{Begun}
 
 -- no range has begun, and this is the last number before it

@@ -6,9 +6,9 @@ use Rattle.clap.specs.declared.error.ErrorKind.{ErrorKind}
 use Rattle.clap.specs.declared.error.ErrorKind.TheVariants as kinds
 use Rattle.capn_commands.specs.declared.command.Command.{Command}
 use Rattle.capn_args.specs.CommandLine.{program_line}
-use Rattle.capn_args.specs.Meaning.{AreSame, MeansOrder}
-use Rattle.capn_args.specs.declared.order.Order.{Order}
-use Rattle.capn_args.specs.declared.order.Order.TheVariants as orders
+use Rattle.capn_args.specs.Meaning.{AreSame, MeansInvocation}
+use Rattle.capn_args.specs.declared.invocation.Invocation.{Invocation}
+use Rattle.capn_args.specs.declared.invocation.Invocation.TheVariants as invocations
 use Rattle.capn_args.specs.declared.usage.Usage.{Usage}
 
 -- why the words order nothing
@@ -46,20 +46,20 @@ IsHelp text = (said : List ℕ) × (text ≡ help_title ++ said)
 abbrev pub IsReason : List Text → ErrorKind → Type 0
 IsReason words kind = (kind ≡ kinds.OutOfMemory) ⊎ (IsAmong kind (fault_of program_line words)
     ⊎ ((fault_of program_line words ≡ []) × (kind ≡ kinds.InvalidValue)
-    × ((order : Order) → MeansOrder (subcommand_of program_line words) order → ⊥)))
+    × ((invocation : Invocation) → MeansInvocation (subcommand_of program_line words) invocation → ⊥)))
 
 -- a reason of this kind why the words name none of the six commands over messages and bytes: one why they order
--- nothing; or no step of the parser fails, and they mean another order
+-- nothing; or no step of the parser fails, and they mean another invocation
 abbrev pub IsNoCommand : List Text → ErrorKind → Type 0
 IsNoCommand words kind = IsReason words kind
     ⊎ ((fault_of program_line words ≡ []) × (kind ≡ kinds.InvalidSubcommand)
-    × ((order : Order) × MeansOrder (subcommand_of program_line words) order)
-    × ((command : Command) → MeansOrder (subcommand_of program_line words) (orders.Message command) → ⊥))
+    × ((invocation : Invocation) × MeansInvocation (subcommand_of program_line words) invocation)
+    × ((command : Command) → MeansInvocation (subcommand_of program_line words) (invocations.Message command) → ⊥))
 
--- a call gave the order, or answered that memory was refused
-abbrev pub Orders : Order → Result Order Usage → Type 0
-Orders order (Ok given) = AreSame given order
-Orders order (Err usage) = NeedsMemory usage
+-- a call gave the invocation, or answered that memory was refused
+abbrev pub GivesInvocation : Invocation → Result Invocation Usage → Type 0
+GivesInvocation invocation (Ok given) = AreSame given invocation
+GivesInvocation invocation (Err usage) = NeedsMemory usage
 
 -- a call gave the command, or answered that memory was refused
 abbrev pub Names : Command → Result Command Usage → Type 0

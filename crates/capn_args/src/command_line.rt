@@ -1,24 +1,24 @@
-//! The order given by the words of the command line.
+//! The invocation given by the words of the command line.
 
 ghost use Rattle.std.specs.Prelude.{◌≡◌, [], true, codes, map};
 ghost use Rattle.std.specs.Prelude.{IfErr, IfOk, IfSome, IsSome, Some};
 ghost use Rattle.clap.specs.Words.{fault_of, found_of, kind_of, rows_of, subcommand_of, takes};
-ghost use Rattle.capn_args.specs.Usage.{error_of, IsReason, Orders};
+ghost use Rattle.capn_args.specs.Usage.{error_of, IsReason, GivesInvocation};
 ghost use Rattle.capn_archive.specs.declared.filter_order.FilterOrder.{FilterOrder};
 ghost use Rattle.capn_cmp.specs.declared.cmp_order.CmpOrder.{CmpOrder};
 ghost use Rattle.capn_archive.specs.declared.task.ArchiveOrder.{ArchiveOrder};
 ghost use Rattle.capn_archive.specs.declared.uniq_order.UniqOrder.{UniqOrder};
 ghost use Rattle.capn_args.specs.CommandLine.{program_line};
-ghost use Rattle.capn_args.specs.Meaning.{AreOptions, CmpIs, FilterIs, MakeIs, MeansOrder, UniqIs};
-ghost use Rattle.capn_args.specs.declared.order.Make.{Make};
-ghost use Rattle.capn_args.specs.declared.order.Order.{Order};
+ghost use Rattle.capn_args.specs.Meaning.{AreOptions, CmpIs, FilterIs, MakeIs, MeansInvocation, UniqIs};
+ghost use Rattle.capn_args.specs.declared.invocation.Make.{Make};
+ghost use Rattle.capn_args.specs.declared.invocation.Invocation.{Invocation};
 
 use crate::explain_options::explain_of;
 use crate::input_options::{form_of, limits_of, unpacked_words_of};
+use crate::invocation::{Flow, Invocation, Make};
 use crate::mistakes::meaningless;
 use crate::option_values::{flag_of, is_usual, stream_form_of};
-use crate::order::{Flow, Make, Order};
-use crate::pick_options::pick_order;
+use crate::pick_options::pick_invocation;
 use crate::show_options::show_of;
 use crate::subcommands::program_command;
 use crate::usage::Usage;
@@ -46,10 +46,11 @@ fn archive_of(task: Task, matches: &ArgMatches) -> Option<ArchiveOrder>
     })
 }
 
-/// Returns the order of `list` with these options, if they mean one: with `--digest` the lines have digests.
-fn list_of<'a>(matches: &ArgMatches<'a>) -> Option<Order<'a>>
-    ensures means { IfSome result (MeansOrder (Some (codes "list", rows_of (found_of matches.now)))) }
-    ensures served { (order : Order) → MeansOrder (Some (codes "list", rows_of (found_of matches.now))) order
+/// Returns the invocation of `list` with these options, if they mean one: with `--digest` the lines have digests.
+fn list_of<'a>(matches: &ArgMatches<'a>) -> Option<Invocation<'a>>
+    ensures means { IfSome result (MeansInvocation (Some (codes "list", rows_of (found_of matches.now)))) }
+    ensures served { (invocation : Invocation)
+        → MeansInvocation (Some (codes "list", rows_of (found_of matches.now))) invocation
         → IsSome result }
 {
     let task = if flag_of(matches, "digest")? {
@@ -57,7 +58,7 @@ fn list_of<'a>(matches: &ArgMatches<'a>) -> Option<Order<'a>>
     } else {
         Task::List
     };
-    Some(Order::Archive(archive_of(task, matches)?))
+    Some(Invocation::Archive(archive_of(task, matches)?))
 }
 
 /// The run of `uniq` that has these options, if they mean one.
@@ -108,100 +109,109 @@ fn make_of(matches: &ArgMatches) -> Option<Make>
     })
 }
 
-/// Returns the order of `canonical` with these options, if they mean one: with `--framed` a run over an archive, and
-/// without it and `--keep-going` the command over one message.
-fn canonical_of<'a>(matches: &ArgMatches<'a>) -> Option<Order<'a>>
-    ensures means { IfSome result (MeansOrder (Some (codes "canonical", rows_of (found_of matches.now)))) }
-    ensures served { (order : Order) → MeansOrder (Some (codes "canonical", rows_of (found_of matches.now))) order
+/// Returns the invocation of `canonical` with these options, if they mean one: with `--framed` a run over an archive,
+/// and without it and `--keep-going` the command over one message.
+fn canonical_of<'a>(matches: &ArgMatches<'a>) -> Option<Invocation<'a>>
+    ensures means { IfSome result (MeansInvocation (Some (codes "canonical", rows_of (found_of matches.now)))) }
+    ensures served { (invocation : Invocation)
+        → MeansInvocation (Some (codes "canonical", rows_of (found_of matches.now))) invocation
         → IsSome result }
 {
     if flag_of(matches, "framed")? {
-        return Some(Order::Archive(archive_of(Task::Canonical, matches)?));
+        return Some(Invocation::Archive(archive_of(Task::Canonical, matches)?));
     }
     if flag_of(matches, "keep-going")? {
         return None;
     }
     let form = form_of(matches)?;
     let limits = limits_of(matches)?;
-    Some(Order::Message(Command::Canonical(form, limits)))
+    Some(Invocation::Message(Command::Canonical(form, limits)))
 }
 
-/// Returns the order of `pack` with these options, if they mean one: with `--streaming` it packs while bytes come in.
-fn pack_of<'a>(matches: &ArgMatches<'a>) -> Option<Order<'a>>
-    ensures means { IfSome result (MeansOrder (Some (codes "pack", rows_of (found_of matches.now)))) }
-    ensures served { (order : Order) → MeansOrder (Some (codes "pack", rows_of (found_of matches.now))) order
+/// Returns the invocation of `pack` with these options, if they mean one: with `--streaming` it packs while bytes come
+/// in.
+fn pack_of<'a>(matches: &ArgMatches<'a>) -> Option<Invocation<'a>>
+    ensures means { IfSome result (MeansInvocation (Some (codes "pack", rows_of (found_of matches.now)))) }
+    ensures served { (invocation : Invocation)
+        → MeansInvocation (Some (codes "pack", rows_of (found_of matches.now))) invocation
         → IsSome result }
 {
     if flag_of(matches, "streaming")? {
-        return Some(Order::Flow(Flow::Pack));
+        return Some(Invocation::Flow(Flow::Pack));
     }
-    Some(Order::Message(Command::Pack))
+    Some(Invocation::Message(Command::Pack))
 }
 
-/// Returns the order of `unpack` with these options, if they mean one: with `--streaming`, and without
+/// Returns the invocation of `unpack` with these options, if they mean one: with `--streaming`, and without
 /// `--message-words`, it unpacks while bytes come in.
-fn unpack_of<'a>(matches: &ArgMatches<'a>) -> Option<Order<'a>>
-    ensures means { IfSome result (MeansOrder (Some (codes "unpack", rows_of (found_of matches.now)))) }
-    ensures served { (order : Order) → MeansOrder (Some (codes "unpack", rows_of (found_of matches.now))) order
+fn unpack_of<'a>(matches: &ArgMatches<'a>) -> Option<Invocation<'a>>
+    ensures means { IfSome result (MeansInvocation (Some (codes "unpack", rows_of (found_of matches.now)))) }
+    ensures served { (invocation : Invocation)
+        → MeansInvocation (Some (codes "unpack", rows_of (found_of matches.now))) invocation
         → IsSome result }
 {
     if !flag_of(matches, "streaming")? {
-        return Some(Order::Message(Command::Unpack(unpacked_words_of(matches)?)));
+        return Some(Invocation::Message(Command::Unpack(unpacked_words_of(matches)?)));
     }
     if is_usual(matches, "message-words") {
-        return Some(Order::Flow(Flow::Unpack));
+        return Some(Invocation::Flow(Flow::Unpack));
     }
     None
 }
 
-/// Returns the order of `check` with these options, if they mean one: with `--one` the input is exactly one message.
-fn check_of<'a>(matches: &ArgMatches<'a>) -> Option<Order<'a>>
-    ensures means { IfSome result (MeansOrder (Some (codes "check", rows_of (found_of matches.now)))) }
-    ensures served { (order : Order) → MeansOrder (Some (codes "check", rows_of (found_of matches.now))) order
+/// Returns the invocation of `check` with these options, if they mean one: with `--one` the input is exactly one
+/// message.
+fn check_of<'a>(matches: &ArgMatches<'a>) -> Option<Invocation<'a>>
+    ensures means { IfSome result (MeansInvocation (Some (codes "check", rows_of (found_of matches.now)))) }
+    ensures served { (invocation : Invocation)
+        → MeansInvocation (Some (codes "check", rows_of (found_of matches.now))) invocation
         → IsSome result }
 {
     let form = form_of(matches)?;
     let limits = limits_of(matches)?;
     if flag_of(matches, "one")? {
-        return Some(Order::Message(Command::One(MessageText::Price, form, limits)));
+        return Some(Invocation::Message(Command::One(MessageText::Price, form, limits)));
     }
-    Some(Order::Message(Command::Check(form, limits)))
+    Some(Invocation::Message(Command::Check(form, limits)))
 }
 
-/// Returns the order of `hash` with these options, if they mean one: with `--one` the input is exactly one message.
-fn hash_of<'a>(matches: &ArgMatches<'a>) -> Option<Order<'a>>
-    ensures means { IfSome result (MeansOrder (Some (codes "hash", rows_of (found_of matches.now)))) }
-    ensures served { (order : Order) → MeansOrder (Some (codes "hash", rows_of (found_of matches.now))) order
+/// Returns the invocation of `hash` with these options, if they mean one: with `--one` the input is exactly one
+/// message.
+fn hash_of<'a>(matches: &ArgMatches<'a>) -> Option<Invocation<'a>>
+    ensures means { IfSome result (MeansInvocation (Some (codes "hash", rows_of (found_of matches.now)))) }
+    ensures served { (invocation : Invocation)
+        → MeansInvocation (Some (codes "hash", rows_of (found_of matches.now))) invocation
         → IsSome result }
 {
     let form = form_of(matches)?;
     let limits = limits_of(matches)?;
     if flag_of(matches, "one")? {
-        return Some(Order::Message(Command::One(MessageText::Digest, form, limits)));
+        return Some(Invocation::Message(Command::One(MessageText::Digest, form, limits)));
     }
-    Some(Order::Message(Command::Hash(form, limits)))
+    Some(Invocation::Message(Command::Hash(form, limits)))
 }
 
-/// Returns the order of the subcommand called `name` with these options, if they mean one.
-fn named_order<'a>(name: &str, matches: &ArgMatches<'a>) -> Option<Order<'a>>
-    ensures means { IfSome result (MeansOrder (Some (name.now, rows_of (found_of matches.now)))) }
-    ensures served { (order : Order) → MeansOrder (Some (name.now, rows_of (found_of matches.now))) order
+/// Returns the invocation of the subcommand called `name` with these options, if they mean one.
+fn named_invocation<'a>(name: &str, matches: &ArgMatches<'a>) -> Option<Invocation<'a>>
+    ensures means { IfSome result (MeansInvocation (Some (name.now, rows_of (found_of matches.now)))) }
+    ensures served { (invocation : Invocation)
+        → MeansInvocation (Some (name.now, rows_of (found_of matches.now))) invocation
         → IsSome result }
 {
     match name {
         "show" => show_of(matches),
         "check" => check_of(matches),
-        "explain" => Some(Order::Explain(explain_of(matches)?)),
+        "explain" => Some(Invocation::Explain(explain_of(matches)?)),
         "list" => list_of(matches),
-        "limits" => Some(Order::Archive(archive_of(Task::Limits, matches)?)),
+        "limits" => Some(Invocation::Archive(archive_of(Task::Limits, matches)?)),
         "canonical" => canonical_of(matches),
-        "uniq" => Some(Order::Uniq(uniq_of(matches)?)),
-        "filter" => Some(Order::Filter(filter_of(matches)?)),
-        "cmp" => Some(Order::Cmp(cmp_of(matches)?)),
-        "pick" => pick_order(matches),
+        "uniq" => Some(Invocation::Uniq(uniq_of(matches)?)),
+        "filter" => Some(Invocation::Filter(filter_of(matches)?)),
+        "cmp" => Some(Invocation::Cmp(cmp_of(matches)?)),
+        "pick" => pick_invocation(matches),
         "pack" => pack_of(matches),
         "unpack" => unpack_of(matches),
-        "make" => Some(Order::Make(make_of(matches)?)),
+        "make" => Some(Invocation::Make(make_of(matches)?)),
         "hash" => hash_of(matches),
         _ => None,
     }
@@ -210,16 +220,17 @@ fn named_order<'a>(name: &str, matches: &ArgMatches<'a>) -> Option<Order<'a>>
 /// Parses the words of a command line, the first being the program's name: the subcommand with the form, the limits,
 /// the tariff and the flags that its options have, given or usual. A request for help or for the version, a word, an
 /// option or a value that is not known, a number out of its range, a form or a tariff that the command does not take,
-/// a value of `--at` that is no way, one of `--number` that is no number of a message, one of `--only` that is no list,
-/// `--json` with `--offsets` or `--ways`, `--only` with `--from` or `--to`, `--keep-going` of `canonical` without
+/// a value of `--at` that is no path, one of `--number` that is no number of a message, one of `--only` that is no
+/// list, `--json` with `--offsets` or `--ways`, `--only` with `--from` or `--to`, `--keep-going` of `canonical` without
 /// `--framed`, `--message-words` of `unpack` with `--streaming`, and refused memory are answered as `Usage`, with the
 /// text for the user.
-pub fn order_of<'a, S: AsStr>(alloc: Global, words: &'a [S]) -> Result<Order<'a>, Usage>
-    // An order that is given is what the words mean.
-    ensures means { IfOk result (MeansOrder (subcommand_of program_line (map S.text words.now))) }
-    // If the words are taken and mean an order, that order is returned, unless memory is refused.
-    ensures only { takes program_line (map S.text words.now) ≡ true → (order : Order)
-        → MeansOrder (subcommand_of program_line (map S.text words.now)) order → Orders order result }
+pub fn invocation_of<'a, S: AsStr>(alloc: Global, words: &'a [S]) -> Result<Invocation<'a>, Usage>
+    // An invocation that is given is what the words mean.
+    ensures means { IfOk result (MeansInvocation (subcommand_of program_line (map S.text words.now))) }
+    // If the words are taken and mean an invocation, that is returned, unless memory is refused.
+    ensures only { takes program_line (map S.text words.now) ≡ true → (invocation : Invocation)
+        → MeansInvocation (subcommand_of program_line (map S.text words.now)) invocation
+        → GivesInvocation invocation result }
     // If one is returned no step of the parser fails.
     ensures passes { IfOk result (λ _. fault_of program_line (map S.text words.now) ≡ []) }
     // If none is returned, the kind of the error is a reason why the words order nothing.
@@ -228,11 +239,11 @@ pub fn order_of<'a, S: AsStr>(alloc: Global, words: &'a [S]) -> Result<Order<'a>
     let tool = program_command(alloc)?;
     let matches = tool.try_get_matches_from(words)?;
     let named = match matches.subcommand() {
-        Some((name, found)) => named_order(name, found),
+        Some((name, found)) => named_invocation(name, found),
         None => None,
     };
     match named {
-        Some(order) => Ok(order),
+        Some(invocation) => Ok(invocation),
         None => Err(meaningless(alloc, &matches)),
     }
 }

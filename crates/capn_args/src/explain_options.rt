@@ -5,12 +5,12 @@ ghost use Rattle.clap.specs.Words.{found_of, rows_of};
 ghost use Rattle.capn_explain.specs.declared.explain.Explain.{Explain};
 ghost use Rattle.capn_explain.specs.declared.explain_refused.ExplainRefused.{ExplainRefused};
 ghost use Rattle.capn_args.specs.Meaning.{ExplainIs, ExplanationIs, IsNumbered, RefusedIs};
-ghost use Rattle.capn_args.specs.declared.order.Explanation.{Explanation};
+ghost use Rattle.capn_args.specs.declared.invocation.Explanation.{Explanation};
 
 use crate::input_options::{form_of, limits_of};
+use crate::invocation::Explanation;
 use crate::message_number::message_number;
 use crate::option_values::{flag_of, text_in};
-use crate::order::Explanation;
 use capn_explain::{Explain, ExplainRefused};
 use clap::ArgMatches;
 

@@ -3,7 +3,7 @@
 ghost use Rattle.std.specs.Prelude.{◌≡◌};
 ghost use Rattle.capn_args.specs.MessageNumber as spec;
 
-use crate::way::with_digit;
+use crate::path::with_digit;
 
 /// The number of a text, if that is one from 1 to 2^64 - 1 in digits, without leading zeros and signs.
 pub(crate) fn message_number(text: &str) -> Option<u64>

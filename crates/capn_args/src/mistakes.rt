@@ -9,10 +9,10 @@ use crate::input_options::{form_of, limits_of};
 use crate::message_number::message_number;
 use crate::option_mistakes;
 use crate::option_values::{flag_of, stream_form_of, text_in};
+use crate::path::is_path;
 use crate::range_list::is_range_list;
 use crate::subcommands::mistake;
 use crate::usage::Usage;
-use crate::way::is_way;
 use clap::ArgMatches;
 use clap::error::ErrorKind;
 use std::alloc::Global;
@@ -47,9 +47,9 @@ fn said_of_cmp(matches: &ArgMatches) -> &'static str {
 /// JSON goes without.
 fn said_of_show(matches: &ArgMatches) -> &'static str {
     match text_in(matches, "at") {
-        Some(way) => {
-            if !is_way(way) {
-                return option_mistakes::NO_WAY;
+        Some(path) => {
+            if !is_path(path) {
+                return option_mistakes::NO_PATH;
             }
         }
         None => {}

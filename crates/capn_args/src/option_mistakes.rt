@@ -7,7 +7,7 @@ pub const NO_SUCH_TARIFF: &str = "--tariff takes strict or plain";
 pub const NO_SUCH_FORM: &str = "--form takes stream, packed or bare";
 
 /// The message for a value that `--at` does not take.
-pub const NO_WAY: &str = "--at takes numbers below 2^64, parted by dots";
+pub const NO_PATH: &str = "--at takes numbers below 2^64, parted by dots";
 
 /// The message for `--json` together with `--offsets`.
 pub const WITHOUT_OFFSETS: &str = "--json goes without --offsets";

@@ -1,14 +1,14 @@
-//! The order given by the options of `pick`.
+//! The invocation given by the options of `pick`.
 
 ghost use Rattle.std.specs.Prelude.{◌≡◌, codes, IfSome, IsSome, Some};
 ghost use Rattle.clap.specs.Words.{Text, found_of, rows_of};
 ghost use Rattle.capn_serve.specs.declared.pick.Pick.{Pick};
-ghost use Rattle.capn_args.specs.Meaning.{ListIs, MeansOrder, OnlyIs, PickIs};
-ghost use Rattle.capn_args.specs.declared.order.Only.{Only};
-ghost use Rattle.capn_args.specs.declared.order.Order.{Order};
+ghost use Rattle.capn_args.specs.Meaning.{ListIs, MeansInvocation, OnlyIs, PickIs};
+ghost use Rattle.capn_args.specs.declared.invocation.Only.{Only};
+ghost use Rattle.capn_args.specs.declared.invocation.Invocation.{Invocation};
 
+use crate::invocation::{Invocation, Only};
 use crate::option_values::{is_usual, limits_with, number_in, stream_form_of, text_in};
-use crate::order::{Only, Order};
 use crate::range_list::is_range_list;
 use capn_serve::Pick;
 use capn_words::MOST_MESSAGE_WORDS;
@@ -61,15 +61,16 @@ fn only_of<'a>(matches: &ArgMatches<'a>) -> Option<Only<'a>>
     })
 }
 
-/// Returns the order of `pick` with these options, if they mean one: with `--only` the messages of a list, and else
-/// those from one number to another.
-pub(crate) fn pick_order<'a>(matches: &ArgMatches<'a>) -> Option<Order<'a>>
-    ensures means { IfSome result (MeansOrder (Some (codes "pick", rows_of (found_of matches.now)))) }
-    ensures served { (order : Order) → MeansOrder (Some (codes "pick", rows_of (found_of matches.now))) order
+/// Returns the invocation of `pick` with these options, if they mean one: with `--only` the messages of a list, and
+/// else those from one number to another.
+pub(crate) fn pick_invocation<'a>(matches: &ArgMatches<'a>) -> Option<Invocation<'a>>
+    ensures means { IfSome result (MeansInvocation (Some (codes "pick", rows_of (found_of matches.now)))) }
+    ensures served { (invocation : Invocation)
+        → MeansInvocation (Some (codes "pick", rows_of (found_of matches.now))) invocation
         → IsSome result }
 {
     match only_of(matches) {
-        Some(only) => Some(Order::Only(only)),
-        None => Some(Order::Pick(pick_of(matches)?)),
+        Some(only) => Some(Invocation::Only(only)),
+        None => Some(Invocation::Pick(pick_of(matches)?)),
     }
 }

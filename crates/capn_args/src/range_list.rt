@@ -5,7 +5,7 @@ ghost use Rattle.capn_serve.specs.Pick.{AreAscending};
 ghost use Rattle.capn_serve.specs.declared.pick.Range.{Range};
 ghost use Rattle.capn_args.specs.RangeList as spec;
 
-use crate::way::with_digit;
+use crate::path::with_digit;
 use capn_serve::Range;
 use std::alloc::{AllocError, Allocator};
 

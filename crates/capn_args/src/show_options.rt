@@ -1,18 +1,18 @@
-//! The order given by the options of `show`.
+//! The invocation given by the options of `show`.
 
 ghost use Rattle.std.specs.Prelude.{◌≡◌, Bool, List, codes, IfSome, IsSome, None, Some};
 ghost use Rattle.clap.specs.Words.{Row, first_of, found_of, rows_of};
 ghost use Rattle.capn_show.specs.declared.style.Style.{Style};
 ghost use Rattle.capn_args.specs.OptionValues.{FlagIs, FormIs, LimitsAre};
 ghost use Rattle.capn_args.specs.Meaning as meaning;
-ghost use Rattle.capn_args.specs.Meaning.{MarksAre, MeansOrder, StyleIs};
+ghost use Rattle.capn_args.specs.Meaning.{MarksAre, MeansInvocation, StyleIs};
 ghost use Rattle.capn_args.specs.inner.Styles as spec;
-ghost use Rattle.capn_args.specs.declared.order.Order.{Order};
+ghost use Rattle.capn_args.specs.declared.invocation.Invocation.{Invocation};
 
 use crate::input_options::{form_of, limits_of};
+use crate::invocation::{Invocation, Show};
 use crate::option_values::{flag_of, text_in};
-use crate::order::{Order, Show};
-use crate::way::is_way;
+use crate::path::is_path;
 use capn_canon::Form;
 use capn_commands::{Command, MessageText};
 use capn_show::Style;
@@ -42,7 +42,7 @@ fn style_of(matches: &ArgMatches) -> Option<Style>
     Some(style_for(text, json))
 }
 
-/// Tells if `style` writes lines, before which offsets and ways can stand.
+/// Tells if `style` writes lines, before which offsets and paths can stand.
 pub(crate) fn has_lines(style: Style) -> bool
     ensures { result ≡ meaning.has_lines style }
 {
@@ -76,44 +76,45 @@ fn is_plain(style: Style, offsets: bool, ways: bool) -> bool
     }
 }
 
-/// Returns the order of `show` without `--at`, in `style`: all of each message, or of exactly one.
-fn whole_order<'a>(
+/// Returns the invocation of `show` without `--at`, in `style`: all of each message, or of exactly one.
+fn whole_invocation<'a>(
     form: Form,
     limits: Limits,
     style: Style,
     offsets: bool,
     ways: bool,
     one: bool,
-) -> Order<'a>
+) -> Invocation<'a>
     ensures { (rows : List Row) → FormIs rows form → LimitsAre rows limits → StyleIs rows style
         → MarksAre rows style offsets ways → FlagIs rows (codes "one") one → first_of (codes "at") rows ≡ None
-        → MeansOrder (Some (codes "show", rows)) result }
+        → MeansInvocation (Some (codes "show", rows)) result }
 {
     if !is_plain(style, offsets, ways) {
-        return Order::Show(Show {
+        return Invocation::Show(Show {
             form,
             limits,
             style,
             offsets,
             ways,
             one,
-            way: None,
+            path: None,
         });
     }
     if one {
-        Order::Message(Command::One(MessageText::Text, form, limits))
+        Invocation::Message(Command::One(MessageText::Text, form, limits))
     } else {
-        Order::Message(Command::Show(form, limits))
+        Invocation::Message(Command::Show(form, limits))
     }
 }
 
-/// Returns the order of `show` with these options, if they mean one: with `--at`, whose value is a way, that parts of
-/// messages are shown; with `--text`, `--json` or both that messages or parts are shown in another style; and with
-/// `--offsets` or `--ways`, but not in JSON, that marks stand before the lines. With `--one` the input is exactly one
-/// message.
-pub(crate) fn show_of<'a>(matches: &ArgMatches<'a>) -> Option<Order<'a>>
-    ensures means { IfSome result (MeansOrder (Some (codes "show", rows_of (found_of matches.now)))) }
-    ensures served { (order : Order) → MeansOrder (Some (codes "show", rows_of (found_of matches.now))) order
+/// Returns the invocation of `show` with these options, if they mean one: with `--at`, whose value is a path, that
+/// parts of messages are shown; with `--text`, `--json` or both that messages or parts are shown in another style; and
+/// with `--offsets` or `--ways`, but not in JSON, that marks stand before the lines. With `--one` the input is exactly
+/// one message.
+pub(crate) fn show_of<'a>(matches: &ArgMatches<'a>) -> Option<Invocation<'a>>
+    ensures means { IfSome result (MeansInvocation (Some (codes "show", rows_of (found_of matches.now)))) }
+    ensures served { (invocation : Invocation)
+        → MeansInvocation (Some (codes "show", rows_of (found_of matches.now))) invocation
         → IsSome result }
 {
     let form = form_of(matches)?;
@@ -122,22 +123,22 @@ pub(crate) fn show_of<'a>(matches: &ArgMatches<'a>) -> Option<Order<'a>>
     let (offsets, ways) = marks_of(matches, style)?;
     let one = flag_of(matches, "one")?;
     match text_in(matches, "at") {
-        Some(way) => {
-            if is_way(way) {
-                let way = Some(way);
-                Some(Order::Show(Show {
+        Some(path) => {
+            if is_path(path) {
+                let path = Some(path);
+                Some(Invocation::Show(Show {
                     form,
                     limits,
                     style,
                     offsets,
                     ways,
                     one,
-                    way,
+                    path,
                 }))
             } else {
                 None
             }
         }
-        None => Some(whole_order(form, limits, style, offsets, ways, one)),
+        None => Some(whole_invocation(form, limits, style, offsets, ways, one)),
     }
 }

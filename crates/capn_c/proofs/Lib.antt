@@ -17,4 +17,4 @@ pub mod Ready
 pub mod Short
 pub mod Shown
 pub mod Unpacked
-pub mod WayTold
+pub mod PathTold

@@ -1,41 +1,41 @@
--- The departure of a message from its canonical bytes, as C reads it. (Own.)
+-- The mismatch of a message with its canonical bytes, as C reads it. (Own.)
 use Rattle.std.specs.Prelude.{◌≡◌, ℕ, ◌*◌, List, length}
 use Rattle.std.specs.declared.alloc.Global.{Global}
 use Rattle.capn_walk.specs.Limits.{Bounds}
 use Rattle.capn_walk.specs.declared.survey_answer.Surveyed.{Surveyed}
 use Rattle.capn_canon.specs.SurveyedBytes.{Surveys}
 use Rattle.capn_canon.specs.declared.form.Form.{Form}
-use Rattle.capn_mismatch.specs.declared.answer.Departure.{Departure}
-use Rattle.capn_mismatch.specs.declared.answer.Departure.TheVariants.{Canonical, Segments, Capability, Word, After}
+use Rattle.capn_mismatch.specs.declared.answer.Mismatch.{Mismatch}
+use Rattle.capn_mismatch.specs.declared.answer.Mismatch.TheVariants.{Canonical, Segments, Capability, Word, After}
 use Rattle.capn_mismatch.specs.declared.whose.Whose.{Whose}
 use Rattle.capn_mismatch.specs.declared.whose.Whose.TheVariants.{Pointer, Tag, LastWord}
-use Rattle.capn_answers.specs.Departures.{IsDepartureIn, owner_way, way_of}
+use Rattle.capn_answers.specs.Mismatches.{IsMismatchIn, owner_path, path_of}
 use Rattle.capn_abi.specs.StatusCodes.{answered}
-use Rattle.capn_c.specs.WayNumbers.{ArePlaced}
+use Rattle.capn_c.specs.PathNumbers.{ArePlaced}
 use Rattle.capn_c.specs.declared.departed.CapnDeparted.{CapnDeparted}
 use Rattle.capn_abi.specs.declared.report.CapnReport.{CapnReport}
 
 module _ {A : Type 0} where
   -- the number of the kind of an owner's word
   abbrev pub owner_number : Whose A → ℕ
-  owner_number (Pointer way) = 1
-  owner_number (Tag way) = 2
-  owner_number (LastWord way) = 3
+  owner_number (Pointer path) = 1
+  owner_number (Tag path) = 2
+  owner_number (LastWord path) = 3
 
   -- the numbers of an answer; those that its kind does not speak of are 0
-  abbrev pub departed_of : Departure A → CapnDeparted
+  abbrev pub departed_of : Mismatch A → CapnDeparted
   departed_of Canonical =
       record { is = 0; canonical = 0; kind = 0; owner = 0; word = 0; count = 0; numbers = 0; zero = 0 }
   departed_of (Segments n) =
       record { is = 0; canonical = 0; kind = 1; owner = 0; word = 0; count = n; numbers = 0; zero = 0 }
-  departed_of (Capability k way) = record {
+  departed_of (Capability k path) = record {
     is = 0;
     canonical = 0;
     kind = 2;
     owner = 0;
     word = 0;
     count = k;
-    numbers = length way.items;
+    numbers = length path.items;
     zero = 0;
   }
   departed_of (Word w is canonical whose) = record {
@@ -45,20 +45,20 @@ module _ {A : Type 0} where
     owner = owner_number whose;
     word = w;
     count = 0;
-    numbers = length (owner_way whose);
+    numbers = length (owner_path whose);
     zero = 0;
   }
   departed_of (After w is) =
       record { is = is; canonical = 0; kind = 4; owner = 0; word = w; count = 0; numbers = 0; zero = 0 }
 
--- the bytes are read as a message, and its departure from its canonical bytes is reported; its way is placed in a room,
+-- the bytes are read as a message, and its mismatch with its canonical bytes is reported; its path is placed in a room,
 -- and reported beside the words that its walk pays, and its visits
-pub record TellsDeparture (form : Form) (bs : List ℕ) (limits : Bounds) (departed : CapnDeparted)
+pub record TellsMismatch (form : Form) (bs : List ℕ) (limits : Bounds) (departed : CapnDeparted)
     (report : CapnReport) (old new : List ℕ) : Type 0 where
-  pub departure : Departure Global
-  pub is : IsDepartureIn form bs limits departure
-  pub told : departed ≡ departed_of departure
-  pub placed : ArePlaced (way_of departure) old new
+  pub mismatch : Mismatch Global
+  pub is : IsMismatchIn form bs limits mismatch
+  pub told : departed ≡ departed_of mismatch
+  pub placed : ArePlaced (path_of mismatch) old new
   pub survey : Surveyed
   pub surveys : Surveys form bs limits survey
-  pub report_is : report ≡ answered (4 * length (way_of departure)) survey.paid survey.visits
+  pub report_is : report ≡ answered (4 * length (path_of mismatch)) survey.paid survey.visits

@@ -10,6 +10,6 @@ pub mod AsFramed
 pub mod Shown
 pub mod Lent
 pub mod MadeBytes
-pub mod WayNumbers
+pub mod PathNumbers
 pub mod Departed
 pub mod inner

@@ -1,10 +1,10 @@
-//! The departure of a message from its canonical bytes, as C reads it.
+//! The mismatch of a message with its canonical bytes, as C reads it.
 
 ghost use Rattle.std.specs.Prelude.{◌≡◌, ◌≤◌, length};
-ghost use Rattle.capn_answers.specs.Departures as departures;
+ghost use Rattle.capn_answers.specs.Mismatches as mismatches;
 ghost use Rattle.capn_c.specs.Departed as told;
 
-use capn_answers::{Departure, Whose};
+use capn_answers::{Mismatch, Whose};
 use std::alloc::Global;
 
 /// The first reason why a message is not its canonical bytes. A field that the kind does not speak of is 0.
@@ -23,7 +23,7 @@ pub struct CapnDeparted {
     pub word: u32,
     /// The number of segments; the index of a capability.
     pub count: u32,
-    /// The length of the way, in numbers.
+    /// The length of the path, in numbers.
     pub numbers: u32,
     /// Always 0.
     pub zero: u32,
@@ -40,31 +40,31 @@ fn number_of_owner(whose: &Whose<Global>) -> u32
     }
 }
 
-/// Returns the way to the slot of an owner.
-fn way_of_owner(whose: &Whose<Global>) -> &[u32]
-    ensures { result.now ≡ departures.owner_way whose.now }
+/// Returns the path to the slot of an owner.
+fn path_of_owner(whose: &Whose<Global>) -> &[u32]
+    ensures { result.now ≡ mismatches.owner_path whose.now }
 {
     match whose {
-        Whose::Pointer(way) => way.as_slice(),
-        Whose::Tag(way) => way.as_slice(),
-        Whose::LastWord(way) => way.as_slice(),
+        Whose::Pointer(path) => path.as_slice(),
+        Whose::Tag(path) => path.as_slice(),
+        Whose::LastWord(path) => path.as_slice(),
     }
 }
 
-/// Returns the way of `departure`, or no numbers.
-pub fn way_of(departure: &Departure<Global>) -> &[u32]
-    ensures { result.now ≡ departures.way_of departure.now }
+/// Returns the path of `mismatch`, or no numbers.
+pub fn path_of(mismatch: &Mismatch<Global>) -> &[u32]
+    ensures { result.now ≡ mismatches.path_of mismatch.now }
 {
-    match departure {
-        Departure::Canonical => &[],
-        Departure::Segments(_) => &[],
-        Departure::Capability(_, way) => way.as_slice(),
-        Departure::Word { whose, .. } => way_of_owner(whose),
-        Departure::After { .. } => &[],
+    match mismatch {
+        Mismatch::Canonical => &[],
+        Mismatch::Segments(_) => &[],
+        Mismatch::Capability(_, path) => path.as_slice(),
+        Mismatch::Word { whose, .. } => path_of_owner(whose),
+        Mismatch::After { .. } => &[],
     }
 }
 
-/// Returns a departure of this `kind` and no other number, with a way of so many `numbers`.
+/// Returns a mismatch of this `kind` and no other number, with a path of so many `numbers`.
 fn of_kind(kind: u32, numbers: u32) -> CapnDeparted
     ensures { result ≡ record {
       is = 0;
@@ -89,22 +89,22 @@ fn of_kind(kind: u32, numbers: u32) -> CapnDeparted
     }
 }
 
-/// Returns `departure` as C reads it, with a way of so many `numbers`.
-pub fn departed_of(departure: &Departure<Global>, numbers: u32) -> CapnDeparted
-    requires numbers { numbers ≡ length (departures.way_of departure.now) }
-    ensures { result ≡ told.departed_of departure.now }
+/// Returns `mismatch` as C reads it, with a path of so many `numbers`.
+pub fn departed_of(mismatch: &Mismatch<Global>, numbers: u32) -> CapnDeparted
+    requires numbers { numbers ≡ length (mismatches.path_of mismatch.now) }
+    ensures { result ≡ told.departed_of mismatch.now }
 {
-    match departure {
-        Departure::Canonical => of_kind(0, numbers),
-        Departure::Segments(count) => CapnDeparted {
+    match mismatch {
+        Mismatch::Canonical => of_kind(0, numbers),
+        Mismatch::Segments(count) => CapnDeparted {
             count: *count,
             ..of_kind(1, numbers)
         },
-        Departure::Capability(index, _) => CapnDeparted {
+        Mismatch::Capability(index, _) => CapnDeparted {
             count: *index,
             ..of_kind(2, numbers)
         },
-        Departure::Word {
+        Mismatch::Word {
             word,
             is,
             canonical,
@@ -116,7 +116,7 @@ pub fn departed_of(departure: &Departure<Global>, numbers: u32) -> CapnDeparted
             word: *word,
             ..of_kind(3, numbers)
         },
-        Departure::After { word: end, is } => CapnDeparted {
+        Mismatch::After { word: end, is } => CapnDeparted {
             is: *is,
             word: *end,
             ..of_kind(4, numbers)

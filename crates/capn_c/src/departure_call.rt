@@ -1,4 +1,4 @@
-//! The departures of messages from their canonical bytes.
+//! The mismatches of messages with their canonical bytes.
 
 ghost use Rattle.std.specs.Prelude.{IsTrue, ◌≡◌, ◌≢◌, ◌⊎◌, ◌↔◌, ◌≤◌, ◌*◌, ℕ, List, length};
 ghost use Rattle.capn_value.specs.Tree.{Tree as Value};
@@ -9,46 +9,46 @@ ghost use Rattle.capn_canon.specs.Refusal.{IsUnacceptedIn};
 ghost use Rattle.capn_canon.specs.SurveyedBytes.{Surveys};
 ghost use Rattle.capn_canon.specs.declared.form.Form.{Form as Forms};
 ghost use Rattle.capn_canon.specs.declared.refusal.Refusal.{Refusal as Refusals};
-ghost use Rattle.capn_answers.specs.Departures as departures;
-ghost use Rattle.capn_answers.specs.Departures.{IsDepartureIn, MayNeedDeparture};
+ghost use Rattle.capn_answers.specs.Mismatches as mismatches;
+ghost use Rattle.capn_answers.specs.Mismatches.{IsMismatchIn, MayNeedMismatch};
 ghost use Rattle.capn_abi.specs.Calls.{IsForm, form_named, GiveLimits, IsTariff, bounds_of};
-ghost use Rattle.capn_c.specs.Departed.{TellsDeparture};
+ghost use Rattle.capn_c.specs.Departed.{TellsMismatch};
 ghost use Rattle.capn_abi.specs.StatusCodes.{Reports, at_number, is_status};
 
-use crate::departed::{CapnDeparted, departed_of, way_of};
-use crate::way_numbers::place_way;
+use crate::departed::{CapnDeparted, departed_of, path_of};
+use crate::path_numbers::place_path;
 use capn_abi::{
     BAD_FORM, CapnLimits, CapnReport, DONE, answer_of, form_of, limits_of, refuse, report_at,
 };
-use capn_answers::{Departure, departure_and_survey_in};
+use capn_answers::{Mismatch, mismatch_and_survey_in};
 use capn_canon::Form;
 use capn_walk::{Limits, Surveyed};
 use std::alloc::Global;
 
-/// Reports the departure `found` of an accepted message, with the way in the room `way`.
-fn tell_departure(
-    found: &Departure<Global>,
+/// Reports the mismatch `found` of an accepted message, with the path in the room `way`.
+fn tell_mismatch(
+    found: &Mismatch<Global>,
     surveyed: Surveyed,
     departed: &mut CapnDeparted,
     way: &mut [u32],
     report: &mut CapnReport,
 )
-    requires few { length (departures.way_of found.now) ≤ 512 }
-    ensures told { (form : Forms) (bytes : List ℕ) (limits : Bounds) → IsDepartureIn form bytes limits found.now
+    requires few { length (mismatches.path_of found.now) ≤ 512 }
+    ensures told { (form : Forms) (bytes : List ℕ) (limits : Bounds) → IsMismatchIn form bytes limits found.now
         → Surveys form bytes limits surveyed
-        → TellsDeparture form bytes limits departed.new report.new way.old way.new }
-    ensures long { report.new.length ≡ 4 * length (departures.way_of found.now) }
+        → TellsMismatch form bytes limits departed.new report.new way.old way.new }
+    ensures long { report.new.length ≡ 4 * length (mismatches.path_of found.now) }
     ensures paid { report.new.paid ≡ surveyed.paid }
     ensures visits { report.new.visits ≡ surveyed.visits }
 {
-    let numbers = way_of(found);
+    let numbers = path_of(found);
     *departed = departed_of(found, numbers.len() as u32);
     *report = answer_of(4 * numbers.len() as u64, surveyed.paid, surveyed.visits);
-    place_way(numbers, way);
+    place_path(numbers, way);
 }
 
-/// Finds the departure of the message that `bytes` encode in this `form`, and reports it.
-fn depart(
+/// Finds the mismatch of the message that `bytes` encode in this `form`, and reports it.
+fn find_mismatch(
     alloc: Global,
     form: Form,
     bytes: &[u8],
@@ -59,20 +59,20 @@ fn depart(
 ) -> u32
     ensures possible { (result ≡ 0) ⊎ (8 ≤ result) }
     ensures found { result ≡ 0
-        → TellsDeparture form bytes.now limits departed.new report.new way.old way.new }
+        → TellsMismatch form bytes.now limits departed.new report.new way.old way.new }
     ensures only { (v : Value) → Denotes form bytes.now limits v → (result ≡ 0) ⊎ (result ≡ 8) }
     ensures short { result ≡ 0 → report.new.length ≤ 8 * limits.depth }
     ensures listed { IsTrue (is_status result) }
     ensures refused { 8 ≤ result → (e : Refusals) × Reports result report.new e
         × IsUnacceptedIn form bytes.now limits e }
-    ensures memory { result ≡ 8 → MayNeedDeparture form bytes.now limits }
+    ensures memory { result ≡ 8 → MayNeedMismatch form bytes.now limits }
     ensures bounded { IsBounded limits.budget report.new.paid report.new.visits }
     ensures kept { result ≢ 0 → (departed.new ≡ departed.old) × (way.new ≡ way.old) }
 {
     let _depth = limits.depth();
-    match departure_and_survey_in(alloc, form, bytes, limits) {
+    match mismatch_and_survey_in(alloc, form, bytes, limits) {
         Ok(found) => {
-            tell_departure(&found.departure, found.survey, departed, way, report);
+            tell_mismatch(&found.mismatch, found.survey, departed, way, report);
             DONE
         }
         Err(refusal) => refuse(refusal, report),
@@ -80,12 +80,12 @@ fn depart(
 }
 
 /// Tests whether an accepted message is canonical, and if not, finds the first reason, `departed`, with the numbers of
-/// the way to a slot, in the room `way`.
+/// the path to a slot, in the room `way`.
 ///
-/// 0: it is reported; `length` is 4 bytes for each number of the way, and `paid` and `visits` are those of the walk.
+/// 0: it is reported; `length` is 4 bytes for each number of the path, and `paid` and `visits` are those of the walk.
 /// The numbers are at the start of the room if it has room for all of them; else it is as it was. 2, 3 and 4: the form,
 /// a limit or the tariff is out of its range. 8: memory was refused: for the table of more than 64 segments, for what
-/// is unpacked, and, of a message of one segment that is not canonical, for its canonical bytes and for the way.
+/// is unpacked, and, of a message of one segment that is not canonical, for its canonical bytes and for the path.
 /// Others: the refusal, which is never that of a capability.
 ///
 /// Two numbers for each level of the depth limit are enough.
@@ -103,9 +103,9 @@ pub extern "C" fn capn_departure(
     ensures form { (result ≡ 2) ↔ (IsForm form → ⊥) }
     ensures limits { (result ≡ 3) ↔ (IsForm form × (GiveLimits limits.now → ⊥)) }
     ensures tariff { (result ≡ 4) ↔ (IsForm form × GiveLimits limits.now × (IsTariff limits.now.tariff → ⊥)) }
-    // The bytes are an accepted message, and this is its departure from its canonical bytes; the way is in the room if
+    // The bytes are an accepted message, and this is its mismatch with its canonical bytes; the path is in the room if
     // that has room for it, and the report has its length, the words that the walk pays, and its visits.
-    ensures found { result ≡ 0 → TellsDeparture (form_named form) bytes.now (bounds_of limits.now)
+    ensures found { result ≡ 0 → TellsMismatch (form_named form) bytes.now (bounds_of limits.now)
         departed.new report.new way.old way.new }
     // A message that is accepted is answered, unless memory runs out.
     ensures only { IsForm form → GiveLimits limits.now → IsTariff limits.now.tariff → (v : Value)
@@ -119,10 +119,10 @@ pub extern "C" fn capn_departure(
         × IsUnacceptedIn (form_named form) bytes.now (bounds_of limits.now) e }
     // Memory is needed only for the ends of more than 64 segments, for what a text packs, and for a message of one
     // segment that is not canonical.
-    ensures memory { result ≡ 8 → MayNeedDeparture (form_named form) bytes.now (bounds_of limits.now) }
+    ensures memory { result ≡ 8 → MayNeedMismatch (form_named form) bytes.now (bounds_of limits.now) }
     // No walk reports more paid than its budget.
     ensures bounded { IsBounded limits.now.budget report.new.paid report.new.visits }
-    // If nothing is reported, the departure and the room are as they were.
+    // If nothing is reported, the mismatch and the room are as they were.
     ensures kept { result ≢ 0 → (departed.new ≡ departed.old) × (way.new ≡ way.old) }
 {
     *report = report_at(0);
@@ -130,7 +130,7 @@ pub extern "C" fn capn_departure(
         return BAD_FORM;
     };
     match limits_of(limits) {
-        Ok(limits) => depart(alloc, form, bytes, limits, departed, way, report),
+        Ok(limits) => find_mismatch(alloc, form, bytes, limits, departed, way, report),
         Err(status) => status,
     }
 }

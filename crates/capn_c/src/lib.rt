@@ -33,6 +33,7 @@ mod message_figures;
 mod message_index;
 mod message_text;
 mod pack_calls;
+mod path_numbers;
 mod refusal_way_call;
 mod same_call;
 mod same_surveyed;
@@ -40,7 +41,6 @@ mod show_call;
 mod survey_call;
 mod survey_segments_call;
 mod unpack_some_call;
-mod way_numbers;
 mod written_message;
 
 pub use capn_abi::{CapnLimits, CapnReport};

@@ -1,4 +1,4 @@
-//! The ways to refusals.
+//! The paths to refusals.
 
 ghost use Rattle.std.specs.Prelude.{IsTrue, ◌≡◌, ◌⊎◌, ◌↔◌, ◌<◌, ◌≤◌, ◌*◌, ℕ, List};
 ghost use Rattle.capn_value.specs.Tree.{Tree as Value};
@@ -9,13 +9,13 @@ ghost use Rattle.capn_canon.specs.Denotes.{Denotes};
 ghost use Rattle.capn_canon.specs.Refusal.{IsUnacceptedIn};
 ghost use Rattle.capn_canon.specs.SurveyedBytes.{Surveys};
 ghost use Rattle.capn_canon.specs.declared.refusal.Refusal.{Refusal as Refusals};
-ghost use Rattle.capn_answers.specs.Walked.{MayNeedItsWay};
-ghost use Rattle.capn_answers.specs.Ways.{IsStoppedIn};
+ghost use Rattle.capn_answers.specs.Walked.{MayNeedItsPath};
+ghost use Rattle.capn_answers.specs.Paths.{IsStoppedIn};
 ghost use Rattle.capn_abi.specs.Calls.{IsForm, form_named, GiveLimits, IsTariff, bounds_of};
 ghost use Rattle.capn_abi.specs.StatusCodes.{Reports, answered, at_number, is_status};
-ghost use Rattle.capn_c.specs.WayNumbers.{TellsWay};
+ghost use Rattle.capn_c.specs.PathNumbers.{TellsPath};
 
-use crate::way_numbers::tell_way;
+use crate::path_numbers::tell_path;
 use capn_abi::{
     BAD_FORM, CapnLimits, CapnReport, DONE, answer_of, form_of, limits_of, refuse, report_at,
 };
@@ -24,7 +24,7 @@ use capn_canon::Form;
 use capn_walk::Limits;
 use std::alloc::Global;
 
-/// Finds the way to the slot at which the walk of the message that `bytes` encode in this `form` stopped.
+/// Finds the path to the slot at which the walk of the message that `bytes` encode in this `form` stopped.
 fn refusal_way(
     alloc: Global,
     form: Form,
@@ -41,9 +41,9 @@ fn refusal_way(
     ensures refused { 8 ≤ result → result < 64 → (e : Refusals) × Reports result report.new e
         × IsUnacceptedIn form bytes.now limits e }
     ensures told { 64 ≤ result → (s : Stop) × (numbers : List ℕ) × IsStoppedIn form bytes.now limits s numbers
-        × TellsWay result report.new s numbers way.old way.new }
+        × TellsPath result report.new s numbers way.old way.new }
     ensures short { 64 ≤ result → report.new.length ≤ 8 * limits.depth }
-    ensures memory { result ≡ 8 → MayNeedItsWay form bytes.now limits }
+    ensures memory { result ≡ 8 → MayNeedItsPath form bytes.now limits }
     ensures bounded { IsBounded limits.budget report.new.paid report.new.visits }
     ensures kept { result < 64 → way.new ≡ way.old }
 {
@@ -55,7 +55,7 @@ fn refusal_way(
                 DONE
             }
             Walked::Refused(refused) => {
-                tell_way(refused.stopped, refused.way.as_slice(), way, report)
+                tell_path(refused.stopped, refused.path.as_slice(), way, report)
             }
         },
         Err(refusal) => refuse(refusal, report),
@@ -63,11 +63,11 @@ fn refusal_way(
 }
 
 /// Tests whether the message that `bytes` encode in a `form` is accepted within `limits`, and if its walk is refused,
-/// finds the way to the slot at which that stopped: the numbers that lead to it from the root, in the room `way`.
+/// finds the path to the slot at which that stopped: the numbers that lead to it from the root, in the room `way`.
 ///
 /// 0: it is accepted; `paid` and `visits` are those of its walk. 2, 3 and 4: the form, a limit or the tariff is out of
-/// its range. 8: memory was refused: where `capn_check` takes it, or, if the walk is refused, for the way. From 64 on:
-/// the walk is refused; `length` is 4 bytes for each number of the way. The numbers are at the start of the room if it
+/// its range. 8: memory was refused: where `capn_check` takes it, or, if the walk is refused, for the path. From 64 on:
+/// the walk is refused; `length` is 4 bytes for each number of the path. The numbers are at the start of the room if it
 /// has room for all of them; else it is as it was. Others: the refusal, which is never that of a capability.
 ///
 /// Two numbers for each level of the depth limit are enough. A message that is refused is walked twice at most.
@@ -96,14 +96,14 @@ pub extern "C" fn capn_refusal_way(
     // The meaning of each refusal that is none of the walk; no other status stands for it.
     ensures refused { 5 ≤ result → result < 64 → (e : Refusals) × Reports result report.new e
         × IsUnacceptedIn (form_named form) bytes.now (bounds_of limits.now) e }
-    // A refusal of the walk: its place, and the way there, in the room if that has room for it.
+    // A refusal of the walk: its place, and the path there, in the room if that has room for it.
     ensures told { 64 ≤ result → (s : Stop) × (numbers : List ℕ)
         × IsStoppedIn (form_named form) bytes.now (bounds_of limits.now) s numbers
-        × TellsWay result report.new s numbers way.old way.new }
+        × TellsPath result report.new s numbers way.old way.new }
     // Two numbers for each level of depth are enough.
     ensures short { 64 ≤ result → report.new.length ≤ 8 * limits.now.depth }
     // Memory is needed only if a check may need it, and for a message that is refused by its walk.
-    ensures memory { result ≡ 8 → MayNeedItsWay (form_named form) bytes.now (bounds_of limits.now) }
+    ensures memory { result ≡ 8 → MayNeedItsPath (form_named form) bytes.now (bounds_of limits.now) }
     // No walk reports more paid than its budget.
     ensures bounded { IsBounded limits.now.budget report.new.paid report.new.visits }
     // At any other status the room is as it was.

@@ -14,24 +14,24 @@ all_written n s b d rest e size =
 
 module _ (d : List ℕ) where
   -- no byte is asked for
-  pub way_alone : (offsets ways : Bool) → not offsets ≡ true
+  pub path_alone : (offsets ways : Bool) → not offsets ≡ true
       → (if ways then 9 ∷ [] else []) ++ (codes "end" ++ 10 ∷ [])
       ≡ (if offsets then d ++ 9 ∷ [] else []) ++ ((if ways then 9 ∷ [] else []) ++ (codes "end" ++ 10 ∷ []))
-  way_alone true ways off = absurd (cc)
-  way_alone false ways off = refl
+  path_alone true ways off = absurd (cc)
+  path_alone false ways off = refl
 
-  -- a byte and a way
-  pub byte_and_way : (offsets ways : Bool) → not offsets ≡ false → ways ≡ true
+  -- a byte and a path
+  pub byte_and_path : (offsets ways : Bool) → not offsets ≡ false → ways ≡ true
       → d ++ codes "\t\tend\n"
       ≡ (if offsets then d ++ 9 ∷ [] else []) ++ ((if ways then 9 ∷ [] else []) ++ (codes "end" ++ 10 ∷ []))
-  byte_and_way false ways on way = absurd (cc)
-  byte_and_way true false on way = absurd (cc)
-  byte_and_way true true on way = sym (append_assoc d (9 ∷ []) (9 ∷ (codes "end" ++ 10 ∷ [])))
+  byte_and_path false ways on path = absurd (cc)
+  byte_and_path true false on path = absurd (cc)
+  byte_and_path true true on path = sym (append_assoc d (9 ∷ []) (9 ∷ (codes "end" ++ 10 ∷ [])))
 
   -- a byte alone
   pub byte_alone : (offsets ways : Bool) → not offsets ≡ false → ways ≡ false
       → d ++ codes "\tend\n"
       ≡ (if offsets then d ++ 9 ∷ [] else []) ++ ((if ways then 9 ∷ [] else []) ++ (codes "end" ++ 10 ∷ []))
-  byte_alone false ways on way = absurd (cc)
-  byte_alone true true on way = absurd (cc)
-  byte_alone true false on way = sym (append_assoc d (9 ∷ []) (codes "end" ++ 10 ∷ []))
+  byte_alone false ways on path = absurd (cc)
+  byte_alone true true on path = absurd (cc)
+  byte_alone true false on path = sym (append_assoc d (9 ∷ []) (codes "end" ++ 10 ∷ []))

@@ -30,7 +30,7 @@ marks_of s at message = record {
 abbrev pub byte_after : Marks → ℕ → ℕ
 byte_after marks words = marks.offset + 8 * (marks.table + words)
 
--- the line `end` with marks, of a message of this many words: the byte after it, and no way
+-- the line `end` with marks, of a message of this many words: the byte after it, and no path
 abbrev pub marked_end : Marks → ℕ → List ℕ
 marked_end marks words =
     (if marks.offsets then decimal (byte_after marks words) ++ 9 ∷ [] else [])

@@ -1,4 +1,4 @@
--- What a run that shows messages did: of each, in a style or with marks, what is at a way from its root. (Own.)
+-- What a run that shows messages did: of each, in a style or with marks, what is at a path from its root. (Own.)
 use Rattle.std.specs.Prelude.{ℕ, List, Bool, Option, Result}
 use Rattle.capn_serve.specs.Fold.{Fold, fold_of}
 use Rattle.capn_serve.specs.FormRun.{ServesMessages}

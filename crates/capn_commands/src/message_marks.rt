@@ -45,15 +45,15 @@ fn byte_after(marks: Marks, words: u32) -> u128
     u128::from(marks.offset) + 8 * (u128::from(marks.table) + u128::from(words))
 }
 
-/// The line `end`, behind an empty way if ways are asked for.
-fn way_end(ways: bool) -> &'static [u8]
+/// The line `end`, behind an empty path if paths are asked for.
+fn path_end(ways: bool) -> &'static [u8]
     ensures { result.now ≡ (if ways then 9 ∷ [] else []) ++ (codes "end" ++ 10 ∷ []) }
 {
     if ways { b"\tend\n" } else { b"end\n" }
 }
 
-/// Adds the line `end` behind a byte, in digits, and an empty way.
-fn add_end_with_way<W: Write, A: Allocator>(
+/// Adds the line `end` behind a byte, in digits, and an empty path.
+fn add_end_with_path<W: Write, A: Allocator>(
     byte: u64,
     text: &mut Vec<u8, A>,
     writer: &mut Watched<W>,
@@ -115,13 +115,13 @@ pub(crate) fn add_marked_end<W: Write, A: Allocator>(
         (outgoing W.contents writer.new text.new.items) result }
 {
     if !marks.offsets {
-        return add_end(way_end(marks.ways), text, writer);
+        return add_end(path_end(marks.ways), text, writer);
     }
     let byte = byte_after(marks, words);
     if byte >= 1 << 64 {
         add_wide_end(alloc, marks.ways, byte, text, writer)
     } else if marks.ways {
-        add_end_with_way(byte as u64, text, writer)
+        add_end_with_path(byte as u64, text, writer)
     } else {
         add_end_at(byte as u64, text, writer)
     }

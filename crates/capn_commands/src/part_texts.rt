@@ -20,11 +20,11 @@ use capn_words::{Space, Watched, total_words};
 use std::alloc::Allocator;
 use std::io::Write;
 
-/// The service that writes of each message of a stream, within limits, the text of the value at a way and its end.
+/// The service that writes of each message of a stream, within limits, the text of the value at a path and its end.
 #[derive(Drop)]
 pub struct PartTexts<'w> {
-    /// The numbers of the way.
-    pub way: &'w [u64],
+    /// The numbers of the path.
+    pub path: &'w [u64],
     /// The encoding of the stream.
     pub form: Form,
     /// The limits of a message.
@@ -33,7 +33,7 @@ pub struct PartTexts<'w> {
     pub style: Style,
     /// True if each line begins with the offset of the byte that it is about. Not with JSON.
     pub offsets: bool,
-    /// True if each line begins, after that offset, with the way to the slot that it is about. Not with JSON.
+    /// True if each line begins, after that offset, with the path to the slot that it is about. Not with JSON.
     pub ways: bool,
 }
 
@@ -74,22 +74,22 @@ pub(crate) fn add_end<W: Write, A: Allocator>(
     }
 }
 
-/// Adds the text of what is at a way from a message's root, in a style, and what ends it. Long texts are written
+/// Adds the text of what is at a path from a message's root, in a style, and what ends it. Long texts are written
 /// while they are made.
 fn add_part<S: Space, W: Write, A: Allocator + Copy>(
     alloc: A,
     message: &S,
     limits: Limits,
     style: Style,
-    way: &[u64],
+    path: &[u64],
     text: &mut Vec<u8, A>,
     writer: &mut Watched<W>,
 ) -> Result<(), ServeFault>
     requires fine { has_failed writer.old ≡ false }
-    ensures { AddsPart (S.message message.now) limits (styled style way.now) (spec.end_of style)
+    ensures { AddsPart (S.message message.now) limits (styled style path.now) (spec.end_of style)
         (outgoing W.contents writer.old text.old.items) (outgoing W.contents writer.new text.new.items) result }
 {
-    match show_part(alloc, text, writer, message, limits, style, way) {
+    match show_part(alloc, text, writer, message, limits, style, path) {
         Ok(()) => add_end(end_of(style), text, writer),
         Err(fault) => Err(fault_of(fault)),
     }
@@ -101,22 +101,22 @@ fn add_marked<S: Space, W: Write, A: Allocator + Copy>(
     message: &S,
     limits: Limits,
     marks: Marks,
-    way: &[u64],
+    path: &[u64],
     text: &mut Vec<u8, A>,
     writer: &mut Watched<W>,
 ) -> Result<(), ServeFault>
     requires fine { has_failed writer.old ≡ false }
-    ensures { AddsPart (S.message message.now) limits (marked_at (S.message message.now) marks way.now)
+    ensures { AddsPart (S.message message.now) limits (marked_at (S.message message.now) marks path.now)
         (marking.marked_end marks (total (S.message message.now))) (outgoing W.contents writer.old text.old.items)
         (outgoing W.contents writer.new text.new.items) result }
 {
-    match show_marked(alloc, text, writer, message, limits, marks, way) {
+    match show_marked(alloc, text, writer, message, limits, marks, path) {
         Ok(()) => add_marked_end(alloc, marks, total_words(message), text, writer),
         Err(fault) => Err(fault_of(fault)),
     }
 }
 
-/// Tells if `texts` asks for offsets or ways.
+/// Tells if `texts` asks for offsets or paths.
 fn has_marks(texts: &PartTexts) -> bool
     ensures { result ≡ (texts.now.offsets || texts.now.ways) }
 {
@@ -137,12 +137,12 @@ fn add_text<S: Space, W: Write, A: Allocator + Copy>(
         (spec.part_end texts.now at (S.message message.now)) (outgoing W.contents writer.old text.old.items)
         (outgoing W.contents writer.new text.new.items) result }
 {
-    let (limits, way) = (texts.limits, texts.way);
+    let (limits, path) = (texts.limits, texts.path);
     if has_marks(texts) {
         let marks = marks_of(texts, at, message);
-        add_marked(alloc, message, limits, marks, way, text, writer)
+        add_marked(alloc, message, limits, marks, path, text, writer)
     } else {
-        add_part(alloc, message, limits, texts.style, way, text, writer)
+        add_part(alloc, message, limits, texts.style, path, text, writer)
     }
 }
 

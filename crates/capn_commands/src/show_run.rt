@@ -10,13 +10,13 @@ use capn_words::Watched;
 use std::alloc::Allocator;
 use std::io::{Read, Write};
 
-/// Writes of each message of an input, in a style or with marks, the text of what is at a way from its root, or of all
+/// Writes of each message of an input, in a style or with marks, the text of what is at a path from its root, or of all
 /// of it.
 ///
-/// Then comes the line `end`, but not after JSON. Where nothing is at the way, the text is the line `none`, or in
+/// Then comes the line `end`, but not after JSON. Where nothing is at the path, the text is the line `none`, or in
 /// JSON an empty line. A message is answered as soon as it is complete. The run ends as done, or with the first fault:
 /// a frame, a group or a message that is refused; `InputTooLong`; `Io` if and only if the reader or the writer failed;
-/// `Memory` if a growth was refused. A message is refused as its survey is, whatever is at the way.
+/// `Memory` if a growth was refused. A message is refused as its survey is, whatever is at the path.
 pub fn run_show<R: Read, W: Write, A: Allocator + Copy>(
     alloc: A,
     texts: &PartTexts,
@@ -31,7 +31,7 @@ pub fn run_show<R: Read, W: Write, A: Allocator + Copy>(
 {
     let most = texts.limits.message_words();
     let mut run = Run::new(PartTexts {
-        way: texts.way,
+        path: texts.path,
         form: texts.form,
         limits: texts.limits,
         style: texts.style,

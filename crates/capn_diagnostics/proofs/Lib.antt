@@ -1,5 +1,5 @@
 pub mod ListedParts
-pub mod PlacesOnWays
+pub mod PlacesOnPaths
 pub mod PlaceWithin
-pub mod WayParts
+pub mod PathParts
 pub mod WordDigits

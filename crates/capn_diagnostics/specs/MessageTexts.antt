@@ -7,7 +7,7 @@ use Rattle.capn_words.specs.Message.{segment_at, total}
 use Rattle.capn_words.specs.Pointers.{pointer_of}
 use Rattle.capn_walk.specs.Display.{stopped_text}
 use Rattle.capn_walk.specs.declared.walk_answer.Stopped.{Stopped}
-use Rattle.capn_diagnostics.specs.Texts.{pointer_text, way_text, word_text}
+use Rattle.capn_diagnostics.specs.Texts.{pointer_text, path_text, word_text}
 use Rattle.capn_diagnostics.specs.SlotTexts.{line, slot_lines}
 use Rattle.capn_diagnostics.specs.declared.segments_text.SegmentsText.{SegmentsText}
 use Rattle.capn_diagnostics.specs.declared.message_text.MessageHead.{MessageHead}
@@ -67,7 +67,7 @@ head_lines head =
 
 -- the slot, if there is a root
 abbrev pub some_slot : Option SlotLines → List ℕ
-some_slot (Some slot) = slot_lines slot.way.now slot.holder slot.examined
+some_slot (Some slot) = slot_lines slot.path.now slot.holder slot.examined
 some_slot None = codes ""
 
 -- all lines
@@ -104,17 +104,17 @@ word_says word = word_text word ++ (codes " (" ++ (pointer_text (pointer_of word
 abbrev pub canonical_text : CanonicalText → List ℕ
 canonical_text forms.Yes = codes "yes"
 canonical_text (forms.Segments count) = codes "no: " ++ (decimal count ++ codes " segments")
-canonical_text (forms.Capability index way) =
-    codes "no: capability " ++ (decimal index ++ (codes " at " ++ way_text way.now))
-canonical_text (forms.Pointer byte word canonical way) =
+canonical_text (forms.Capability index path) =
+    codes "no: capability " ++ (decimal index ++ (codes " at " ++ path_text path.now))
+canonical_text (forms.Pointer byte word canonical path) =
     codes "no: at byte " ++ (decimal byte ++ (codes ": " ++ (word_says word ++ (codes ", canonical "
-    ++ (word_says canonical ++ (codes ", the pointer at " ++ way_text way.now))))))
-canonical_text (forms.Tag byte word canonical way) =
+    ++ (word_says canonical ++ (codes ", the pointer at " ++ path_text path.now))))))
+canonical_text (forms.Tag byte word canonical path) =
     codes "no: at byte " ++ (decimal byte ++ (codes ": " ++ (word_text word ++ (codes ", canonical "
-    ++ (word_text canonical ++ (codes ", the tag of " ++ way_text way.now))))))
-canonical_text (forms.LastWord byte word canonical way) =
+    ++ (word_text canonical ++ (codes ", the tag of " ++ path_text path.now))))))
+canonical_text (forms.LastWord byte word canonical path) =
     codes "no: at byte " ++ (decimal byte ++ (codes ": " ++ (word_text word ++ (codes ", canonical "
-    ++ (word_text canonical ++ (codes ", the last word of " ++ way_text way.now))))))
+    ++ (word_text canonical ++ (codes ", the last word of " ++ path_text path.now))))))
 canonical_text (forms.After byte word) =
     codes "no: at byte " ++ (decimal byte ++ (codes ": " ++ (word_text word
     ++ codes ", canonical nothing, after the value")))

@@ -9,7 +9,7 @@ use Rattle.capn_walk.specs.Limits.{Bounds}
 use Rattle.capn_walk.specs.declared.walk_answer.Stopped.{Stopped}
 use Rattle.capn_path.specs.declared.holder.Holder.{Holder}
 use Rattle.capn_path.specs.declared.holder.Holder.TheVariants as holders
-use Rattle.capn_path.specs.Ways.{IsRefusedAt}
+use Rattle.capn_path.specs.Paths.{IsRefusedAt}
 use Rattle.capn_path.specs.Holders.{IsHolderOrRoot, place}
 use Rattle.capn_diagnostics.specs.PlaceByte.{place_byte}
 use Rattle.capn_diagnostics.specs.Slot as slots
@@ -49,23 +49,23 @@ module _ (message : List (List ℕ)) (offset table : ℕ) where
     limit = slots.limit_of message limits stopped.place stopped.paid stopped.fault;
   }
 
-  -- the text of the object that holds the slot to which a way leads: of the root's there is none
-  pub record IsHolderText (way : List ℕ) (to : Place) (text : Option HolderText) : Type 0 where
+  -- the text of the object that holds the slot to which a path leads: of the root's there is none
+  pub record IsHolderText (path : List ℕ) (to : Place) (text : Option HolderText) : Type 0 where
     pub holder : Option Holder
-    pub holds : IsHolderOrRoot message way to holder
+    pub holds : IsHolderOrRoot message path to holder
     pub is : text ≡ with_byte_if holder
 
-  -- the lines of the slot at which a walk stopped: the way to it, the object that holds it, and the findings
-  pub record AreLinesOf (limits : Bounds) (way : List ℕ) (stopped : Stopped) (lines : SlotLines) : Type 0 where
-    pub numbers : lines.way.now ≡ way
-    pub holder : IsHolderText way stopped.place lines.holder
+  -- the lines of the slot at which a walk stopped: the path to it, the object that holds it, and the findings
+  pub record AreLinesOf (limits : Bounds) (path : List ℕ) (stopped : Stopped) (lines : SlotLines) : Type 0 where
+    pub numbers : lines.path.now ≡ path
+    pub holder : IsHolderText path stopped.place lines.holder
     pub examined : lines.examined ≡ examined_at limits stopped
 
   -- these are those lines, if the message has a root; if it has none, there are no lines
   abbrev pub AreLinesIf : Bounds → List ℕ → Stopped → Option SlotLines → Type 0
-  AreLinesIf limits way stopped (Some lines) =
-      (0 < length (segment_at message 0)) × AreLinesOf limits way stopped lines
-  AreLinesIf limits way stopped None = length (segment_at message 0) ≡ 0
+  AreLinesIf limits path stopped (Some lines) =
+      (0 < length (segment_at message 0)) × AreLinesOf limits path stopped lines
+  AreLinesIf limits path stopped None = length (segment_at message 0) ≡ 0
 
 -- the number of messages before one, the byte at which its table begins, and its segments
 abbrev pub head : List (List ℕ) → ℕ → ℕ → MessageHead
@@ -75,10 +75,10 @@ head message index offset = record { index = index; offset = offset; segments = 
 -- walk stopped, if it has a root
 pub record IsRefusalTold (message : List (List ℕ)) (limits : Bounds) (index offset table : ℕ) (stopped : Stopped)
     (text : List ℕ) : Type 0 where
-  pub way : List ℕ
-  pub refused : IsRefusedAt message limits stopped way
+  pub path : List ℕ
+  pub refused : IsRefusedAt message limits stopped path
   pub slot : Option SlotLines
-  pub lines : AreLinesIf message offset table limits way stopped slot
+  pub lines : AreLinesIf message offset table limits path stopped slot
   pub is : text ≡ refused_lines (head message index offset) stopped slot
 
 -- ---- the second row of three, whose slot holds it and whose words begin at byte 72; and a message without a root

@@ -1,7 +1,7 @@
 -- The texts of the findings about a slot, and their lines.
 use Rattle.std.specs.Prelude.{◌≡◌, ℕ, pos, negsuc, List, [], ◌++◌, Option, Some, None, codes, refl}
 use Rattle.std.specs.Fmt.{decimal, signed_decimal, digits}
-use Rattle.capn_diagnostics.specs.Texts.{slot_text, tag_text, way_text, word_at_text}
+use Rattle.capn_diagnostics.specs.Texts.{slot_text, tag_text, path_text, word_at_text}
 use Rattle.capn_diagnostics.specs.declared.slot_text.SlotText.{SlotText}
 use Rattle.capn_diagnostics.specs.declared.examined.Pad.{Pad}
 use Rattle.capn_diagnostics.specs.declared.examined.Pad.TheVariants as pads
@@ -91,10 +91,10 @@ abbrev pub limit_line : Option Limit → List ℕ
 limit_line (Some limit) = line (codes "limit: ") (limit_text limit)
 limit_line None = codes ""
 
--- the findings, with the way to the slot and the object that holds it
+-- the findings, with the path to the slot and the object that holds it
 abbrev pub slot_lines : List ℕ → Option HolderText → Examined → List ℕ
-slot_lines way holder e =
-    line (codes "way: ") (way_text way) ++ (line (codes "slot: ") (word_as_pointer e.slot) ++ (holder_line holder
+slot_lines path holder e =
+    line (codes "way: ") (path_text path) ++ (line (codes "slot: ") (word_as_pointer e.slot) ++ (holder_line holder
     ++ (pad_lines e.pad ++ (tag_line e.tag ++ (content_line e.content ++ (rows_line e.rows ++ limit_line e.limit))))))
 
 -- ---- one text of each kind

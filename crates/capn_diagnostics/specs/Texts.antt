@@ -1,4 +1,4 @@
--- The texts of words, slots and ways.
+-- The texts of words, slots and paths.
 use Rattle.std.specs.Prelude.{◌≡◌, ℕ, ◌==◌, ◌^◌, ◌+◌, ◌*◌, pos, negsuc, true, false, List, [], ◌∷◌, ◌++◌}
 use Rattle.std.specs.Prelude.{if◌then◌else◌, codes, refl}
 use Rattle.std.specs.Fmt.{decimal, signed_decimal, digits}
@@ -72,17 +72,17 @@ word_at_text byte at word says =
 abbrev pub slot_text : ℕ → Place → ℕ → List ℕ
 slot_text byte at word = word_at_text byte at word (pointer_text (pointer_of word))
 
--- ---- ways
+-- ---- paths
 
 -- numbers, each behind a dot
 abbrev pub dotted : List ℕ → List ℕ
 dotted [] = []
-dotted (n ∷ way) = codes "." ++ (decimal n ++ dotted way)
+dotted (n ∷ path) = codes "." ++ (decimal n ++ dotted path)
 
--- a way
-abbrev pub way_text : List ℕ → List ℕ
-way_text [] = codes "root"
-way_text (first ∷ way) = decimal first ++ dotted way
+-- a path
+abbrev pub path_text : List ℕ → List ℕ
+path_text [] = codes "root"
+path_text (first ∷ path) = decimal first ++ dotted path
 
 -- ---- one text of each kind
 
@@ -114,9 +114,9 @@ an_empty_tag : tag_text 0 ≡ codes "tag of 0 structs of 0 words and 0 slots"
 unfolding digits
 an_empty_tag = refl
 
-the_root : way_text [] ≡ codes "root"
+the_root : path_text [] ≡ codes "root"
 the_root = refl
 
-a_way : way_text (0 ∷ 3 ∷ 12 ∷ []) ≡ codes "0.3.12"
+a_path : path_text (0 ∷ 3 ∷ 12 ∷ []) ≡ codes "0.3.12"
 unfolding digits
-a_way = refl
+a_path = refl

@@ -1,7 +1,7 @@
 //! The answer to the question if a message is canonical, as a text.
 
+use crate::path_text::PathText;
 use crate::pointer_text::PointerText;
-use crate::way_text::WayText;
 use crate::word_text::WordText;
 use std::fmt;
 
@@ -13,14 +13,14 @@ pub enum CanonicalText<'a> {
     Yes,
     /// It has more than one segment: their number.
     Segments(u32),
-    /// It has a capability: its index, and the way to it.
+    /// It has a capability: its index, and the path to it.
     Capability(u32, &'a [u32]),
-    /// A word differs from the canonical one that is a pointer: its byte, both words, and the way to the pointer's
+    /// A word differs from the canonical one that is a pointer: its byte, both words, and the path to the pointer's
     /// slot.
     Pointer(u128, u64, u64, &'a [u32]),
-    /// A word differs from the canonical one that is a tag: its byte, both words, and the way to the list's slot.
+    /// A word differs from the canonical one that is a tag: its byte, both words, and the path to the list's slot.
     Tag(u128, u64, u64, &'a [u32]),
-    /// A word differs from the canonical one that is the last of a list: its byte, both words, and the way to the
+    /// A word differs from the canonical one that is the last of a list: its byte, both words, and the path to the
     /// list's slot.
     LastWord(u128, u64, u64, &'a [u32]),
     /// A word stands where the canonical bytes have ended: its byte, and the word.
@@ -52,29 +52,29 @@ impl<'a> fmt::Display for CanonicalText<'a> {
         match *self {
             CanonicalText::Yes => write!(f, "yes"),
             CanonicalText::Segments(count) => write!(f, "no: {count} segments"),
-            CanonicalText::Capability(index, way) => {
-                write!(f, "no: capability {index} at {}", WayText(way))
+            CanonicalText::Capability(index, path) => {
+                write!(f, "no: capability {index} at {}", PathText(path))
             }
-            CanonicalText::Pointer(byte, word, canonical, way) => write!(
+            CanonicalText::Pointer(byte, word, canonical, path) => write!(
                 f,
                 "no: at byte {byte}: {}, canonical {}, the pointer at {}",
                 WordSays(word),
                 WordSays(canonical),
-                WayText(way)
+                PathText(path)
             ),
-            CanonicalText::Tag(byte, word, canonical, way) => write!(
+            CanonicalText::Tag(byte, word, canonical, path) => write!(
                 f,
                 "no: at byte {byte}: {}, canonical {}, the tag of {}",
                 WordText(word),
                 WordText(canonical),
-                WayText(way)
+                PathText(path)
             ),
-            CanonicalText::LastWord(byte, word, canonical, way) => write!(
+            CanonicalText::LastWord(byte, word, canonical, path) => write!(
                 f,
                 "no: at byte {byte}: {}, canonical {}, the last word of {}",
                 WordText(word),
                 WordText(canonical),
-                WayText(way)
+                PathText(path)
             ),
             CanonicalText::After(byte, word) => write!(
                 f,

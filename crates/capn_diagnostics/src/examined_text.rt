@@ -2,9 +2,9 @@
 
 use crate::examined::{Examined, Limit, Pad, RowWords, Stretch};
 use crate::holder_text::HolderText;
+use crate::path_text::PathText;
 use crate::slot_text::SlotText;
 use crate::tag_text::TagText;
-use crate::way_text::WayText;
 use crate::word_text::WordText;
 use std::fmt;
 
@@ -200,7 +200,7 @@ impl fmt::Display for LimitLine {
 #[derive(Clone, Copy, Debug, PartialEq, Eq)]
 pub struct SlotLines<'a> {
     /// The numbers that lead to it from the root.
-    pub way: &'a [u32],
+    pub path: &'a [u32],
     /// The object that holds it: `None` for the root's.
     pub holder: Option<HolderText>,
     /// The findings.
@@ -211,12 +211,12 @@ impl<'a> fmt::Display for SlotLines<'a> {
     ghost use Rattle.std.specs.Prelude.{Some};
     ghost use Rattle.capn_diagnostics.specs.SlotTexts.{slot_lines};
 
-    ghost output = { λ lines. Some (slot_lines lines.way.now lines.holder lines.examined) };
+    ghost output = { λ lines. Some (slot_lines lines.path.now lines.holder lines.examined) };
 
     fn fmt<W: fmt::Write>(&self, f: &mut fmt::Formatter<W>) -> fmt::Result {
         let examined = self.examined;
         let slot = examined.slot;
-        write!(f, "way: {}\n", WayText(self.way))?;
+        write!(f, "way: {}\n", PathText(self.path))?;
         write!(f, "slot: {slot}\n")?;
         write!(
             f,

@@ -3,7 +3,7 @@
 //! - [`PointerText`] displays a word as a pointer, and [`TagText`] as the tag of a list of structs.
 //! - [`WordText`] displays the bytes of a word, in the order in which they lie.
 //! - [`SlotText`] displays a slot: the byte and the place of its word, its bytes, and the pointer that they are.
-//! - [`WayText`] displays the way from the root to a slot.
+//! - [`PathText`] displays the path from the root to a slot.
 //! - [`place_byte`] answers the byte of a stream at which a word of a message lies.
 //! - [`examine`] examines the slot at which the walk of a message was refused: the words that lead to its content, the
 //!   place of that, and the limit that the refusal is about.
@@ -23,6 +23,7 @@ mod frame_text;
 mod holder_text;
 mod message_text;
 mod pads;
+mod path_text;
 mod pointer_text;
 mod price;
 mod refusal;
@@ -31,7 +32,6 @@ mod slot_text;
 mod tag_text;
 mod tags;
 mod telling;
-mod way_text;
 mod word_text;
 
 pub use byte_of_place::place_byte;
@@ -43,10 +43,10 @@ pub use examined_text::SlotLines;
 pub use frame_text::FrameKey;
 pub use holder_text::HolderText;
 pub use message_text::{FrameLines, MessageHead, RefusedLines};
+pub use path_text::PathText;
 pub use pointer_text::PointerText;
 pub use refusal::{Told, explain_stop};
 pub use segments_text::SegmentsText;
 pub use slot_text::SlotText;
 pub use tag_text::TagText;
-pub use way_text::WayText;
 pub use word_text::WordText;

@@ -4,7 +4,7 @@ ghost use Rattle.std.specs.Prelude.{◌≡◌, ℕ, ◌<◌, length, IfOk};
 ghost use Rattle.capn_words.specs.Message.{segment_at};
 ghost use Rattle.capn_walk.specs.Accepted.{IsWalkRefused};
 ghost use Rattle.capn_walk.specs.Limits.{Bounds};
-ghost use Rattle.capn_path.specs.Ways.{IsRefusedAt, IsWayTo};
+ghost use Rattle.capn_path.specs.Paths.{IsRefusedAt, IsPathTo};
 ghost use Rattle.capn_diagnostics.specs.MessageTexts.{refused_lines};
 ghost use Rattle.capn_diagnostics.specs.Refusal as spec;
 ghost use Rattle.capn_diagnostics.specs.Refusal.{IsRefusalTold, AreLinesIf, IsHolderText};
@@ -14,7 +14,7 @@ use crate::examined_text::SlotLines;
 use crate::holder_text::HolderText;
 use crate::message_text::{MessageHead, RefusedLines};
 use crate::segments_text::SegmentsText;
-use capn_path::{Refused, holder_of, way_of_stop};
+use capn_path::{Refused, holder_of, path_of_stop};
 use capn_walk::{Limits, Stopped};
 use capn_words::{Memory, Place, Space};
 use std::alloc::{Allocator, Global};
@@ -33,7 +33,7 @@ pub struct Told<A: Allocator = Global> {
 /// `stopped` is the stop of the walk of this message within these `limits`, as [`survey`](capn_walk::survey) answers
 /// it. `index` is the number of messages before it, `offset` the byte of the stream at which its table begins, and
 /// `table` the number of words that it takes: 0 for a bare segment. It makes the visits up to the refused one, and no
-/// survey. Memory on `alloc`: the way, which has at most two numbers for each level of the depth limit, and the text.
+/// survey. Memory on `alloc`: the path, which has at most two numbers for each level of the depth limit, and the text.
 /// (Own.)
 pub fn explain_stop<S: Space, A: Allocator + Copy>(
     alloc: A,
@@ -50,12 +50,12 @@ pub fn explain_stop<S: Space, A: Allocator + Copy>(
         IsRefusalTold (S.message space.now) limits index offset table stopped told.text.items) }
     ensures stopped { IfOk result (λ told. told.stopped ≡ stopped) }
 {
-    let way = way_of_stop(alloc, space, limits, stopped)?;
-    let refused = Refused { stopped, way };
+    let path = path_of_stop(alloc, space, limits, stopped)?;
+    let refused = Refused { stopped, path };
     tell(alloc, space, index, offset, table, limits, &refused)
 }
 
-/// Explains a message whose walk is `refused`, with the way to the slot at which it stopped.
+/// Explains a message whose walk is `refused`, with the path to the slot at which it stopped.
 fn tell<S: Space, A: Allocator + Copy>(
     alloc: A,
     space: &S,
@@ -65,7 +65,7 @@ fn tell<S: Space, A: Allocator + Copy>(
     limits: Limits,
     refused: &Refused<A>,
 ) -> Result<Told<A>, Memory>
-    requires refused { IsRefusedAt (S.message space.now) limits refused.now.stopped refused.now.way.items }
+    requires refused { IsRefusedAt (S.message space.now) limits refused.now.stopped refused.now.path.items }
     ensures told { IfOk result (λ told.
         IsRefusalTold (S.message space.now) limits index offset table told.stopped told.text.items) }
     ensures stopped { IfOk result (λ told. told.stopped ≡ refused.now.stopped) }
@@ -74,7 +74,7 @@ fn tell<S: Space, A: Allocator + Copy>(
     let lines = RefusedLines {
         head: head_of(space, index, offset),
         stopped,
-        slot: slot_lines(space, offset, table, limits, stopped, &refused.way),
+        slot: slot_lines(space, offset, table, limits, stopped, &refused.path),
     };
     let text = text_of(alloc, lines)?;
     Ok(Told { stopped, text })
@@ -100,7 +100,7 @@ fn head_of<S: Space>(space: &S, index: u64, offset: u64) -> MessageHead
     }
 }
 
-/// Examines the slot at which the walk of the message `space` stopped, with the `way` to it: `None`, if there is no
+/// Examines the slot at which the walk of the message `space` stopped, with the `path` to it: `None`, if there is no
 /// root.
 fn slot_lines<'w, S: Space>(
     space: &S,
@@ -108,28 +108,28 @@ fn slot_lines<'w, S: Space>(
     table: u32,
     limits: Limits,
     stopped: Stopped,
-    way: &'w [u32],
+    path: &'w [u32],
 ) -> Option<SlotLines<'w>>
-    requires refused { IsRefusedAt (S.message space.now) limits stopped way.now }
-    ensures { AreLinesIf (S.message space.now) offset table limits way.now stopped result }
+    requires refused { IsRefusedAt (S.message space.now) limits stopped path.now }
+    ensures { AreLinesIf (S.message space.now) offset table limits path.now stopped result }
 {
     if stopped.visits == 0 {
         return None;
     }
     Some(SlotLines {
-        way,
-        holder: text_of_holder(space, offset, table, way),
+        path,
+        holder: text_of_holder(space, offset, table, path),
         examined: examine(space, offset, table, limits, stopped),
     })
 }
 
-/// Returns the text of the object that holds the slot to which `way` leads: the root's has none.
-fn text_of_holder<S: Space>(space: &S, offset: u64, table: u32, way: &[u32]) -> Option<HolderText>
+/// Returns the text of the object that holds the slot to which `path` leads: the root's has none.
+fn text_of_holder<S: Space>(space: &S, offset: u64, table: u32, path: &[u32]) -> Option<HolderText>
     requires root { 0 < length (segment_at (S.message space.now) 0) }
-    ensures { (limits : Bounds) (number : ℕ) (to : Place) → IsWayTo (S.message space.now) limits number way.now to
-        → IsHolderText (S.message space.now) offset table way.now to result }
+    ensures { (limits : Bounds) (number : ℕ) (to : Place) → IsPathTo (S.message space.now) limits number path.now to
+        → IsHolderText (S.message space.now) offset table path.now to result }
 {
-    match holder_of(space, way) {
+    match holder_of(space, path) {
         Some(holder) => Some(HolderText::of(space, offset, table, holder)),
         None => None,
     }

@@ -1,4 +1,4 @@
--- The lines of an account, wherever its ways are kept. (For `first_of` and `put_accepted`.)
+-- The lines of an account, wherever its paths are kept. (For `first_of` and `put_accepted`.)
 use Rattle.std.proofs.Common.{◌≡◌, ℕ, List, Some, Result, Ok, Err, IfOk, IsErr, refl, ap, ◌++◌, codes}
 use Rattle.std.proofs.Common.{◌≤◌, Vec, arith}
 use Rattle.capn_words.specs.declared.memory.Memory.{Memory}
@@ -8,10 +8,10 @@ use Rattle.capn_serve.specs.declared.fault.ServeFault.{ServeFault}
 use Rattle.capn_serve.specs.declared.position.Position.{Position}
 use Rattle.std.specs.Fmt.{decimal}
 use Rattle.capn_diagnostics.specs.MessageTexts.{head_lines, lengths_line}
-use Rattle.capn_mismatch.specs.CanonicalLines.{canonical_lines, departure_text}
-use Rattle.capn_mismatch.specs.Departures.{Departs, IsDeparture}
-use Rattle.capn_mismatch.specs.declared.answer.Departure.{Departure}
-use Rattle.capn_mismatch.specs.declared.answer.Departure.TheVariants as departures
+use Rattle.capn_mismatch.specs.CanonicalLines.{canonical_lines, mismatch_text}
+use Rattle.capn_mismatch.specs.Mismatches.{HasMismatch, IsMismatch}
+use Rattle.capn_mismatch.specs.declared.answer.Mismatch.{Mismatch}
+use Rattle.capn_mismatch.specs.declared.answer.Mismatch.TheVariants as mismatches
 use Rattle.capn_mismatch.specs.declared.canonical_lines.CanonicalLines.{CanonicalLines}
 use Rattle.capn_mismatch.specs.declared.whose.Whose.{Whose}
 use Rattle.capn_mismatch.specs.declared.whose.Whose.TheVariants as whose
@@ -22,8 +22,8 @@ use Rattle.capn_explain.specs.declared.explain.Explain.{Explain}
 
 module _ {A : Type 0} where
   -- the same numbers, kept nowhere in particular
-  abbrev pub way : Vec ℕ A → Vec ℕ (Unit {0})
-  way d = record {
+  abbrev pub path : Vec ℕ A → Vec ℕ (Unit {0})
+  path d = record {
     ptr = d.ptr;
     len = d.len;
     cap = d.cap;
@@ -34,36 +34,36 @@ module _ {A : Type 0} where
   }
 
   abbrev pub owner : Whose A → Whose (Unit {0})
-  owner (whose.Pointer w) = whose.Pointer (way w)
-  owner (whose.Tag w) = whose.Tag (way w)
-  owner (whose.LastWord w) = whose.LastWord (way w)
+  owner (whose.Pointer w) = whose.Pointer (path w)
+  owner (whose.Tag w) = whose.Tag (path w)
+  owner (whose.LastWord w) = whose.LastWord (path w)
 
-  abbrev pub departure : Departure A → Departure (Unit {0})
-  departure departures.Canonical = departures.Canonical
-  departure (departures.Segments n) = departures.Segments n
-  departure (departures.Capability k w) = departures.Capability k (way w)
-  departure (departures.Word w is c o) = departures.Word w is c (owner o)
-  departure (departures.After w is) = departures.After w is
+  abbrev pub mismatch : Mismatch A → Mismatch (Unit {0})
+  mismatch mismatches.Canonical = mismatches.Canonical
+  mismatch (mismatches.Segments n) = mismatches.Segments n
+  mismatch (mismatches.Capability k w) = mismatches.Capability k (path w)
+  mismatch (mismatches.Word w is c o) = mismatches.Word w is c (owner o)
+  mismatch (mismatches.After w is) = mismatches.After w is
 
   abbrev pub lines : CanonicalLines A → CanonicalLines (Unit {0})
-  lines l = record { departure = departure l.departure; offset = l.offset; table = l.table; lengths = l.lengths }
+  lines l = record { mismatch = mismatch l.mismatch; offset = l.offset; table = l.table; lengths = l.lengths }
 
   abbrev pub account : Account A → Account (Unit {0})
   account a = record { head = a.head; paid = a.paid; visits = a.visits; depth = a.depth; lines = lines a.lines }
 
   -- the same is told
-  same_departure : (offset table : ℕ) (d : Departure A)
-      → departure_text offset table d ≡ departure_text offset table (departure d)
-  same_departure offset table departures.Canonical = refl
-  same_departure offset table (departures.Segments n) = refl
-  same_departure offset table (departures.Capability k w) = refl
-  same_departure offset table (departures.Word w is c (whose.Pointer p)) = refl
-  same_departure offset table (departures.Word w is c (whose.Tag p)) = refl
-  same_departure offset table (departures.Word w is c (whose.LastWord p)) = refl
-  same_departure offset table (departures.After w is) = refl
+  same_mismatch : (offset table : ℕ) (d : Mismatch A)
+      → mismatch_text offset table d ≡ mismatch_text offset table (mismatch d)
+  same_mismatch offset table mismatches.Canonical = refl
+  same_mismatch offset table (mismatches.Segments n) = refl
+  same_mismatch offset table (mismatches.Capability k w) = refl
+  same_mismatch offset table (mismatches.Word w is c (whose.Pointer p)) = refl
+  same_mismatch offset table (mismatches.Word w is c (whose.Tag p)) = refl
+  same_mismatch offset table (mismatches.Word w is c (whose.LastWord p)) = refl
+  same_mismatch offset table (mismatches.After w is) = refl
 
   same_lines : (l : CanonicalLines A) → canonical_lines l ≡ canonical_lines (lines l)
-  same_lines l = λ i. codes "canonical: " ++ (same_departure l.offset l.table l.departure i ++ (codes "\n"
+  same_lines l = λ i. codes "canonical: " ++ (same_mismatch l.offset l.table l.mismatch i ++ (codes "\n"
       ++ lengths_line l.lengths))
 
   same_account : (a : Account A) → account_text a ≡ account_text (account a)
@@ -71,15 +71,15 @@ module _ {A : Type 0} where
       ++ (decimal a.visits ++ (codes " depth " ++ (decimal a.depth ++ (codes "\n" ++ same_lines a.lines i)))))))
 
   -- and is so
-  is_departure : (message : List (List ℕ)) (limits : Bounds) (d : Departure A) → IsDeparture message limits d
-      → IsDeparture message limits (departure d)
-  is_departure message limits departures.Canonical is = is
-  is_departure message limits (departures.Segments n) is = is
-  is_departure message limits (departures.Capability k w) is = is
-  is_departure message limits (departures.Word w x c (whose.Pointer p)) is = is
-  is_departure message limits (departures.Word w x c (whose.Tag p)) is = is
-  is_departure message limits (departures.Word w x c (whose.LastWord p)) is = is
-  is_departure message limits (departures.After w x) is = is
+  is_mismatch : (message : List (List ℕ)) (limits : Bounds) (d : Mismatch A) → IsMismatch message limits d
+      → IsMismatch message limits (mismatch d)
+  is_mismatch message limits mismatches.Canonical is = is
+  is_mismatch message limits (mismatches.Segments n) is = is
+  is_mismatch message limits (mismatches.Capability k w) is = is
+  is_mismatch message limits (mismatches.Word w x c (whose.Pointer p)) is = is
+  is_mismatch message limits (mismatches.Word w x c (whose.Tag p)) is = is
+  is_mismatch message limits (mismatches.Word w x c (whose.LastWord p)) is = is
+  is_mismatch message limits (mismatches.After w x) is = is
 
   module _ (form : Form) (at : Position) (message : List (List ℕ)) (limits : Bounds) where
     -- what an account displays are the lines of the message
@@ -93,7 +93,7 @@ module _ {A : Type 0} where
         record {
           value = are.value;
           is = are.is;
-          departure = is_departure message limits a.lines.departure are.departure;
+          mismatch = is_mismatch message limits a.lines.mismatch are.mismatch;
           lengths = are.lengths;
           offset_is = are.offset_is;
           table_is = are.table_is;
@@ -105,9 +105,9 @@ module _ {A : Type 0} where
 
     -- what is kept of the first message
     pub first_kept : (r : Result (Account A) Memory) → at.index ≡ 0 → IfOk r (IsAccount form at message limits)
-        → (IsErr r → Departs message limits) → IsFirst form at message limits (lines_first (Some r))
-    first_kept (Ok a) first found departs = (first, account_told a found)
-    first_kept (Err memory) first found departs = (first, departs refl)
+        → (IsErr r → HasMismatch message limits) → IsFirst form at message limits (lines_first (Some r))
+    first_kept (Ok a) first found mismatched = (first, account_told a found)
+    first_kept (Err memory) first found mismatched = (first, mismatched refl)
 
   -- its lines were appended
   pub puts_account : (order : Explain) (at : Position) (message : List (List ℕ)) (a : Account A) (old new : List ℕ)

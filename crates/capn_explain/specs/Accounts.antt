@@ -10,7 +10,7 @@ use Rattle.capn_serve.specs.declared.position.Position.{Position}
 use Rattle.capn_diagnostics.specs.MessageTexts.{head_lines, segments_of}
 use Rattle.capn_diagnostics.specs.declared.message_text.MessageHead.{MessageHead}
 use Rattle.capn_mismatch.specs.CanonicalLines.{AreLinesOf, canonical_lines}
-use Rattle.capn_mismatch.specs.declared.answer.Departure.TheVariants as departures
+use Rattle.capn_mismatch.specs.declared.answer.Mismatch.TheVariants as mismatches
 use Rattle.capn_mismatch.specs.declared.canonical_lines.CanonicalLines.{CanonicalLines}
 use Rattle.capn_explain.specs.declared.account.Account.{Account}
 
@@ -43,7 +43,7 @@ module _ {A : Type 0} where
       head_lines a.head ++ (codes "accepted: paid " ++ (decimal a.paid ++ (codes " visits " ++ (decimal a.visits
       ++ (codes " depth " ++ (decimal a.depth ++ (codes "\n" ++ canonical_lines a.lines)))))))
 
--- these lines tell that; where its ways are kept, no line says
+-- these lines tell that; where its paths are kept, no line says
 abbrev pub IsAccountText : Form → Position → List (List ℕ) → Bounds → List ℕ → Type 0
 IsAccountText form at message limits text =
     (account : Account (Unit {0})) × IsAccount form at message limits account × (text ≡ account_text account)
@@ -55,13 +55,13 @@ second : account_text {A = Unit {0}} (record {
   paid = 1;
   visits = 1;
   depth = 0;
-  lines = record { departure = departures.Canonical; offset = 24; table = 1; lengths = None };
+  lines = record { mismatch = mismatches.Canonical; offset = 24; table = 1; lengths = None };
 }) ≡ codes "message: 2 at 24\nsegments: 1 of 1 words\naccepted: paid 1 visits 1 depth 0\ncanonical: yes\n"
 unfolding digits
 second = refl
 
 of_two_segments : canonical_lines {A = Unit {0}} (record {
-  departure = departures.Segments 2;
+  mismatch = mismatches.Segments 2;
   offset = 0;
   table = 2;
   lengths = None;

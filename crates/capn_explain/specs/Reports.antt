@@ -11,7 +11,7 @@ use Rattle.capn_serve.specs.declared.position.Position.{Position}
 use Rattle.capn_serve.specs.declared.fault.ServeFault.{ServeFault}
 use Rattle.capn_serve.specs.declared.fault.ServeFault.TheVariants as faults
 use Rattle.capn_diagnostics.specs.Refusal.{IsRefusalTold}
-use Rattle.capn_mismatch.specs.Departures.{Departs}
+use Rattle.capn_mismatch.specs.Mismatches.{HasMismatch}
 use Rattle.capn_serve.specs.Table.{table_words}
 use Rattle.capn_explain.specs.Accounts.{IsAccountText, account_text}
 use Rattle.capn_explain.specs.declared.account.Account.{Account}
@@ -56,10 +56,10 @@ IsTold order at message stopped text =
     IsRefusalTold message order.limits at.index at.offset (table_words order.form message) stopped text
 
 -- the account that is kept of a message that is accepted, if it is the first: its lines, or that memory was refused for
--- them, which comes only of one that departs from its canonical bytes; of another message nothing is kept
+-- them, which comes only of one that differs from its canonical bytes; of another message nothing is kept
 abbrev pub IsFirst : Form → Position → List (List ℕ) → Bounds → Option First → Type 0
 IsFirst form at message limits (Some (Ok text)) = (at.index ≡ 0) × IsAccountText form at message limits text
-IsFirst form at message limits (Some (Err memory)) = (at.index ≡ 0) × Departs message limits
+IsFirst form at message limits (Some (Err memory)) = (at.index ≡ 0) × HasMismatch message limits
 IsFirst form at message limits None = 0 < at.index
 
 -- ---- from one state to the next

@@ -1,7 +1,7 @@
 //! The account of a message that is accepted.
 
 ghost use Rattle.std.specs.Prelude.{◌≡◌, IfOk, IsErr};
-ghost use Rattle.capn_mismatch.specs.Departures.{Departs};
+ghost use Rattle.capn_mismatch.specs.Mismatches.{HasMismatch};
 ghost use Rattle.capn_explain.specs.Accounts as spec;
 ghost use Rattle.capn_explain.specs.Accounts.{IsAccount};
 ghost use Rattle.capn_explain.specs.inner.Figures.{AreFigures};
@@ -85,7 +85,7 @@ pub(crate) fn account_of<S: Space, A: Allocator + Copy>(
 ) -> Result<Account<A>, Memory>
     requires surveyed { AreFigures (S.message message.now) limits surveyed }
     ensures found { IfOk result (λ account. IsAccount form at (S.message message.now) limits account) }
-    ensures memory { IsErr result → Departs (S.message message.now) limits }
+    ensures memory { IsErr result → HasMismatch (S.message message.now) limits }
 {
     let measured = measure_surveyed(message, limits, surveyed);
     let table = table_words(form, message);

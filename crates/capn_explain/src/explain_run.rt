@@ -59,8 +59,8 @@ fn serve_messages<R: Read, W: Write, A: Allocator + Copy>(
 /// its lines have been written then. It ends with `InputTooLong`; with `Io` if and only if the reader or the writer
 /// failed; and with `Memory` if a growth on `alloc` was refused; if that was for the account of the first message, only
 /// if no other has come. Then no explanation has been written, unless the writer failed within it: its lines are kept,
-/// and written at the end. It holds what its loop holds, the canonical bytes of the message that is explained, the ways
-/// of its account, and the lines.
+/// and written at the end. It holds what its loop holds, the canonical bytes of the message that is explained, the
+/// paths of its account, and the lines.
 pub fn run_explain<R: Read, W: Write, A: Allocator + Copy>(
     alloc: A,
     order: Explain,

@@ -61,7 +61,7 @@ fn serve_messages<R: Read, W: Write, A: Allocator + Copy>(
 /// which is `RefusedAfterSkipped` if messages were refused by their walk before; `InputTooLong`; `Io` if and only if
 /// the reader or the writer failed; and `Memory` if a growth on `alloc` was refused; if that was for the account of the
 /// first message, only if no other has come. It holds what its loop holds, the canonical bytes of the first message,
-/// the ways of one account, and its lines.
+/// the paths of one account, and its lines.
 pub fn run_explain_refused<R: Read, W: Write, A: Allocator + Copy>(
     alloc: A,
     order: ExplainRefused,

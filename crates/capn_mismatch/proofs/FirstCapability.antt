@@ -69,7 +69,7 @@ module _ {G : Type 0} (m : List (List ℕ)) (limits : Bounds) (aim : G) where
       let c = sym (caps-are v i) ∙ none-of m aim h.0 all (at-root v i).all h.1 in
       absurd cc
 
-  module _ (way : List ℕ) (index : ℕ) (f : IsFirstFind m capability same limits.depth root aim way index) where
+  module _ (path : List ℕ) (index : ℕ) (f : IsFirstFind m capability same limits.depth root aim path index) where
     -- it is the first of the value
     pub index-is : (v : Tree) → IsValueOf m limits v → first_cap v ≡ Some index
     index-is v i =
@@ -80,7 +80,7 @@ module _ {G : Type 0} (m : List (List ℕ)) (limits : Bounds) (aim : G) where
         (ap (λ (p : Place). cap_of (target m p)) g.place ∙ g.found)
 
     -- and the first that the walk visits
-    pub is-first : (v : Tree) → IsValueOf m limits v → IsFirstCapability m limits index way
+    pub is-first : (v : Tree) → IsValueOf m limits v → IsFirstCapability m limits index path
     is-first v i =
         let g = f b in
         let r = at-root v i in

@@ -11,7 +11,7 @@ use Rattle.capn_layout.specs.Layout.{canon}
 use Rattle.capn_canon.specs.BareVerdict.{IsBareSurvey}
 use Rattle.capn_canon.specs.Measure.{IsCanonicalOf}
 use Rattle.capn_canon.specs.declared.surveyed_bare.SurveyedBare.{SurveyedBare}
-use Rattle.capn_mismatch.proofs.Departing.{one-value}
+use Rattle.capn_mismatch.proofs.Mismatching.{one-value}
 
 -- the value has no capability, and its canonical bytes are those of the words
 abbrev Is : List ℕ → Tree → Type 0

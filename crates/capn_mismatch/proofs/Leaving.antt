@@ -16,7 +16,7 @@ use Rattle.capn_walk.proofs.shared.Fitting.{fits-root, root-costs}
 use Rattle.capn_walk.proofs.shared.InRangeAt.{in_range-at}
 use Rattle.capn_layout.specs.Layout.{words}
 use Rattle.capn_layout.proofs.shared.Sound.{sound}
-use Rattle.capn_mismatch.specs.Departures.{Compares}
+use Rattle.capn_mismatch.specs.Mismatches.{Compares}
 use Rattle.capn_mismatch.specs.Difference.{Differ, GoesOn}
 use Rattle.capn_mismatch.specs.inner.Owned.{HasOwner}
 use Rattle.capn_mismatch.proofs.Told.{Told}

@@ -11,5 +11,5 @@ mod NumbersTold
 mod Belonging
 mod Ready
 mod Leaving
-mod Departing
+mod Mismatching
 mod InCanonicalForm

@@ -20,7 +20,7 @@ use Rattle.capn_mismatch.specs.declared.sought.Found.TheVariants as found
 use Rattle.capn_mismatch.specs.Owner.{place, IsTag, IsSmall, IsLastWord, LeadsTo}
 use Rattle.capn_mismatch.specs.inner.Search.{is_at, is_small, ends_at, found_in, found_there, finds}
 use Rattle.capn_mismatch.specs.inner.Reached.{Reaches}
-use Rattle.capn_path.specs.Ways.{IsWayTo}
+use Rattle.capn_path.specs.Paths.{IsPathTo}
 
 -- what is found at a slot, at this place, which names this
 abbrev pub Tells : ℕ → Place → Result Target Fault → Found → Type 0
@@ -109,19 +109,19 @@ module _ (words : List ℕ) (limits : Bounds) (word : ℕ) where
   Search new x =
       Reaches (words ∷ []) (base limits.tariff) (place word) limits.depth root [] new x
 
-  way : (new : List ℕ) (x : Found) (g : Search new x) → IsWayTo (words ∷ []) limits g.number new g.to
-  way new x g = let f = g.is in rw f g.leads
+  path : (new : List ℕ) (x : Found) (g : Search new x) → IsPathTo (words ∷ []) limits g.number new g.to
+  path new x g = let f = g.is in rw f g.leads
 
   pub pointer-owned : (new : List ℕ) → Search new found.Pointer
-      → (number : ℕ) × IsWayTo (words ∷ []) limits number new (place word)
+      → (number : ℕ) × IsPathTo (words ∷ []) limits number new (place word)
   pointer-owned new g =
       let t = tells word g.to (target (words ∷ []) g.to) found.Pointer g.found in
-      (g.number, rw t at (way new found.Pointer g))
+      (g.number, rw t at (path new found.Pointer g))
 
   pub tag-owned : (new : List ℕ) → Search new found.Tag → LeadsTo (words ∷ []) limits new (IsTag word)
   tag-owned new g =
       let t = tells word g.to (target (words ∷ []) g.to) found.Tag g.found in
-      record { number = g.number; slot = g.to; leads = way new found.Tag g; found = t.0; names = t.1; is = t.2 }
+      record { number = g.number; slot = g.to; leads = path new found.Tag g; found = t.0; names = t.1; is = t.2 }
 
   pub last-owned : (new : List ℕ) → Search new found.LastWord → LeadsTo (words ∷ []) limits new (IsLastWord word)
   last-owned new g =
@@ -129,7 +129,7 @@ module _ (words : List ℕ) (limits : Bounds) (word : ℕ) where
       record {
         number = g.number;
         slot = g.to;
-        leads = way new found.LastWord g;
+        leads = path new found.LastWord g;
         found = t.0;
         names = t.1;
         is = t.2;

@@ -13,7 +13,7 @@ use Rattle.capn_walk.specs.Visits.{places, row_places, slots, visits, visits_of}
 use Rattle.capn_walk.proofs.shared.Walks.{slot, places-split}
 use Rattle.capn_path.specs.Finds.{Meets}
 use Rattle.capn_path.specs.Steps.{AreNumbersIn}
-use Rattle.capn_path.specs.Ways.{Leads}
+use Rattle.capn_path.specs.Paths.{Leads}
 use Rattle.capn_path.proofs.shared.Steps.{length-places, length-rows, row-split, middle, stays, goes-down}
 use Rattle.capn_mismatch.specs.declared.sought.Owner.{Owner}
 use Rattle.capn_mismatch.specs.declared.sought.Found.{Found}
@@ -81,11 +81,11 @@ is-in (shapes.Rows n a b span) s start row i lt l =
     }
 
 module _ (m : List (List ℕ)) (base : ℕ) (word : Place) where
-  pub reaches-here : (d : ℕ) (at : Place) (way : List ℕ) (x : Found) → finds word at (target m at) ≡ Some x
-      → Reaches m base word d at way way x
-  reaches-here d at way x e = record {
+  pub reaches-here : (d : ℕ) (at : Place) (path : List ℕ) (x : Found) → finds word at (target m at) ≡ Some x
+      → Reaches m base word d at path path x
+  reaches-here d at path x e = record {
     rest = [];
-    is = sym (append-nil way);
+    is = sym (append-nil path);
     to = at;
     number = 0;
     found = e;
@@ -134,13 +134,13 @@ module _ (m : List (List ℕ)) (base : ℕ) (word : Place) where
       }
 
   -- what a search among visits has found is reached
-  pub reaches-met : (d : ℕ) (at : Place) (way : List ℕ) (x : Found)
-      → Meets m owned same (visits m base d at) (Leads m base d at) (record { word = word }) way x
-      → Reaches m base word d at [] way x
-  reaches-met d at way x h =
+  pub reaches-met : (d : ℕ) (at : Place) (path : List ℕ) (x : Found)
+      → Meets m owned same (visits m base d at) (Leads m base d at) (record { word = word }) path x
+      → Reaches m base word d at [] path x
+  reaches-met d at path x h =
       let aim : Owner = record { word = word } in
       record {
-        rest = way;
+        rest = path;
         is = refl;
         to = h.to;
         number = length h.before;

@@ -6,15 +6,15 @@ use Rattle.capn_value.specs.Tree.{Tree}
 use Rattle.capn_value.specs.FirstCap.{first_cap}
 use Rattle.capn_walk.specs.Limits.{Bounds}
 use Rattle.capn_walk.specs.Accepted.{IsValueOf}
-use Rattle.capn_diagnostics.specs.Texts.{way_text, word_text}
+use Rattle.capn_diagnostics.specs.Texts.{path_text, word_text}
 use Rattle.capn_diagnostics.specs.MessageTexts.{word_says, lengths_line}
 use Rattle.capn_layout.specs.Layout.{canon}
 use Rattle.capn_canon.specs.Measure.{IsCanonicalOf}
-use Rattle.capn_mismatch.specs.declared.answer.Departure.{Departure}
-use Rattle.capn_mismatch.specs.declared.answer.Departure.TheVariants.{Canonical, Segments, Capability, Word, After}
+use Rattle.capn_mismatch.specs.declared.answer.Mismatch.{Mismatch}
+use Rattle.capn_mismatch.specs.declared.answer.Mismatch.TheVariants.{Canonical, Segments, Capability, Word, After}
 use Rattle.capn_mismatch.specs.declared.whose.Whose.TheVariants.{Pointer, Tag, LastWord}
 use Rattle.capn_mismatch.specs.declared.canonical_lines.CanonicalLines.{CanonicalLines}
-use Rattle.capn_mismatch.specs.Departures.{IsDeparture}
+use Rattle.capn_mismatch.specs.Mismatches.{IsMismatch}
 
 -- the byte of a stream at which a word of a message's first segment lies: behind the bytes before the message, and its
 -- table
@@ -28,27 +28,27 @@ differs_text byte word canonical =
 
 module _ {A : Type 0} where
   -- yes, if a message is canonical, else the reason why not
-  abbrev pub departure_text : ℕ → ℕ → Departure A → List ℕ
-  departure_text offset table Canonical = codes "yes"
-  departure_text offset table (Segments count) = codes "no: " ++ (decimal count ++ codes " segments")
-  departure_text offset table (Capability index way) =
-      codes "no: capability " ++ (decimal index ++ (codes " at " ++ way_text way.items))
-  departure_text offset table (Word word is canonical (Pointer way)) =
+  abbrev pub mismatch_text : ℕ → ℕ → Mismatch A → List ℕ
+  mismatch_text offset table Canonical = codes "yes"
+  mismatch_text offset table (Segments count) = codes "no: " ++ (decimal count ++ codes " segments")
+  mismatch_text offset table (Capability index path) =
+      codes "no: capability " ++ (decimal index ++ (codes " at " ++ path_text path.items))
+  mismatch_text offset table (Word word is canonical (Pointer path)) =
       differs_text (byte_of offset table word) (word_says is)
-      (word_says canonical ++ (codes ", the pointer at " ++ way_text way.items))
-  departure_text offset table (Word word is canonical (Tag way)) =
+      (word_says canonical ++ (codes ", the pointer at " ++ path_text path.items))
+  mismatch_text offset table (Word word is canonical (Tag path)) =
       differs_text (byte_of offset table word) (word_text is)
-      (word_text canonical ++ (codes ", the tag of " ++ way_text way.items))
-  departure_text offset table (Word word is canonical (LastWord way)) =
+      (word_text canonical ++ (codes ", the tag of " ++ path_text path.items))
+  mismatch_text offset table (Word word is canonical (LastWord path)) =
       differs_text (byte_of offset table word) (word_text is)
-      (word_text canonical ++ (codes ", the last word of " ++ way_text way.items))
-  departure_text offset table (After word is) =
+      (word_text canonical ++ (codes ", the last word of " ++ path_text path.items))
+  mismatch_text offset table (After word is) =
       differs_text (byte_of offset table word) (word_text is) (codes "nothing, after the value")
 
   -- both lines
   abbrev pub canonical_lines : CanonicalLines A → List ℕ
   canonical_lines lines =
-      codes "canonical: " ++ (departure_text lines.offset lines.table lines.departure ++ (codes "\n"
+      codes "canonical: " ++ (mismatch_text lines.offset lines.table lines.mismatch ++ (codes "\n"
       ++ lengths_line lines.lengths))
 
 -- the number of bytes of the contents of a message, and of its canonical bytes: there if it isn't canonical, has no
@@ -64,7 +64,7 @@ pub record AreLinesOf {A : Type 0} (message : List (List ℕ)) (limits : Bounds)
     (lines : CanonicalLines A) : Type 0 where
   pub value : Tree
   pub is : IsValueOf message limits value
-  pub departure : IsDeparture message limits lines.departure
+  pub mismatch : IsMismatch message limits lines.mismatch
   pub lengths : AreLengths message value lines.lengths
   pub offset_is : lines.offset ≡ offset
   pub table_is : lines.table ≡ table
@@ -74,6 +74,6 @@ pub record AreLinesOf {A : Type 0} (message : List (List ℕ)) (limits : Bounds)
 the_third_word : byte_of 16 1 2 ≡ 40
 the_third_word = refl
 
-two_segments : departure_text {A = ℕ} 0 0 (Segments 2) ≡ codes "no: 2 segments"
+two_segments : mismatch_text {A = ℕ} 0 0 (Segments 2) ≡ codes "no: 2 segments"
 unfolding digits
 two_segments = refl

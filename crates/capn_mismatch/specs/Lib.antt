@@ -2,5 +2,5 @@ pub mod inner
 pub mod Difference
 pub mod Owner
 pub mod Capability
-pub mod Departures
+pub mod Mismatches
 pub mod CanonicalLines

@@ -8,7 +8,7 @@ use Rattle.capn_target.specs.declared.target.Target.TheVariants as targets
 use Rattle.capn_target.specs.declared.target.Shape.TheVariants as shapes
 use Rattle.capn_target.specs.Target.{target, content_words}
 use Rattle.capn_walk.specs.Limits.{Bounds}
-use Rattle.capn_path.specs.Ways.{IsWayTo}
+use Rattle.capn_path.specs.Paths.{IsPathTo}
 use Rattle.capn_mismatch.specs.declared.whose.Whose.{Whose}
 use Rattle.capn_mismatch.specs.declared.whose.Whose.TheVariants.{Pointer, Tag, LastWord}
 
@@ -35,11 +35,11 @@ IsLastWord word (targets.Content s start (shapes.Many width n) pads) =
     IsSmall width × (s ≡ 0) × (start ≤ word) × (start + content_words width n ≡ word + 1)
 IsLastWord word found = ⊥
 
--- a way leads from the root to a slot, which names such an object
-pub record LeadsTo (message : List (List ℕ)) (limits : Bounds) (way : List ℕ) (Is : Target → Type 0) : Type 0 where
+-- a path leads from the root to a slot, which names such an object
+pub record LeadsTo (message : List (List ℕ)) (limits : Bounds) (path : List ℕ) (Is : Target → Type 0) : Type 0 where
   pub number : ℕ
   pub slot : Place
-  pub leads : IsWayTo message limits number way slot
+  pub leads : IsPathTo message limits number path slot
   pub found : Target
   pub names : target message slot ≡ Ok found
   pub is : Is found
@@ -48,7 +48,7 @@ module _ {A : Type 0} where
   -- the owner of a word of a message of one segment: the word is the pointer of a slot, or the tag or the last word of
   -- its target
   abbrev pub IsOwner : List ℕ → Bounds → ℕ → Whose A → Type 0
-  IsOwner words limits word (Pointer way) =
-      (number : ℕ) × IsWayTo (words ∷ []) limits number way.items (place word)
-  IsOwner words limits word (Tag way) = LeadsTo (words ∷ []) limits way.items (IsTag word)
-  IsOwner words limits word (LastWord way) = LeadsTo (words ∷ []) limits way.items (IsLastWord word)
+  IsOwner words limits word (Pointer path) =
+      (number : ℕ) × IsPathTo (words ∷ []) limits number path.items (place word)
+  IsOwner words limits word (Tag path) = LeadsTo (words ∷ []) limits path.items (IsTag word)
+  IsOwner words limits word (LastWord path) = LeadsTo (words ∷ []) limits path.items (IsLastWord word)

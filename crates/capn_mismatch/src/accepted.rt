@@ -5,11 +5,11 @@ ghost use Rattle.capn_value.specs.Tree.{Tree as Value};
 ghost use Rattle.capn_walk.specs.Accepted.{IsValueOf};
 ghost use Rattle.capn_canon.specs.Measure.{IsMeasure};
 ghost use Rattle.capn_mismatch.specs.CanonicalLines.{AreLinesOf, AreLengths};
-ghost use Rattle.capn_mismatch.specs.Departures.{Departs};
+ghost use Rattle.capn_mismatch.specs.Mismatches.{HasMismatch};
 ghost use Rattle.capn_mismatch.specs.inner.Made.{HasCanonicalLength};
 
 use crate::canonical_lines::CanonicalLines;
-use crate::message_departure::finding_of;
+use crate::message_mismatch::finding_of;
 use capn_canon::MeasuredBare;
 use capn_layout::surveyed_length;
 use capn_walk::Limits;
@@ -23,7 +23,7 @@ use std::alloc::Allocator;
 /// again. `offset` is the byte of the stream at which the message begins, and `table` the number of words of its table:
 /// 0 for a bare message. Canonical bytes are laid out once, and only of a message of one segment that is not canonical;
 /// if it has more segments they are counted. `Memory` comes only for a message of one segment that is not canonical, if
-/// a growth on `alloc` was refused. Memory: that of [`departure`](crate::departure). (Own.)
+/// a growth on `alloc` was refused. Memory: that of [`mismatch`](crate::mismatch). (Own.)
 pub fn lines_of_measured<S: Space, A: Allocator + Copy>(
     alloc: A,
     space: &S,
@@ -36,12 +36,12 @@ pub fn lines_of_measured<S: Space, A: Allocator + Copy>(
     // All that the lines say.
     ensures found { IfOk result (λ lines. AreLinesOf (S.message space.now) limits offset table lines) }
     // Memory is needed only for a message of one segment that is not canonical.
-    ensures memory { IsErr result → Departs (S.message space.now) limits }
+    ensures memory { IsErr result → HasMismatch (S.message space.now) limits }
 {
     let finding = finding_of(alloc, space, limits, measured)?;
     let lengths = lengths_of(space, limits, measured, finding.length);
     Ok(CanonicalLines {
-        departure: finding.departure,
+        mismatch: finding.mismatch,
         offset,
         table,
         lengths,

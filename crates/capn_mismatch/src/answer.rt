@@ -1,4 +1,4 @@
-//! A departure from canonical bytes.
+//! A mismatch with canonical bytes.
 
 use crate::whose::Whose;
 use std::alloc::{Allocator, Global};
@@ -7,12 +7,12 @@ use std::alloc::{Allocator, Global};
 ///
 /// Words are counted from the first of the message's only segment.
 #[derive(Debug, Drop)]
-pub enum Departure<A: Allocator = Global> {
+pub enum Mismatch<A: Allocator = Global> {
     /// It is canonical: it has one segment, whose bytes are its canonical bytes.
     Canonical,
     /// It has more segments than one: their number.
     Segments(u32),
-    /// Its value has a capability: the index of the first in preorder, and the way to its slot.
+    /// Its value has a capability: the index of the first in preorder, and the path to its slot.
     Capability(u32, Vec<u32, A>),
     /// A word differs from the same word of its canonical bytes.
     Word {

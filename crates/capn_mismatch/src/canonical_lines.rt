@@ -4,7 +4,7 @@ ghost use Rattle.std.specs.Prelude.{◌≡◌};
 ghost use Rattle.capn_diagnostics.specs.MessageTexts.{canonical_text};
 ghost use Rattle.capn_mismatch.specs.CanonicalLines as spec;
 
-use crate::answer::Departure;
+use crate::answer::Mismatch;
 use crate::whose::Whose;
 use capn_diagnostics::CanonicalText;
 use std::alloc::{Allocator, Global};
@@ -15,7 +15,7 @@ use std::fmt;
 #[derive(Debug, Drop)]
 pub struct CanonicalLines<A: Allocator = Global> {
     /// `Canonical`, or the first reason why it isn't.
-    pub departure: Departure<A>,
+    pub mismatch: Mismatch<A>,
     /// The byte of the stream at which its table begins.
     pub offset: u64,
     /// The number of words of its table: 0 for a bare message.
@@ -34,13 +34,13 @@ fn byte_of(offset: u64, table: u32, word: u32) -> u128
 impl<A: Allocator> CanonicalLines<A> {
     /// Returns the text of the line `canonical`.
     pub fn canonical(&self) -> CanonicalText<'_>
-        ensures { canonical_text result ≡ spec.departure_text self.now.offset self.now.table self.now.departure }
+        ensures { canonical_text result ≡ spec.mismatch_text self.now.offset self.now.table self.now.mismatch }
     {
-        match &self.departure {
-            Departure::Canonical => CanonicalText::Yes,
-            Departure::Segments(count) => CanonicalText::Segments(*count),
-            Departure::Capability(index, way) => CanonicalText::Capability(*index, way.as_slice()),
-            Departure::Word {
+        match &self.mismatch {
+            Mismatch::Canonical => CanonicalText::Yes,
+            Mismatch::Segments(count) => CanonicalText::Segments(*count),
+            Mismatch::Capability(index, path) => CanonicalText::Capability(*index, path.as_slice()),
+            Mismatch::Word {
                 word,
                 is,
                 canonical,
@@ -48,16 +48,16 @@ impl<A: Allocator> CanonicalLines<A> {
             } => {
                 let byte = byte_of(self.offset, self.table, *word);
                 match whose {
-                    Whose::Pointer(way) => {
-                        CanonicalText::Pointer(byte, *is, *canonical, way.as_slice())
+                    Whose::Pointer(path) => {
+                        CanonicalText::Pointer(byte, *is, *canonical, path.as_slice())
                     }
-                    Whose::Tag(way) => CanonicalText::Tag(byte, *is, *canonical, way.as_slice()),
-                    Whose::LastWord(way) => {
-                        CanonicalText::LastWord(byte, *is, *canonical, way.as_slice())
+                    Whose::Tag(path) => CanonicalText::Tag(byte, *is, *canonical, path.as_slice()),
+                    Whose::LastWord(path) => {
+                        CanonicalText::LastWord(byte, *is, *canonical, path.as_slice())
                     }
                 }
             }
-            Departure::After { word, is } => {
+            Mismatch::After { word, is } => {
                 CanonicalText::After(byte_of(self.offset, self.table, *word), *is)
             }
         }

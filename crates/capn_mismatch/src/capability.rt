@@ -37,7 +37,7 @@ impl Aim for Capability {
     }
 }
 
-/// Finds the first capability of the message `space`, whose value has one: returns its index, and the way to its slot.
+/// Finds the first capability of the message `space`, whose value has one: returns its index, and the path to its slot.
 pub fn first_capability<S: Space, A: Allocator + Copy>(
     alloc: A,
     space: &S,

@@ -14,7 +14,7 @@ use std::alloc::Allocator;
 /// Goes down from the slot at `at` to the slot that owns `word`: returns the kind of that word there.
 ///
 /// Of an object it goes on to its likely slot, and to no other, so it reads few words. `None` says only that these lead
-/// to no such slot. `way` has the numbers that lead to the slot, and if something is found, those to its slot; if not,
+/// to no such slot. `path` has the numbers that lead to the slot, and if something is found, those to its slot; if not,
 /// any others follow.
 #[cycle(descent)]
 pub fn descend<S: Space, A: Allocator>(
@@ -22,11 +22,11 @@ pub fn descend<S: Space, A: Allocator>(
     at: Place,
     depth: u32,
     word: Place,
-    way: &mut Vec<u32, A>,
+    path: &mut Vec<u32, A>,
 ) -> Result<Option<Found>, Memory>
     requires place { IsPlace (S.message space.now) at }
     ensures { IfOk result (λ r. IfSome r (λ found. (base : ℕ)
-        → Reaches (S.message space.now) base word depth at way.old.items way.new.items found)) }
+        → Reaches (S.message space.now) base word depth at path.old.items path.new.items found)) }
 {
     let named = resolve(space, at);
     match finds(word, at, named) {
@@ -50,7 +50,7 @@ pub fn descend<S: Space, A: Allocator>(
                     segment,
                     word: start,
                 };
-                let found = descend_below(space, start, shape, depth - 1, word, way)?;
+                let found = descend_below(space, start, shape, depth - 1, word, path)?;
                 Ok(found)
             }
         },
@@ -66,47 +66,47 @@ fn descend_below<S: Space, A: Allocator>(
     shape: Shape,
     depth: u32,
     word: Place,
-    way: &mut Vec<u32, A>,
+    path: &mut Vec<u32, A>,
 ) -> Result<Option<Found>, Memory>
     requires content { IsContent (S.message space.now) start (extent shape) }
     requires rows { RowsFit shape }
     ensures { IfOk result (λ r. IfSome r (λ found. (base : ℕ)
-        → ReachesBelow (S.message space.now) base word depth start shape way.old.items way.new.items found)) }
+        → ReachesBelow (S.message space.now) base word depth start shape path.old.items path.new.items found)) }
 {
     let Some(step) = likely_step(space, start, shape, word) else {
         return Ok(None);
     };
-    put_numbers(shape, step.row, step.slot, way)?;
-    let found = descend(space, step.at, depth, word, way)?;
+    put_numbers(shape, step.row, step.slot, path)?;
+    let found = descend(space, step.at, depth, word, path)?;
     Ok(found)
 }
 
-/// Appends the numbers of one of an object's slots to `way`.
+/// Appends the numbers of one of an object's slots to `path`.
 fn put_numbers<A: Allocator>(
     shape: Shape,
     row: u32,
     slot: u32,
-    way: &mut Vec<u32, A>,
+    path: &mut Vec<u32, A>,
 ) -> Result<(), Memory>
-    ensures { IfOk result (λ r. way.new.items ≡ way.old.items ++ numbers shape row slot) }
+    ensures { IfOk result (λ r. path.new.items ≡ path.old.items ++ numbers shape row slot) }
 {
     match shape {
         Shape::Rows { .. } => {
-            let Ok(()) = way.push(row) else {
+            let Ok(()) = path.push(row) else {
                 return Err(Memory);
             };
-            put_number(slot, way)
+            put_number(slot, path)
         }
-        Shape::Node { .. } => put_number(slot, way),
-        Shape::Many { .. } => put_number(slot, way),
+        Shape::Node { .. } => put_number(slot, path),
+        Shape::Many { .. } => put_number(slot, path),
     }
 }
 
-/// Appends `number` to `way`.
-fn put_number<A: Allocator>(number: u32, way: &mut Vec<u32, A>) -> Result<(), Memory>
-    ensures { IfOk result (λ r. way.new.items ≡ way.old.items ++ number ∷ []) }
+/// Appends `number` to `path`.
+fn put_number<A: Allocator>(number: u32, path: &mut Vec<u32, A>) -> Result<(), Memory>
+    ensures { IfOk result (λ r. path.new.items ≡ path.old.items ++ number ∷ []) }
 {
-    let Ok(()) = way.push(number) else {
+    let Ok(()) = path.push(number) else {
         return Err(Memory);
     };
     Ok(())

@@ -27,15 +27,15 @@ pub fn owner<A: Allocator + Copy>(
     requires owned { HasOwner canonical.now limits word }
     ensures { IfOk result (λ whose. IsOwner canonical.now limits word whose) }
 {
-    let (found, way) = slot_of(alloc, canonical, limits, word)?;
+    let (found, path) = slot_of(alloc, canonical, limits, word)?;
     match found {
-        Found::Pointer => Ok(Whose::Pointer(way)),
-        Found::Tag => Ok(Whose::Tag(way)),
-        Found::LastWord => Ok(Whose::LastWord(way)),
+        Found::Pointer => Ok(Whose::Pointer(path)),
+        Found::Tag => Ok(Whose::Tag(path)),
+        Found::LastWord => Ok(Whose::LastWord(path)),
     }
 }
 
-/// Finds the slot that owns `word`: returns the kind of the word there, and the way to the slot. Tries the direct
+/// Finds the slot that owns `word`: returns the kind of the word there, and the path to the slot. Tries the direct
 /// descent first; the full search that follows always succeeds.
 fn slot_of<A: Allocator + Copy>(
     alloc: A,
@@ -48,10 +48,10 @@ fn slot_of<A: Allocator + Copy>(
     ensures { IfOk result (λ r. Reaches (canonical.now ∷ []) (base limits.tariff) (place word) limits.depth root
         [] r.1.items r.0) }
 {
-    let mut way = Vec::new(alloc);
+    let mut path = Vec::new(alloc);
     let word = Place { segment: 0, word };
-    match descend(canonical, Place::ROOT, limits.depth(), word, &mut way)? {
-        Some(found) => return Ok((found, way)),
+    match descend(canonical, Place::ROOT, limits.depth(), word, &mut path)? {
+        Some(found) => return Ok((found, path)),
         None => {}
     }
     match seek(alloc, canonical, limits.depth(), Owner { word })? {

@@ -2,12 +2,12 @@
 
 use std::alloc::{Allocator, Global};
 
-/// The owner of a word of canonical bytes, by the way from the root to a slot. (Own.)
+/// The owner of a word of canonical bytes, by the path from the root to a slot. (Own.)
 ///
-/// A way is as [`way_of_visit`](capn_path::way_of_visit) has it: that of the root's slot has no numbers.
+/// A path is as [`path_of_visit`](capn_path::path_of_visit) has it: that of the root's slot has no numbers.
 #[derive(Debug, Drop)]
 pub enum Whose<A: Allocator = Global> {
-    /// The pointer of the slot to which the way leads.
+    /// The pointer of the slot to which the path leads.
     Pointer(Vec<u32, A>),
     /// The tag of the list of structs that the slot names.
     Tag(Vec<u32, A>),

@@ -1,4 +1,4 @@
--- The holder of the slot to which a way leads. (For `Followed`.)
+-- The holder of the slot to which a path leads. (For `Followed`.)
 use Rattle.std.proofs.Common.{◌≡◌, ℕ, zero, suc, ◌+◌, ◌-◌, ◌*◌, ◌<◌, List, [], ◌∷◌, ◌++◌, length}
 use Rattle.std.proofs.Common.{refl, ap, sym, ◌∙◌, arith, length-append, Option, Some, None, inl, inr}
 use Rattle.std.proofs.Common.{nat_lt}
@@ -15,7 +15,7 @@ use Rattle.capn_walk.proofs.shared.Walks.{places-split}
 use Rattle.capn_path.specs.declared.holder.Holder.{Holder}
 use Rattle.capn_path.specs.declared.holder.Holder.TheVariants.{Struct, Pointers, Row}
 use Rattle.capn_path.specs.declared.holder.Spot.{Spot}
-use Rattle.capn_path.specs.Ways.{AreNumbersOf}
+use Rattle.capn_path.specs.Paths.{AreNumbersOf}
 use Rattle.capn_path.specs.Holders.{place, row_start, IsHeldIn}
 use Rattle.capn_path.specs.inner.Followed.{step_among, step_in}
 use Rattle.capn_path.proofs.Splits.{in-either, none-split}
@@ -127,10 +127,10 @@ among : (holder : Holder) (first : Place) (n i : ℕ) (rest : List ℕ) → i < 
 among holder first n i rest h = if-yes _ _ _ (less-yes i n h)
 
 -- a step that was taken
-record Among (holder : Holder) (first : Place) (n : ℕ) (way : List ℕ) (x : Spot) (rest : List ℕ) : Type 0 where
+record Among (holder : Holder) (first : Place) (n : ℕ) (path : List ℕ) (x : Spot) (rest : List ℕ) : Type 0 where
   number : ℕ
   small : number < n
-  is : way ≡ number ∷ rest
+  is : path ≡ number ∷ rest
   held : x ≡ spot holder (place first.segment (first.word + number))
 
 abbrev spot-or : Spot → Option (Spot × List ℕ) → Spot
@@ -145,13 +145,13 @@ some-parts : (x y : Spot) (u v : List ℕ)
     → ◌≡◌ {A = Option (Spot × List ℕ)} (Some (x, u)) (Some (y, v)) → (x ≡ y) × (u ≡ v)
 some-parts x y u v e = (ap (spot-or x) e, ap (rest-or u) e)
 
-were-among : (holder : Holder) (first : Place) (n : ℕ) (way : List ℕ) (x : Spot) (rest : List ℕ)
-    → step_among holder first n way ≡ Some (x, rest) → Among holder first n way x rest
+were-among : (holder : Holder) (first : Place) (n : ℕ) (path : List ℕ) (x : Spot) (rest : List ℕ)
+    → step_among holder first n path ≡ Some (x, rest) → Among holder first n path x rest
 were-among holder first n [] x rest e = absurd (cc)
-were-among holder first n (i ∷ way) x rest e =
-    pick (λ (o : Option (Spot × List ℕ)). o ≡ Some (x, rest) → Among holder first n (i ∷ way) x rest) (nat_lt i n)
-    (Some (spot holder (place first.segment (first.word + i)), way)) None
-    (λ t. λ f. let p = some-parts (spot holder (place first.segment (first.word + i))) x way rest f in record {
+were-among holder first n (i ∷ path) x rest e =
+    pick (λ (o : Option (Spot × List ℕ)). o ≡ Some (x, rest) → Among holder first n (i ∷ path) x rest) (nat_lt i n)
+    (Some (spot holder (place first.segment (first.word + i)), path)) None
+    (λ t. λ f. let p = some-parts (spot holder (place first.segment (first.word + i))) x path rest f in record {
       number = i;
       small = grind (arith, nat_tests);
       is = ap (λ (l : List ℕ). i ∷ l) p.1;
@@ -224,9 +224,9 @@ told s start pads (shapes.Rows n a b span) before slot behind (row ∷ i ∷ j �
 
 -- ---- the numbers of a step that was taken
 
-pub record Taken (s start : ℕ) (shape : Shape) (pads : ℕ) (way : List ℕ) (x : Spot) (rest : List ℕ) : Type 0 where
+pub record Taken (s start : ℕ) (shape : Shape) (pads : ℕ) (path : List ℕ) (x : Spot) (rest : List ℕ) : Type 0 where
   pub numbers : List ℕ
-  pub is : way ≡ numbers ++ rest
+  pub is : path ≡ numbers ++ rest
   pub some : 0 < length numbers
   pub before : List Place
   pub behind : List Place
@@ -236,10 +236,10 @@ pub record Taken (s start : ℕ) (shape : Shape) (pads : ℕ) (way : List ℕ) (
   pub held : IsHeldIn (targets.Content s start shape pads) numbers holder
   pub holds : x.holder ≡ Some holder
 
-pub taken : (s start pads : ℕ) (shape : Shape) (way : List ℕ) (x : Spot) (rest : List ℕ)
-    → step_in s start shape way ≡ Some (x, rest) → Taken s start shape pads way x rest
-taken s start pads (shapes.Node a b) way x rest e =
-    let k = were-among (Struct a b (place s start)) (place s (start + a)) b way x rest e in
+pub taken : (s start pads : ℕ) (shape : Shape) (path : List ℕ) (x : Spot) (rest : List ℕ)
+    → step_in s start shape path ≡ Some (x, rest) → Taken s start shape pads path x rest
+taken s start pads (shapes.Node a b) path x rest e =
+    let k = were-among (Struct a b (place s start)) (place s (start + a)) b path x rest e in
     let r = around-slot s (start + a) b k.number k.small in
     let at : place s (start + a + k.number) ≡ x.place = ap (λ (y : Spot). y.place) (sym k.held) in
     record {
@@ -254,8 +254,8 @@ taken s start pads (shapes.Node a b) way x rest e =
       held = refl;
       holds = ap (λ (y : Spot). y.holder) k.held;
     }
-taken s start pads (shapes.Many Link n) way x rest e =
-    let k = were-among (Pointers n (place s start)) (place s start) n way x rest e in
+taken s start pads (shapes.Many Link n) path x rest e =
+    let k = were-among (Pointers n (place s start)) (place s start) n path x rest e in
     let r = around-slot s start n k.number k.small in
     let at : place s (start + k.number) ≡ x.place = ap (λ (y : Spot). y.place) (sym k.held) in
     record {
@@ -270,21 +270,21 @@ taken s start pads (shapes.Many Link n) way x rest e =
       held = refl;
       holds = ap (λ (y : Spot). y.holder) k.held;
     }
-taken s start pads (shapes.Many W0 n) way x rest e = absurd (cc)
-taken s start pads (shapes.Many W1 n) way x rest e = absurd (cc)
-taken s start pads (shapes.Many W8 n) way x rest e = absurd (cc)
-taken s start pads (shapes.Many W16 n) way x rest e = absurd (cc)
-taken s start pads (shapes.Many W32 n) way x rest e = absurd (cc)
-taken s start pads (shapes.Many W64 n) way x rest e = absurd (cc)
-taken s start pads (shapes.Many Rows n) way x rest e = absurd (cc)
+taken s start pads (shapes.Many W0 n) path x rest e = absurd (cc)
+taken s start pads (shapes.Many W1 n) path x rest e = absurd (cc)
+taken s start pads (shapes.Many W8 n) path x rest e = absurd (cc)
+taken s start pads (shapes.Many W16 n) path x rest e = absurd (cc)
+taken s start pads (shapes.Many W32 n) path x rest e = absurd (cc)
+taken s start pads (shapes.Many W64 n) path x rest e = absurd (cc)
+taken s start pads (shapes.Many Rows n) path x rest e = absurd (cc)
 taken s start pads (shapes.Rows n a b span) [] x rest e = absurd (cc)
-taken s start pads (shapes.Rows n a b span) (row ∷ way) x rest e =
+taken s start pads (shapes.Rows n a b span) (row ∷ path) x rest e =
     let holder = Row row n (place s (row_start start a b row)) in
     let first = place s (row_start start a b row + a) in
     pick (λ (o : Option (Spot × List ℕ)). o ≡ Some (x, rest)
-    → Taken s start (shapes.Rows n a b span) pads (row ∷ way) x rest) (nat_lt row n)
-    (step_among holder first b way) None
-    (λ t. λ f. let k = were-among holder first b way x rest f in
+    → Taken s start (shapes.Rows n a b span) pads (row ∷ path) x rest) (nat_lt row n)
+    (step_among holder first b path) None
+    (λ t. λ f. let k = were-among holder first b path x rest f in
     let below : row < n = grind (arith, nat_tests) in
     let r = around-row s (start + 1) a b n row k.number below k.small in
     let at : place s (row_start start a b row + a + k.number) ≡ x.place =

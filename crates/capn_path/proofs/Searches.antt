@@ -21,14 +21,14 @@ use Rattle.capn_path.specs.inner.Seeks.{Seeks, SeeksBelow}
 use Rattle.capn_path.proofs.shared.Steps.{length-places, length-rows, row-split, middle, stays, goes-down}
 use Rattle.capn_path.proofs.shared.Passing.{passed-append, passed-alone, begins}
 
--- the way without its last number
-pub popped : (way old new : List ℕ) (i n : ℕ) → old ≡ way ++ i ∷ [] → n ≡ length old → new ≡ take (n - 1) old
-    → new ≡ way
-popped way old new i n e l h =
+-- the path without its last number
+pub popped : (path old new : List ℕ) (i n : ℕ) → old ≡ path ++ i ∷ [] → n ≡ length old → new ≡ take (n - 1) old
+    → new ≡ path
+popped path old new i n e l h =
     let a = ap length e in
-    let b = length-append way (i ∷ []) in
-    let k : n - 1 ≡ length way = omega arith in
-    h ∙ rw (k, e) (take-append_seam way (i ∷ []))
+    let b = length-append path (i ∷ []) in
+    let k : n - 1 ≡ length path = omega arith in
+    h ∙ rw (k, e) (take-append_seam path (i ∷ []))
 
 -- rows without slots
 no-slots : (s w a b n : ℕ) → b ≡ 0 → row_places s w a b n ≡ []
@@ -41,12 +41,12 @@ module _ {G F : Type 0} (m : List (List ℕ)) (finds : G → Place → Result Ta
     (base : ℕ) where
   -- ---- from a slot on
 
-  pub seeks-here : (d : ℕ) (at : Place) (aim after : G) (way : List ℕ) (x : F) → finds aim at (target m at) ≡ Some x
-      → Seeks m finds next base d at aim after way way (Some x)
-  seeks-here d at aim after way x e =
+  pub seeks-here : (d : ℕ) (at : Place) (aim after : G) (path : List ℕ) (x : F) → finds aim at (target m at) ≡ Some x
+      → Seeks m finds next base d at aim after path path (Some x)
+  seeks-here d at aim after path x e =
       let b = begins m base d at in (
         [],
-        sym (append-nil way),
+        sym (append-nil path),
         record {
           to = at;
           before = [];
@@ -61,22 +61,22 @@ module _ {G F : Type 0} (m : List (List ℕ)) (finds : G → Place → Result Ta
         },
       )
 
-  module _ (at : Place) (aim after : G) (way : List ℕ) (none : finds aim at (target m at) ≡ None)
+  module _ (at : Place) (aim after : G) (path : List ℕ) (none : finds aim at (target m at) ≡ None)
       (z : after ≡ next aim) (d : ℕ) where
-    pub seeks-null : target m at ≡ Ok targets.Nil → Seeks m finds next base d at aim after way way None
+    pub seeks-null : target m at ≡ Ok targets.Nil → Seeks m finds next base d at aim after path path None
     seeks-null e = (refl, passed-alone m finds next aim after _ (pays at 0) at (visits-null m base at d e) refl none z)
 
     pub seeks-cap : (index : ℕ) → target m at ≡ Ok (targets.Cap index)
-        → Seeks m finds next base d at aim after way way None
+        → Seeks m finds next base d at aim after path path None
     seeks-cap index e =
         (refl, passed-alone m finds next aim after _ (pays at 0) at (visits-cap m base at d index e) refl none z)
 
-    pub seeks-fault : (f : Fault) → target m at ≡ Err f → Seeks m finds next base d at aim after way way None
+    pub seeks-fault : (f : Fault) → target m at ≡ Err f → Seeks m finds next base d at aim after path path None
     seeks-fault f e =
         (refl, passed-alone m finds next aim after _ (fails at f) at (visits-fault m base at d f e) refl none z)
 
     pub seeks-deep : (s start pads : ℕ) (shape : Shape) → target m at ≡ Ok (targets.Content s start shape pads)
-        → d ≡ 0 → Seeks m finds next base d at aim after way way None
+        → d ≡ 0 → Seeks m finds next base d at aim after path path None
     seeks-deep s start pads shape e deep = (
       refl,
       passed-alone m finds next aim after _ (fails at faults.TooDeep) at

@@ -1,5 +1,5 @@
--- The slot of a visit by its number, and that of the visit at which a walk stops. (For `way_of_stop` and
--- `way_of_visit`.)
+-- The slot of a visit by its number, and that of the visit at which a walk stops. (For `path_of_stop` and
+-- `path_of_visit`.)
 use Rattle.std.proofs.Common.{◌≡◌, inl, inr, ℕ, zero, suc, ◌+◌, ◌-◌, ◌≤◌, ◌==◌, List, [], ◌∷◌, ◌++◌, length, map}
 use Rattle.std.proofs.Common.{Option, Some}
 use Rattle.std.proofs.Common.{None, Result, Ok, Err, refl, ap, sym, ◌∙◌, arith}
@@ -21,7 +21,7 @@ use Rattle.capn_walk.specs.Accepted.{IsStopHere, IsStop, IsWalkRefused}
 use Rattle.capn_walk.proofs.shared.Walks.{visits-cap}
 use Rattle.capn_path.specs.declared.visit.Numbered.{Numbered}
 use Rattle.capn_path.specs.Finds.{IsPassed, IsFirstFind, IsWithoutFind}
-use Rattle.capn_path.specs.Ways.{IsVisited, IsNotVisited, IsRefusedAt}
+use Rattle.capn_path.specs.Paths.{IsVisited, IsNotVisited, IsRefusedAt}
 use Rattle.capn_path.specs.inner.Numbered.{found_at, one_less}
 
 -- ---- visits are counted down
@@ -103,9 +103,9 @@ module _ (m : List (List ℕ)) (limits : Bounds) (n : ℕ) where
   abbrev aim : Numbered
   aim = record { left = n }
 
-  pub visited : (way : List ℕ) (p : Place) → IsFirstFind m found_at one_less limits.depth root aim way p
-      → IsVisited m limits n way p
-  visited way p f =
+  pub visited : (path : List ℕ) (p : Place) → IsFirstFind m found_at one_less limits.depth root aim path p
+      → IsVisited m limits n path p
+  visited path p f =
       let h = f b in
       let r = matched (visits_within m limits) h.before h.here h.behind
       (root-places m b limits.depth ∙ ap (λ (vs : List Visit). map place_of vs) h.visits) in
@@ -148,21 +148,21 @@ ends-at budget before (pays p n) at fault h = h.0
 
 module _ (m : List (List ℕ)) (limits : Bounds) (stopped : Stopped) (some : stopped.visits ≡ 0 → ⊥) where
   -- the place of the visit that ends a walk
-  stop-place : (way : List ℕ) (p : Place)
+  stop-place : (path : List ℕ) (p : Place)
       → IsStop limits.budget (visits_within m limits) stopped.fault stopped.place stopped.paid stopped.visits
-      → IsVisited m limits (stopped.visits - 1) way p → p ≡ stopped.place
-  stop-place way p s v =
+      → IsVisited m limits (stopped.visits - 1) path p → p ≡ stopped.place
+  stop-place path p s v =
       let n = s.number in
       let c = v.count in
       let same = same-at v.before s.before v.here s.stop v.behind s.after (sym v.is ∙ s.split) (omega arith) in
       sym v.place ∙ ap place_of same ∙ ends-at limits.budget _ s.stop stopped.place stopped.fault s.ends
 
-  pub refused-at : (way : List ℕ) (p : Place)
+  pub refused-at : (path : List ℕ) (p : Place)
       → IsWalkRefused m limits stopped.fault stopped.place stopped.paid stopped.visits
-      → IsVisited m limits (stopped.visits - 1) way p → IsRefusedAt m limits stopped way
-  refused-at way p (inl none) v = absurd (some none.4)
-  refused-at way p (inr r) v = record {
+      → IsVisited m limits (stopped.visits - 1) path p → IsRefusedAt m limits stopped path
+  refused-at path p (inl none) v = absurd (some none.4)
+  refused-at path p (inr r) v = record {
     refused = inr r;
-    leads = λ h. rw (sym (stop-place way p r.1 v)) v.leads;
+    leads = λ h. rw (sym (stop-place path p r.1 v)) v.leads;
     none = λ z. absurd (some z);
   }

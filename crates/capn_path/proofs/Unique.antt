@@ -1,4 +1,4 @@
--- One way at most leads to the slot of a visit. (For `ways`.)
+-- One path at most leads to the slot of a visit. (For `paths`.)
 use Rattle.std.proofs.Common.{◌≡◌, ℕ, zero, suc, ◌+◌, ◌-◌, ◌*◌, ◌/◌, ◌<◌, List, [], ◌∷◌, ◌++◌, length, Ok}
 use Rattle.std.proofs.Common.{Result, refl, ap, ap₂, sym, ◌∙◌, arith, length-append}
 use Rattle.std.specs.List.{flat_map}
@@ -15,8 +15,8 @@ use Rattle.capn_walk.specs.Visits.{Visit, visits}
 use Rattle.capn_walk.specs.View.{slots_below}
 use Rattle.capn_walk.specs.Accepted.{root}
 use Rattle.capn_walk.proofs.shared.Walks.{visits-object}
-use Rattle.capn_path.specs.Ways.{AreNumbersOf, Leads, Descends}
-use Rattle.capn_path.specs.Laws.{WaysAreOne}
+use Rattle.capn_path.specs.Paths.{AreNumbersOf, Leads, Descends}
+use Rattle.capn_path.specs.Laws.{PathsAreOne}
 use Rattle.capn_path.proofs.Splits.{none-split}
 use Rattle.capn_path.proofs.shared.Passing.{begins}
 
@@ -82,15 +82,15 @@ module _ (f : Place → List Visit) where
       let r = one-slot xs ys p q us vs i j t h k (omega arith) in
       record { front = ap₂ (λ (y : Place) (ys : List Place). y ∷ ys) z r.front; slot = r.slot; later = r.later }
 
--- ---- one way
+-- ---- one path
 
 module _ (m : List (List ℕ)) (b : ℕ) where
   here-shorter : (d : ℕ) (at : Place) (n : ℕ) → n ≡ 0 → n < length (visits m b d at)
   here-shorter d at n z = let o = begins m b d at in let l = ap length o.is in omega arith
 
-  module _ (d : ℕ) (on : (at : Place) (way : List ℕ) (to : Place) (n : ℕ) → Leads m b d at way to n
-      → n < length (visits m b d at)) (at : Place) (way : List ℕ) (to : Place) (n : ℕ)
-      (h : Descends m b d (Leads m b d) at way to n) where
+  module _ (d : ℕ) (on : (at : Place) (path : List ℕ) (to : Place) (n : ℕ) → Leads m b d at path to n
+      → n < length (visits m b d at)) (at : Place) (path : List ℕ) (to : Place) (n : ℕ)
+      (h : Descends m b d (Leads m b d) at path to n) where
     below-shorter : (found : Target) → h.found ≡ found → n < length (visits m b (suc d) at)
     below-shorter (targets.Content s start shape pads) e =
         let f = visits m b d in
@@ -109,13 +109,13 @@ module _ (m : List (List ℕ)) (b : ℕ) where
     below-shorter (targets.Cap k) e = absurd (none-split h.before h.slot h.behind (sym (ap slots_below e) ∙ h.slots))
 
   -- fewer visits are before the slot than below the first
-  shorter : (d : ℕ) (at : Place) (way : List ℕ) (to : Place) (n : ℕ) → Leads m b d at way to n
+  shorter : (d : ℕ) (at : Place) (path : List ℕ) (to : Place) (n : ℕ) → Leads m b d at path to n
       → n < length (visits m b d at)
   shorter zero at [] to n h = here-shorter zero at n h.1
-  shorter zero at (i ∷ way) to n h = absurd h
+  shorter zero at (i ∷ path) to n h = absurd h
   shorter (suc d) at [] to n h = here-shorter (suc d) at n h.1
-  shorter (suc d) at (i ∷ way) to n h =
-      below-shorter d (λ p w t k g. shorter d p w t k g) at (i ∷ way) to n h h.found refl
+  shorter (suc d) at (i ∷ path) to n h =
+      below-shorter d (λ p w t k g. shorter d p w t k g) at (i ∷ path) to n h h.found refl
 
   ok-one : (x y : Target) → ◌≡◌ {A = Result Target Fault} (Ok x) (Ok y) → x ≡ y
   ok-one x y e = cc
@@ -145,16 +145,16 @@ module _ (m : List (List ℕ)) (b : ℕ) where
     by-found targets.Nil e = absurd (none-split h.before h.slot h.behind (sym (ap slots_below e) ∙ h.slots))
     by-found (targets.Cap k) e = absurd (none-split h.before h.slot h.behind (sym (ap slots_below e) ∙ h.slots))
 
-  one-way : (d : ℕ) (at : Place) (v w : List ℕ) (to p : Place) (n : ℕ) → Leads m b d at v to n
+  one-path : (d : ℕ) (at : Place) (v w : List ℕ) (to p : Place) (n : ℕ) → Leads m b d at v to n
       → Leads m b d at w p n → (v ≡ w) × (to ≡ p)
-  one-way zero at [] [] to p n h g = (refl, h.0 ∙ sym g.0)
-  one-way zero at (i ∷ v) w to p n h g = absurd h
-  one-way zero at [] (j ∷ w) to p n h g = absurd g
-  one-way (suc d) at [] [] to p n h g = (refl, h.0 ∙ sym g.0)
-  one-way (suc d) at [] (j ∷ w) to p n h g = let z = h.1 in let c = g.count in absurd (omega arith)
-  one-way (suc d) at (i ∷ v) [] to p n h g = let z = g.1 in let c = h.count in absurd (omega arith)
-  one-way (suc d) at (i ∷ v) (j ∷ w) to p n h g =
-      by-found d (λ q x y t u k e f. one-way d q x y t u k e f) at (i ∷ v) (j ∷ w) to p n h g h.found refl
+  one-path zero at [] [] to p n h g = (refl, h.0 ∙ sym g.0)
+  one-path zero at (i ∷ v) w to p n h g = absurd h
+  one-path zero at [] (j ∷ w) to p n h g = absurd g
+  one-path (suc d) at [] [] to p n h g = (refl, h.0 ∙ sym g.0)
+  one-path (suc d) at [] (j ∷ w) to p n h g = let z = h.1 in let c = g.count in absurd (omega arith)
+  one-path (suc d) at (i ∷ v) [] to p n h g = let z = g.1 in let c = h.count in absurd (omega arith)
+  one-path (suc d) at (i ∷ v) (j ∷ w) to p n h g =
+      by-found d (λ q x y t u k e f. one-path d q x y t u k e f) at (i ∷ v) (j ∷ w) to p n h g h.found refl
 
-pub ways-are-one : WaysAreOne
-ways-are-one m limits n way other at to g h = one-way m (base limits.tariff) limits.depth root way other at to n g h
+pub paths-are-one : PathsAreOne
+paths-are-one m limits n path other at to g h = one-path m (base limits.tariff) limits.depth root path other at to n g h

@@ -6,7 +6,7 @@ use Rattle.capn_target.specs.declared.target.Fault.{Fault}
 use Rattle.capn_target.specs.Target.{target}
 use Rattle.capn_walk.specs.Visits.{Visit, visits}
 use Rattle.capn_walk.specs.Index.{place_of}
-use Rattle.capn_path.specs.Ways.{Leads}
+use Rattle.capn_path.specs.Paths.{Leads}
 
 module _ {G F : Type 0} (m : List (List ℕ)) (finds : G → Place → Result Target Fault → Option F) (next : G → G) where
   -- nothing is found at the slots of these visits, from one aim on, and this is the aim after them
@@ -15,8 +15,8 @@ module _ {G F : Type 0} (m : List (List ℕ)) (finds : G → Place → Result Ta
   IsPassed aim (v ∷ vs) after =
       (finds aim (place_of v) (target m (place_of v)) ≡ None) × IsPassed (next aim) vs after
 
-  -- the first of these visits at whose slot something is found, and the way to that
-  pub record Meets (vs : List Visit) (Onward : List ℕ → Place → ℕ → Type 0) (aim : G) (way : List ℕ) (x : F)
+  -- the first of these visits at whose slot something is found, and the path to that
+  pub record Meets (vs : List Visit) (Onward : List ℕ → Place → ℕ → Type 0) (aim : G) (path : List ℕ) (x : F)
       : Type 0 where
     pub to : Place
     pub before : List Visit
@@ -27,12 +27,12 @@ module _ {G F : Type 0} (m : List (List ℕ)) (finds : G → Place → Result Ta
     pub passed : IsPassed aim before last
     pub place : place_of here ≡ to
     pub found : finds last to (target m to) ≡ Some x
-    pub leads : Onward way to (length before)
+    pub leads : Onward path to (length before)
 
   -- of the visits from a slot on, at most `depth` objects deep, and whatever the base of their prices
   abbrev pub IsFirstFind : ℕ → Place → G → List ℕ → F → Type 0
-  IsFirstFind depth at aim way x =
-      (base : ℕ) → Meets (visits m base depth at) (Leads m base depth at) aim way x
+  IsFirstFind depth at aim path x =
+      (base : ℕ) → Meets (visits m base depth at) (Leads m base depth at) aim path x
 
   -- nothing is found at any of them
   abbrev pub IsWithoutFind : ℕ → Place → G → Type 0

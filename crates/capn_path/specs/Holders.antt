@@ -1,4 +1,4 @@
--- The object that holds the slot to which a way leads: a struct, a list of pointers, or a row of a list of structs.
+-- The object that holds the slot to which a path leads: a struct, a list of pointers, or a row of a list of structs.
 use Rattle.std.specs.Prelude.{◌≡◌, ℕ, ◌+◌, ◌*◌, List, [], ◌∷◌, ◌++◌, length, Ok, Option, Some, None, refl}
 use Rattle.capn_words.specs.declared.space.Place.{Place}
 use Rattle.capn_target.specs.declared.target.Target.{Target}
@@ -9,7 +9,7 @@ use Rattle.capn_walk.specs.View.{slots_below}
 use Rattle.capn_walk.specs.Accepted.{root}
 use Rattle.capn_path.specs.declared.holder.Holder.{Holder}
 use Rattle.capn_path.specs.declared.holder.Holder.TheVariants.{Struct, Pointers, Row}
-use Rattle.capn_path.specs.Ways.{AreNumbersOf, Leads}
+use Rattle.capn_path.specs.Paths.{AreNumbersOf, Leads}
 
 -- the place of word w of segment s
 abbrev pub place : ℕ → ℕ → Place
@@ -28,9 +28,9 @@ IsHeldIn (targets.Content s start (shapes.Rows n a b span) pads) (row ∷ slot �
     holder ≡ Row row n (place s (row_start start a b row))
 IsHeldIn found numbers holder = ⊥
 
--- a way leads from the slot at a place to one that this object holds: its front to the slot that names the object, and
+-- a path leads from the slot at a place to one that this object holds: its front to the slot that names the object, and
 -- its last numbers say which of the object's slots is meant
-pub record Holds (message : List (List ℕ)) (start : Place) (way : List ℕ) (to : Place) (holder : Holder)
+pub record Holds (message : List (List ℕ)) (start : Place) (path : List ℕ) (to : Place) (holder : Holder)
     : Type 0 where
   pub base : ℕ
   pub depth : ℕ
@@ -45,17 +45,17 @@ pub record Holds (message : List (List ℕ)) (start : Place) (way : List ℕ) (t
   pub slots : slots_below found ≡ before ++ to ∷ behind
   pub numbers : List ℕ
   pub are : AreNumbersOf found (length before) numbers
-  pub is : way ≡ front ++ numbers
+  pub is : path ≡ front ++ numbers
   pub held : IsHeldIn found numbers holder
 
--- a way leads from the root to a slot that this object holds
+-- a path leads from the root to a slot that this object holds
 abbrev pub IsHolder : List (List ℕ) → List ℕ → Place → Holder → Type 0
-IsHolder message way to holder = Holds message root way to holder
+IsHolder message path to holder = Holds message root path to holder
 
--- the holder of the slot to which a way leads; nothing holds the root's
+-- the holder of the slot to which a path leads; nothing holds the root's
 abbrev pub IsHolderOrRoot : List (List ℕ) → List ℕ → Place → Option Holder → Type 0
-IsHolderOrRoot message way to (Some holder) = IsHolder message way to holder
-IsHolderOrRoot message way to None = way ≡ []
+IsHolderOrRoot message path to (Some holder) = IsHolder message path to holder
+IsHolderOrRoot message path to None = path ≡ []
 
 -- ---- examples: a struct of two words holds its slot, and the second row of three holds its own
 

@@ -1,5 +1,5 @@
 pub mod inner
-pub mod Ways
+pub mod Paths
 pub mod Steps
 pub mod Finds
 pub mod Holders

@@ -1,10 +1,10 @@
--- A step to one of several slots, and a way from there on. (Own.)
+-- A step to one of several slots, and a path from there on. (Own.)
 use Rattle.std.specs.Prelude.{◌≡◌, ℕ, ◌+◌, ◌*◌, ◌<◌, List, [], ◌∷◌, ◌++◌, length}
 use Rattle.capn_words.specs.declared.space.Place.{Place}
 use Rattle.capn_target.specs.declared.target.Shape.{Shape}
 use Rattle.capn_target.specs.declared.target.Shape.TheVariants as shapes
 use Rattle.capn_walk.specs.Visits.{visits_of}
-use Rattle.capn_path.specs.Ways.{Leads}
+use Rattle.capn_path.specs.Paths.{Leads}
 
 -- the number that says which of several slots is meant, by how many come before it
 abbrev pub AreNumbers : ℕ → List ℕ → Type 0
@@ -24,9 +24,9 @@ AreNumbersIn (shapes.Node a b) = AreNumbers
 AreNumbersIn (shapes.Many width n) = AreNumbers
 AreNumbersIn (shapes.Rows n a b span) = AreRowNumbers b
 
--- a step to one of several slots, and a way from there on
+-- a step to one of several slots, and a path from there on
 pub record DescendsTo (m : List (List ℕ)) (base depth : ℕ) (ps : List Place) (are : ℕ → List ℕ → Type 0)
-    (way : List ℕ) (to : Place) (between : ℕ) : Type 0 where
+    (path : List ℕ) (to : Place) (between : ℕ) : Type 0 where
   pub before : List Place
   pub slot : Place
   pub behind : List Place
@@ -34,7 +34,7 @@ pub record DescendsTo (m : List (List ℕ)) (base depth : ℕ) (ps : List Place)
   pub numbers : List ℕ
   pub named : are (length before) numbers
   pub rest : List ℕ
-  pub is : way ≡ numbers ++ rest
+  pub is : path ≡ numbers ++ rest
   pub later : ℕ
   pub onward : Leads m base depth slot rest to later
   pub count : between ≡ length (visits_of m base depth before) + later

@@ -4,7 +4,7 @@ ghost use Rattle.std.specs.Prelude.{◌≡◌, ℕ, ◌+◌, ◌*◌, ◌<◌, �
 ghost use Rattle.capn_words.specs.Message.{segment_at, IsPlace};
 ghost use Rattle.capn_target.specs.Shapes.{IsContent, RowsFit, extent};
 ghost use Rattle.capn_walk.specs.Limits.{Bounds};
-ghost use Rattle.capn_path.specs.Ways.{IsWayTo};
+ghost use Rattle.capn_path.specs.Paths.{IsPathTo};
 ghost use Rattle.capn_path.specs.Holders.{IsHolder, IsHolderOrRoot};
 ghost use Rattle.capn_target.specs.Target.{target};
 ghost use Rattle.capn_path.specs.inner.Followed as spec;
@@ -42,7 +42,7 @@ pub enum Holder {
     },
 }
 
-/// A slot to which a way leads.
+/// A slot to which a path leads.
 #[derive(Clone, Copy)]
 pub struct Spot {
     /// Its holder; the root's slot has none.
@@ -51,27 +51,27 @@ pub struct Spot {
     pub place: Place,
 }
 
-/// Finds the object that holds the slot to which `way` leads from the root.
+/// Finds the object that holds the slot to which `path` leads from the root.
 ///
-/// `None` if the way is empty, since nothing holds the root's slot, and if it leads to no slot. It follows the way from
-/// the root, and reads at most four words for each step. It takes no memory, and looks at no limits.
-pub fn holder_of<S: Space>(space: &S, way: &[u32]) -> Option<Holder>
-    // An answer holds the slot to which the way leads.
-    ensures some { IfSome result (λ holder. (to : Place) × IsHolder (S.message space.now) way.now to holder) }
+/// `None` if the path is empty, since nothing holds the root's slot, and if it leads to no slot. It follows the path
+/// from the root, and reads at most four words for each step. It takes no memory, and looks at no limits.
+pub fn holder_of<S: Space>(space: &S, path: &[u32]) -> Option<Holder>
+    // An answer holds the slot to which the path leads.
+    ensures some { IfSome result (λ holder. (to : Place) × IsHolder (S.message space.now) path.now to holder) }
     // If there is no answer, nothing does.
     ensures none { IfNone result
-        ((to : Place) (holder : Holder) → IsHolder (S.message space.now) way.now to holder → ⊥) }
-    // Of the way to a visit, that at which a walk stopped among them, it is the holder of that visit's slot.
+        ((to : Place) (holder : Holder) → IsHolder (S.message space.now) path.now to holder → ⊥) }
+    // Of the path to a visit, that at which a walk stopped among them, it is the holder of that visit's slot.
     ensures visit { (limits : Bounds) (number : ℕ) (to : Place)
-        → IsWayTo (S.message space.now) limits number way.now to
-        → IsHolderOrRoot (S.message space.now) way.now to result }
+        → IsPathTo (S.message space.now) limits number path.now to
+        → IsHolderOrRoot (S.message space.now) path.now to result }
 {
-    held(space, way)
+    held(space, path)
 }
 
-/// Finds that object by following `way`.
-fn held<S: Space>(space: &S, way: &[u32]) -> Option<Holder>
-    ensures { result ≡ spec.holder_at (spec.follow (S.message space.now) (length way.now) spec.start way.now) }
+/// Finds that object by following `path`.
+fn held<S: Space>(space: &S, path: &[u32]) -> Option<Holder>
+    ensures { result ≡ spec.holder_at (spec.follow (S.message space.now) (length path.now) spec.start path.now) }
 {
     if segment_length(space, Place::ROOT.segment) == 0 {
         return None;
@@ -80,19 +80,19 @@ fn held<S: Space>(space: &S, way: &[u32]) -> Option<Holder>
         holder: None,
         place: Place::ROOT,
     };
-    match followed(space, root, way) {
+    match followed(space, root, path) {
         Some(spot) => spot.holder,
         None => None,
     }
 }
 
-/// Follows `way` from the slot `from`; `None`, if it leads to no slot.
-fn followed<S: Space>(space: &S, from: Spot, way: &[u32]) -> Option<Spot>
+/// Follows `path` from the slot `from`; `None`, if it leads to no slot.
+fn followed<S: Space>(space: &S, from: Spot, path: &[u32]) -> Option<Spot>
     requires place { IsPlace (S.message space.now) from.place }
-    ensures { result ≡ spec.follow (S.message space.now) (length way.now) from way.now }
+    ensures { result ≡ spec.follow (S.message space.now) (length path.now) from path.now }
 {
     let mut spot = from;
-    let mut rest = way;
+    let mut rest = path;
     while let [_, ..] = rest {
         match step(space, spot.place, rest) {
             Some((next, after)) => {
@@ -105,14 +105,14 @@ fn followed<S: Space>(space: &S, from: Spot, way: &[u32]) -> Option<Spot>
     Some(spot)
 }
 
-/// Follows `way` one step from the slot at `at`: returns the slot there and the rest of the way.
-fn step<'w, S: Space>(space: &S, at: Place, way: &'w [u32]) -> Option<(Spot, &'w [u32])>
+/// Follows `path` one step from the slot at `at`: returns the slot there and the rest of the path.
+fn step<'w, S: Space>(space: &S, at: Place, path: &'w [u32]) -> Option<(Spot, &'w [u32])>
     requires place { IsPlace (S.message space.now) at }
     ensures place { IfSome result (λ x. IsPlace (S.message space.now) x.0.place) }
-    ensures shorter { IfSome result (λ x. length x.1.now < length way.now) }
+    ensures shorter { IfSome result (λ x. length x.1.now < length path.now) }
     ensures exact { MatchOption result
-        (spec.step_by (target (S.message space.now) at) way.now ≡ None)
-        (λ x. spec.step_by (target (S.message space.now) at) way.now ≡ Some (x.0, x.1.now)) }
+        (spec.step_by (target (S.message space.now) at) path.now ≡ None)
+        (λ x. spec.step_by (target (S.message space.now) at) path.now ≡ Some (x.0, x.1.now)) }
 {
     match resolve(space, at) {
         Ok(target) => match target {
@@ -128,27 +128,27 @@ fn step<'w, S: Space>(space: &S, at: Place, way: &'w [u32]) -> Option<(Spot, &'w
                     segment,
                     word: start,
                 };
-                step_in(space, start, shape, way)
+                step_in(space, start, shape, path)
             }
         },
         Err(_) => None,
     }
 }
 
-/// Follows `way` one step among the slots of an object of this `shape`, whose content starts at `start`.
+/// Follows `path` one step among the slots of an object of this `shape`, whose content starts at `start`.
 fn step_in<'w, S: Space>(
     space: &S,
     start: Place,
     shape: Shape,
-    way: &'w [u32],
+    path: &'w [u32],
 ) -> Option<(Spot, &'w [u32])>
     requires content { IsContent (S.message space.now) start (extent shape) }
     requires rows { RowsFit shape }
     ensures place { IfSome result (λ x. IsPlace (S.message space.now) x.0.place) }
-    ensures shorter { IfSome result (λ x. length x.1.now < length way.now) }
+    ensures shorter { IfSome result (λ x. length x.1.now < length path.now) }
     ensures exact { MatchOption result
-        (spec.step_in start.segment start.word shape way.now ≡ None)
-        (λ x. spec.step_in start.segment start.word shape way.now ≡ Some (x.0, x.1.now)) }
+        (spec.step_in start.segment start.word shape path.now ≡ None)
+        (λ x. spec.step_in start.segment start.word shape path.now ≡ Some (x.0, x.1.now)) }
 {
     let _bounds = space.segments();
     let segment = start.segment;
@@ -163,12 +163,12 @@ fn step_in<'w, S: Space>(
                 segment,
                 word: start.word + words as u32,
             };
-            step_among(space, holder, first, slots as u32, way)
+            step_among(space, holder, first, slots as u32, path)
         }
         Shape::Many { width, count } => match width {
             Width::Link => {
                 let holder = Holder::Pointers { count, at: start };
-                step_among(space, holder, start, count, way)
+                step_among(space, holder, start, count, path)
             }
             _ => None,
         },
@@ -177,11 +177,11 @@ fn step_in<'w, S: Space>(
             words,
             slots,
             span: _,
-        } => step_in_rows(space, start, count, words, slots, way),
+        } => step_in_rows(space, start, count, words, slots, path),
     }
 }
 
-/// Follows `way` one step among the slots of `count` rows of `words` words and `slots` slots each, behind the tag at
+/// Follows `path` one step among the slots of `count` rows of `words` words and `slots` slots each, behind the tag at
 /// `start`.
 fn step_in_rows<'w, S: Space>(
     space: &S,
@@ -189,19 +189,19 @@ fn step_in_rows<'w, S: Space>(
     count: u32,
     words: u16,
     slots: u16,
-    way: &'w [u32],
+    path: &'w [u32],
 ) -> Option<(Spot, &'w [u32])>
     requires inside { start.word + 1 + count * (words + slots)
         ≤ length (segment_at (S.message space.now) start.segment) }
     ensures place { IfSome result (λ x. IsPlace (S.message space.now) x.0.place) }
-    ensures shorter { IfSome result (λ x. length x.1.now < length way.now) }
+    ensures shorter { IfSome result (λ x. length x.1.now < length path.now) }
     ensures exact { MatchOption result
-        (spec.step_in_rows start.segment start.word count words slots way.now ≡ None)
-        (λ x. spec.step_in_rows start.segment start.word count words slots way.now ≡ Some (x.0, x.1.now)) }
+        (spec.step_in_rows start.segment start.word count words slots path.now ≡ None)
+        (λ x. spec.step_in_rows start.segment start.word count words slots path.now ≡ Some (x.0, x.1.now)) }
 {
     let _bounds = space.segments();
     let segment = start.segment;
-    let [row, others @ ..] = way else {
+    let [row, others @ ..] = path else {
         return None;
     };
     let row = *row;
@@ -221,23 +221,23 @@ fn step_in_rows<'w, S: Space>(
     step_among(space, holder, first, slots as u32, others)
 }
 
-/// Follows `way` one step among the `count` slots of one `holder`, which lie one after the other from `first` on.
+/// Follows `path` one step among the `count` slots of one `holder`, which lie one after the other from `first` on.
 fn step_among<'w, S: Space>(
     space: &S,
     holder: Holder,
     first: Place,
     count: u32,
-    way: &'w [u32],
+    path: &'w [u32],
 ) -> Option<(Spot, &'w [u32])>
     requires inside { first.word + count ≤ length (segment_at (S.message space.now) first.segment) }
     ensures place { IfSome result (λ x. IsPlace (S.message space.now) x.0.place) }
-    ensures shorter { IfSome result (λ x. length x.1.now < length way.now) }
+    ensures shorter { IfSome result (λ x. length x.1.now < length path.now) }
     ensures exact { MatchOption result
-        (spec.step_among holder first count way.now ≡ None)
-        (λ x. spec.step_among holder first count way.now ≡ Some (x.0, x.1.now)) }
+        (spec.step_among holder first count path.now ≡ None)
+        (λ x. spec.step_among holder first count path.now ≡ Some (x.0, x.1.now)) }
 {
     let _bounds = space.segments();
-    let [number, rest @ ..] = way else {
+    let [number, rest @ ..] = path else {
         return None;
     };
     if *number >= count {

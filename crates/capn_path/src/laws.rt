@@ -1,10 +1,10 @@
-//! The laws of ways, as empty functions.
+//! The laws of paths, as empty functions.
 
-ghost use Rattle.capn_path.specs.Laws.{WaysAreOne, HoldersAreOne};
+ghost use Rattle.capn_path.specs.Laws.{PathsAreOne, HoldersAreOne};
 
-/// States: at most one way leads to the slot of the visit that the walk of a message makes after so many others.
-pub fn ways()
-    ensures { WaysAreOne }
+/// States: at most one path leads to the slot of the visit that the walk of a message makes after so many others.
+pub fn paths()
+    ensures { PathsAreOne }
 {}
 
 /// States: one object, and no other, holds the slot of a visit, except the root's.

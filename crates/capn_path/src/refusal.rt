@@ -1,52 +1,52 @@
-//! The way to the slot of a refusal.
+//! The path to the slot of a refusal.
 
 ghost use Rattle.std.specs.Prelude.{IfOk, IfSome, IfNone, ◌-◌};
 ghost use Rattle.capn_walk.specs.Accepted.{IsAccepted, IsWalkRefused};
-ghost use Rattle.capn_path.specs.Ways.{IsRefusedAt};
+ghost use Rattle.capn_path.specs.Paths.{IsRefusedAt};
 
-use crate::visit::way_of_visit;
+use crate::visit::path_of_visit;
 use capn_walk::{Limits, Stopped, survey};
 use capn_words::{Memory, Space};
 use std::alloc::{Allocator, Global};
 
-/// A message whose walk stopped: the place and the reason, and the way to the slot that was visited.
+/// A message whose walk stopped: the place and the reason, and the path to the slot that was visited.
 #[derive(Debug, Drop)]
 pub struct Refused<A: Allocator = Global> {
     /// The place and the reason, as [`survey`] answers them.
     pub stopped: Stopped,
     /// The numbers that lead to the slot from the root: none, if it is the root's, or if there is no root.
-    pub way: Vec<u32, A>,
+    pub path: Vec<u32, A>,
 }
 
-/// Tests whether the message `space` is refused within `limits`, and finds the way to the slot at which its walk
+/// Tests whether the message `space` is refused within `limits`, and finds the path to the slot at which its walk
 /// stopped: `None`, if it is accepted.
 ///
-/// It surveys the message, and if that is refused it makes the visits up to the refused one again. Memory: the way on
+/// It surveys the message, and if that is refused it makes the visits up to the refused one again. Memory: the path on
 /// `alloc`, which has at most two numbers for each level of the depth limit.
-pub fn way_of_refusal<S: Space, A: Allocator + Copy>(
+pub fn path_of_refusal<S: Space, A: Allocator + Copy>(
     alloc: A,
     space: &S,
     limits: Limits,
 ) -> Result<Option<Refused<A>>, Memory>
     ensures refused { IfOk result (λ r. IfSome r
-        (λ f. IsRefusedAt (S.message space.now) limits f.stopped f.way.items)) }
+        (λ f. IsRefusedAt (S.message space.now) limits f.stopped f.path.items)) }
     ensures accepted { IfOk result (λ r. IfNone r (IsAccepted (S.message space.now) limits)) }
 {
     match survey(alloc, space, limits) {
         Ok(_) => Ok(None),
         Err(stopped) => {
-            let way = way_of_stop(alloc, space, limits, stopped)?;
-            Ok(Some(Refused { stopped, way }))
+            let path = path_of_stop(alloc, space, limits, stopped)?;
+            Ok(Some(Refused { stopped, path }))
         }
     }
 }
 
-/// Finds the way to the slot at which the walk of the message `space` stopped: empty, if it is the root's, or if there
+/// Finds the path to the slot at which the walk of the message `space` stopped: empty, if it is the root's, or if there
 /// is no root.
 ///
 /// `stopped` is the stop of the walk of this message within these `limits`, as [`survey`] answers it. It makes the
-/// visits up to the refused one, and no survey. Memory: that of [`way_of_refusal`].
-pub fn way_of_stop<S: Space, A: Allocator + Copy>(
+/// visits up to the refused one, and no survey. Memory: that of [`path_of_refusal`].
+pub fn path_of_stop<S: Space, A: Allocator + Copy>(
     alloc: A,
     space: &S,
     limits: Limits,
@@ -54,13 +54,13 @@ pub fn way_of_stop<S: Space, A: Allocator + Copy>(
 ) -> Result<Vec<u32, A>, Memory>
     requires refused { IsWalkRefused (S.message space.now) limits
         stopped.fault stopped.place stopped.paid stopped.visits }
-    ensures { IfOk result (λ way. IsRefusedAt (S.message space.now) limits stopped way.items) }
+    ensures { IfOk result (λ path. IsRefusedAt (S.message space.now) limits stopped path.items) }
 {
     if stopped.visits == 0 {
         return Ok(Vec::new(alloc));
     }
-    match way_of_visit(alloc, space, limits, stopped.visits - 1)? {
-        Some(visited) => Ok(visited.way),
+    match path_of_visit(alloc, space, limits, stopped.visits - 1)? {
+        Some(visited) => Ok(visited.path),
         None => unreachable!(),
     }
 }

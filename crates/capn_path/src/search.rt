@@ -17,10 +17,10 @@ use capn_words::{Memory, Place, Space, Width};
 use std::alloc::Allocator;
 
 /// Finds the first visit from the root of the message `space` on, at most `depth` objects deep, at whose slot `aim`
-/// finds something: returns the find, and the way to the slot. `None`: nothing is found at any.
+/// finds something: returns the find, and the path to the slot. `None`: nothing is found at any.
 ///
 /// It makes the visits up to that one, and reads at most four words for each beside what `aim` reads. It looks at no
-/// price and no budget. `Memory` comes only if a growth of the way on `alloc` was refused; the way has at most two
+/// price and no budget. `Memory` comes only if a growth of the path on `alloc` was refused; the path has at most two
 /// numbers for each level of `depth`. (Own.)
 pub fn seek<S: Space, G: Aim, A: Allocator + Copy>(
     alloc: A,
@@ -38,28 +38,28 @@ pub fn seek<S: Space, G: Aim, A: Allocator + Copy>(
     ensures memory { OnErr result ((G.finds aim root (target (S.message space.now) root) ≡ None) × (0 < depth)) }
 {
     let mut aim = aim;
-    let mut way = Vec::new(alloc);
-    match seek_slot(space, Place::ROOT, depth, &mut aim, &mut way)? {
-        Some(found) => Ok(Some((found, way))),
+    let mut path = Vec::new(alloc);
+    match seek_slot(space, Place::ROOT, depth, &mut aim, &mut path)? {
+        Some(found) => Ok(Some((found, path))),
         None => Ok(None),
     }
 }
 
 /// Looks for the first find of `aim` from the visit of the slot at `at` on, where objects are visited at most `depth`
-/// deep. `way` has the numbers that lead to that slot, and if something is found, those to its slot.
+/// deep. `path` has the numbers that lead to that slot, and if something is found, those to its slot.
 #[cycle(seek)]
 fn seek_slot<S: Space, G: Aim, A: Allocator>(
     space: &S,
     at: Place,
     depth: u32,
     aim: &mut G,
-    way: &mut Vec<u32, A>,
+    path: &mut Vec<u32, A>,
 ) -> Result<Option<G::Found>, Memory>
     requires place { IsPlace (S.message space.now) at }
     ensures found { IfOk result (λ r. (base : ℕ) → Seeks (S.message space.now) G.finds G.next base depth at
-        aim.old aim.new way.old.items way.new.items r) }
-    ensures grown { vec_capacity way.old ≤ vec_capacity way.new }
-    ensures room { OnErr result (vec_capacity way.old < vec_len way.old + 2 * depth) }
+        aim.old aim.new path.old.items path.new.items r) }
+    ensures grown { vec_capacity path.old ≤ vec_capacity path.new }
+    ensures room { OnErr result (vec_capacity path.old < vec_len path.old + 2 * depth) }
     ensures below { OnErr result (G.finds aim.old at (target (S.message space.now) at) ≡ None) }
 {
     let named = resolve(space, at);
@@ -84,7 +84,7 @@ fn seek_slot<S: Space, G: Aim, A: Allocator>(
                     segment,
                     word: start,
                 };
-                let found = seek_object(space, start, shape, depth - 1, aim, way)?;
+                let found = seek_object(space, start, shape, depth - 1, aim, path)?;
                 Ok(found)
             }
         },
@@ -100,14 +100,14 @@ fn seek_object<S: Space, G: Aim, A: Allocator>(
     shape: Shape,
     depth: u32,
     aim: &mut G,
-    way: &mut Vec<u32, A>,
+    path: &mut Vec<u32, A>,
 ) -> Result<Option<G::Found>, Memory>
     requires content { IsContent (S.message space.now) start (extent shape) }
     requires rows { RowsFit shape }
     ensures found { IfOk result (λ r. (base : ℕ) → SeeksBelow (S.message space.now) G.finds G.next base depth
-        (slots start.segment start.word shape) (AreNumbersIn shape) aim.old aim.new way.old.items way.new.items r) }
-    ensures grown { vec_capacity way.old ≤ vec_capacity way.new }
-    ensures room { OnErr result (vec_capacity way.old < vec_len way.old + 2 * depth + 2) }
+        (slots start.segment start.word shape) (AreNumbersIn shape) aim.old aim.new path.old.items path.new.items r) }
+    ensures grown { vec_capacity path.old ≤ vec_capacity path.new }
+    ensures room { OnErr result (vec_capacity path.old < vec_len path.old + 2 * depth + 2) }
 {
     let _bounds = space.segments();
     let segment = start.segment;
@@ -117,10 +117,10 @@ fn seek_object<S: Space, G: Aim, A: Allocator>(
                 segment,
                 word: start.word + words as u32,
             };
-            seek_slots(space, first, slots as u32, depth, aim, way)
+            seek_slots(space, first, slots as u32, depth, aim, path)
         }
         Shape::Many { width, count } => match width {
-            Width::Link => seek_slots(space, start, count, depth, aim, way),
+            Width::Link => seek_slots(space, start, count, depth, aim, path),
             _ => Ok(None),
         },
         Shape::Rows {
@@ -136,7 +136,7 @@ fn seek_object<S: Space, G: Aim, A: Allocator>(
                 segment,
                 word: start.word + 1,
             };
-            seek_rows(space, first, count, words, slots, depth, aim, way)
+            seek_rows(space, first, count, words, slots, depth, aim, path)
         }
     }
 }
@@ -149,28 +149,28 @@ fn seek_slots<S: Space, G: Aim, A: Allocator>(
     count: u32,
     depth: u32,
     aim: &mut G,
-    way: &mut Vec<u32, A>,
+    path: &mut Vec<u32, A>,
 ) -> Result<Option<G::Found>, Memory>
     requires message { IsMessage (S.message space.now) }
     requires inside { first.word + count ≤ length (segment_at (S.message space.now) first.segment) }
     ensures found { IfOk result (λ r. (base : ℕ) → SeeksBelow (S.message space.now) G.finds G.next base depth
-        (places first.segment first.word count) AreNumbers aim.old aim.new way.old.items way.new.items r) }
-    ensures grown { vec_capacity way.old ≤ vec_capacity way.new }
-    ensures room { OnErr result (vec_capacity way.old < vec_len way.old + 2 * depth + 1) }
+        (places first.segment first.word count) AreNumbers aim.old aim.new path.old.items path.new.items r) }
+    ensures grown { vec_capacity path.old ≤ vec_capacity path.new }
+    ensures room { OnErr result (vec_capacity path.old < vec_len path.old + 2 * depth + 1) }
 {
     for i in 0..count {
-        let Ok(()) = way.push(i) else {
+        let Ok(()) = path.push(i) else {
             return Err(Memory);
         };
         let at = Place {
             segment: first.segment,
             word: first.word + i,
         };
-        match seek_slot(space, at, depth, aim, way)? {
+        match seek_slot(space, at, depth, aim, path)? {
             Some(found) => return Ok(Some(found)),
             None => {}
         }
-        way.pop();
+        path.pop();
     }
     Ok(None)
 }
@@ -186,30 +186,30 @@ fn seek_rows<S: Space, G: Aim, A: Allocator>(
     slots: u16,
     depth: u32,
     aim: &mut G,
-    way: &mut Vec<u32, A>,
+    path: &mut Vec<u32, A>,
 ) -> Result<Option<G::Found>, Memory>
     requires message { IsMessage (S.message space.now) }
     requires inside { first.word + count * (words + slots) ≤ length (segment_at (S.message space.now) first.segment) }
     ensures found { IfOk result (λ r. (base : ℕ) → SeeksBelow (S.message space.now) G.finds G.next base depth
         (row_places first.segment first.word words slots count) (AreRowNumbers slots)
-        aim.old aim.new way.old.items way.new.items r) }
-    ensures grown { vec_capacity way.old ≤ vec_capacity way.new }
-    ensures room { OnErr result (vec_capacity way.old < vec_len way.old + 2 * depth + 2) }
+        aim.old aim.new path.old.items path.new.items r) }
+    ensures grown { vec_capacity path.old ≤ vec_capacity path.new }
+    ensures room { OnErr result (vec_capacity path.old < vec_len path.old + 2 * depth + 2) }
 {
     let mut next = first.word;
     for row in 0..count {
-        let Ok(()) = way.push(row) else {
+        let Ok(()) = path.push(row) else {
             return Err(Memory);
         };
         let at = Place {
             segment: first.segment,
             word: next + words as u32,
         };
-        match seek_slots(space, at, slots as u32, depth, aim, way)? {
+        match seek_slots(space, at, slots as u32, depth, aim, path)? {
             Some(found) => return Ok(Some(found)),
             None => {}
         }
-        way.pop();
+        path.pop();
         next += words as u32 + slots as u32;
     }
     Ok(None)

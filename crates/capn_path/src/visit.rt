@@ -1,7 +1,7 @@
-//! The way to the slot of a visit.
+//! The path to the slot of a visit.
 
 ghost use Rattle.std.specs.Prelude.{◌<◌, IfOk, IfSome, IfNone, OnErr};
-ghost use Rattle.capn_path.specs.Ways.{IsVisited, IsNotVisited};
+ghost use Rattle.capn_path.specs.Paths.{IsVisited, IsNotVisited};
 
 use crate::aim::Aim;
 use crate::search::seek;
@@ -10,11 +10,11 @@ use capn_walk::Limits;
 use capn_words::{Memory, Place, Space};
 use std::alloc::{Allocator, Global};
 
-/// A slot that a walk visits, and the way to it.
+/// A slot that a walk visits, and the path to it.
 #[derive(Debug, Drop)]
 pub struct Visited<A: Allocator = Global> {
     /// The numbers that lead to it from the root: none to the root's slot.
-    pub way: Vec<u32, A>,
+    pub path: Vec<u32, A>,
     /// Its place.
     pub place: Place,
 }
@@ -44,29 +44,29 @@ impl Aim for Numbered {
     }
 }
 
-/// Finds the slot that the walk of the message `space` visits after `number` others, and the way to it: `None`, if
+/// Finds the slot that the walk of the message `space` visits after `number` others, and the path to it: `None`, if
 /// there is no such visit.
 ///
 /// It makes the visits up to that one again, and reads at most four words for each. Of `limits` it looks at the depth,
 /// and at no price and no budget, so let `number` be below the visits that a survey answered or refused with. Memory:
-/// the way on `alloc`, which has at most two numbers for each level of the depth limit.
-pub fn way_of_visit<S: Space, A: Allocator + Copy>(
+/// the path on `alloc`, which has at most two numbers for each level of the depth limit.
+pub fn path_of_visit<S: Space, A: Allocator + Copy>(
     alloc: A,
     space: &S,
     limits: Limits,
     number: u32,
 ) -> Result<Option<Visited<A>>, Memory>
     ensures found { IfOk result (λ r. IfSome r
-        (λ v. IsVisited (S.message space.now) limits number v.way.items v.place)) }
+        (λ v. IsVisited (S.message space.now) limits number v.path.items v.place)) }
     ensures none { IfOk result (λ r. IfNone r (IsNotVisited (S.message space.now) limits number)) }
-    // The way to the root's slot, which is visited first, takes no memory.
+    // The path to the root's slot, which is visited first, takes no memory.
     ensures memory { OnErr result (0 < number) }
 {
     if segment_length(space, Place::ROOT.segment) == 0 {
         return Ok(None);
     }
     match seek(alloc, space, limits.depth(), Numbered { left: number })? {
-        Some((place, way)) => Ok(Some(Visited { way, place })),
+        Some((place, path)) => Ok(Some(Visited { path, place })),
         None => Ok(None),
     }
 }

@@ -5,20 +5,20 @@ use Rattle.capn_serve.specs.Ending.{WritesEnding, status_of_ending}
 use Rattle.capn_args.specs.CommandLine.{program_line}
 use Rattle.capn_tool.specs.Course.{Course, course}
 use Rattle.capn_tool.specs.Flushed.{EndsRun, RunOver}
-use Rattle.capn_args.specs.Meaning.{MeansOrder}
+use Rattle.capn_args.specs.Meaning.{MeansInvocation}
 use Rattle.capn_tool.specs.Program.{EndsCmp, EndsRunOrder}
-use Rattle.capn_args.specs.declared.order.Order.{Order}
-use Rattle.capn_args.specs.declared.order.Order.TheVariants as orders
+use Rattle.capn_args.specs.declared.invocation.Invocation.{Invocation}
+use Rattle.capn_args.specs.declared.invocation.Invocation.TheVariants as invocations
 use Rattle.capn_cmp.specs.CmpRun.{Compared}
 use Rattle.capn_cmp.specs.declared.cmp_order.CmpOrder.{CmpOrder}
 use Rattle.capn_cmp.specs.declared.cmp_run.Comparison.{Comparison}
 use Rattle.capn_cmp.specs.declared.fault.CmpFault.{CmpFault}
 use Rattle.capn_tool.specs.CmpEnd.{EndsFound, done_of}
 
-pub ended : {O F : Type 0} (name : O → Order) (io : F) (Runs : O → RunOver F) (text : F → List ℕ) (exit : F → ℕ)
+pub ended : {O F : Type 0} (name : O → Invocation) (io : F) (Runs : O → RunOver F) (text : F → List ℕ) (exit : F → ℕ)
     {words : List Text} {order : O} {a b c m d : Option (List ℕ)} {unread failed is_failed : Bool}
     {run : Result (Unit {0}) F} {errors : Course} {status : ℕ}
-    → MeansOrder (subcommand_of program_line words) (name order)
+    → MeansInvocation (subcommand_of program_line words) (name order)
     → Runs order a b c m unread failed run
     → EndsRun text exit io run failed (course m d is_failed) errors status
     → EndsRunOrder name io Runs (WritesEnding text) (status_of_ending exit) words (course a b unread)
@@ -43,7 +43,7 @@ ended name io Runs text exit {words} {order} {a} {b} {c} {m} {d} {unread} {faile
 -- the same of a comparison
 pub ended_found : (order : CmpOrder) {words : List Text} {a b c m d : Option (List ℕ)}
     {unread failed is_failed : Bool} {found : Result Comparison CmpFault} {errors : Course} {status : ℕ}
-    → MeansOrder (subcommand_of program_line words) (orders.Cmp order)
+    → MeansInvocation (subcommand_of program_line words) (invocations.Cmp order)
     → Compared order a b c m unread failed found
     → EndsFound found failed (course m d is_failed) errors status
     → EndsCmp words (course a b unread) (course c d is_failed) errors status

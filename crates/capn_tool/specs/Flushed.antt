@@ -16,8 +16,8 @@ use Rattle.capn_make.specs.MadeTexts.{MadeTexts}
 use Rattle.capn_make.specs.MakeRun.{Made}
 use Rattle.capn_make.specs.declared.fault.MakeFault.{MakeFault}
 use Rattle.capn_tool.specs.Course.{Course}
-use Rattle.capn_args.specs.declared.order.Flow.{Flow}
-use Rattle.capn_args.specs.declared.order.Flow.TheVariants as flows
+use Rattle.capn_args.specs.declared.invocation.Flow.{Flow}
+use Rattle.capn_args.specs.declared.invocation.Flow.TheVariants as flows
 
 -- After a flush a run that was done ends as it did, or with the fault of an output that failed, if the flush failed.
 -- Any other run ends as it did.

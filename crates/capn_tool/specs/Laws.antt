@@ -12,11 +12,11 @@ use Rattle.capn_commands.specs.PartTexts.{refuses, serves}
 use Rattle.capn_commands.specs.ShowRun.{part_fold}
 use Rattle.capn_commands.specs.declared.part_texts.PartTexts.{PartTexts}
 use Rattle.capn_tool.specs.PartRun.{Follows}
-use Rattle.capn_args.specs.declared.order.Show.{Show}
+use Rattle.capn_args.specs.declared.invocation.Show.{Show}
 
--- by an order and a way one text of an input is shown, and a run over it ends in one way
+-- by an order and a path one text of an input is shown, and a run over it ends in one way
 abbrev pub OneShown : Type 0
-OneShown = (show : Show) (way : List ℕ) (p q : PartTexts) → Follows show way p → Follows show way q
+OneShown = (show : Show) (path : List ℕ) (p q : PartTexts) → Follows show path p → Follows show path q
     → (input t u : List ℕ) (r s : Result (Unit {0}) RunFault) (y z : Run PartTexts)
     → AreMessages (part_fold show.limits.message_words) (first_run p) show.form input t r y
     → AreMessages (part_fold show.limits.message_words) (first_run q) show.form input u s z → (t ≡ u) × (r ≡ s)
@@ -26,9 +26,9 @@ abbrev pub IsShownAlone : PartTexts → ℕ → StreamForm → List ℕ → Bool
 IsShownAlone p most frame input is_longer text ending =
     IsDueOf (WritesOne serves refuses p most frame) (RefusesOne serves refuses p most frame) input is_longer text ending
 
--- by an order for exactly one message and a way one text of an input is shown, and a run over it ends in one way
+-- by an order for exactly one message and a path one text of an input is shown, and a run over it ends in one way
 abbrev pub OneShownAlone : Type 0
-OneShownAlone = (show : Show) (way : List ℕ) (p q : PartTexts) → Follows show way p → Follows show way q
+OneShownAlone = (show : Show) (path : List ℕ) (p q : PartTexts) → Follows show path p → Follows show path q
     → (frame : StreamForm) (input : List ℕ) (is_longer : Bool) (t u : List ℕ) (r s : Result (Unit {0}) ToolFault)
     → IsShownAlone p show.limits.message_words frame input is_longer t r
     → IsShownAlone q show.limits.message_words frame input is_longer u s → (t ≡ u) × (r ≡ s)

@@ -5,7 +5,7 @@ use Rattle.capn_serve.specs.declared.fault.RunFault.{RunFault}
 use Rattle.capn_serve.specs.declared.fault.RunFault.TheVariants as faults
 use Rattle.capn_serve.specs.declared.pick.Range.{Range}
 use Rattle.capn_args.specs.RangeList.{ranges_in}
-use Rattle.capn_args.specs.declared.order.Only.{Only}
+use Rattle.capn_args.specs.declared.invocation.Only.{Only}
 
 -- memory was refused for the ranges of the list, and nothing was read or written
 abbrev pub NeedsMemory : Option (List ℕ) → Option (List ℕ) → Option (List ℕ) → Option (List ℕ) → Bool → Bool

@@ -1,4 +1,4 @@
--- What a run that shows messages did: of each, in a style or with marks, what is at a way from its root. (Own.)
+-- What a run that shows messages did: of each, in a style or with marks, what is at a path from its root. (Own.)
 use Rattle.std.specs.Prelude.{◌≡◌, ◌⊎◌, ℕ, List, Bool, true, false, Option, Some, None, Result, Ok, Err, is_some}
 use Rattle.capn_canon.specs.declared.form.Form.{Form}
 use Rattle.capn_canon.specs.declared.form.Form.TheVariants as forms
@@ -13,17 +13,17 @@ use Rattle.capn_commands.specs.OneMessage.{RefusesOne, WritesOne}
 use Rattle.capn_commands.specs.WholeRun.{RunsWhole}
 use Rattle.capn_commands.specs.declared.fault.ToolFault.{ToolFault}
 use Rattle.capn_commands.specs.declared.fault.ToolFault.TheVariants as faults
-use Rattle.capn_args.specs.Way.{numbers_of}
-use Rattle.capn_args.specs.declared.order.Show.{Show}
+use Rattle.capn_args.specs.Path.{numbers_of}
+use Rattle.capn_args.specs.declared.invocation.Show.{Show}
 
 -- how a run over messages ends, without the position of the message that is refused
 abbrev pub unplaced_end : Result (Unit {0}) RunFault → Result (Unit {0}) ToolFault
 unplaced_end (Ok u) = Ok u
 unplaced_end (Err fault) = Err (unplaced fault)
 
--- a service has the numbers of a way, and the rest of an order
-pub record Follows (show : Show) (way : List ℕ) (service : PartTexts) : Type 0 where
-  pub numbers : service.way.now ≡ way
+-- a service has the numbers of a path, and the rest of an order
+pub record Follows (show : Show) (path : List ℕ) (service : PartTexts) : Type 0 where
+  pub numbers : service.path.now ≡ path
   pub form : service.form ≡ show.form
   pub limits : service.limits ≡ show.limits
   pub style : service.style ≡ show.style
@@ -31,19 +31,19 @@ pub record Follows (show : Show) (way : List ℕ) (service : PartTexts) : Type 0
   pub ways : service.ways ≡ show.ways
 
 -- the messages were served from the first on, by such a service
-pub record Served (show : Show) (way : List ℕ) (a b c d : Option (List ℕ)) (reader_failed writer_failed : Bool)
+pub record Served (show : Show) (path : List ℕ) (a b c d : Option (List ℕ)) (reader_failed writer_failed : Bool)
     (r : Result (Unit {0}) ToolFault) : Type 0 where
   pub service : PartTexts
-  pub follows : Follows show way service
+  pub follows : Follows show path service
   pub ending : Result (Unit {0}) RunFault
   pub shown : Shown service a b c d reader_failed writer_failed ending
   pub is : r ≡ unplaced_end ending
 
 -- the one message of a whole input was served, which holds it so in a frame, by such a service
-pub record ServedOne (show : Show) (frame : StreamForm) (way : List ℕ) (a b c d : Option (List ℕ))
+pub record ServedOne (show : Show) (frame : StreamForm) (path : List ℕ) (a b c d : Option (List ℕ))
     (reader_failed writer_failed : Bool) (r : Result (Unit {0}) ToolFault) : Type 0 where
   pub service : PartTexts
-  pub follows : Follows show way service
+  pub follows : Follows show path service
   pub shown : RunsWhole (WritesOne serves refuses service show.limits.message_words frame)
       (RefusesOne serves refuses service show.limits.message_words frame) a b c d reader_failed writer_failed r
 
@@ -57,21 +57,21 @@ one_frame true forms.Bare = None
 -- its messages were served, or its one message in a frame was
 abbrev pub ServedBy : Option StreamForm → Show → List ℕ → Option (List ℕ) → Option (List ℕ) → Option (List ℕ)
     → Option (List ℕ) → Bool → Bool → Result (Unit {0}) ToolFault → Type 0
-ServedBy None show way a b c d reader_failed writer_failed r = Served show way a b c d reader_failed writer_failed r
-ServedBy (Some frame) show way a b c d reader_failed writer_failed r =
-    ServedOne show frame way a b c d reader_failed writer_failed r
+ServedBy None show path a b c d reader_failed writer_failed r = Served show path a b c d reader_failed writer_failed r
+ServedBy (Some frame) show path a b c d reader_failed writer_failed r =
+    ServedOne show frame path a b c d reader_failed writer_failed r
 
--- a way is given, memory was refused for its numbers, and nothing was read or written
+-- a path is given, memory was refused for its numbers, and nothing was read or written
 abbrev pub NeedsMemory : Show → Option (List ℕ) → Option (List ℕ) → Option (List ℕ) → Option (List ℕ) → Bool → Bool
     → Result (Unit {0}) ToolFault → Type 0
-NeedsMemory show a b c d reader_failed writer_failed r = (is_some show.way ≡ true) × (r ≡ Err faults.Memory)
+NeedsMemory show a b c d reader_failed writer_failed r = (is_some show.path ≡ true) × (r ≡ Err faults.Memory)
     × (b ≡ a) × (d ≡ c) × (reader_failed ≡ false) × (writer_failed ≡ false)
 
 -- What a run did, over a reader (from a to b) and a writer (from c to d). The text of its order, if it has one, is a
--- way; if it has none, all of each message is shown, which is at the way of no numbers. An order for exactly one
+-- path; if it has none, all of each message is shown, which is at the path of no numbers. An order for exactly one
 -- message is for the one that the whole input is.
 abbrev pub PartsShown : Show → Option (List ℕ) → Option (List ℕ) → Option (List ℕ) → Option (List ℕ) → Bool → Bool
     → Result (Unit {0}) ToolFault → Type 0
-PartsShown show a b c d reader_failed writer_failed r = (way : List ℕ) → numbers_of show.way ≡ Some way
+PartsShown show a b c d reader_failed writer_failed r = (path : List ℕ) → numbers_of show.path ≡ Some path
     → NeedsMemory show a b c d reader_failed writer_failed r
-    ⊎ ServedBy (one_frame show.one show.form) show way a b c d reader_failed writer_failed r
+    ⊎ ServedBy (one_frame show.one show.form) show path a b c d reader_failed writer_failed r

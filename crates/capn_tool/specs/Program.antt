@@ -27,66 +27,68 @@ use Rattle.capn_tool.specs.ExitStatus.{archive_status, flow_status, make_status,
 use Rattle.capn_tool.specs.FaultText.{WritesArchiveEnding, WritesFlowEnding, WritesMakeEnding, WritesPickEnding}
 use Rattle.capn_tool.specs.FaultText.{WritesReportEnding}
 use Rattle.capn_tool.specs.Flushed.{CarriesOut, Flowed, MadeBy, RunOver, RunsFlushed}
-use Rattle.capn_args.specs.Meaning.{MeansOrder}
+use Rattle.capn_args.specs.Meaning.{MeansInvocation}
 use Rattle.capn_tool.specs.OnlyRun.{OnlyPicked}
 use Rattle.capn_tool.specs.PartRun.{PartsShown}
 use Rattle.capn_tool.specs.Unordered.{Unordered}
-use Rattle.capn_args.specs.declared.order.Explanation.TheVariants as explanations
-use Rattle.capn_args.specs.declared.order.Order.{Order}
-use Rattle.capn_args.specs.declared.order.Order.TheVariants as orders
+use Rattle.capn_args.specs.declared.invocation.Explanation.TheVariants as explanations
+use Rattle.capn_args.specs.declared.invocation.Invocation.{Invocation}
+use Rattle.capn_args.specs.declared.invocation.Invocation.TheVariants as invocations
 
 -- The words order this. It was carried out, from the input to the output. The status, and what was written to the
 -- errors, are those of how it ended.
-pub record EndsOrder {O F : Type 0} (name : O → Order)
+pub record EndsOrder {O F : Type 0} (name : O → Invocation)
     (CarriesOut : O → Course → Course → Result (Unit {0}) F → Type 0)
     (WritesEnd : Result (Unit {0}) F → Option (List ℕ) → Option (List ℕ) → Bool → Type 0)
     (status_of_end : Result (Unit {0}) F → ℕ)
     (words : List Text) (input output errors : Course) (status : ℕ) : Type 0 where
   pub order : O
   pub outcome : Result (Unit {0}) F
-  pub means : MeansOrder (subcommand_of program_line words) (name order)
+  pub means : MeansInvocation (subcommand_of program_line words) (name order)
   pub run : CarriesOut order input output outcome
   pub told : WritesEnd outcome errors.before errors.after errors.failed
   pub is : status ≡ status_of_end outcome
 
 -- the same of an order whose run meets a statement, with the fault of an output that failed
-abbrev pub EndsRunOrder : {O F : Type 0} → (O → Order) → F → (O → RunOver F)
+abbrev pub EndsRunOrder : {O F : Type 0} → (O → Invocation) → F → (O → RunOver F)
     → (Result (Unit {0}) F → Option (List ℕ) → Option (List ℕ) → Bool → Type 0) → (Result (Unit {0}) F → ℕ)
     → List Text → Course → Course → Course → ℕ → Type 0
 EndsRunOrder name io Runs = EndsOrder name (λ order. RunsFlushed io (Runs order))
 
 -- the words order a command over messages or bytes
 abbrev pub EndsMessage : List Text → Course → Course → Course → ℕ → Type 0
-EndsMessage = EndsOrder (λ command. orders.Message command) CarriesOut ReportsEnding status_of
+EndsMessage = EndsOrder (λ command. invocations.Message command) CarriesOut ReportsEnding status_of
 
 -- the words order that parts of messages are shown
 abbrev pub EndsShow : List Text → Course → Course → Course → ℕ → Type 0
-EndsShow = EndsRunOrder (λ show. orders.Show show) faults.Io PartsShown ReportsEnding status_of
+EndsShow = EndsRunOrder (λ show. invocations.Show show) faults.Io PartsShown ReportsEnding status_of
 
 -- the words order that a message is explained
 abbrev pub EndsExplain : List Text → Course → Course → Course → ℕ → Type 0
 EndsExplain =
-    EndsRunOrder (λ explain. orders.Explain (explanations.One explain)) run_faults.Io Explained WritesPickEnding
+    EndsRunOrder (λ explain. invocations.Explain (explanations.One explain)) run_faults.Io Explained WritesPickEnding
     pick_status
 
 -- the words order that every message that is refused is explained
 abbrev pub EndsExplainRefused : List Text → Course → Course → Course → ℕ → Type 0
 EndsExplainRefused =
-    EndsRunOrder (λ refused. orders.Explain (explanations.Refused refused)) (report_faults.Ended run_faults.Io)
+    EndsRunOrder (λ refused. invocations.Explain (explanations.Refused refused)) (report_faults.Ended run_faults.Io)
     ExplainedRefused WritesReportEnding report_status
 
 -- the words order a run over an archive
 abbrev pub EndsArchive : List Text → Course → Course → Course → ℕ → Type 0
 EndsArchive =
-    EndsRunOrder (λ archive. orders.Archive archive) archive_faults.Io Archived WritesArchiveEnding archive_status
+    EndsRunOrder (λ archive. invocations.Archive archive) archive_faults.Io Archived WritesArchiveEnding archive_status
 
 -- the words order that duplicates are left out
 abbrev pub EndsUniq : List Text → Course → Course → Course → ℕ → Type 0
-EndsUniq = EndsRunOrder (λ uniq. orders.Uniq uniq) archive_faults.Io Deduplicated WritesArchiveEnding archive_status
+EndsUniq =
+    EndsRunOrder (λ uniq. invocations.Uniq uniq) archive_faults.Io Deduplicated WritesArchiveEnding archive_status
 
 -- the words order that accepted messages are let through
 abbrev pub EndsFilter : List Text → Course → Course → Course → ℕ → Type 0
-EndsFilter = EndsRunOrder (λ filter. orders.Filter filter) archive_faults.Io Filtered WritesArchiveEnding archive_status
+EndsFilter =
+    EndsRunOrder (λ filter. invocations.Filter filter) archive_faults.Io Filtered WritesArchiveEnding archive_status
 
 -- The words order that messages are compared. They were, from the input to the output, and something was found. What
 -- was written to the errors is how the run ended, and the status says what was found, too.
@@ -94,7 +96,7 @@ pub record EndsCmp (words : List Text) (input output errors : Course) (status : 
   pub order : CmpOrder
   pub found : Result Comparison CmpFault
   pub outcome : Result (Unit {0}) CmpFault
-  pub means : MeansOrder (subcommand_of program_line words) (orders.Cmp order)
+  pub means : MeansInvocation (subcommand_of program_line words) (invocations.Cmp order)
   pub run : RunsFlushed io (Finds order found) input output outcome
   pub told : WritesEnding cmp_text outcome errors.before errors.after errors.failed
   pub is : status ≡ cmp_status found outcome
@@ -102,21 +104,21 @@ pub record EndsCmp (words : List Text) (input output errors : Course) (status : 
 -- the words order that messages are picked
 abbrev pub EndsPick : List Text → Course → Course → Course → ℕ → Type 0
 EndsPick =
-    EndsRunOrder (λ pick. orders.Pick pick) run_faults.Io (λ pick. Picks pick.limits.message_words pick pick.form)
+    EndsRunOrder (λ pick. invocations.Pick pick) run_faults.Io (λ pick. Picks pick.limits.message_words pick pick.form)
     WritesPickEnding pick_status
 
 -- the words order that the messages of a list are picked
 abbrev pub EndsOnly : List Text → Course → Course → Course → ℕ → Type 0
-EndsOnly = EndsRunOrder (λ only. orders.Only only) run_faults.Io OnlyPicked WritesPickEnding pick_status
+EndsOnly = EndsRunOrder (λ only. invocations.Only only) run_faults.Io OnlyPicked WritesPickEnding pick_status
 
 -- the words order that bytes flow
 abbrev pub EndsFlow : List Text → Course → Course → Course → ℕ → Type 0
-EndsFlow = EndsRunOrder (λ flow. orders.Flow flow) flow_faults.Io Flowed WritesFlowEnding flow_status
+EndsFlow = EndsRunOrder (λ flow. invocations.Flow flow) flow_faults.Io Flowed WritesFlowEnding flow_status
 
 -- the words order that messages are made from texts
 abbrev pub EndsMake : List Text → Course → Course → Course → ℕ → Type 0
 EndsMake =
-    EndsRunOrder (λ make. orders.Make make) make_faults.Io (λ make. MadeBy make.quoted make.form) WritesMakeEnding
+    EndsRunOrder (λ make. invocations.Make make) make_faults.Io (λ make. MadeBy make.quoted make.form) WritesMakeEnding
     make_status
 
 -- what the program did that was started with these words, by its status

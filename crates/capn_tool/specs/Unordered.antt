@@ -12,9 +12,9 @@ use Rattle.capn_commands.specs.declared.fault.ToolFault.{ToolFault}
 use Rattle.capn_commands.specs.declared.fault.ToolFault.TheVariants as faults
 use Rattle.capn_args.specs.CommandLine.{program_line}
 use Rattle.capn_tool.specs.Course.{Course, IsUntouched}
-use Rattle.capn_args.specs.Meaning.{MeansOrder}
+use Rattle.capn_args.specs.Meaning.{MeansInvocation}
 use Rattle.capn_args.specs.Usage.{IsHelp, IsReason, version_line}
-use Rattle.capn_args.specs.declared.order.Order.{Order}
+use Rattle.capn_args.specs.declared.invocation.Invocation.{Invocation}
 
 -- Help was shown on the output, and ended so: a text of help was written, and the output has not failed; or a beginning
 -- of one, and it has failed; or nothing was, since memory was refused.
@@ -68,12 +68,12 @@ pub record EndsUnordered (kind : ErrorKind) (output errors : Course) (status : �
   pub mistake : kind ≢ kinds.OutOfMemory → kind ≢ kinds.DisplayHelp → kind ≢ kinds.DisplayVersion
       → IsUntouched output × WritesText errors × (status ≡ 2)
 
--- The words order nothing, for a reason of this kind: where they are taken and mean an order, that memory was refused.
--- Nothing was read.
+-- The words order nothing, for a reason of this kind: where they are taken and mean an invocation, that memory was
+-- refused. Nothing was read.
 pub record Unordered (words : List Text) (input output errors : Course) (status : ℕ) : Type 0 where
   pub kind : ErrorKind
   pub why : IsReason words kind
-  pub only : takes program_line words ≡ true → (order : Order)
-      → MeansOrder (subcommand_of program_line words) order → kind ≡ kinds.OutOfMemory
+  pub only : takes program_line words ≡ true → (invocation : Invocation)
+      → MeansInvocation (subcommand_of program_line words) invocation → kind ≡ kinds.OutOfMemory
   pub unread : IsUntouched input
   pub ended : EndsUnordered kind output errors status

@@ -4,7 +4,7 @@ ghost use Rattle.capn_tool.specs.Laws.{OneShown, OneShownAlone};
 
 pub use capn_args::laws::{command, meaning};
 
-/// By an order and a way one text of an input is shown, and a run over it ends in one way.
+/// By an order and a path one text of an input is shown, and a run over it ends in one way.
 pub fn one_text()
     ensures { OneShown }
 {}

@@ -2,7 +2,7 @@
 //! Each run goes from all of the input to all of the output.
 //!
 //! [`program`] is all of it, from the words of the command line to the exit status, over any reader and writers.
-//! [`order_of`], of [`capn_args`], reads the words. They order a command of [`capn_commands`]; that messages, or
+//! [`invocation_of`], of [`capn_args`], reads the words. They order a command of [`capn_commands`]; that messages, or
 //! parts of them, are shown in a style, by [`show_parts`]; that a message is explained, or each that is refused, by
 //! [`capn_explain`]; a run over an archive, which is a stream of messages of any length, by [`capn_archive`] or
 //! [`capn_serve`]; that messages are compared, by [`capn_cmp`]; that bytes are packed or unpacked while they come in,
@@ -10,7 +10,7 @@
 //! [`command_of`] reads the words where they order a command of [`capn_commands`], and [`run`] carries it out.
 //!
 //! ```text
-//! let order = order_of(alloc, &["capn", "list", "--keep-going"])?;
+//! let invocation = invocation_of(alloc, &["capn", "list", "--keep-going"])?;
 //! ```
 #![tactic(auto)]
 
@@ -29,9 +29,10 @@ pub use only_run::pick_only;
 pub use part_run::show_parts;
 pub use program_run::program;
 
-// The command line: the words, and the order that they give.
+// The command line: the words, and the invocation that they give.
 pub use capn_args::{
-    Explanation, Flow, Make, Only, Order, Show, Usage, command_of, order_of, program_command,
+    Explanation, Flow, Invocation, Make, Only, Show, Usage, command_of, invocation_of,
+    program_command,
 };
 
 // The commands over messages and bytes, their run and how it ends.

@@ -27,8 +27,8 @@ fn one_frame(show: &Show) -> Option<StreamForm>
     }
 }
 
-/// Writes of each message of an input, in a style or with marks, the text of what is at a way from its root, or of all
-/// of it, as [`run_show`] does; or of exactly one message, as [`serve_one`] does. A way that is given takes memory for
+/// Writes of each message of an input, in a style or with marks, the text of what is at a path from its root, or of all
+/// of it, as [`run_show`] does; or of exactly one message, as [`serve_one`] does. A path that is given takes memory for
 /// its numbers.
 pub fn show_parts<R: Read, W: Write, A: Allocator + Copy>(
     alloc: A,
@@ -42,9 +42,9 @@ pub fn show_parts<R: Read, W: Write, A: Allocator + Copy>(
         (W.contents (inner_of writer.old)) (W.contents (inner_of writer.new)) (has_failed reader.new)
         (has_failed writer.new) result }
 {
-    let way = numbers_of(alloc, show.way)?;
+    let path = numbers_of(alloc, show.path)?;
     let texts = PartTexts {
-        way: &way,
+        path: &path,
         form: show.form,
         limits: show.limits,
         style: show.style,

@@ -13,7 +13,7 @@ use crate::part_run::show_parts;
 use crate::run_end::finish;
 use crate::unordered::end_unordered;
 use capn_archive::{ArchiveFault, RunFault, run_archive, run_filter, run_uniq};
-use capn_args::{Explanation, Order, order_of};
+use capn_args::{Explanation, Invocation, invocation_of};
 use capn_cmp::run_cmp;
 use capn_commands::{FlowFault, ToolFault, end};
 use capn_explain::{ReportFault, run_explain, run_explain_refused};
@@ -54,18 +54,18 @@ pub fn program<'a, S: AsStr, R: Read, W: Write, E: Write>(
         (course (W.contents (inner_of writer.old)) (W.contents (inner_of writer.new)) (has_failed writer.new))
         (course (E.contents (inner_of errors.old)) (E.contents (inner_of errors.new)) (has_failed errors.new)) result }
 {
-    match order_of(alloc, words) {
-        Ok(order) => match order {
-            Order::Message(command) => end(
+    match invocation_of(alloc, words) {
+        Ok(invocation) => match invocation {
+            Invocation::Message(command) => end(
                 alloc,
                 &carry_out(alloc, command, reader, writer),
                 errors,
             ),
-            Order::Show(show) => {
+            Invocation::Show(show) => {
                 let shown = show_parts(alloc, &show, reader, writer);
                 finish(shown, ToolFault::Io, writer, errors)
             }
-            Order::Explain(explanation) => match explanation {
+            Invocation::Explain(explanation) => match explanation {
                 Explanation::One(explain) => {
                     let explained = run_explain(alloc, explain, reader, writer);
                     finish(explained, RunFault::Io, writer, errors)
@@ -75,35 +75,35 @@ pub fn program<'a, S: AsStr, R: Read, W: Write, E: Write>(
                     finish(explained, ReportFault::Ended(RunFault::Io), writer, errors)
                 }
             },
-            Order::Archive(archive) => {
+            Invocation::Archive(archive) => {
                 let archived = run_archive(alloc, archive, reader, writer);
                 finish(archived, ArchiveFault::Io, writer, errors)
             }
-            Order::Uniq(uniq) => {
+            Invocation::Uniq(uniq) => {
                 let sifted = run_uniq(alloc, uniq, reader, writer);
                 finish(sifted, ArchiveFault::Io, writer, errors)
             }
-            Order::Filter(filter) => {
+            Invocation::Filter(filter) => {
                 let let_through = run_filter(alloc, filter, reader, writer);
                 finish(let_through, ArchiveFault::Io, writer, errors)
             }
-            Order::Cmp(cmp) => {
+            Invocation::Cmp(cmp) => {
                 let found = run_cmp(alloc, cmp, reader, writer);
                 finish_found(found, writer, errors)
             }
-            Order::Pick(pick) => {
+            Invocation::Pick(pick) => {
                 let picked = run_pick(alloc, pick, reader, writer);
                 finish(picked, RunFault::Io, writer, errors)
             }
-            Order::Only(only) => {
+            Invocation::Only(only) => {
                 let picked = pick_only(alloc, &only, reader, writer);
                 finish(picked, RunFault::Io, writer, errors)
             }
-            Order::Flow(flow) => {
+            Invocation::Flow(flow) => {
                 let flowed = flow_through(alloc, flow, reader, writer);
                 finish(flowed, FlowFault::Io, writer, errors)
             }
-            Order::Make(order) => {
+            Invocation::Make(order) => {
                 let made = make_by(alloc, order, reader, writer);
                 finish(made, MakeFault::Io, writer, errors)
             }

@@ -9,8 +9,8 @@ use capn_explain::{ReportFault, run_explain, run_explain_refused};
 use capn_make::{MakeFault, make, make_texts};
 use capn_serve::{Ending, end, run_pick};
 use capn_tool::{
-    ArchiveFault, CmpFault, Comparison, Explanation, Flow, Order, RunFault, order_of, pick_only,
-    show_parts,
+    ArchiveFault, CmpFault, Comparison, Explanation, Flow, Invocation, RunFault, invocation_of,
+    pick_only, show_parts,
 };
 use capn_words::Watched;
 use conformance_cases::{Heap, bytes_at, cut_short, digits_of, form_at, push_told};
@@ -95,66 +95,66 @@ fn flow_told(alloc: Global, outcome: Result<(), FlowFault>, written: &[u8]) -> R
 pub(crate) fn archive_answer(alloc: Global, heap: &Heap, words: &[&str]) -> Result<String> {
     let line = command_line(alloc, words)?;
     let input = bytes_at(alloc, words, line.len().saturating_add(1))?;
-    let Ok(order) = order_of(alloc, line.as_slice()) else {
+    let Ok(invocation) = invocation_of(alloc, line.as_slice()) else {
         return Err(anyhow!("no order"));
     };
     let mut reader = Watched::new(input.as_slice());
     let mut writer = Watched::new(Vec::new(alloc));
-    match order {
-        Order::Show(show) => {
+    match invocation {
+        Invocation::Show(show) => {
             let outcome = show_parts(heap, &show, &mut reader, &mut writer);
             tool_told(alloc, heap, outcome, writer.into_inner().as_slice())
         }
-        Order::Explain(Explanation::One(explain)) => {
+        Invocation::Explain(Explanation::One(explain)) => {
             let outcome = match run_explain(heap, explain, &mut reader, &mut writer) {
                 Ok(()) => Ok(()),
                 Err(fault) => Err(archive_fault_of(fault)),
             };
             archive_told(alloc, outcome, writer.into_inner().as_slice())
         }
-        Order::Explain(Explanation::Refused(refused)) => {
+        Invocation::Explain(Explanation::Refused(refused)) => {
             let outcome = run_explain_refused(heap, refused, &mut reader, &mut writer);
             report_told(alloc, outcome, writer.into_inner().as_slice())
         }
-        Order::Archive(archive) => {
+        Invocation::Archive(archive) => {
             let outcome = run_archive(heap, archive, &mut reader, &mut writer);
             archive_told(alloc, outcome, writer.into_inner().as_slice())
         }
-        Order::Uniq(uniq) => {
+        Invocation::Uniq(uniq) => {
             let outcome = run_uniq(heap, uniq, &mut reader, &mut writer);
             archive_told(alloc, outcome, writer.into_inner().as_slice())
         }
-        Order::Filter(filter) => {
+        Invocation::Filter(filter) => {
             let outcome = run_filter(heap, filter, &mut reader, &mut writer);
             archive_told(alloc, outcome, writer.into_inner().as_slice())
         }
-        Order::Cmp(cmp) => {
+        Invocation::Cmp(cmp) => {
             let found = run_cmp(heap, cmp, &mut reader, &mut writer);
             found_told(alloc, found, writer.into_inner().as_slice())
         }
-        Order::Pick(pick) => {
+        Invocation::Pick(pick) => {
             let outcome = match run_pick(heap, pick, &mut reader, &mut writer) {
                 Ok(()) => Ok(()),
                 Err(fault) => Err(archive_fault_of(fault)),
             };
             archive_told(alloc, outcome, writer.into_inner().as_slice())
         }
-        Order::Only(only) => {
+        Invocation::Only(only) => {
             let outcome = match pick_only(heap, &only, &mut reader, &mut writer) {
                 Ok(()) => Ok(()),
                 Err(fault) => Err(archive_fault_of(fault)),
             };
             archive_told(alloc, outcome, writer.into_inner().as_slice())
         }
-        Order::Flow(Flow::Pack) => {
+        Invocation::Flow(Flow::Pack) => {
             let outcome = pack_stream(heap, &mut reader, &mut writer);
             flow_told(alloc, outcome, writer.into_inner().as_slice())
         }
-        Order::Flow(Flow::Unpack) => {
+        Invocation::Flow(Flow::Unpack) => {
             let outcome = unpack_stream(heap, &mut reader, &mut writer);
             flow_told(alloc, outcome, writer.into_inner().as_slice())
         }
-        Order::Make(order) => {
+        Invocation::Make(order) => {
             let outcome = if order.quoted {
                 make_texts(heap, order.form, &mut reader, &mut writer)
             } else {
@@ -162,14 +162,14 @@ pub(crate) fn archive_answer(alloc: Global, heap: &Heap, words: &[&str]) -> Resu
             };
             made_told(alloc, outcome, writer.into_inner().as_slice())
         }
-        Order::Message(_) => Err(anyhow!("no run over an archive")),
+        Invocation::Message(_) => Err(anyhow!("no run over an archive")),
     }
 }
 
 /// `order COUNT WORD ..`: the status of a command line that orders nothing, for the whole program.
 pub(crate) fn order_answer(alloc: Global, words: &[&str]) -> Result<String> {
     let line = command_line(alloc, words)?;
-    match order_of(alloc, line.as_slice()) {
+    match invocation_of(alloc, line.as_slice()) {
         Ok(_) => Ok(String::from_str(alloc, "an order")?),
         Err(usage) => {
             let status = usage.status();

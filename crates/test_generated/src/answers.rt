@@ -1,7 +1,7 @@
-//! Departures and walks of bytes, with their surveys.
+//! Mismatches and walks of bytes, with their surveys.
 
 use crate::writing::message;
-use capn_answers::{Departure, Walked, departure_and_survey_in, walk_in};
+use capn_answers::{Mismatch, Walked, mismatch_and_survey_in, walk_in};
 use capn_canon::{Form, Refusal, survey_bytes};
 use capn_walk::Limits;
 use std::alloc::Global;
@@ -19,15 +19,15 @@ fn is_walked(alloc: Global, stream: &[u8], limits: Limits) -> bool {
     }
 }
 
-// Tests whether a departure comes with the survey of the same stream, and names its segments if it has more than one.
-fn is_departed(alloc: Global, stream: &[u8], segments: u64, limits: Limits) -> bool {
+// Tests whether a mismatch comes with the survey of the same stream, and names its segments if it has more than one.
+fn is_mismatched(alloc: Global, stream: &[u8], segments: u64, limits: Limits) -> bool {
     match (
         survey_bytes(alloc, Form::Stream, stream, limits),
-        departure_and_survey_in(alloc, Form::Stream, stream, limits),
+        mismatch_and_survey_in(alloc, Form::Stream, stream, limits),
     ) {
         (Ok(survey), Ok(found)) => {
-            let is_named = match found.departure {
-                Departure::Segments(count) => count as u64 == segments,
+            let is_named = match found.mismatch {
+                Mismatch::Segments(count) => count as u64 == segments,
                 _ => segments == 1,
             };
             found.survey == survey && is_named
@@ -45,7 +45,7 @@ fn surveys_beside_answers(rt: HostRuntime) -> Result<(), Fail> {
         let stream = message(rt.alloc(), seed, segments)?;
         for limits in [Limits::usual(), small] {
             let is_told = is_walked(rt.alloc(), &stream, limits)
-                && is_departed(rt.alloc(), &stream, segments, limits);
+                && is_mismatched(rt.alloc(), &stream, segments, limits);
             assert!(rt; is_told, "at seed {seed}");
         }
     }

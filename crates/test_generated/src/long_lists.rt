@@ -1,6 +1,6 @@
 //! Answers about a message of many elements, with memory that is there.
 
-use capn_answers::{Departure, Walked, departure_and_survey_in, walk_in};
+use capn_answers::{Mismatch, Walked, mismatch_and_survey_in, walk_in};
 use capn_canon::Form;
 use capn_walk::Limits;
 use std::alloc::{AllocError, Global};
@@ -26,14 +26,14 @@ fn the_last_of_many_elements_is_told(rt: HostRuntime) -> Result<(), Fail> {
     let refused = long_list(rt.alloc(), 0x1_7fff_fffc)?;
     let walked = walk_in(rt.alloc(), Form::Stream, &refused, limits);
     assert!(rt;
-        matches!(walked, Ok(Walked::Refused(told)) if told.way.as_slice() == [109_999].as_slice())
+        matches!(walked, Ok(Walked::Refused(told)) if told.path.as_slice() == [109_999].as_slice())
     );
     let held = long_list(rt.alloc(), 0xffff_ffff_0000_0003)?;
-    let departed = departure_and_survey_in(rt.alloc(), Form::Stream, &held, limits);
-    let is_right = match departed {
+    let mismatched = mismatch_and_survey_in(rt.alloc(), Form::Stream, &held, limits);
+    let is_right = match mismatched {
         Ok(found) => matches!(
-            found.departure,
-            Departure::Capability(0xffff_ffff, way) if way.as_slice() == [109_999].as_slice()
+            found.mismatch,
+            Mismatch::Capability(0xffff_ffff, path) if path.as_slice() == [109_999].as_slice()
         ),
         Err(_) => false,
     };

@@ -45,7 +45,7 @@ fn is_done(alloc: Global, words: &[&str]) -> bool {
     ending.status == 0 && ending.line.as_slice().is_empty() && !ending.text.as_slice().is_empty()
 }
 
-/// Each limit may have its greatest value, also in an order of eighteen words.
+/// Each limit may have its greatest value, also in an invocation of eighteen words.
 #[test]
 fn each_limit_may_have_its_greatest_value(rt: HostRuntime) {
     for name in LIMITED {

@@ -1,4 +1,4 @@
-//! Large messages and long ways, with memory that is there: no run tells that it ran out.
+//! Large messages and long paths, with memory that is there: no run tells that it ran out.
 
 use crate::broken::{Ending, Input, ended};
 use std::alloc::{AllocError, Global};
@@ -156,7 +156,7 @@ fn a_long_message_is_shown_with_marks(rt: HostRuntime) -> Result<(), Fail> {
     Ok(())
 }
 
-/// The number of structs that hold one another: the way to the last slot has 203 characters.
+/// The number of structs that hold one another: the path to the last slot has 203 characters.
 const STRUCTS: u32 = 102;
 
 /// Returns the frame of structs of one slot that hold one another.
@@ -170,9 +170,9 @@ fn chain(alloc: Global) -> Result<Vec<u8>, AllocError> {
     )
 }
 
-/// Each line of a deep value has its whole way.
+/// Each line of a deep value has its whole path.
 #[test]
-fn a_way_of_two_hundred_characters_is_marked(rt: HostRuntime) -> Result<(), Fail> {
+fn a_path_of_two_hundred_characters_is_marked(rt: HostRuntime) -> Result<(), Fail> {
     let frame = chain(rt.alloc())?;
     let mut end = String::from_str(rt.alloc(), "\n0")?;
     for _ in 1..STRUCTS {

@@ -4,7 +4,7 @@
 #![tactic(auto)]
 
 #[cfg(test)]
-mod archive_orders;
+mod archive_invocations;
 #[cfg(test)]
 mod broken;
 #[cfg(test)]
@@ -14,13 +14,13 @@ mod fault_lines;
 #[cfg(test)]
 mod greatest_limits;
 #[cfg(test)]
+mod invocations;
+#[cfg(test)]
 mod large_inputs;
 #[cfg(test)]
-mod long_ways;
+mod long_paths;
 #[cfg(test)]
 mod option_texts;
-#[cfg(test)]
-mod orders;
 #[cfg(test)]
 mod picks;
 #[cfg(test)]

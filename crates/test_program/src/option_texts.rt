@@ -5,7 +5,7 @@ use capn_serve::Range;
 use std::process::Abort;
 
 #[test]
-fn a_way_is_read_as_its_numbers(rt: HostRuntime) {
+fn a_path_is_read_as_its_numbers(rt: HostRuntime) {
     let numbers = numbers_of(rt.alloc(), Some("0.31.7")).expect(&rt, "memory");
     assert!(rt; numbers.as_slice() == [0, 31, 7].as_slice());
     let none = numbers_of(rt.alloc(), None).expect(&rt, "memory");

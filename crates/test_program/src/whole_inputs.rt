@@ -33,7 +33,7 @@ fn outcome_of(alloc: Global, form: Form, pieces: u64) -> Result<(), ToolFault> {
         offsets: false,
         ways: false,
         one: true,
-        way: None,
+        path: None,
     };
     let mut reader = Watched::new(Zeros { left: pieces });
     let mut writer = Watched::new(Vec::new(alloc));

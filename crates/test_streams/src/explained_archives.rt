@@ -159,7 +159,7 @@ fn chain_and_list(alloc: Global, comes_first: bool) -> Result<Vec<u8>, AllocErro
 }
 
 /// The word that differs is found by a descent to it, past what lies before. A body whose descent never answers finds
-/// it by a search of all that is before it: down this chain, for whose way of 200 numbers memory grows six times more.
+/// it by a search of all that is before it: down this chain, for whose path of 200 numbers memory grows six times more.
 #[test]
 fn the_word_that_differs_is_found_without_a_search(rt: HostRuntime) -> Result<(), Fail> {
     let first = chain_and_list(rt.alloc(), true)?;

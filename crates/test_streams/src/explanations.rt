@@ -261,7 +261,7 @@ fn writes_nothing_where_the_reader_fails(rt: HostRuntime) -> Result<(), Fail> {
 }
 
 /// Messages of one segment that aren't canonical, and what is told of each after its head.
-const DEPARTING: [([u8; 24], &str); 5] = [
+const MISMATCHED: [([u8; 24], &str); 5] = [
     (
         [
             0, 0, 0, 0, 2, 0, 0, 0, 0, 0, 0, 0, 1, 0, 0, 0, 0, 0, 0, 0, 0, 0, 0, 0,
@@ -307,11 +307,11 @@ canonical: no: capability 5 at 0
     ),
 ];
 
-/// A run explains by which word a message of one segment departs from its canonical bytes, a pointer, a tag, the
+/// A run explains by which word a message of one segment differs from its canonical bytes, a pointer, a tag, the
 /// padding of a last word, a word after its value, or by which capability, with a number and without one.
 #[test]
 fn explains_why_a_message_is_not_canonical(rt: HostRuntime) -> Result<(), Fail> {
-    for (bytes, told) in DEPARTING {
+    for (bytes, told) in MISMATCHED {
         let lines = format!(in rt.alloc(); "message: 1 at 0\nsegments: 1 of 2 words\n{told}")?;
         for number in [None, Some(1)] {
             let one = explained(rt.alloc(), Form::Stream, number, &bytes);
@@ -345,7 +345,7 @@ fn explained_under(alloc: Global, refused: u64, bytes: &[u8]) -> (Outcome, bool)
 /// If any growth is refused for the only message, the run ends so, and nothing is written.
 #[test]
 fn tells_that_memory_ran_out_for_the_only_message(rt: HostRuntime) -> Result<(), Fail> {
-    let bytes = &DEPARTING[0].0;
+    let bytes = &MISMATCHED[0].0;
     for refused in 1_u64..1000 {
         let (one, is_spared) = explained_under(rt.alloc(), refused, bytes);
         if is_spared {
@@ -364,7 +364,7 @@ fn tells_that_memory_ran_out_for_the_only_message(rt: HostRuntime) -> Result<(),
 /// Memory that ran out for the first message is not reported if another one comes.
 #[test]
 fn forgets_that_memory_ran_out_where_another_message_comes(rt: HostRuntime) -> Result<(), Fail> {
-    let mut frames = Vec::from_slice(rt.alloc(), &DEPARTING[0].0)?;
+    let mut frames = Vec::from_slice(rt.alloc(), &MISMATCHED[0].0)?;
     frames.extend_from_slice(&FRAMES[..16])?;
     let mut is_forgotten = false;
     for refused in 1_u64..1000 {

@@ -160,7 +160,7 @@ fn times_explained(alloc: Global, bytes: &[u8], limits: Limits) -> Result<(u64, 
 
 /// A message that its walk refuses is explained by one walk more, up to the same slot, which asks about three times as
 /// often as a survey. A body that surveys it again before that, or after, asks once more for each survey; one that
-/// looks for the way twice asks six times as often.
+/// looks for the path twice asks six times as often.
 #[test]
 fn a_refused_message_is_walked_once_more(rt: HostRuntime) -> Result<(), Fail> {
     let bytes = doubling(rt.alloc(), 11)?;

@@ -1,7 +1,7 @@
 //! The texts of explanations of messages.
 
 use crate::words::bytes_of;
-use capn_diagnostics::{PointerText, SlotText, TagText, WayText, WordText, place_byte};
+use capn_diagnostics::{PathText, PointerText, SlotText, TagText, WordText, place_byte};
 use capn_words::{Bare, Place};
 use std::alloc::Global;
 use std::fmt;
@@ -97,11 +97,11 @@ fn bytes_of_words(rt: HostRuntime) -> Result<(), Fail> {
 }
 
 #[test]
-fn ways(rt: HostRuntime) -> Result<(), Fail> {
+fn paths(rt: HostRuntime) -> Result<(), Fail> {
     let alloc = rt.alloc();
-    assert!(rt; is_text(alloc, &WayText(&[]), "root")?);
-    assert!(rt; is_text(alloc, &WayText(&[0]), "0")?);
-    assert!(rt; is_text(alloc, &WayText(&[0, 12, 4_294_967_295]), "0.12.4294967295")?);
+    assert!(rt; is_text(alloc, &PathText(&[]), "root")?);
+    assert!(rt; is_text(alloc, &PathText(&[0]), "0")?);
+    assert!(rt; is_text(alloc, &PathText(&[0, 12, 4_294_967_295]), "0.12.4294967295")?);
     Ok(())
 }
 

@@ -8,10 +8,6 @@ mod comparisons;
 #[cfg(test)]
 mod counted_calls;
 #[cfg(test)]
-mod departure_lines;
-#[cfg(test)]
-mod departures;
-#[cfg(test)]
 mod depths;
 #[cfg(test)]
 mod explained_refusals;
@@ -28,6 +24,12 @@ mod marked_texts;
 #[cfg(test)]
 mod measures;
 #[cfg(test)]
+mod mismatch_lines;
+#[cfg(test)]
+mod mismatches;
+#[cfg(test)]
+mod paths;
+#[cfg(test)]
 mod same_lists;
 #[cfg(test)]
 mod same_messages;
@@ -41,7 +43,5 @@ mod targets;
 mod value_texts;
 #[cfg(test)]
 mod values;
-#[cfg(test)]
-mod ways;
 #[cfg(test)]
 mod words;

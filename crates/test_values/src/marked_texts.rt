@@ -19,7 +19,7 @@ const STRUCT: [u64; 8] = [
     0,
 ];
 
-/// Its lines, with the offset and the way of each.
+/// Its lines, with the offset and the path of each.
 const LINES: &str = "0\troot\tstruct 1 2
 8\troot\t  word 0000000000000005
 16\t0\t  u16 3
@@ -38,7 +38,7 @@ const ROW: &str = "56\tstruct 1 1
 64\t  null
 ";
 
-/// Tests whether this is the text of what is at a way.
+/// Tests whether this is the text of what is at a path.
 fn is_shown(alloc: Global, marks: Marks, numbers: &[u64], want: &str) -> Result<bool, Fail> {
     let bytes = bytes_of(alloc, &STRUCT)?;
     let Ok(space) = Bare::new(&bytes) else {
@@ -60,7 +60,7 @@ fn is_shown(alloc: Global, marks: Marks, numbers: &[u64], want: &str) -> Result<
 }
 
 #[test]
-fn offset_and_way_of_each_line(rt: HostRuntime) -> Result<(), Fail> {
+fn offset_and_path_of_each_line(rt: HostRuntime) -> Result<(), Fail> {
     let marks = Marks {
         offsets: true,
         ways: true,

@@ -8,7 +8,7 @@ use Rattle.capn_canon.specs.declared.form.Form.{Form}
 use Rattle.capn_canon.specs.declared.form.Form.TheVariants as forms
 use Rattle.capn_canon.specs.declared.refusal.Refusal.{Refusal}
 use Rattle.capn_canon.specs.declared.refusal.Refusal.TheVariants as refusals
-use Rattle.capn_answers.specs.Ways.{IsUnread}
+use Rattle.capn_answers.specs.Paths.{IsUnread}
 
 -- where reading asked for memory, it may be needed
 pub reading_wanted : {T : Type 0} (form : Form) (bs : List ℕ) (limits : Bounds) (r : Result T Refusal) (e : Refusal)

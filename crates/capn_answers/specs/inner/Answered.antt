@@ -5,23 +5,23 @@ use Rattle.capn_walk.specs.Accepted.{IsBounded, IsWalkRefused}
 use Rattle.capn_walk.specs.Limits.{Bounds}
 use Rattle.capn_walk.specs.Surveyed.{IsSurvey}
 use Rattle.capn_walk.specs.declared.walk_answer.Stopped.{Stopped}
-use Rattle.capn_path.specs.Ways.{IsRefusedAt}
+use Rattle.capn_path.specs.Paths.{IsRefusedAt}
 use Rattle.capn_path.specs.declared.refusal.Refused.{Refused}
 use Rattle.capn_canon.specs.Refusal.{IsPaidWithin, IsUnaccepted}
 use Rattle.capn_canon.specs.declared.refusal.Refusal.{Refusal}
 use Rattle.capn_canon.specs.declared.refusal.Refusal.TheVariants as refusals
-use Rattle.capn_mismatch.specs.Departures.{Departs, IsDeparture}
+use Rattle.capn_mismatch.specs.Mismatches.{HasMismatch, IsMismatch}
 use Rattle.capn_answers.specs.Walked.{IsWalkedWithin}
-use Rattle.capn_answers.specs.declared.departure_input.SurveyedDeparture.{SurveyedDeparture}
+use Rattle.capn_answers.specs.declared.mismatch_input.SurveyedMismatch.{SurveyedMismatch}
 use Rattle.capn_answers.specs.declared.walked.Walked.{Walked}
 use Rattle.capn_answers.specs.declared.walked.Walked.TheVariants as walks
 
--- the message is accepted, of which the survey is; or its walk stops there, and the way leads to that slot
+-- the message is accepted, of which the survey is; or its walk stops there, and the path leads to that slot
 abbrev pub IsWalked : {A : Type 0} → List (List ℕ) → Bounds → Walked A → Type 0
 IsWalked message limits (walks.Accepted s) = IsSurvey message limits s
-IsWalked message limits (walks.Refused f) = IsRefusedAt message limits f.stopped f.way.items
+IsWalked message limits (walks.Refused f) = IsRefusedAt message limits f.stopped f.path.items
 
--- an answer for the walk of a message; memory ran out only for the way of one that is refused
+-- an answer for the walk of a message; memory ran out only for the path of one that is refused
 pub record IsWalkTold {A : Type 0} (message : List (List ℕ)) (limits : Bounds) (r : Result (Walked A) Refusal)
     : Type 0 where
   pub found : IfOk r (λ w. IsWalked message limits w)
@@ -29,13 +29,13 @@ pub record IsWalkTold {A : Type 0} (message : List (List ℕ)) (limits : Bounds)
   pub memory : IfErr r (λ e. (e ≡ refusals.Memory)
       × ((s : Stopped) × IsWalkRefused message limits s.fault s.place s.paid s.visits))
 
--- an answer for the departure of a message from its canonical bytes, and for its survey, or the reason why it isn't
+-- an answer for the mismatch of a message with its canonical bytes, and for its survey, or the reason why it isn't
 -- accepted
-pub record IsDepartureSurveyed {A : Type 0} (message : List (List ℕ)) (limits : Bounds)
-    (r : Result (SurveyedDeparture A) Refusal) : Type 0 where
-  pub found : IfOk r (λ d. IsDeparture message limits d.departure)
+pub record IsMismatchSurveyed {A : Type 0} (message : List (List ℕ)) (limits : Bounds)
+    (r : Result (SurveyedMismatch A) Refusal) : Type 0 where
+  pub found : IfOk r (λ d. IsMismatch message limits d.mismatch)
   pub surveyed : IfOk r (λ d. IsSurvey message limits d.survey)
   pub refused : IfErr r (λ e. IsUnaccepted message limits e)
-  pub memory : IsErrOf r refusals.Memory → Departs message limits
+  pub memory : IsErrOf r refusals.Memory → HasMismatch message limits
   pub bounded : MatchResult r (λ d. IsBounded limits.budget d.survey.paid d.survey.visits)
       (λ e. IsPaidWithin limits.budget e)

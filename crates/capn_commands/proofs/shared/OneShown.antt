@@ -65,14 +65,14 @@ part_one_way most = record {
 -- ---- orders of the same do the same
 
 pub record IsLike (p q : PartTexts) : Type 0 where
-  pub numbers : p.way.now ≡ q.way.now
+  pub numbers : p.path.now ≡ q.path.now
   pub form : p.form ≡ q.form
   pub limits : p.limits ≡ q.limits
   pub style : p.style ≡ q.style
   pub offsets : p.offsets ≡ q.offsets
   pub ways : p.ways ≡ q.ways
 
--- an order with all of another but where its way lies
+-- an order with all of another but where its path lies
 abbrev alike : PartTexts → Form → Bounds → Style → Bool → Bool → PartTexts
 alike p form limits style offsets ways = record p {
   form = form;
@@ -86,7 +86,7 @@ alike p form limits style offsets ways = record p {
 abbrev text_of : PartTexts → Position → List (List ℕ) → Tree → List ℕ
 text_of s at m v = part_of s at m v ++ part_end s at m
 
--- the same, by the numbers of the way
+-- the same, by the numbers of the path
 abbrev text_at : List ℕ → PartTexts → Position → List (List ℕ) → Tree → List ℕ
 text_at numbers s at m v =
     (if s.offsets || s.ways then marked_at m (marks_of s at m) numbers v else styled s.style numbers v)

@@ -7,7 +7,7 @@ use Rattle.capn_target.specs.declared.target.Shape.{Shape}
 use Rattle.capn_target.specs.declared.target.Shape.TheVariants as shapes
 use Rattle.capn_walk.specs.Visits.{slots}
 use Rattle.capn_target.specs.Target.{target}
-use Rattle.capn_path.specs.Ways.{Leads}
+use Rattle.capn_path.specs.Paths.{Leads}
 use Rattle.capn_path.specs.Steps.{AreNumbersIn, DescendsTo}
 use Rattle.capn_mismatch.specs.declared.slot_rows.SlotRows.{SlotRows}
 use Rattle.capn_mismatch.specs.declared.sought.Found.{Found}
@@ -43,7 +43,8 @@ numbers (shapes.Rows n a b span) row slot = row ∷ slot ∷ []
 numbers shape row slot = slot ∷ []
 
 module _ (m : List (List ℕ)) (base : ℕ) (word : Place) where
-  -- a slot that is reached by some numbers, with which the way goes on from the old one, and the kind of the word there
+  -- a slot that is reached by some numbers, with which the path goes on from the old one, and the kind of the word
+  -- there
   pub record ReachesIn (Onward : List ℕ → Place → ℕ → Type 0) (old new : List ℕ) (x : Found) : Type 0 where
     pub rest : List ℕ
     pub is : new ≡ old ++ rest

@@ -9,7 +9,7 @@ use Rattle.capn_target.specs.declared.target.Shape.TheVariants as shapes
 use Rattle.capn_target.specs.Target.{target}
 use Rattle.capn_walk.specs.Visits.{places, row_places, slots}
 use Rattle.capn_walk.proofs.shared.RowWalks.{row_places-add}
-use Rattle.capn_path.specs.Ways.{AreNumbersOf, Leads, Descends}
+use Rattle.capn_path.specs.Paths.{AreNumbersOf, Leads, Descends}
 use Rattle.capn_path.specs.Steps.{AreNumbersIn, DescendsTo}
 
 -- how many slots there are
@@ -53,25 +53,25 @@ module _ (m : List (List ℕ)) (base : ℕ) where
   stays zero at = (refl, refl)
   stays (suc left) at = (refl, refl)
 
-  -- a step, and a way from there on
-  pub goes : (left : ℕ) (at : Place) (way : List ℕ) (to : Place) (n : ℕ) → 0 < length way
-      → Descends m base left (Leads m base left) at way to n → Leads m base (suc left) at way to n
+  -- a step, and a path from there on
+  pub goes : (left : ℕ) (at : Place) (path : List ℕ) (to : Place) (n : ℕ) → 0 < length path
+      → Descends m base left (Leads m base left) at path to n → Leads m base (suc left) at path to n
   goes left at [] to n h g = absurd (omega arith)
-  goes left at (i ∷ way) to n h g = g
+  goes left at (i ∷ path) to n h g = g
 
   -- a step from the slot that names an object to one of the object's slots
-  pub goes-down : (d : ℕ) (at : Place) (s start pads : ℕ) (shape : Shape) (way : List ℕ) (to : Place) (n : ℕ)
+  pub goes-down : (d : ℕ) (at : Place) (s start pads : ℕ) (shape : Shape) (path : List ℕ) (to : Place) (n : ℕ)
       → target m at ≡ Ok (targets.Content s start shape pads) → 0 < d
-      → DescendsTo m base (d - 1) (slots s start shape) (AreNumbersIn shape) way to n
-      → Leads m base d at way to (suc n)
-  goes-down d at s start pads shape way to n e some g =
+      → DescendsTo m base (d - 1) (slots s start shape) (AreNumbersIn shape) path to n
+      → Leads m base d at path to (suc n)
+  goes-down d at s start pads shape path to n e some g =
       let k = numbers-of shape s start pads (length g.before) g.numbers g.named in
       let l = length-append g.numbers g.rest in
       let le = ap length g.is in
       let long = k.1 in
       let c = g.count in
       let deep : suc (d - 1) ≡ d = omega arith in
-      rw deep at (goes (d - 1) at way to (suc n) (omega arith) (record {
+      rw deep at (goes (d - 1) at path to (suc n) (omega arith) (record {
         found = targets.Content s start shape pads;
         names = e;
         before = g.before;

@@ -1,4 +1,4 @@
--- A way that is followed, step by step: the slot to which it leads, and its holder.
+-- A path that is followed, step by step: the slot to which it leads, and its holder.
 use Rattle.std.specs.Prelude.{ℕ, zero, suc, ◌+◌, nat_lt, List, [], ◌∷◌, Result, Ok, Option, Some, None}
 use Rattle.std.specs.Prelude.{if◌then◌else◌}
 use Rattle.capn_words.specs.declared.space.Place.{Place}
@@ -15,33 +15,33 @@ use Rattle.capn_path.specs.declared.holder.Holder.TheVariants.{Struct, Pointers,
 use Rattle.capn_path.specs.declared.holder.Spot.{Spot}
 use Rattle.capn_path.specs.Holders.{place, row_start}
 
--- the slot of a holder that the first number of a way says, of n from a place on, and the rest of the way
+-- the slot of a holder that the first number of a path says, of n from a place on, and the rest of the path
 abbrev pub step_among : Holder → Place → ℕ → List ℕ → Option (Spot × List ℕ)
 step_among holder first n [] = None
-step_among holder first n (i ∷ way) =
+step_among holder first n (i ∷ path) =
     if nat_lt i n
-    then Some (record { holder = Some holder; place = place first.segment (first.word + i) }, way)
+    then Some (record { holder = Some holder; place = place first.segment (first.word + i) }, path)
     else None
 
--- the slot of a row that the first two numbers of a way say, of n rows of a words and b slots each
+-- the slot of a row that the first two numbers of a path say, of n rows of a words and b slots each
 abbrev pub step_in_rows : ℕ → ℕ → ℕ → ℕ → ℕ → List ℕ → Option (Spot × List ℕ)
 step_in_rows s start n a b [] = None
-step_in_rows s start n a b (row ∷ way) =
+step_in_rows s start n a b (row ∷ path) =
     if nat_lt row n
-    then step_among (Row row n (place s (row_start start a b row))) (place s (row_start start a b row + a)) b way
+    then step_among (Row row n (place s (row_start start a b row))) (place s (row_start start a b row + a)) b path
     else None
 
--- the slot of an object that the first numbers of a way say
+-- the slot of an object that the first numbers of a path say
 abbrev pub step_in : ℕ → ℕ → Shape → List ℕ → Option (Spot × List ℕ)
-step_in s start (shapes.Node a b) way = step_among (Struct a b (place s start)) (place s (start + a)) b way
-step_in s start (shapes.Many Link n) way = step_among (Pointers n (place s start)) (place s start) n way
-step_in s start (shapes.Many width n) way = None
-step_in s start (shapes.Rows n a b span) way = step_in_rows s start n a b way
+step_in s start (shapes.Node a b) path = step_among (Struct a b (place s start)) (place s (start + a)) b path
+step_in s start (shapes.Many Link n) path = step_among (Pointers n (place s start)) (place s start) n path
+step_in s start (shapes.Many width n) path = None
+step_in s start (shapes.Rows n a b span) path = step_in_rows s start n a b path
 
 -- the step from a target
 abbrev pub step_by : Result Target Fault → List ℕ → Option (Spot × List ℕ)
-step_by (Ok (targets.Content s start shape pads)) way = step_in s start shape way
-step_by found way = None
+step_by (Ok (targets.Content s start shape pads)) path = step_in s start shape path
+step_by found path = None
 
 -- on from a step, if it leads anywhere
 abbrev pub onward : (Spot → List ℕ → Option Spot) → Option (Spot × List ℕ) → Option Spot
@@ -49,17 +49,17 @@ onward follow (Some x) = follow x.0 x.1
 onward follow None = None
 
 module _ (message : List (List ℕ)) where
-  -- the slot that a way leads to from a slot, where no more steps than so many are needed
+  -- the slot that a path leads to from a slot, where no more steps than so many are needed
   abbrev pub follow : ℕ → Spot → List ℕ → Option Spot
-  follow zero here way = Some here
+  follow zero here path = Some here
   follow (suc n) here [] = Some here
-  follow (suc n) here (i ∷ way) = onward (follow n) (step_by (target message here.place) (i ∷ way))
+  follow (suc n) here (i ∷ path) = onward (follow n) (step_by (target message here.place) (i ∷ path))
 
 -- the root's slot, which nothing holds
 abbrev pub start : Spot
 start = record { holder = None; place = root }
 
--- the holder of the slot to which a way was followed
+-- the holder of the slot to which a path was followed
 abbrev pub holder_at : Option Spot → Option Holder
 holder_at (Some x) = x.holder
 holder_at None = None

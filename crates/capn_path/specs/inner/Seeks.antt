@@ -1,4 +1,4 @@
--- The outcome of a search among visits: the first find, and the way to its slot.
+-- The outcome of a search among visits: the first find, and the path to its slot.
 use Rattle.std.specs.Prelude.{◌≡◌, ℕ, List, ◌++◌, Option, Some, None, Result}
 use Rattle.capn_words.specs.declared.space.Place.{Place}
 use Rattle.capn_target.specs.declared.target.Target.{Target}
@@ -6,11 +6,11 @@ use Rattle.capn_target.specs.declared.target.Fault.{Fault}
 use Rattle.capn_walk.specs.Visits.{Visit, visits, visits_of}
 use Rattle.capn_path.specs.Finds.{IsPassed, Meets}
 use Rattle.capn_path.specs.Steps.{DescendsTo}
-use Rattle.capn_path.specs.Ways.{Leads}
+use Rattle.capn_path.specs.Paths.{Leads}
 
 module _ {G F : Type 0} (m : List (List ℕ)) (finds : G → Place → Result Target Fault → Option F) (next : G → G)
     (base : ℕ) where
-  -- the first find, and the old way with the numbers to it; or none, the aim after all, and the way as it was
+  -- the first find, and the old path with the numbers to it; or none, the aim after all, and the path as it was
   abbrev pub SeeksIn : List Visit → (List ℕ → Place → ℕ → Type 0) → G → G → List ℕ → List ℕ → Option F → Type 0
   SeeksIn vs leads aim after old new (Some x) =
       (rest : List ℕ) × (new ≡ old ++ rest) × Meets m finds next vs leads aim rest x

@@ -1,11 +1,11 @@
 use Rattle.std.proofs.Common.{◌≡◌, inl, inr, true, false}
 use Rattle.clap.specs.Words.{found_of, rows_of}
-use Rattle.capn_args.proofs.NamedOrders.{canonical_means}
+use Rattle.capn_args.proofs.NamedInvocations.{canonical_means}
 use Rattle.capn_args.proofs.command_line.canonical_of.Goals as goal
 
 pub returns-in_err-flag_of-clause-served : goal.returns-in_err-flag_of-clause-served
-returns-in_err-flag_of-clause-served c order means =
-    absurd (elim (canonical_means (rows_of (found_of c.args.matches.now)) order means) [
+returns-in_err-flag_of-clause-served c invocation means =
+    absurd (elim (canonical_means (rows_of (found_of c.args.matches.now)) invocation means) [
       | inl (form, limits, named, are, framed, keep_going) ↦
           (let bad : false ≡ true = c.in_err-flag_of.ensures.served false framed in cc)
       | inr (archive, framed, options) ↦
@@ -13,8 +13,8 @@ returns-in_err-flag_of-clause-served c order means =
     ])
 
 pub returns-in_err-form-clause-served : goal.returns-in_err-form-clause-served
-returns-in_err-form-clause-served c order means =
-    absurd (elim (canonical_means (rows_of (found_of c.args.matches.now)) order means) [
+returns-in_err-form-clause-served c invocation means =
+    absurd (elim (canonical_means (rows_of (found_of c.args.matches.now)) invocation means) [
       | inl (form, limits, named, are, framed, keep_going) ↦
           (let bad : false ≡ true = c.in_err-form.ensures.served form named in cc)
       | inr (archive, framed, (named, are, keep_going)) ↦
@@ -22,8 +22,8 @@ returns-in_err-form-clause-served c order means =
     ])
 
 pub returns-in_err-limits-clause-served : goal.returns-in_err-limits-clause-served
-returns-in_err-limits-clause-served c order means =
-    absurd (elim (canonical_means (rows_of (found_of c.args.matches.now)) order means) [
+returns-in_err-limits-clause-served c invocation means =
+    absurd (elim (canonical_means (rows_of (found_of c.args.matches.now)) invocation means) [
       | inl (form, limits, named, are, framed, keep_going) ↦
           (let bad : false ≡ true = c.in_err-limits.ensures.served limits are in cc)
       | inr (archive, framed, (named, are, keep_going)) ↦

@@ -1,9 +1,9 @@
 use Rattle.std.proofs.Common.{◌≡◌, true, false}
 use Rattle.clap.specs.Words.{found_of, rows_of}
-use Rattle.capn_args.proofs.NamedOrders.{pack_means}
+use Rattle.capn_args.proofs.NamedInvocations.{pack_means}
 use Rattle.capn_args.proofs.command_line.pack_of.Goals as goal
 
 pub returns-in_err-flag_of-clause-served : goal.returns-in_err-flag_of-clause-served
-returns-in_err-flag_of-clause-served c order means =
-    let (streaming, given) = pack_means (rows_of (found_of c.args.matches.now)) order means in
+returns-in_err-flag_of-clause-served c invocation means =
+    let (streaming, given) = pack_means (rows_of (found_of c.args.matches.now)) invocation means in
     let bad : false ≡ true = c.in_err-flag_of.ensures.served streaming given in absurd cc

@@ -1,19 +1,19 @@
 use Rattle.std.proofs.Common.{◌≡◌, ◌∙◌, codes, inl, inr, true, false}
 use Rattle.clap.specs.Words.{found_of, rows_of}
-use Rattle.capn_args.proofs.NamedOrders.{unpack_means}
+use Rattle.capn_args.proofs.NamedInvocations.{unpack_means}
 use Rattle.capn_args.proofs.OneMeaning.{flag_one}
 use Rattle.capn_args.proofs.command_line.unpack_of.Goals as goal
 
 pub returns-in_err-flag_of-clause-served : goal.returns-in_err-flag_of-clause-served
-returns-in_err-flag_of-clause-served c order means =
-    absurd (elim (unpack_means (rows_of (found_of c.args.matches.now)) order means) [
+returns-in_err-flag_of-clause-served c invocation means =
+    absurd (elim (unpack_means (rows_of (found_of c.args.matches.now)) invocation means) [
       | inl (most, are, given) ↦ (let bad : false ≡ true = c.in_err-flag_of.ensures.served false given in cc)
       | inr (given, usual) ↦ (let bad : false ≡ true = c.in_err-flag_of.ensures.served true given in cc)
     ])
 
 pub returns-in_err-unpacked_words_of-clause-served : goal.returns-in_err-unpacked_words_of-clause-served
-returns-in_err-unpacked_words_of-clause-served c order means =
-    absurd (elim (unpack_means (rows_of (found_of c.args.matches.now)) order means) [
+returns-in_err-unpacked_words_of-clause-served c invocation means =
+    absurd (elim (unpack_means (rows_of (found_of c.args.matches.now)) invocation means) [
       | inl (most, are, given) ↦ (let bad : false ≡ true = c.in_err-unpacked_words_of.ensures.served most are in cc)
       | inr (given, usual) ↦
           let rows = rows_of (found_of c.args.matches.now) in

@@ -1,6 +1,6 @@
 use Rattle.std.proofs.Common.{◌≡◌, true, false}
 use Rattle.clap.specs.Words.{found_of, rows_of}
-use Rattle.capn_args.proofs.NamedOrders.{explained_flag}
+use Rattle.capn_args.proofs.NamedInvocations.{explained_flag}
 use Rattle.capn_args.proofs.explain_options.explain_of.Goals as goal
 
 pub returns-in_err-flag_of-clause-served : goal.returns-in_err-flag_of-clause-served

@@ -8,6 +8,6 @@ use Rattle.capn_c.proofs.departure_call.capn_departure.Goals as goal
 
 pub returns-in-Ok-clause-only : goal.returns-in-Ok-clause-only
 returns-in-Ok-clause-only c f l t v d =
-    c.depart.ensures.only v
+    c.find_mismatch.ensures.only v
     (subst (λ (x : Bounds). Denotes c.in-Some.form c.args.bytes.now x v) (sym c.in-Ok.ensures.value)
     (subst (λ (x : Form). Denotes x c.args.bytes.now (bounds_of c.args.limits.now) v) (sym c.in-Some.ensures.value) d))

@@ -4,12 +4,12 @@ use Rattle.std.specs.Bool.{IsTrue}
 use Rattle.capn_walk.specs.Accepted.{IsBounded}
 use Rattle.capn_answers.proofs.shared.Reading.{unread_unaccepted, unread_within}
 use Rattle.capn_abi.specs.StatusCodes.{code, is_status}
-use Rattle.capn_c.specs.WayNumbers.{TellsWay}
+use Rattle.capn_c.specs.PathNumbers.{TellsPath}
 use Rattle.capn_abi.specs.declared.report.CapnReport.{CapnReport}
 use Rattle.capn_c.proofs.Digests.{unaccepted_refused}
 use Rattle.capn_c.proofs.Listed.{refused_listed}
 use Rattle.capn_c.proofs.OutOfMemory.{unaccepted_memory}
-use Rattle.capn_c.proofs.WayTold.{refusal_bounded, stop_status, unread_status}
+use Rattle.capn_c.proofs.PathTold.{refusal_bounded, stop_status, unread_status}
 use Rattle.capn_c.proofs.refusal_way_call.refusal_way.Goals as goal
 
 -- ---- a message that is accepted
@@ -25,24 +25,24 @@ returns-in-Accepted-clause-bounded c =
 
 -- ---- one whose walk stopped
 
-pub tell_way-requires : goal.tell_way-requires
-tell_way-requires c =
+pub tell_path-requires : goal.tell_path-requires
+tell_path-requires c =
     let few = (rw c.in-Refused.is at c.in-Ok.ensures.short) in
     omega (arith, few, ap length c.as_slice.ensures.value)
 
 pub returns-in-Refused-clause-possible : goal.returns-in-Refused-clause-possible
 returns-in-Refused-clause-possible c =
     let f = c.in-Refused.refused in
-    let much = stop_status c.args.form c.args.bytes.now c.args.limits f.stopped f.way.items
+    let much = stop_status c.args.form c.args.bytes.now c.args.limits f.stopped f.path.items
     (rw c.in-Refused.is at c.in-Ok.ensures.found) in
-    inr (omega (arith, much, c.tell_way.ensures.told.reports.status_is))
+    inr (omega (arith, much, c.tell_path.ensures.told.reports.status_is))
 
 pub returns-in-Refused-clause-found : goal.returns-in-Refused-clause-found
 returns-in-Refused-clause-found c h =
     let f = c.in-Refused.refused in
-    let much = stop_status c.args.form c.args.bytes.now c.args.limits f.stopped f.way.items
+    let much = stop_status c.args.form c.args.bytes.now c.args.limits f.stopped f.path.items
     (rw c.in-Refused.is at c.in-Ok.ensures.found) in
-    absurd (omega (arith, h, much, c.tell_way.ensures.told.reports.status_is))
+    absurd (omega (arith, h, much, c.tell_path.ensures.told.reports.status_is))
 
 pub returns-in-Refused-clause-only : goal.returns-in-Refused-clause-only
 returns-in-Refused-clause-only c v d =
@@ -51,44 +51,44 @@ returns-in-Refused-clause-only c v d =
 pub returns-in-Refused-clause-refused : goal.returns-in-Refused-clause-refused
 returns-in-Refused-clause-refused c e h =
     let f = c.in-Refused.refused in
-    let much = stop_status c.args.form c.args.bytes.now c.args.limits f.stopped f.way.items
+    let much = stop_status c.args.form c.args.bytes.now c.args.limits f.stopped f.path.items
     (rw c.in-Refused.is at c.in-Ok.ensures.found) in
-    absurd (omega (arith, h, much, c.tell_way.ensures.told.reports.status_is))
+    absurd (omega (arith, h, much, c.tell_path.ensures.told.reports.status_is))
 
 pub returns-in-Refused-clause-told : goal.returns-in-Refused-clause-told
 returns-in-Refused-clause-told c h = (
   c.in-Refused.refused.stopped,
-  c.in-Refused.refused.way.items,
+  c.in-Refused.refused.path.items,
   (rw c.in-Refused.is at c.in-Ok.ensures.found),
-  subst (λ (x : List ℕ). TellsWay c.tell_way.result c.tell_way.new.report c.in-Refused.refused.stopped x
-      c.args.way.now c.tell_way.new.room) c.as_slice.ensures.value c.tell_way.ensures.told,
+  subst (λ (x : List ℕ). TellsPath c.tell_path.result c.tell_path.new.report c.in-Refused.refused.stopped x
+      c.args.way.now c.tell_path.new.room) c.as_slice.ensures.value c.tell_path.ensures.told,
 )
 
 pub returns-in-Refused-clause-short : goal.returns-in-Refused-clause-short
 returns-in-Refused-clause-short c h =
     let few = (rw c.in-Refused.is at c.in-Ok.ensures.short) in
-    omega (arith, few, ap length c.as_slice.ensures.value, c.tell_way.ensures.told.long)
+    omega (arith, few, ap length c.as_slice.ensures.value, c.tell_path.ensures.told.long)
 
 pub returns-in-Refused-clause-memory : goal.returns-in-Refused-clause-memory
 returns-in-Refused-clause-memory c h =
     let f = c.in-Refused.refused in
-    let much = stop_status c.args.form c.args.bytes.now c.args.limits f.stopped f.way.items
+    let much = stop_status c.args.form c.args.bytes.now c.args.limits f.stopped f.path.items
     (rw c.in-Refused.is at c.in-Ok.ensures.found) in
-    absurd (omega (arith, h, much, c.tell_way.ensures.told.reports.status_is))
+    absurd (omega (arith, h, much, c.tell_path.ensures.told.reports.status_is))
 
 pub returns-in-Refused-clause-bounded : goal.returns-in-Refused-clause-bounded
 returns-in-Refused-clause-bounded c =
     let within = (rw c.in-Refused.is at c.in-Ok.ensures.bounded) in
-    subst (λ (n : ℕ). IsBounded c.args.limits.budget n c.tell_way.new.report.visits) (sym c.tell_way.ensures.paid)
+    subst (λ (n : ℕ). IsBounded c.args.limits.budget n c.tell_path.new.report.visits) (sym c.tell_path.ensures.paid)
     (subst (λ (n : ℕ). IsBounded c.args.limits.budget c.in-Refused.refused.stopped.paid n)
-    (sym c.tell_way.ensures.visits) within)
+    (sym c.tell_path.ensures.visits) within)
 
 pub returns-in-Refused-clause-kept : goal.returns-in-Refused-clause-kept
 returns-in-Refused-clause-kept c h =
     let f = c.in-Refused.refused in
-    let much = stop_status c.args.form c.args.bytes.now c.args.limits f.stopped f.way.items
+    let much = stop_status c.args.form c.args.bytes.now c.args.limits f.stopped f.path.items
     (rw c.in-Refused.is at c.in-Ok.ensures.found) in
-    absurd (omega (arith, h, much, c.tell_way.ensures.told.reports.status_is))
+    absurd (omega (arith, h, much, c.tell_path.ensures.told.reports.status_is))
 
 -- ---- bytes that are not read
 

@@ -12,7 +12,7 @@ returns-in-Ok g c =
     let m = g.S.Space.message c.args.message.now in
     let q = outgoing g.W.Write.contents c.show_marked.new.writer c.show_marked.new.text.items in
     let r = outgoing g.W.Write.contents c.add_marked_end.new.writer c.add_marked_end.new.text.items in
-    part_line m c.args.limits (marked_at m c.args.marks c.args.way.now) (marked_end c.args.marks (total m))
+    part_line m c.args.limits (marked_at m c.args.marks c.args.path.now) (marked_end c.args.marks (total m))
     (outgoing g.W.Write.contents c.args.writer.now c.args.text.now.items) q r c.add_marked_end.result
     c.in-Ok.ensures.shown
     (subst (λ (n : ℕ). AddsEnd (marked_end c.args.marks n) q r c.add_marked_end.result) c.total_words.ensures
@@ -21,7 +21,7 @@ returns-in-Ok g c =
 pub returns-in-Err : goal.returns-in-Err
 returns-in-Err g c =
     let m = g.S.Space.message c.args.message.now in
-    part_fault m c.args.limits (marked_at m c.args.marks c.args.way.now) (marked_end c.args.marks (total m))
+    part_fault m c.args.limits (marked_at m c.args.marks c.args.path.now) (marked_end c.args.marks (total m))
     c.in-Err.fault (outgoing g.W.Write.contents c.args.writer.now c.args.text.now.items)
     (outgoing g.W.Write.contents c.show_marked.new.writer c.show_marked.new.text.items) c.fault_of.result
     c.fault_of.ensures c.in-Err.ensures.refused

@@ -17,10 +17,10 @@ returns-then-has_marks g c =
     let marks = marks_of s c.args.at m in
     let p = outgoing g.W.Write.contents c.args.writer.now c.args.text.now.items in
     let q = outgoing g.W.Write.contents c.add_marked.new.writer c.add_marked.new.text.items in
-    with_marks m s.limits (marked_at m marks s.way.now) (styled s.style s.way.now) (marked_end marks (total m))
+    with_marks m s.limits (marked_at m marks s.path.now) (styled s.style s.path.now) (marked_end marks (total m))
     (end_of s.style) p q c.add_marked.result (s.offsets || s.ways) (sym c.has_marks.ensures ∙ c.if-has_marks.true)
     (subst (λ (x : Marks).
-    AddsPart m s.limits (marked_at m x s.way.now) (marked_end x (total m)) p q c.add_marked.result)
+    AddsPart m s.limits (marked_at m x s.path.now) (marked_end x (total m)) p q c.add_marked.result)
     c.marks_of-marks.ensures c.add_marked.ensures)
 
 pub returns-else-has_marks : goal.returns-else-has_marks
@@ -28,7 +28,7 @@ returns-else-has_marks g c =
     let m = g.S.Space.message c.args.message.now in
     let s = c.args.texts.now in
     let marks = marks_of s c.args.at m in
-    without_marks m s.limits (marked_at m marks s.way.now) (styled s.style s.way.now) (marked_end marks (total m))
+    without_marks m s.limits (marked_at m marks s.path.now) (styled s.style s.path.now) (marked_end marks (total m))
     (end_of s.style) (outgoing g.W.Write.contents c.args.writer.now c.args.text.now.items)
     (outgoing g.W.Write.contents c.add_part.new.writer c.add_part.new.text.items) c.add_part.result
     (s.offsets || s.ways) (sym c.has_marks.ensures ∙ c.if-has_marks.false) c.add_part.ensures

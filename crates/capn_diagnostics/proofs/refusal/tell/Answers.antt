@@ -2,7 +2,7 @@ use Rattle.capn_diagnostics.proofs.refusal.tell.Goals as goal
 
 pub returns-clause-told : goal.returns-clause-told
 returns-clause-told g c = record {
-  way = c.args.refused.now.way.items;
+  path = c.args.refused.now.path.items;
   refused = c.requires.refused;
   slot = c.slot_lines.result;
   lines = rw c.deref.ensures.value at c.slot_lines.ensures;

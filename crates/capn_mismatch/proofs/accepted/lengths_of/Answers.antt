@@ -1,6 +1,6 @@
 use Rattle.std.proofs.Common.{ℕ, ◌*◌, inl, inr, ap, sym, ◌∙◌}
 use Rattle.capn_value.specs.FirstCap.{first_cap}
-use Rattle.capn_mismatch.proofs.Departing.{all-canonical, not-so, one-value}
+use Rattle.capn_mismatch.proofs.Mismatching.{all-canonical, not-so, one-value}
 use Rattle.capn_mismatch.proofs.accepted.lengths_of.Goals as goal
 
 pub returns-then-measured : goal.returns-then-measured

@@ -7,7 +7,7 @@ use Rattle.capn_mismatch.proofs.owner.slot_of.Goals as goal
 
 pub returns-in-Some : goal.returns-in-Some
 returns-in-Some g c =
-    let h = rw (c.in-Some.is, c.depth.ensures.value, c.new-way.ensures.items) at c.in_ok-found.ensures in
+    let h = rw (c.in-Some.is, c.depth.ensures.value, c.new-path.ensures.items) at c.in_ok-found.ensures in
     h (base c.args.limits.tariff)
 
 pub unreachable-requires : goal.unreachable-requires

@@ -1,5 +1,5 @@
 use Rattle.std.proofs.Common.{false, refl}
-use Rattle.capn_mismatch.proofs.Departing.{not-so}
+use Rattle.capn_mismatch.proofs.Mismatching.{not-so}
 use Rattle.capn_mismatch.proofs.InCanonicalForm.{is-found, not-found}
 use Rattle.capn_mismatch.proofs.surveyed.is_canonical.Goals as goal
 

@@ -9,7 +9,7 @@ invariant-loop-rest g l = record {
   steps : ℕ;
   enough : length l.rest ≤ steps;
   same : follow (g.S.Space.message l.space) steps l.spot l.rest
-      ≡ follow (g.S.Space.message l.space) (length l.way) l.fn.from l.way;
+      ≡ follow (g.S.Space.message l.space) (length l.path) l.fn.from l.path;
 }
 
 abbrev pub decreases-loop-rest : goal.decreases-loop-rest

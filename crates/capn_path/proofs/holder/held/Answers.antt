@@ -8,4 +8,4 @@ returns-then-segment_length-eq0 g c =
     let m = g.S.Space.message c.args.space.now in
     let none : length (segment_at (g.S.Space.message c.args.space.now) 0) ≡ 0 =
     sym c.segment_length.ensures ∙ c.if-segment_length-eq0.true in
-    sym (no-root m c.args.way.now (length c.args.way.now) (rootless m none))
+    sym (no-root m c.args.path.now (length c.args.path.now) (rootless m none))

@@ -19,8 +19,8 @@ abbrev pub invariant-seek_slots-loop-i : goal.invariant-seek_slots-loop-i
 invariant-seek_slots-loop-i g l = record {
   passed : (base : ℕ) → IsPassed (g.S.Space.message l.space) g.G.Aim.finds g.G.Aim.next l.fn.aim
       (visits_of (g.S.Space.message l.space) base l.depth (places l.first.segment l.first.word l.i)) l.aim;
-  kept : l.way.items ≡ l.fn.way.items;
-  grown : vec_capacity l.fn.way ≤ vec_capacity l.way;
+  kept : l.path.items ≡ l.fn.path.items;
+  grown : vec_capacity l.fn.path ≤ vec_capacity l.path;
 }
 
 abbrev pub invariant-seek_rows-loop-row : goal.invariant-seek_rows-loop-row
@@ -28,7 +28,7 @@ invariant-seek_rows-loop-row g l = record {
   passed : (base : ℕ) → IsPassed (g.S.Space.message l.space) g.G.Aim.finds g.G.Aim.next l.fn.aim
       (visits_of (g.S.Space.message l.space) base l.depth
       (row_places l.first.segment l.first.word l.words l.slots l.row)) l.aim;
-  kept : l.way.items ≡ l.fn.way.items;
-  grown : vec_capacity l.fn.way ≤ vec_capacity l.way;
+  kept : l.path.items ≡ l.fn.path.items;
+  grown : vec_capacity l.fn.path ≤ vec_capacity l.path;
   next : l.next ≡ l.first.word + l.row * (l.words + l.slots);
 }

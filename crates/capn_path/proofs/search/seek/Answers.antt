@@ -2,7 +2,7 @@ use Rattle.capn_path.proofs.search.seek.Goals as goal
 
 pub returns-in-Some-clause-found : goal.returns-in-Some-clause-found
 returns-in-Some-clause-found g c base =
-    let h = rw (c.in-Some.is, c.new-way.ensures.items) at c.in_ok-found.ensures.found in
+    let h = rw (c.in-Some.is, c.new-path.ensures.items) at c.in_ok-found.ensures.found in
     let k = h base in
     rw k.1 k.2
 

@@ -3,7 +3,7 @@ use Rattle.capn_tool.proofs.OneAlone.{shown_alone}
 use Rattle.capn_tool.proofs.laws.one_alone.Goals as goal
 
 pub returns : goal.returns
-returns c show way p q h k frame input is_longer t u r s a b =
+returns c show path p q h k frame input is_longer t u r s a b =
     shown_alone show.limits p q
     (record {
       numbers = h.numbers ∙ sym k.numbers;

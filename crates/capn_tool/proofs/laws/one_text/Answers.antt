@@ -3,7 +3,7 @@ use Rattle.capn_commands.proofs.shared.OneShown.{one_shown}
 use Rattle.capn_tool.proofs.laws.one_text.Goals as goal
 
 pub returns : goal.returns
-returns c show way p q h k input t u r s y z a b =
+returns c show path p q h k input t u r s y z a b =
     one_shown show.limits.message_words show.form p q
     (record {
       numbers = h.numbers ∙ sym k.numbers;

@@ -3,12 +3,12 @@ use Rattle.std.proofs.lemmas.Result.{err_from_is_err_and}
 use Rattle.capn_tool.proofs.part_run.show_parts.Goals as goal
 
 pub returns-in-Some : goal.returns-in-Some
-returns-in-Some g c way is =
+returns-in-Some g c path is =
     rw (sym c.one_frame.ensures ∙ c.in-Some.is)
     (inr (record {
       service = _;
       follows = record {
-        numbers = c.deref.ensures.value ∙ c.in_ok-way.ensures.found way is;
+        numbers = c.deref.ensures.value ∙ c.in_ok-path.ensures.found path is;
         form = refl;
         limits = refl;
         style = refl;
@@ -19,14 +19,14 @@ returns-in-Some g c way is =
     }))
 
 pub returns-in_err-run_show-in-None : goal.returns-in_err-run_show-in-None
-returns-in_err-run_show-in-None g c way is =
+returns-in_err-run_show-in-None g c path is =
     let p = err_from_is_err_and c.from_residual-in_err-run_show-in-None.result
     c.from_residual-in_err-run_show-in-None.ensures.1 in
     rw (sym c.one_frame.ensures ∙ c.in-None.is, p.1, p.2)
     (inr (record {
       service = _;
       follows = record {
-        numbers = c.deref.ensures.value ∙ c.in_ok-way.ensures.found way is;
+        numbers = c.deref.ensures.value ∙ c.in_ok-path.ensures.found path is;
         form = refl;
         limits = refl;
         style = refl;
@@ -39,12 +39,12 @@ returns-in_err-run_show-in-None g c way is =
     }))
 
 pub returns : goal.returns
-returns g c way is =
+returns g c path is =
     rw (sym c.one_frame.ensures ∙ c.in-None.is)
     (inr (record {
       service = _;
       follows = record {
-        numbers = c.deref.ensures.value ∙ c.in_ok-way.ensures.found way is;
+        numbers = c.deref.ensures.value ∙ c.in_ok-path.ensures.found path is;
         form = refl;
         limits = refl;
         style = refl;

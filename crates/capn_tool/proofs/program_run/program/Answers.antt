@@ -2,17 +2,18 @@ use Rattle.std.proofs.Common.{inl, inr, map, subst}
 use Rattle.clap.specs.Words.{subcommand_of}
 use Rattle.capn_make.specs.declared.fault.MakeFault.TheVariants as make_faults
 use Rattle.capn_args.specs.CommandLine.{program_line}
-use Rattle.capn_args.specs.Meaning.{MeansOrder}
-use Rattle.capn_args.specs.declared.order.Order.{Order}
-use Rattle.capn_args.specs.declared.order.Order.TheVariants as orders
+use Rattle.capn_args.specs.Meaning.{MeansInvocation}
+use Rattle.capn_args.specs.declared.invocation.Invocation.{Invocation}
+use Rattle.capn_args.specs.declared.invocation.Invocation.TheVariants as invocations
 use Rattle.capn_tool.specs.Flushed.{MadeBy}
 use Rattle.capn_tool.proofs.EndedOrders.{ended}
 use Rattle.capn_tool.proofs.program_run.program.Goals as goal
 
 pub returns-in-Make : goal.returns-in-Make
 returns-in-Make g c =
-    let means = subst (λ (o : Order). MeansOrder (subcommand_of program_line (map g.S.AsStr.text c.args.words.now)) o)
+    let means =
+    subst (λ (o : Invocation). MeansInvocation (subcommand_of program_line (map g.S.AsStr.text c.args.words.now)) o)
     c.in-Make.is c.in-Ok.ensures.means in
     inr (inr (inr (inr (inr (inr (inr (inr (inr (inr (inr (inl
-    (ended (λ make. orders.Make make) make_faults.Io (λ make. MadeBy make.quoted make.form) _ _ means
+    (ended (λ make. invocations.Make make) make_faults.Io (λ make. MadeBy make.quoted make.form) _ _ means
     c.make_by-made.ensures c.finish-in-Make.ensures))))))))))))

@@ -1,0 +1,36 @@
+-- What is told of a message's walk is so of the bytes.
+use Rattle.capn_canon.proofs.shared.TaskRuns.{run_answered}
+use Rattle.capn_answers.specs.inner.Answered.{IsWalkTold}
+use Rattle.capn_answers.proofs.WalksTold.{walk_bounded, walk_found, walk_only, walk_short, walk_unread}
+use Rattle.capn_answers.proofs.WalksTold.{walk_wanted}
+use Rattle.capn_answers.proofs.path_input.walk_in.Goals as goal
+
+pub returns-clause-found : goal.returns-clause-found
+returns-clause-found g c =
+    walk_found c.args.form c.args.bytes.now c.args.limits c.run_task.result
+    (run_answered (λ m l x. IsWalkTold m l x) _ _ _ _ _ _ c.run_task.ensures)
+
+pub returns-clause-only : goal.returns-clause-only
+returns-clause-only g c v d =
+    walk_only c.args.form c.args.bytes.now c.args.limits c.run_task.result
+    (run_answered (λ m l x. IsWalkTold m l x) _ _ _ _ _ _ c.run_task.ensures) v d
+
+pub returns-clause-short : goal.returns-clause-short
+returns-clause-short g c =
+    walk_short c.args.form c.args.bytes.now c.args.limits c.run_task.result
+    (run_answered (λ m l x. IsWalkTold m l x) _ _ _ _ _ _ c.run_task.ensures)
+
+pub returns-clause-refused : goal.returns-clause-refused
+returns-clause-refused g c =
+    walk_unread c.args.form c.args.bytes.now c.args.limits c.run_task.result
+    (run_answered (λ m l x. IsWalkTold m l x) _ _ _ _ _ _ c.run_task.ensures)
+
+pub returns-clause-memory : goal.returns-clause-memory
+returns-clause-memory g c w =
+    walk_wanted c.args.form c.args.bytes.now c.args.limits c.run_task.result
+    (run_answered (λ m l x. IsWalkTold m l x) _ _ _ _ _ _ c.run_task.ensures) w
+
+pub returns-clause-bounded : goal.returns-clause-bounded
+returns-clause-bounded g c =
+    walk_bounded c.args.form c.args.bytes.now c.args.limits c.run_task.result
+    (run_answered (λ m l x. IsWalkTold m l x) _ _ _ _ _ _ c.run_task.ensures)

@@ -1,0 +1,42 @@
+-- The mismatch of a message with its canonical bytes, for bytes in a form. (Own.)
+use Rattle.std.specs.Prelude.{◌⊎◌, ℕ, List, []}
+use Rattle.capn_walk.specs.Limits.{Bounds}
+use Rattle.capn_canon.specs.MemoryNeed.{MayNeedMemory}
+use Rattle.capn_canon.specs.Reads.{Reads}
+use Rattle.capn_canon.specs.declared.form.Form.{Form}
+use Rattle.capn_mismatch.specs.Mismatches.{HasMismatch, IsMismatch}
+use Rattle.capn_mismatch.specs.declared.answer.Mismatch.{Mismatch}
+use Rattle.capn_mismatch.specs.declared.answer.Mismatch.TheVariants.{Canonical, Segments, Capability, Word, After}
+use Rattle.capn_mismatch.specs.declared.whose.Whose.{Whose}
+use Rattle.capn_mismatch.specs.declared.whose.Whose.TheVariants.{Pointer, Tag, LastWord}
+
+-- the bytes are read as a message, of which this is answered
+pub record IsMismatchIn {A : Type 0} (form : Form) (bs : List ℕ) (limits : Bounds) (d : Mismatch A) : Type 0 where
+  pub message : List (List ℕ)
+  pub reads : Reads form bs limits.message_words message
+  pub is : IsMismatch message limits d
+
+-- the bytes are read as a message of one segment, which is accepted and isn't canonical
+pub record HasMismatchIn (form : Form) (bs : List ℕ) (limits : Bounds) : Type 0 where
+  pub message : List (List ℕ)
+  pub reads : Reads form bs limits.message_words message
+  pub mismatched : HasMismatch message limits
+
+-- memory may be needed: for reading the bytes, or for such a message
+abbrev pub MayNeedMismatch : Form → List ℕ → Bounds → Type 0
+MayNeedMismatch form bs limits = MayNeedMemory form bs limits ⊎ HasMismatchIn form bs limits
+
+module _ {A : Type 0} where
+  -- the path to an owner's slot
+  abbrev pub owner_path : Whose A → List ℕ
+  owner_path (Pointer path) = path.items
+  owner_path (Tag path) = path.items
+  owner_path (LastWord path) = path.items
+
+  -- the path that an answer has, or no numbers
+  abbrev pub path_of : Mismatch A → List ℕ
+  path_of Canonical = []
+  path_of (Segments n) = []
+  path_of (Capability k path) = path.items
+  path_of (Word w is c whose) = owner_path whose
+  path_of (After w is) = []

@@ -1,0 +1,78 @@
+//! The text of a path, read as its numbers.
+//! They lead from the root of a message to what is below it.
+
+ghost use Rattle.std.specs.Prelude.{◌≡◌, List, ℕ, true, IfOk, OnErr, Some, is_some};
+ghost use Rattle.capn_args.specs.Path as spec;
+
+use std::alloc::{AllocError, Allocator};
+
+/// The number whose digits so far make this one, with one digit more, if it is a digit and the number stays below 2^64.
+pub(crate) fn with_digit(begun: Option<u64>, c: u8) -> Option<u64>
+    ensures { result ≡ spec.with_digit begun c }
+{
+    if c < b'0' || b'9' < c {
+        return None;
+    }
+    let tens = begun.unwrap_or(0).checked_mul(10)?;
+    tens.checked_add(u64::from(c - b'0'))
+}
+
+/// Tells if `text` is a path: numbers below 2^64 parted by single dots.
+pub(crate) fn is_path(text: &str) -> bool
+    ensures { result ≡ is_some (spec.path_of text.now) }
+{
+    let mut begun: Option<u64> = None;
+    let mut rest = text.as_bytes();
+    while let [c, after @ ..] = rest {
+        if *c == b'.' {
+            if begun.is_none() {
+                return false;
+            }
+            begun = None;
+        } else {
+            match with_digit(begun, *c) {
+                Some(number) => begun = Some(number),
+                None => return false,
+            }
+        }
+        rest = after;
+    }
+    begun.is_some()
+}
+
+/// The numbers of a path, in the order in which they stand, or none where no path is given; of a text that is no path
+/// some numbers. It takes memory for these, of 8 bytes each, and where no path is given none. (Own.)
+pub fn numbers_of<A: Allocator>(alloc: A, path: Option<&str>) -> Result<Vec<u64, A>, AllocError>
+    ensures found { IfOk result (λ numbers. (are : List ℕ) → spec.numbers_of path.entry ≡ Some are
+        → numbers.items ≡ are) }
+    ensures given { OnErr result (is_some path.entry ≡ true) }
+{
+    match path {
+        Some(text) => numbers_in(alloc, text),
+        None => Ok(Vec::new(alloc)),
+    }
+}
+
+/// The numbers of the text of a path.
+fn numbers_in<A: Allocator>(alloc: A, text: &str) -> Result<Vec<u64, A>, AllocError>
+    ensures { IfOk result (λ numbers. (path : List ℕ) → spec.path_of text.now ≡ Some path → numbers.items ≡ path) }
+{
+    let mut numbers = Vec::new(alloc);
+    let mut begun: Option<u64> = None;
+    let mut rest = text.as_bytes();
+    while let [c, after @ ..] = rest {
+        if *c == b'.' {
+            if let Some(number) = begun {
+                numbers.push(number)?;
+            }
+            begun = None;
+        } else {
+            begun = with_digit(begun, *c);
+        }
+        rest = after;
+    }
+    if let Some(number) = begun {
+        numbers.push(number)?;
+    }
+    Ok(numbers)
+}

@@ -1,0 +1,35 @@
+//! The numbers of a path, into a caller's room.
+
+ghost use Rattle.std.specs.Prelude.{◌≡◌, ◌≤◌, ◌*◌, length};
+ghost use Rattle.capn_c.specs.PathNumbers.{ArePlaced, TellsPath};
+
+use capn_abi::{CapnReport, refuse, report_at};
+use capn_canon::Refusal;
+use capn_walk::Stopped;
+
+/// Writes the numbers of `path` at the start of `room`, if it has room for all of them.
+pub fn place_path(path: &[u32], room: &mut [u32])
+    ensures { ArePlaced path.now room.old room.new }
+{
+    if path.len() <= room.len() {
+        room[..path.len()].copy_from_slice(path);
+    }
+}
+
+/// Reports the stop of a walk, `stopped`, with the length of the `path` to it, and writes that to `room`; returns the
+/// status.
+pub fn tell_path(stopped: Stopped, path: &[u32], room: &mut [u32], report: &mut CapnReport) -> u32
+    requires few { length path.now ≤ 512 }
+    ensures told { TellsPath result report.new stopped path.now room.old room.new }
+    ensures paid { report.new.paid ≡ stopped.paid }
+    ensures visits { report.new.visits ≡ stopped.visits }
+{
+    let mut told = report_at(0);
+    let status = refuse(Refusal::Walk(stopped), &mut told);
+    *report = CapnReport {
+        length: 4 * path.len() as u64,
+        ..told
+    };
+    place_path(path, room);
+    status
+}

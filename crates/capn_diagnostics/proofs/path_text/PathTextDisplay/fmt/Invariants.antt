@@ -1,0 +1,11 @@
+use Rattle.std.proofs.Common.{◌≡◌, ℕ, List, ◌++◌, drop}
+use Rattle.std.specs.Fmt.{IsPlainFormatter, HasWritten}
+use Rattle.capn_diagnostics.specs.Texts.{dotted, path_text}
+use Rattle.capn_diagnostics.proofs.path_text.PathTextDisplay.fmt.Given as goal
+
+-- what was written, with the numbers that are left, is the text
+abbrev pub invariant-loop-i : goal.invariant-loop-i
+invariant-loop-i g l =
+    IsPlainFormatter l.fn.f
+    → (done : List ℕ) × HasWritten g.W.Write.write_str_gives l.fn.f done l.f
+    × (done ++ dotted (drop l.i l.path) ≡ path_text l.path)

@@ -1,0 +1,78 @@
+-- The path to a slot: the numbers that lead to it from another slot, and how many visits of a walk come between.
+use Rattle.std.specs.Prelude.{◌≡◌, ◌⊎◌, ℕ, zero, suc, ◌+◌, ◌-◌, ◌*◌, ◌<◌, ◌≤◌, List, [], ◌∷◌, ◌++◌, length, Ok}
+use Rattle.capn_words.specs.Message.{segment_at}
+use Rattle.capn_words.specs.declared.space.Place.{Place}
+use Rattle.capn_value.specs.Cost.{base}
+use Rattle.capn_target.specs.declared.target.Target.{Target}
+use Rattle.capn_target.specs.declared.target.Target.TheVariants as targets
+use Rattle.capn_target.specs.declared.target.Shape.TheVariants as shapes
+use Rattle.capn_target.specs.Target.{target}
+use Rattle.capn_walk.specs.Visits.{Visit, visits_of}
+use Rattle.capn_walk.specs.View.{slots_below}
+use Rattle.capn_walk.specs.Index.{place_of}
+use Rattle.capn_walk.specs.Accepted.{root, visits_within, number_of_visits, IsWalkRefused}
+use Rattle.capn_walk.specs.Limits.{Bounds}
+use Rattle.capn_walk.specs.declared.walk_answer.Stopped.{Stopped}
+
+-- the numbers that say which of an object's slots is meant, by how many of them come before it: the slot's own; of a
+-- list of structs the row's, and then the slot's in its row
+abbrev pub AreNumbersOf : Target → ℕ → List ℕ → Type 0
+AreNumbersOf (targets.Content s start (shapes.Rows n a b span) pads) k (row ∷ slot ∷ []) =
+    (slot < b) × (k ≡ row * b + slot)
+AreNumbersOf (targets.Content s start (shapes.Rows n a b span) pads) k numbers = ⊥
+AreNumbersOf found k (slot ∷ []) = k ≡ slot
+AreNumbersOf found k numbers = ⊥
+
+-- a step from the slot at a place to one of those below its target, and a path from there on; between are the visit at
+-- the place, those of the slots before that one, and those on the path
+pub record Descends (message : List (List ℕ)) (base depth : ℕ) (leads : Place → List ℕ → Place → ℕ → Type 0)
+    (from : Place) (path : List ℕ) (to : Place) (between : ℕ) : Type 0 where
+  pub found : Target
+  pub names : target message from ≡ Ok found
+  pub before : List Place
+  pub slot : Place
+  pub behind : List Place
+  pub slots : slots_below found ≡ before ++ slot ∷ behind
+  pub numbers : List ℕ
+  pub are : AreNumbersOf found (length before) numbers
+  pub rest : List ℕ
+  pub is : path ≡ numbers ++ rest
+  pub later : ℕ
+  pub onward : leads slot rest to later
+  pub count : between ≡ 1 + length (visits_of message base depth before) + later
+
+module _ (message : List (List ℕ)) (base : ℕ) where
+  -- a path leads from the slot at a place to the one at another; a walk that visits at most `depth` objects one below
+  -- another makes so many visits before that of the other, from that of the first on
+  abbrev pub Leads : ℕ → Place → List ℕ → Place → ℕ → Type 0
+  Leads zero from [] to between = (to ≡ from) × (between ≡ 0)
+  Leads zero from (i ∷ path) to between = ⊥
+  Leads (suc depth) from [] to between = (to ≡ from) × (between ≡ 0)
+  Leads (suc depth) from (i ∷ path) to between =
+      Descends message base depth (Leads depth) from (i ∷ path) to between
+
+-- the path from the root to the slot of the visit before which the walk of a message makes so many
+abbrev pub IsPathTo : List (List ℕ) → Bounds → ℕ → List ℕ → Place → Type 0
+IsPathTo message limits number path place = Leads message (base limits.tariff) limits.depth root path place number
+
+-- the walk makes such a visit, at this place, and the path leads to its slot
+pub record IsVisited (message : List (List ℕ)) (limits : Bounds) (number : ℕ) (path : List ℕ)
+    (at : Place) : Type 0 where
+  pub before : List Visit
+  pub here : Visit
+  pub behind : List Visit
+  pub is : visits_within message limits ≡ before ++ here ∷ behind
+  pub count : length before ≡ number
+  pub place : place_of here ≡ at
+  pub leads : IsPathTo message limits number path at
+
+-- a message has no root, or its walk makes no such visit
+abbrev pub IsNotVisited : List (List ℕ) → Bounds → ℕ → Type 0
+IsNotVisited message limits number =
+    (length (segment_at message 0) ≡ 0) ⊎ (number_of_visits message limits ≤ number)
+
+-- a message is refused, and the path leads to the slot at which its walk stopped: none if it has no root
+pub record IsRefusedAt (message : List (List ℕ)) (limits : Bounds) (stopped : Stopped) (path : List ℕ) : Type 0 where
+  pub refused : IsWalkRefused message limits stopped.fault stopped.place stopped.paid stopped.visits
+  pub leads : 0 < stopped.visits → IsPathTo message limits (stopped.visits - 1) path stopped.place
+  pub none : stopped.visits ≡ 0 → path ≡ []

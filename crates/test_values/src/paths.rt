@@ -1,0 +1,161 @@
+//! Paths to slots of messages, visited or refused.
+
+use crate::words::bytes_of;
+use capn_path::{path_of_refusal, path_of_stop, path_of_visit};
+use capn_walk::{Fault, Limits, survey};
+use capn_words::{Bare, Place};
+use std::alloc::Global;
+use std::test::Fail;
+
+/// A struct whose second slot has two rows of a word and a slot, of which the last leads out of its segment.
+const ROWS: [u64; 8] = [
+    0x2_0000_0000_0000,
+    0,
+    0x27_0000_0001,
+    0x1_0001_0000_0008,
+    5,
+    0,
+    6,
+    0x1_0000_0014,
+];
+
+/// A struct whose slot has three pointers, of which the last is reserved.
+const LINKS: [u64; 5] = [0x1_0000_0000_0000, 0x1e_0000_0001, 0, 0, 7];
+
+/// A struct whose only slot leads back to it.
+const CIRCLE: [u64; 1] = [0x1_0000_ffff_fffc];
+
+/// A struct whose two slots lead to the same struct, whose slot leads to a word.
+const SHARED: [u64; 5] = [
+    0x2_0000_0000_0000,
+    0x1_0000_0000_0004,
+    0x1_0000_0000_0000,
+    0x1_0000_0000,
+    9,
+];
+
+/// A capability.
+const CAPABILITY: [u64; 1] = [0x7_0000_0003];
+
+/// Returns the place of `word` of the first segment.
+fn at(word: u32) -> Place {
+    Place { segment: 0, word }
+}
+
+/// Tests whether the walk of a message stops with this fault, at this word, as this visit, and this is the path there.
+fn is_refused(
+    alloc: Global,
+    words: &[u64],
+    limits: Limits,
+    want: (Fault, u32, u32),
+    path: &[u32],
+) -> Result<bool, Fail> {
+    let bytes = bytes_of(alloc, words)?;
+    let Ok(bare) = Bare::new(bytes.as_slice()) else {
+        return Ok(false);
+    };
+    match path_of_refusal(alloc, &bare, limits) {
+        Ok(Some(refused)) => {
+            let stopped = refused.stopped;
+            let is_there = (stopped.fault, stopped.place, stopped.visits)
+                == (want.0, at(want.1), want.2);
+            Ok(is_there && refused.path.as_slice() == path)
+        }
+        _ => Ok(false),
+    }
+}
+
+#[test]
+fn the_path_to_a_refusal(rt: HostRuntime) -> Result<(), Fail> {
+    let usual = Limits::usual();
+    let few = Limits::new(5, 10, 64).unwrap_or(usual);
+    let deep = [0u32; 64];
+    assert!(rt; is_refused(rt.alloc(), &ROWS, usual, (Fault::Range, 7, 5), &[1, 1, 0])?);
+    assert!(rt; is_refused(rt.alloc(), &LINKS, usual, (Fault::Reserved, 4, 5), &[0, 2])?);
+    assert!(rt; is_refused(rt.alloc(), &CIRCLE, usual, (Fault::TooDeep, 0, 65), &deep)?);
+    assert!(rt; is_refused(rt.alloc(), &SHARED, few, (Fault::OverBudget, 3, 5), &[1, 0])?);
+    assert!(rt; is_refused(rt.alloc(), &CAPABILITY, usual, (Fault::RootKind, 0, 1), &[])?);
+    assert!(rt; is_refused(rt.alloc(), &[], usual, (Fault::NoRoot, 0, 0), &[])?);
+    Ok(())
+}
+
+#[test]
+fn no_refusal(rt: HostRuntime) -> Result<(), Fail> {
+    let bytes = bytes_of(rt.alloc(), &SHARED)?;
+    let Ok(bare) = Bare::new(bytes.as_slice()) else {
+        return Err(Fail::new("no words"));
+    };
+    let told = path_of_refusal(rt.alloc(), &bare, Limits::usual());
+    assert!(rt; matches!(told, Ok(None)));
+    Ok(())
+}
+
+/// Tests whether this is the way to the slot at which the walk of a message stops.
+fn leads_to_stop(alloc: Global, words: &[u64], path: &[u32]) -> Result<bool, Fail> {
+    let bytes = bytes_of(alloc, words)?;
+    let Ok(bare) = Bare::new(bytes.as_slice()) else {
+        return Ok(false);
+    };
+    let Err(stopped) = survey(alloc, &bare, Limits::usual()) else {
+        return Ok(false);
+    };
+    match path_of_stop(alloc, &bare, Limits::usual(), stopped) {
+        Ok(found) => Ok(found.as_slice() == path),
+        Err(_) => Ok(false),
+    }
+}
+
+/// A slot of a row, and a message without a root.
+#[test]
+fn the_path_to_a_stop(rt: HostRuntime) -> Result<(), Fail> {
+    let alloc = rt.alloc();
+    let leads = leads_to_stop(alloc, &ROWS, &[1, 1, 0])? && leads_to_stop(alloc, &[], &[])?;
+    assert!(rt; leads);
+    Ok(())
+}
+
+/// Tests whether the walk of a message makes a visit after `number` others, of the slot at this word, to which the path
+/// leads.
+fn is_visited(
+    alloc: Global,
+    words: &[u64],
+    number: u32,
+    word: u32,
+    path: &[u32],
+) -> Result<bool, Fail> {
+    let bytes = bytes_of(alloc, words)?;
+    let Ok(bare) = Bare::new(bytes.as_slice()) else {
+        return Ok(false);
+    };
+    match path_of_visit(alloc, &bare, Limits::usual(), number) {
+        Ok(Some(visited)) => Ok(visited.place == at(word) && visited.path.as_slice() == path),
+        _ => Ok(false),
+    }
+}
+
+#[test]
+fn the_path_to_each_visit(rt: HostRuntime) -> Result<(), Fail> {
+    assert!(rt; is_visited(rt.alloc(), &SHARED, 0, 0, &[])?);
+    assert!(rt; is_visited(rt.alloc(), &SHARED, 1, 1, &[0])?);
+    assert!(rt; is_visited(rt.alloc(), &SHARED, 2, 3, &[0, 0])?);
+    assert!(rt; is_visited(rt.alloc(), &SHARED, 3, 2, &[1])?);
+    assert!(rt; is_visited(rt.alloc(), &SHARED, 4, 3, &[1, 0])?);
+    assert!(rt; is_visited(rt.alloc(), &ROWS, 3, 5, &[1, 0, 0])?);
+    Ok(())
+}
+
+#[test]
+fn no_such_visit(rt: HostRuntime) -> Result<(), Fail> {
+    let bytes = bytes_of(rt.alloc(), &SHARED)?;
+    let Ok(bare) = Bare::new(bytes.as_slice()) else {
+        return Err(Fail::new("no words"));
+    };
+    let after = path_of_visit(rt.alloc(), &bare, Limits::usual(), 5);
+    assert!(rt; matches!(after, Ok(None)));
+    let Ok(none) = Bare::new(&[]) else {
+        return Err(Fail::new("no words"));
+    };
+    let first = path_of_visit(rt.alloc(), &none, Limits::usual(), 0);
+    assert!(rt; matches!(first, Ok(None)));
+    Ok(())
+}
