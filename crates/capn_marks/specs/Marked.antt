@@ -138,10 +138,6 @@ module _ (m : List (List ℕ)) (marks : Marks) where
         ++ marked_slots (level + 1) (below way i) (step_place (row i)) 0 ss)))
         ++ marked_rows level way row (suc i) bs
 
-  -- a struct, behind its mark
-  abbrev pub unmarked_body : ℕ → List ℕ → Target → List ℕ → Trees → List ℕ
-  unmarked_body level way found ws ss = unmarked level way found (node ws ss)
-
   -- the value in a slot
   abbrev pub marked_slot : ℕ → List ℕ → Place → Tree → List ℕ
   marked_slot level way at t =
