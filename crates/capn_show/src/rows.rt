@@ -25,6 +25,7 @@ pub struct Size {
 
 /// Appends the text of the values of `count` slots from `first` on, one after the other, to `text`.
 #[cycle(slots)]
+#[inline(always)]
 pub fn show_slots<S: Space, W: Write, A: Allocator, E: Emitter>(
     text: &mut Vec<u8, A>,
     writer: &mut Watched<W>,
@@ -60,7 +61,6 @@ pub fn show_slots<S: Space, W: Write, A: Allocator, E: Emitter>(
 
 /// Appends the text of the value of the slot of this `number`, which is at `at`, to `text`.
 #[cycle(slots)]
-#[inline(always)]
 fn show_below<S: Space, W: Write, A: Allocator, E: Emitter>(
     text: &mut Vec<u8, A>,
     writer: &mut Watched<W>,

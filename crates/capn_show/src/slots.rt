@@ -21,6 +21,7 @@ use std::io::Write;
 
 /// Appends the text of the value at `at` to `text`, at this `level`; the way of `emitter` leads to it.
 #[cycle(slots)]
+#[inline(always)]
 pub fn show_slot<S: Space, W: Write, A: Allocator, E: Emitter>(
     text: &mut Vec<u8, A>,
     writer: &mut Watched<W>,
@@ -54,6 +55,7 @@ pub fn show_slot<S: Space, W: Write, A: Allocator, E: Emitter>(
 /// Appends the text of the value with the target `found`, to which the way of `emitter` leads, to `text`, behind its
 /// first mark.
 #[cycle(slots)]
+#[inline(always)]
 pub fn show_found<S: Space, W: Write, A: Allocator, E: Emitter>(
     text: &mut Vec<u8, A>,
     writer: &mut Watched<W>,
@@ -146,6 +148,7 @@ pub fn show_found<S: Space, W: Write, A: Allocator, E: Emitter>(
 
 /// Appends the text of a struct of this `size`, whose content starts at `start`, to `text`, behind its first mark.
 #[cycle(slots)]
+#[inline(always)]
 pub fn show_body<S: Space, W: Write, A: Allocator, E: Emitter>(
     text: &mut Vec<u8, A>,
     writer: &mut Watched<W>,
