@@ -15,6 +15,7 @@ pub mod AfterTexts
 pub mod WhateverFollows
 pub mod Endings
 pub mod TestedInput
+pub mod SinkRuns
 pub mod UnderWay
 pub mod FoundRefusal
 pub mod SeenTexts

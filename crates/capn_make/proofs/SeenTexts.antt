@@ -12,22 +12,10 @@ use Rattle.capn_canon.specs.declared.form.Form.{Form}
 use Rattle.capn_make.specs.MadeInput.{Makes}
 use Rattle.capn_make.specs.Endings.{IsFrom}
 use Rattle.capn_make.specs.MadeTexts.{MakesTexts, at_own}
-use Rattle.capn_make.specs.inner.TextsParts.{ending_at}
+use Rattle.capn_make.specs.inner.TextsParts.{HasSeen, ending_at}
 use Rattle.capn_make.specs.declared.fault.MakeFault.{MakeFault}
 use Rattle.capn_make.specs.declared.fault.MakeFault.TheVariants as faults
 use Rattle.capn_make.proofs.NextTexts.{none_left}
-
--- These bytes were read, and their whole lines have this plain form. The lines of digits that are forgotten are all
--- before this line.
-pub record HasSeen (q : Unquoting) (line : ℕ) (bytes input : List ℕ) : Type 0 where
-  pub gone : List ℕ
-  pub plain : (more : List ℕ) → plain_after [] (bytes ++ more) ≡ input ++ plain_on q more
-  pub digits : (more : List ℕ)
-      → digits_after 1 [] (bytes ++ more) ≡ gone ++ (q.digits ++ digits_on q more)
-  pub passed : q.passed ≡ length gone
-  pub before : (n : ℕ) → line ≤ n → count_to n gone ≡ length gone
-  pub quiet : ended_lines q.front ≡ 0
-  pub empty : q.through ≡ true → q.front ≡ []
 
 pub nothing_seen : HasSeen first_unquoting 1 [] []
 nothing_seen = record {

@@ -1,3 +1,4 @@
 -- Definitions that no public clause cites.
+pub mod SinkRun
 pub mod RunParts
 pub mod TextsParts

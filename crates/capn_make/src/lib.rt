@@ -13,6 +13,7 @@ mod make_run;
 mod next_text;
 mod output;
 mod progress;
+mod sink;
 mod texts_input;
 mod texts_run;
 mod whole_texts;

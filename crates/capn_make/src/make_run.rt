@@ -5,8 +5,9 @@ ghost use Rattle.capn_words.specs.Watched.{inner_of, has_failed};
 ghost use Rattle.capn_make.specs.MakeRun.{TakesBytes, Made, StopsInTime};
 
 use crate::fault::MakeFault;
-use crate::input::make_input;
-use crate::output::write_all;
+use crate::laws::refusing;
+use crate::progress::Progress;
+use crate::sink::run;
 use capn_canon::Form;
 use capn_words::Watched;
 use std::alloc::Allocator;
@@ -52,7 +53,7 @@ pub fn make<R: Read, W: Write, A: Allocator + Copy>(
     ensures memory { IsErrOf result MakeFault.Memory
         → TakesBytes (R.remaining (inner_of reader.old)) (R.remaining (inner_of reader.new)) }
 {
-    let outcome = make_input(alloc, form, reader, writer)?;
-    write_all(writer, &outcome.text)?;
-    outcome.ending
+    refusing();
+    let mut texts = Progress::new(alloc, form);
+    run(&mut texts, reader, writer)
 }

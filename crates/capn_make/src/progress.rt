@@ -1,14 +1,14 @@
 //! The messages made of an input that comes in pieces.
 
-ghost use Rattle.std.specs.Prelude.{◌≡◌, ◌≢◌, ◌≤◌, ℕ, List, [], ◌++◌, length, drop, true, false};
-ghost use Rattle.std.specs.Prelude.{IfOk, IfErr, IsErrOf, OnErr};
+ghost use Rattle.std.specs.Prelude.{◌≡◌, ◌≢◌, ◌≤◌, ◌+◌, ◌^◌, ℕ, List, [], ◌++◌, length, drop, true, false};
+ghost use Rattle.std.specs.Prelude.{Option, IfOk, IfErr, IsErrOf, OnErr};
 ghost use Rattle.capn_words.specs.Watched.{inner_of, has_failed};
-ghost use Rattle.capn_canon.specs.declared.form.Form.TheVariants as forms;
 ghost use Rattle.capn_make.specs.inner.RunParts as spec;
-ghost use Rattle.capn_make.specs.inner.RunParts.{GoesOn, HasMade, HasRoom, IsMadeSo, IsWholeFrom, TellsCut};
-ghost use Rattle.capn_make.specs.inner.RunParts.{TellsRefusal, WritesMade};
-ghost use Rattle.capn_make.specs.MadeInput.{Makes};
+ghost use Rattle.capn_make.specs.inner.RunParts.{GivesMade, GoesOn, HasCome, HasMade, HasRoom, IsFresh, IsUnderWay};
+ghost use Rattle.capn_make.specs.inner.RunParts.{IsWholeFrom, TellsCut, TellsRefusal, WritesMade};
+ghost use Rattle.capn_make.specs.inner.SinkRun.{Feeds, Writes};
 
+use crate::end_line::is_due;
 use crate::fault::MakeFault;
 use crate::laws::refusing;
 use crate::output::write_all;
@@ -19,22 +19,20 @@ use capn_words::Watched;
 use std::alloc::{AllocError, Allocator};
 use std::io::Write;
 
-/// The messages that were made of an input so far, and what is left of it.
+/// Texts that come in pieces: the messages that were made so far, and what is left of the input.
 #[derive(Drop)]
 pub(crate) struct Progress<A: Allocator> {
-    /// The messages that were made of its first texts and aren't written yet.
+    alloc: A,
+    /// The form of the messages.
+    pub(crate) form: Form,
+    /// The messages that were made of the first texts and aren't written yet.
     pub(crate) made: Vec<u8, A>,
     /// The bytes after those texts.
     pub(crate) rest: Vec<u8, A>,
     /// The line of the input at which these begin.
     pub(crate) line: u64,
-}
-
-/// The bytes that are still to be written of an input, and its end.
-#[derive(Drop)]
-pub(crate) struct Outcome<A: Allocator> {
-    pub(crate) text: Vec<u8, A>,
-    pub(crate) ending: Result<(), MakeFault>,
+    /// The number of bytes that were left when they were looked at.
+    pub(crate) tested: usize,
 }
 
 /// Drops the first `count` of `bytes`.
@@ -45,6 +43,14 @@ fn drop_front<A: Allocator>(bytes: &mut Vec<u8, A>, count: usize)
     let len = bytes.len();
     bytes.copy_within(count..len, 0);
     bytes.truncate(len - count);
+}
+
+/// Returns `true` if 64 bits count the lines of `rest`, what is left of an input from `line` on.
+fn has_room(line: u64, rest: &[u8]) -> bool
+    ensures room { result ≡ true → HasRoom line rest.now }
+    ensures none { result ≡ false → 2 ^ 64 ≤ line + length rest.now }
+{
+    rest.len() as u64 <= u64::MAX - line
 }
 
 /// Returns `true` if the subject of `fault` is complete in `rest`, what is left from `line` on.
@@ -77,23 +83,39 @@ fn is_lost(fault: MakeFault, cut: bool) -> bool
 }
 
 impl<A: Allocator + Copy> Progress<A> {
+    /// Returns the beginning of an input. It takes no memory.
+    pub(crate) fn new(alloc: A, form: Form) -> Progress<A>
+        ensures form { result.form ≡ form }
+        ensures new { IsFresh result.made.items result.rest.items result.line result.tested }
+    {
+        Progress {
+            alloc,
+            form,
+            made: Vec::new(alloc),
+            rest: Vec::new(alloc),
+            line: 1,
+            tested: 0,
+        }
+    }
+
     /// Makes the texts that are complete by now, and keeps what is left. Returns the end of the input if nothing
     /// follows, and after a wrong line, by `cut`, whether more bytes may make it another.
-    fn go_on(&mut self, alloc: A, form: Form, cut: &mut bool) -> Result<(), MakeFault>
+    fn go_on(&mut self, cut: &mut bool) -> Result<(), MakeFault>
         requires { HasRoom self.old.line self.old.rest.items }
         ensures made { (input : List ℕ) (written : List ℕ)
-            → HasMade form input (record { rest = self.old.rest.items; line = self.old.line })
+            → HasMade self.old.form input (record { rest = self.old.rest.items; line = self.old.line })
             (written ++ self.old.made.items)
-            → GoesOn form input (record { rest = self.new.rest.items; line = self.new.line })
+            → GoesOn self.old.form input (record { rest = self.new.rest.items; line = self.new.line })
             (written ++ self.new.made.items) result }
-        ensures cut { IfErr result (λ e. TellsCut form
+        ensures cut { IfErr result (λ e. TellsCut self.old.form
             (record { rest = self.new.rest.items; line = self.new.line }) cut.new e) }
         ensures memory { IsErrOf result MakeFault.Memory → self.old.rest.items ≢ [] }
+        ensures form { self.new.form ≡ self.old.form }
     {
         let Some(mut texts) = Texts::from_line(&self.rest, self.line) else {
             unreachable!()
         };
-        let ending = make_texts(alloc, form, &mut texts, &mut self.made, cut);
+        let ending = make_texts(self.alloc, self.form, &mut texts, &mut self.made, cut);
         let line = texts.line();
         let count = self.rest.len() - texts.left();
         drop_front(&mut self.rest, count);
@@ -103,22 +125,19 @@ impl<A: Allocator + Copy> Progress<A> {
 
     /// Makes the texts that are complete by now, and keeps what is left. Returns the reason why the input is refused
     /// whatever follows, if it is.
-    pub(crate) fn find_refusal(
-        &mut self,
-        alloc: A,
-        form: Form,
-    ) -> Result<Option<MakeFault>, AllocError>
+    fn find_refusal(&mut self) -> Result<Option<MakeFault>, AllocError>
         requires { HasRoom self.old.line self.old.rest.items }
         ensures found { IfOk result (λ told. (input : List ℕ) (written : List ℕ)
-            → HasMade form input (record { rest = self.old.rest.items; line = self.old.line })
+            → HasMade self.old.form input (record { rest = self.old.rest.items; line = self.old.line })
             (written ++ self.old.made.items)
-            → TellsRefusal form input (record { rest = self.new.rest.items; line = self.new.line })
+            → TellsRefusal self.old.form input (record { rest = self.new.rest.items; line = self.new.line })
             (written ++ self.new.made.items) told) }
         ensures memory { OnErr result (self.old.rest.items ≢ []) }
+        ensures form { self.new.form ≡ self.old.form }
     {
         refusing();
         let mut cut = false;
-        match self.go_on(alloc, form, &mut cut) {
+        match self.go_on(&mut cut) {
             Ok(()) => Ok(None),
             Err(fault) => match fault {
                 MakeFault::Memory => Err(AllocError),
@@ -136,51 +155,76 @@ impl<A: Allocator + Copy> Progress<A> {
     }
 
     /// Writes the messages that were made. In form bare they are kept: nothing is written before the end.
-    pub(crate) fn write_made<W: Write>(
-        &mut self,
-        form: Form,
-        writer: &mut Watched<W>,
-    ) -> Result<(), MakeFault>
+    fn write_made<W: Write>(&mut self, writer: &mut Watched<W>) -> Result<(), MakeFault>
         requires { has_failed writer.old ≡ false }
-        ensures wrote { WritesMade form (W.contents (inner_of writer.old)) (W.contents (inner_of writer.new))
+        ensures wrote { WritesMade self.old.form (W.contents (inner_of writer.old)) (W.contents (inner_of writer.new))
             (has_failed writer.new) self.old.made.items self.new.made.items result }
-        ensures kept { (self.new.rest ≡ self.old.rest) × (self.new.line ≡ self.old.line) }
+        ensures kept { (self.new.rest ≡ self.old.rest) × (self.new.line ≡ self.old.line)
+            × (self.new.form ≡ self.old.form) }
     {
-        if let Form::Stream | Form::Packed = form {
+        if let Form::Stream | Form::Packed = self.form {
             write_all(writer, &self.made)?;
             self.made.clear();
         }
         Ok(())
     }
 
-    /// Returns the bytes that are still to be written of an input with this `ending`. In form bare there are none,
-    /// unless it ends well.
-    pub(crate) fn end(self, form: Form, ending: Result<(), MakeFault>) -> Outcome<A>
-        ensures { (input : List ℕ) (written : List ℕ) → (form ≡ forms.Bare → written ≡ [])
-            → IsMadeSo form input (written ++ self.made.items) ending
-            → Makes form input (written ++ result.text.items) result.ending }
+    /// Looks at what is left after bytes came on it, which had `before` bytes: if a text may have its end by now, or
+    /// there are four times as many as the last time, makes the texts that are whole and writes their messages, in form
+    /// bare none. Returns the fault of an input that is refused whatever follows.
+    pub(crate) fn look<W: Write>(
+        &mut self,
+        before: usize,
+        writer: &mut Watched<W>,
+    ) -> Result<(), MakeFault>
+        requires fine { has_failed writer.old ≡ false }
+        requires within { before ≤ length self.old.rest.items }
+        ensures looked { (input : List ℕ) (c : Option (List ℕ))
+            → HasCome self.old.form input c (W.contents (inner_of writer.old)) self.old.made.items
+            self.old.rest.items self.old.line self.old.tested before
+            → Feeds (λ bytes a b. IsUnderWay self.new.form bytes a b self.new.made.items self.new.rest.items
+            self.new.line self.new.tested) (GivesMade self.old.form) input c (W.contents (inner_of writer.new)) result
+            × Writes MakeFault.Io (W.contents (inner_of writer.old)) (W.contents (inner_of writer.new))
+            (has_failed writer.new) result }
+        ensures form { self.new.form ≡ self.old.form }
     {
-        let mut text = self.made;
-        if let (Form::Bare, Err(_)) = (form, ending) {
-            text.clear();
+        if !is_due(&self.rest, before, self.tested) {
+            return Ok(());
         }
-        Outcome { text, ending }
+        if !has_room(self.line, &self.rest) {
+            return Err(MakeFault::InputTooLong);
+        }
+        let refusal = self.find_refusal()?;
+        self.write_made(writer)?;
+        if let Some(fault) = refusal {
+            return Err(fault);
+        }
+        self.tested = self.rest.len();
+        Ok(())
     }
 
-    /// Makes the texts of an input to which nothing follows, and returns the bytes that are still to be written of it.
-    pub(crate) fn finish(mut self, alloc: A, form: Form) -> Result<Outcome<A>, AllocError>
-        requires { HasRoom self.line self.rest.items }
-        ensures made { IfOk result (λ outcome. (input : List ℕ) (written : List ℕ) → (form ≡ forms.Bare → written ≡ [])
-            → HasMade form input (record { rest = self.rest.items; line = self.line }) (written ++ self.made.items)
-            → Makes form input (written ++ outcome.text.items) outcome.ending) }
-        ensures memory { OnErr result (self.rest.items ≢ []) }
+    /// Makes the texts of an input to which nothing follows, and writes what is left to write.
+    pub(crate) fn end<W: Write>(&mut self, writer: &mut Watched<W>) -> Result<(), MakeFault>
+        requires { has_failed writer.old ≡ false }
+        ensures { (input : List ℕ) (c : Option (List ℕ)) (before : ℕ)
+            → HasCome self.old.form input c (W.contents (inner_of writer.old)) self.old.made.items
+            self.old.rest.items self.old.line self.old.tested before
+            → GivesMade self.old.form input [] c (W.contents (inner_of writer.new)) result
+            × Writes MakeFault.Io (W.contents (inner_of writer.old)) (W.contents (inner_of writer.new))
+            (has_failed writer.new) result }
     {
+        if !has_room(self.line, &self.rest) {
+            return Err(MakeFault::InputTooLong);
+        }
         let mut cut = false;
-        match self.go_on(alloc, form, &mut cut) {
-            Ok(()) => Ok(self.end(form, Ok(()))),
+        match self.go_on(&mut cut) {
+            Ok(()) => write_all(writer, &self.made),
             Err(fault) => match fault {
-                MakeFault::Memory => Err(AllocError),
-                other => Ok(self.end(form, Err(other))),
+                MakeFault::Memory => Err(MakeFault::Memory),
+                other => {
+                    self.write_made(writer)?;
+                    Err(other)
+                }
             },
         }
     }

@@ -5,8 +5,9 @@ ghost use Rattle.capn_words.specs.Watched.{inner_of, has_failed};
 ghost use Rattle.capn_make.specs.MadeTexts.{MadeTexts};
 
 use crate::fault::MakeFault;
-use crate::output::write_all;
-use crate::texts_input::make_texts_input;
+use crate::laws::refusing;
+use crate::sink::run;
+use crate::texts_input::QuotedTexts;
 use capn_canon::Form;
 use capn_words::Watched;
 use std::alloc::Allocator;
@@ -33,7 +34,7 @@ pub fn make_texts<R: Read, W: Write, A: Allocator + Copy>(
         (W.contents (inner_of writer.old)) (W.contents (inner_of writer.new)) (has_failed reader.new)
         (has_failed writer.new) result }
 {
-    let outcome = make_texts_input(alloc, form, reader, writer)?;
-    write_all(writer, &outcome.text)?;
-    outcome.ending
+    refusing();
+    let mut texts = QuotedTexts::new(alloc, form);
+    run(&mut texts, reader, writer)
 }

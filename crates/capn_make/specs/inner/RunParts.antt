@@ -1,8 +1,9 @@
 -- The parts of a run.
-use Rattle.std.specs.Prelude.{◌≡◌, ◌≢◌, ◌⊎◌, ◌≤◌, ◌<◌, ⊤, ℕ, ◌+◌, ◌^◌, ◌==◌, List, [], ◌∷◌, ◌++◌, length, take}
+use Rattle.std.specs.Prelude.{◌≡◌, ◌≢◌, ◌⊎◌, ◌≤◌, ◌<◌, ⊤, ℕ, ◌+◌, ◌*◌, ◌-◌, ◌^◌, ◌==◌, List, [], ◌∷◌, ◌++◌}
+use Rattle.std.specs.Prelude.{length, take, drop}
 use Rattle.std.specs.Prelude.{Bool, true, false, not, cond}
 use Rattle.std.specs.Prelude.{Option, Some, None, Result, Ok, Err, Vec}
-use Rattle.std.specs.Io.KnownBytes.{Appends, Consumes, IsAtEnd}
+use Rattle.std.specs.Io.KnownBytes.{Appends}
 use Rattle.capn_words.specs.Watched.{HasBegun}
 use Rattle.capn_value.specs.Tree.{Tree}
 use Rattle.capn_value.specs.FirstCap.{first_cap}
@@ -13,25 +14,12 @@ use Rattle.capn_text.specs.declared.fault.TextFault.TheVariants as texts
 use Rattle.capn_canon.specs.declared.form.Form.{Form}
 use Rattle.capn_canon.specs.declared.form.Form.TheVariants as forms
 use Rattle.capn_make.specs.WrittenValue.{IsMakeable, IsWrittenValue, AreMade}
-use Rattle.capn_make.specs.MadeInput.{AreFirst, IsTextRefused, IsUnended, IsWrong, IsNotOne, Follows, Makes}
+use Rattle.capn_make.specs.MadeInput.{AreFirst, IsTextRefused, IsUnended, IsWrong, IsNotOne, Follows}
 use Rattle.capn_make.specs.MadeInput.{line_after, MakesEach, MakesOne}
-use Rattle.capn_make.specs.MakeRun.{AreInTime, HasBegunText, HasServed, IsAhead}
+use Rattle.capn_make.specs.MakeRun.{EndsAs, HasBegunText}
 use Rattle.capn_make.specs.Endings.{IsRefusedForGood, IsLostForGood}
 use Rattle.capn_make.specs.declared.fault.MakeFault.{MakeFault}
 use Rattle.capn_make.specs.declared.fault.MakeFault.TheVariants as faults
-
--- A reader gave this many more bytes of an input, none only at its end; or memory was refused for some; or it failed
--- and gave none.
-abbrev pub GivesBytes : Option (List ℕ) → Bool → List ℕ → List ℕ → List ℕ → Result ℕ MakeFault → Type 0
-GivesBytes b failed old new bytes (Ok count) = (new ≡ old ++ bytes) × (count ≡ length bytes) × (count ≡ 0 → IsAtEnd b)
-    × (failed ≡ false)
-GivesBytes b failed old new bytes (Err fault) = ((fault ≡ faults.Memory) × (failed ≡ false) × (bytes ≢ []))
-    ⊎ ((fault ≡ faults.Io) × (failed ≡ true) × (bytes ≡ []))
-
--- so by one call, of at most this many bytes
-abbrev pub ReadsChunk : Option (List ℕ) → Option (List ℕ) → Bool → List ℕ → List ℕ → Result ℕ MakeFault → Type 0
-ReadsChunk a b failed old new r = (bytes : List ℕ) × Consumes a b bytes × (length bytes ≤ 65536)
-    × GivesBytes b failed old new bytes r
 
 -- Of the first texts of an input this was made, in form bare of one at most, and here is what comes after them.
 pub record HasMade (form : Form) (input : List ℕ) (place : Place) (made : List ℕ) : Type 0 where
@@ -166,28 +154,39 @@ WritesMade form c d failed old new (Ok u) = (failed ≡ false)
 WritesMade form c d failed old new (Err fault) = (failed ≡ true) × (fault ≡ faults.Io) × (form ≡ forms.Bare → ⊥)
     × HasBegun c d old
 
--- A run has read these bytes, in time, and written. All but the last piece of them was served before that was read.
-pub record IsRun (form : Form) (a b c d : Option (List ℕ)) (bytes : List ℕ) : Type 0 where
-  pub read : Consumes a b bytes
-  pub time : AreInTime form bytes
-  pub ahead : IsAhead (HasServed form) bytes c d
-  pub begun : HasBegunText form bytes c d
+-- These bytes were made up to a place, where no text stands with its end, and tested. What is made was written, but in
+-- form bare.
+pub record IsUnderWay (form : Form) (input : List ℕ) (c d : Option (List ℕ)) (made rest : List ℕ) (line tested : ℕ)
+    : Type 0 where
+  pub written : List ℕ
+  pub wrote : Appends c d written
+  pub kept : IsKept form written made
+  pub made_so_far : HasMade form input (record { rest = rest; line = line }) (written ++ made)
+  pub tested_so_far : HasTested form tested input rest
+  pub short : length rest ≤ 4 * tested
+  pub unended : IsUnended rest
 
--- Of all bytes of a reader this was made, or of some, whatever follows. All but this text of it is written.
-abbrev pub EndsMaking : Form → Option (List ℕ) → Option (List ℕ) → Option (List ℕ) → Bool → Bool → List ℕ → List ℕ
-    → Result (Unit {0}) MakeFault → Type 0
-EndsMaking form b c d read wrote bytes text ending = (written : List ℕ) × Appends c d written
-    × Makes form bytes (written ++ text) ending
-    × (IsAtEnd b ⊎ ((more : List ℕ) → Makes form (bytes ++ more) (written ++ text) ending))
-    × (read ≡ false) × (wrote ≡ false)
+-- nothing was made, and nothing is left
+abbrev pub IsFresh : List ℕ → List ℕ → ℕ → ℕ → Type 0
+IsFresh made rest line tested = (made ≡ []) × (rest ≡ []) × (line ≡ 1) × (tested ≡ 0)
 
--- the reader failed, and its bytes were served; or the writer failed; or memory was refused; or the input is too long
-abbrev pub HasStopped : Form → Option (List ℕ) → Option (List ℕ) → Bool → Bool → List ℕ → MakeFault → Type 0
-HasStopped form c d read wrote bytes fault =
-    ((fault ≡ faults.Io) × (read ≡ true) × (wrote ≡ false) × HasServed form bytes c d)
-    ⊎ (((fault ≡ faults.Io) × (read ≡ false) × (wrote ≡ true))
-    ⊎ (((fault ≡ faults.Memory) × (read ≡ false) × (wrote ≡ false) × (bytes ≢ []))
-    ⊎ ((fault ≡ faults.InputTooLong) × (read ≡ false) × (wrote ≡ false) × (2 ^ 64 ≤ length bytes))))
+-- So they were up to this many of the bytes that are left; the others have come. A beginning was written whatever
+-- follows.
+pub record HasCome (form : Form) (input : List ℕ) (c d : Option (List ℕ)) (made rest : List ℕ)
+    (line tested before : ℕ) : Type 0 where
+  pub written : List ℕ
+  pub wrote : Appends c d written
+  pub kept : IsKept form written made
+  pub made_so_far : HasMade form input (record { rest = rest; line = line }) (written ++ made)
+  pub tested_so_far : HasTested form tested input rest
+  pub unended : HoldsNoEnd (drop (before - 3) rest) → IsUnended rest
+  pub begun : (more : List ℕ) → HasBegunText form (input ++ more) c d
+
+-- Of bytes that were read and those that follow, the messages were written, or a beginning, and the run ended as that
+-- does. Memory was refused only for some bytes.
+abbrev pub GivesMade : Form → List ℕ → List ℕ → Option (List ℕ) → Option (List ℕ) → Result (Unit {0}) MakeFault → Type 0
+GivesMade form bytes more c d r = EndsAs form c d r (bytes ++ more) × HasBegunText form (bytes ++ more) c d
+    × (r ≡ Err faults.Memory → bytes ≢ [])
 
 -- true if the fault of a text is that of an unfinished one
 abbrev pub is_cut : TextFault → Bool

@@ -1,25 +1,21 @@
-use Rattle.std.proofs.lemmas.Result.{err_from_is_err_and}
-use Rattle.capn_make.proofs.TextsEnds.{stopped_made, all_written, part_written}
+use Rattle.std.proofs.Common.{sym, subst}
+use Rattle.capn_make.specs.inner.TextsParts.{IsUnderTexts}
+use Rattle.capn_make.proofs.TextsEnds.{made_of}
+use Rattle.capn_make.proofs.UnderTexts.{begins}
 use Rattle.capn_make.proofs.texts_run.make_texts.Goals as goal
 
-pub returns-in_err-outcome : goal.returns-in_err-outcome
-returns-in_err-outcome g c =
-    let read = c.in_err-outcome.ensures in
-    let p = err_from_is_err_and c.from_residual.result c.from_residual.ensures.1 in
-    rw (p.1, p.2) (stopped_made c.args.form _ _ _ _ _ _ read.0 read.1 c.in_err-outcome.field-0.0 read.2)
-
-pub returns-in_err-write_all : goal.returns-in_err-write_all
-returns-in_err-write_all g c =
-    let read = c.in_ok-outcome.ensures in
-    let p = err_from_is_err_and c.from_residual-in_err-write_all.result c.from_residual-in_err-write_all.ensures.1 in
-    let begun = rw c.deref.ensures.value at c.in_err-write_all.ensures.begun in
-    rw (p.1, p.2) (part_written c.args.form _ _ _ _ _ _ _ _ read.0 read.1 c.in_ok-outcome.outcome.text.items
-    c.in_ok-outcome.outcome.ending read.2 c.in_err-write_all.field-0.0 begun c.in_err-write_all.ensures.broken
-    c.in_err-write_all.ensures.only)
+pub run-requires-clause-new : goal.run-requires-clause-new
+run-requires-clause-new g c =
+    let e = c.new-texts.ensures in begins c.refusing.ensures.one _ _ _ _ _ _ _ e.new e.unread
 
 pub returns : goal.returns
 returns g c =
-    let read = c.in_ok-outcome.ensures in
-    let written = rw c.deref.ensures.value at c.in_ok-write_all.ensures.ok in
-    all_written c.args.form _ _ _ _ _ _ _ _ read.0 read.1 c.in_ok-outcome.outcome.text.items
-    c.in_ok-outcome.outcome.ending read.2 written c.in_ok-write_all.ensures.fine
+    rw (sym c.new-texts.ensures.form) (made_of c.new-texts.result.texts.form _ (λ s bytes a b takes. (
+      s.texts.made.items,
+      s.texts.rest.items,
+      s.texts.line,
+      s.texts.tested,
+      s.unquoter,
+      subst (λ f. IsUnderTexts f bytes a b s.texts.made.items s.texts.rest.items s.texts.line s.texts.tested s.unquoter)
+          takes.0 takes.1,
+    )) _ _ _ _ _ _ _ _ c.run.ensures c.refusing.ensures.goes_on)

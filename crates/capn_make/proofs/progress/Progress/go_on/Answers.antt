@@ -18,8 +18,9 @@ returns-clause-made g c = λ input written h.
     let less = left_after was new after in
     let dropped = c.drop_front.ensures ∙ dropped_after was new _ after (omega arith) in
     let made = c.make_texts-ending.ensures.made input written
-    (subst (λ p. HasMade c.args.form input p (written ++ c.args.self.now.made.items)) (sym started) h) in
-    subst (λ p. GoesOn c.args.form input p (written ++ c.make_texts-ending.new.made.items) c.make_texts-ending.result)
+    (subst (λ p. HasMade c.args.self.now.form input p (written ++ c.args.self.now.made.items)) (sym started) h) in
+    subst (λ p. GoesOn c.args.self.now.form input p (written ++ c.make_texts-ending.new.made.items)
+    c.make_texts-ending.result)
     (place_is new _ _ (sym dropped) (sym c.line-line.ensures)) made
 
 pub returns-clause-memory : goal.returns-clause-memory
@@ -39,5 +40,5 @@ returns-clause-cut g c =
     let left = c.left.ensures in
     let less = left_after was new after in
     let dropped = c.drop_front.ensures ∙ dropped_after was new _ after (omega arith) in
-    subst (λ p. IfErr c.make_texts-ending.result (λ e. TellsCut c.args.form p c.make_texts-ending.new.cut e))
+    subst (λ p. IfErr c.make_texts-ending.result (λ e. TellsCut c.args.self.now.form p c.make_texts-ending.new.cut e))
     (place_is new _ _ (sym dropped) (sym c.line-line.ensures)) c.make_texts-ending.ensures.cut

@@ -1,0 +1,51 @@
+use Rattle.std.proofs.Common.{[], ap, refl, Err, arith}
+use Rattle.std.proofs.lemmas.Result.{err_from_is_err_and}
+use Rattle.capn_make.proofs.UnderWay.{ended_as, ended_broken, ended_refused, no_writes, refused_at, too_long_at}
+use Rattle.capn_make.proofs.progress.Progress.end.Goals as goal
+
+pub returns-then-not-has_room : goal.returns-then-not-has_room
+returns-then-not-has_room g c = λ input x before h.
+    let many = rw c.deref.ensures.value at c.if-not-has_room.ensures.none refl in
+    let v = c.args.self.now.rest in
+    let o = v.ok.0 in
+    let p = v.ok.1 in
+    let s = v.small in (
+      too_long_at c.args.self.now.form input x _ _ _ _ _ before h many (omega arith) [],
+      no_writes _ _ _ c.requires (λ e. absurd cc),
+    )
+
+pub go_on-requires : goal.go_on-requires
+go_on-requires g c = rw c.deref.ensures.value at c.else-not-has_room.ensures.room refl
+
+pub returns-in-Ok : goal.returns-in-Ok
+returns-in-Ok g c = λ input x before h.
+    let goes = c.in-Ok.ensures.made input h.written h.made_so_far in
+    let all = rw c.deref-2.ensures.value at c.write_all.ensures.ok in
+    let begun = rw c.deref-2.ensures.value at c.write_all.ensures.begun in
+    ended_as c.args.self.now.form input x _ _ _ _ _ before h c.go_on.new.self.made.items c.go_on.new.self.rest.items
+    c.go_on.new.self.line _ _ [] c.in-Ok.field-0 c.write_all.result goes all begun c.write_all.ensures.fine
+    c.write_all.ensures.broken c.write_all.ensures.only
+
+pub returns-in-Memory : goal.returns-in-Memory
+returns-in-Memory g c = λ input x before h. (
+  refused_at c.args.self.now.form input x _ _ _ _ _ before h
+      (c.in-Err.ensures.memory (ap (λ x. Err x) c.in-Memory.is)) [],
+  no_writes _ _ _ c.requires (λ e. absurd cc),
+)
+
+pub returns-in_err-write_made-in_default : goal.returns-in_err-write_made-in_default
+returns-in_err-write_made-in_default g c = λ input x before h.
+    let p = err_from_is_err_and c.from_residual.result c.from_residual.ensures.1 in
+    let w = rw c.in-Err.ensures.form at c.in_err-write_made-in_default.ensures.wrote in
+    let goes = c.in-Err.ensures.made input h.written h.made_so_far in
+    rw (p.1, p.2) (ended_broken c.args.self.now.form input x _ _ _ _ _ before h c.go_on.new.self.made.items
+    c.go_on.new.self.rest.items c.go_on.new.self.line _ _ c.write_made.new.self.made.items c.in-Err.fault
+    c.in_err-write_made-in_default.field-0.0 c.in_default.not-Memory goes w)
+
+pub returns-in_ok-write_made-in_default : goal.returns-in_ok-write_made-in_default
+returns-in_ok-write_made-in_default g c = λ input x before h.
+    let w = rw c.in-Err.ensures.form at c.in_ok-write_made-in_default.ensures.wrote in
+    let goes = c.in-Err.ensures.made input h.written h.made_so_far in
+    ended_refused c.args.self.now.form input x _ _ _ _ _ before h c.go_on.new.self.made.items
+    c.go_on.new.self.rest.items c.go_on.new.self.line _ _ c.write_made.new.self.made.items c.in-Err.fault tt
+    c.in_default.not-Memory goes w
