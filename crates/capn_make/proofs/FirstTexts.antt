@@ -1,14 +1,15 @@
 -- Texts that begin an input, and one more. (For `AfterTexts`, `FoundRefusal`, `NextTexts` and others.)
-use Rattle.std.proofs.Common.{◌≡◌, Bool, true, false, ℕ, ◌+◌, ◌≤◌, ◌==◌, List, [], ◌∷◌, ◌++◌, length, cond}
+use Rattle.std.proofs.Common.{◌≡◌, Bool, true, false, ℕ, ◌+◌, ◌^◌, ◌≤◌, ◌<◌, ◌==◌, List, [], ◌∷◌, ◌++◌, length, cond}
 use Rattle.std.proofs.Common.{refl, sym, ap, ◌∙◌, append_assoc, arith}
-use Rattle.std.proofs.lemmas.List.{append-nil}
+use Rattle.std.proofs.lemmas.List.{append-nil, length-append}
 use Rattle.std.specs.List.{AllByRecursion}
 use Rattle.capn_value.specs.Tree.{Tree}
 use Rattle.capn_value.specs.Text.{show_text}
 use Rattle.capn_text.specs.Streams.{end_line, ended_lines, stream_text}
 use Rattle.capn_canon.specs.declared.form.Form.{Form}
 use Rattle.capn_make.specs.WrittenValue.{IsMakeable, IsWrittenValue, AreMade}
-use Rattle.capn_make.specs.MadeInput.{AreFirst}
+use Rattle.capn_make.specs.MadeInput.{AreFirst, line_after}
+use Rattle.capn_make.specs.inner.RunParts.{HasRoom}
 
 one_at_most : (b : Bool) → cond b 1 0 ≤ 1
 one_at_most true = omega arith
@@ -27,6 +28,22 @@ lines_within [] = omega arith
 lines_within (c ∷ cs) =
     let h = lines_within cs in
     let k : cond (c == 10) 1 0 ≤ 1 = one_at_most (c == 10) in
+    omega arith
+
+-- 64 bits count the lines and bytes after texts of an input whose bytes they count
+pub room_after : (vs : List Tree) (input rest : List ℕ) → AreFirst vs input rest → length input < 2 ^ 64
+    → length rest < 2 ^ 63 → HasRoom (line_after vs) rest
+room_after [] input rest first all left = let none : ended_lines (stream_text []) ≡ 0 = refl in omega arith
+room_after (v ∷ vs) input rest first all left =
+    let size = ap length first.are ∙ length-append (stream_text (v ∷ vs)) rest in
+    let a = lines_append (show_text v) (end_line ++ stream_text vs) in
+    let b = lines_append end_line (stream_text vs) in
+    let one : ended_lines end_line ≡ 1 = refl in
+    let x = length-append (show_text v) (end_line ++ stream_text vs) in
+    let y = length-append end_line (stream_text vs) in
+    let four : length end_line ≡ 4 = refl in
+    let s = lines_within (show_text v) in
+    let t = lines_within (stream_text vs) in
     omega arith
 
 all_more : (vs : List Tree) (v : Tree) → AllByRecursion IsMakeable vs → IsMakeable v

@@ -18,6 +18,7 @@ pub mod TestedInput
 pub mod SinkRuns
 pub mod UnderWay
 pub mod FoundRefusal
+pub mod LookedAt
 pub mod SeenTexts
 pub mod UnderTexts
 pub mod TextsEnds

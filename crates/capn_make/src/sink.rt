@@ -116,8 +116,6 @@ pub(crate) fn run<S: Sink, R: Read, W: Write>(
             return Err(sink.too_long());
         };
         taken = sum;
-        if let Err(fault) = sink.feed(&buffer[..count], writer) {
-            return Err(fault);
-        }
+        sink.feed(&buffer[..count], writer)?;
     }
 }

@@ -1,5 +1,5 @@
 -- The parts of a run over texts with quotes.
-use Rattle.std.specs.Prelude.{◌≡◌, ◌≢◌, ◌≤◌, ℕ, ◌+◌, List, [], ◌++◌, length, true}
+use Rattle.std.specs.Prelude.{◌≡◌, ◌≢◌, ◌≤◌, ℕ, List, [], ◌++◌, length, true}
 use Rattle.std.specs.Prelude.{Option, Result, Ok, Err}
 use Rattle.capn_text.specs.Streams.{ended_lines}
 use Rattle.capn_text.specs.PlainForm.{plain, plain_after, digits_after, count_to}

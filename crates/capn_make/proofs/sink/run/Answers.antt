@@ -1,4 +1,5 @@
 use Rattle.std.proofs.Common.{◌∙◌, [], refl, arith}
+use Rattle.std.proofs.lemmas.Result.{err_from_is_err_and}
 use Rattle.std.proofs.KnownBytes.{Consumes-nil}
 use Rattle.capn_words.specs.Watched.{has_failed}
 use Rattle.capn_make.specs.inner.SinkRun.{Holds}
@@ -47,25 +48,27 @@ feed-requires-clause-some g c =
     some_given (Holds g.S.Sink.task g.S.Sink.takes task) (g.S.Sink.gives task) g.S.Sink.io c.pieces.sink _ _ _ _
     c.pieces.taken i.way _ _ (has_failed c.pieces.writer) _ c.in-Some.count c.in-Some.ensures c.if-count-eq0.false
 
-pub returns-in-Err : goal.returns-in-Err
-returns-in-Err g c =
+pub returns-in_err-feed : goal.returns-in_err-feed
+returns-in_err-feed g c =
     let i = c.pieces.invariant in
     let task = g.S.Sink.task c.args.sink.now in
-    let fed = rw i.way.takes.0 at c.in-Err.ensures.fed i.way.bytes _ i.way.takes.1 in
-    run_refused (Holds g.S.Sink.task g.S.Sink.takes task) (g.S.Sink.gives task) g.S.Sink.io c.pieces.sink _ _ _ _
-    c.pieces.taken i.way _ _ _ _ c.in-Some.count c.in-Some.ensures c.feed.new.self _ c.in-Err.fault fed.0 fed.1
+    let p = err_from_is_err_and c.from_residual.result c.from_residual.ensures.1 in
+    let fed = rw i.way.takes.0 at c.in_err-feed.ensures.fed i.way.bytes _ i.way.takes.1 in
+    rw (p.1, p.2) (run_refused (Holds g.S.Sink.task g.S.Sink.takes task) (g.S.Sink.gives task) g.S.Sink.io c.pieces.sink
+    _ _ _ _ c.pieces.taken i.way _ _ _ _ c.in-Some.count c.in-Some.ensures c.feed.new.self _ c.in_err-feed.field-0.0
+    fed.0 fed.1)
 
 pub pieces-preserved : goal.pieces-preserved
 pieces-preserved g c =
     let i = c.pieces.invariant in
     let task = g.S.Sink.task c.args.sink.now in
     let sum = c.in-Some-counted.ensures in
-    let fed = c.in_default-feed.ensures.fed i.way.bytes _ i.way.takes.1 in
+    let fed = c.in_ok-feed.ensures.fed i.way.bytes _ i.way.takes.1 in
     record {
       fine = c.in-Some.ensures.0;
       kept = not_broken g.S.Sink.io _ _ fed.1.1;
       few = sum.1;
       way = rw sum.0 (taken_on (Holds g.S.Sink.task g.S.Sink.takes task) (g.S.Sink.gives task) g.S.Sink.io c.pieces.sink
           _ _ _ _ c.pieces.taken i.way _ _ (has_failed c.feed.new.writer) _ c.in-Some.count c.in-Some.ensures
-          c.feed.new.self _ tt (c.in_default-feed.ensures.same ∙ i.way.takes.0, fed.0));
+          c.feed.new.self _ tt (c.in_ok-feed.ensures.same ∙ i.way.takes.0, fed.0));
     }

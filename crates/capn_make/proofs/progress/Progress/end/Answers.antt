@@ -1,6 +1,7 @@
 use Rattle.std.proofs.Common.{[], ap, refl, Err, arith}
 use Rattle.std.proofs.lemmas.Result.{err_from_is_err_and}
-use Rattle.capn_make.proofs.UnderWay.{ended_as, ended_broken, ended_refused, no_writes, refused_at, too_long_at}
+use Rattle.capn_make.proofs.LookedAt.{ended_as, ended_broken, ended_refused, refused_at, too_long_at}
+use Rattle.capn_make.proofs.UnderWay.{no_writes}
 use Rattle.capn_make.proofs.progress.Progress.end.Goals as goal
 
 pub returns-then-not-has_room : goal.returns-then-not-has_room
@@ -15,13 +16,13 @@ returns-then-not-has_room g c = λ input x before h.
     )
 
 pub go_on-requires : goal.go_on-requires
-go_on-requires g c = rw c.deref.ensures.value at c.else-not-has_room.ensures.room refl
+go_on-requires g c = rw c.deref.ensures.value at c.if-not-has_room.ensures.room refl
 
 pub returns-in-Ok : goal.returns-in-Ok
 returns-in-Ok g c = λ input x before h.
     let goes = c.in-Ok.ensures.made input h.written h.made_so_far in
-    let all = rw c.deref-2.ensures.value at c.write_all.ensures.ok in
-    let begun = rw c.deref-2.ensures.value at c.write_all.ensures.begun in
+    let all = rw c.deref-in-Ok.ensures.value at c.write_all.ensures.ok in
+    let begun = rw c.deref-in-Ok.ensures.value at c.write_all.ensures.begun in
     ended_as c.args.self.now.form input x _ _ _ _ _ before h c.go_on.new.self.made.items c.go_on.new.self.rest.items
     c.go_on.new.self.line _ _ [] c.in-Ok.field-0 c.write_all.result goes all begun c.write_all.ensures.fine
     c.write_all.ensures.broken c.write_all.ensures.only

@@ -1,8 +1,9 @@
 use Rattle.std.proofs.Common.{refl, ◌∙◌, arith}
 use Rattle.std.proofs.lemmas.Result.{err_from_is_err_and}
 use Rattle.capn_make.proofs.Unended.{no_end}
-use Rattle.capn_make.proofs.UnderWay.{goes_on_at, made_writes, no_writes, part_at, refused_at, refuses_at, too_long_at}
-use Rattle.capn_make.proofs.UnderWay.{written_at}
+use Rattle.capn_make.proofs.LookedAt.{goes_on_at, made_writes, part_at, refused_at, refuses_at, too_long_at}
+use Rattle.capn_make.proofs.LookedAt.{written_at}
+use Rattle.capn_make.proofs.UnderWay.{no_writes}
 use Rattle.capn_make.proofs.progress.Progress.look.Goals as goal
 
 pub returns-then-not-is_due-clause-looked : goal.returns-then-not-is_due-clause-looked
@@ -25,7 +26,7 @@ returns-then-not-has_room-clause-looked g c = λ input x h.
     )
 
 pub find_refusal-requires : goal.find_refusal-requires
-find_refusal-requires g c = rw c.deref-2.ensures.value at c.else-not-has_room.ensures.room refl
+find_refusal-requires g c = rw c.deref-2.ensures.value at c.if-not-has_room.ensures.room refl
 
 pub returns-in_err-refusal-clause-looked : goal.returns-in_err-refusal-clause-looked
 returns-in_err-refusal-clause-looked g c = λ input x h.

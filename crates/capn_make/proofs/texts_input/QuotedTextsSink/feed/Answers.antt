@@ -1,8 +1,7 @@
-use Rattle.std.proofs.Common.{◌++◌, ◌∙◌, length, ap, subst, sym, arith}
+use Rattle.std.proofs.Common.{◌++◌, ◌∙◌, length, ap, arith}
 use Rattle.std.proofs.lemmas.Result.{err_from_is_err_and}
 use Rattle.std.proofs.lemmas.List.{length-append}
 use Rattle.capn_text.specs.Unquoting.{own_at}
-use Rattle.capn_make.specs.inner.RunParts.{IsUnderWay}
 use Rattle.capn_make.proofs.UnderWay.{no_writes}
 use Rattle.capn_make.proofs.UnderTexts.{come, goes_on, refused, unheld, writes_at}
 use Rattle.capn_make.proofs.texts_input.QuotedTextsSink.feed.Goals as goal

@@ -1,4 +1,4 @@
-use Rattle.std.proofs.Common.{◌++◌, ◌∙◌, Ok, Err}
+use Rattle.std.proofs.Common.{◌++◌, Ok, Err}
 use Rattle.std.proofs.lemmas.Result.{err_from_is_err_and}
 use Rattle.capn_text.specs.Unquoting.{own_at}
 use Rattle.capn_make.proofs.UnderWay.{no_writes}
@@ -10,7 +10,7 @@ returns-in_err-finish g c = λ bytes x u.
     let p = err_from_is_err_and c.from_residual.result c.from_residual.ensures.1 in
     rw (p.1, p.2) (
       unheld_last c.args.self.now.texts.form bytes x _ _ _ _ _ _ u c.in_err-finish.ensures.memory,
-      no_writes _ _ _ c.requires (λ e. absurd cc),
+      no_writes _ _ _ c.requires.fine (λ e. absurd cc),
     )
 
 pub returns-in-Ok : goal.returns-in-Ok
