@@ -1,7 +1,5 @@
 //! Texts as a sink.
 
-ghost use Rattle.capn_words.specs.Watched.{inner_of, has_failed};
-
 use crate::fault::MakeFault;
 use crate::progress::Progress;
 use crate::sink::Sink;

@@ -1,7 +1,6 @@
 //! Texts with lists of bytes between quotes, as a sink before that of texts.
 
 ghost use Rattle.std.specs.Prelude.{◌≡◌};
-ghost use Rattle.capn_words.specs.Watched.{inner_of, has_failed};
 ghost use Rattle.capn_text.specs.Unquoting.{first_unquoting, own_at};
 ghost use Rattle.capn_make.specs.MadeTexts as texts;
 ghost use Rattle.capn_make.specs.inner.RunParts.{IsFresh};
