@@ -105,44 +105,6 @@ loop-at-preserved g c =
           next.1 next.2;
     }
 
--- ---- and one whose ends are kept in place, which frees no memory
-
-pub loop-at-smaller-in_ok-add_framed-in-Ok : goal.loop-at-smaller-in_ok-add_framed-in-Ok
-loop-at-smaller-in_ok-add_framed-in-Ok g c =
-    let found = c.in-Ok.ensures.found in
-    let some = frame_some _ _ c.args.most found.frame found.room in
-    let left = take (length c.args.bytes.now - c.loop-at.at) (drop c.loop-at.at c.args.bytes.now) in
-    let size = length-take c.in-Ok.taken left in
-    omega (arith, some, size, found.inside, c.loop-at-test.true)
-
-pub loop-at-preserved-in_ok-add_framed-in-Ok : goal.loop-at-preserved-in_ok-add_framed-in-Ok
-loop-at-preserved-in_ok-add_framed-in-Ok g c =
-    let next = c.in_ok-add_framed-in-Ok.ensures c.args.most in
-    let found = c.in-Ok.ensures.found in
-    let i = c.loop-at.invariant in
-    let left = take (length c.args.bytes.now - c.loop-at.at) (drop c.loop-at.at c.args.bytes.now) in
-    let rest = length-take (length c.args.bytes.now - c.loop-at.at) (drop c.loop-at.at c.args.bytes.now) in
-    let size = length-take c.in-Ok.taken left in
-    let some = frame_some _ _ c.args.most found.frame found.room in
-    let behind = length-drop c.loop-at.at c.args.bytes.now in
-    record {
-      fine = next.3;
-      within = omega (arith, found.inside, rest, i.within, behind);
-      room = room_step g.S.Service.serves g.S.Service.refuses g.S.Service.done c.args.most c.loop-at.run
-          c.add_framed.new.run
-          (take c.in-Ok.taken left) c.in-Ok.message next.0
-          (length c.args.bytes.now - (c.loop-at.at + c.in-Ok.taken)) some next.1
-          (record {
-            offset = omega (arith, i.room.offset, size, found.inside, rest, behind);
-            index = i.room.index;
-          });
-      told = whole_more (fold_until g.S.Service.serves g.S.Service.refuses g.S.Service.done c.args.most) c.args.run.now
-          c.loop-at.run
-          c.args.bytes.now c.loop-at.at _ _ i.told _ c.in-Ok.taken c.args.most refl
-          (sym c.is_done.ensures ∙ c.if-is_done.false) found c.add_framed.new.run _ next.0
-          next.1 next.2;
-    }
-
 -- ---- no message
 
 pub returns-in_err-pass-in-Err-clause-served : goal.returns-in_err-pass-in-Err-clause-served
