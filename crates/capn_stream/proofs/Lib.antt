@@ -9,3 +9,4 @@ pub mod FrameRows
 pub mod OneSegment
 mod Joined
 mod Held
+mod KeptEnds
