@@ -5,7 +5,7 @@ use Rattle.std.proofs.Common.{length-take, length-drop}
 use Rattle.std.proofs.lemmas.List.{replicate-append-replicate, append-nil, drop_all}
 use Rattle.capn_pack.specs.Packed.{group_text, group_bytes, texts, contents, tag_of, named_bytes}
 use Rattle.capn_pack.specs.Chosen.{IsChoice, IsChosenRow, Chosen, IsDense, AllDense}
-use Rattle.capn_pack.specs.inner.Steps.{Puts, PutsRow}
+use Rattle.capn_pack.specs.inner.Steps.{Puts, PutsRow, IsZeroRun}
 use Rattle.capn_pack.specs.Packed.Group.{Zeros, Named, Raw}
 use Rattle.std.proofs.lemmas.Grind.{flat_map-append}
 use Rattle.capn_pack.proofs.shared.GroupLemmas.{texts_more, contents_more, count_more, count_append}
@@ -21,11 +21,10 @@ word_then bytes at = sym (take-append-drop 8 (drop at bytes))
 
 pub puts_zeros : (bytes : List ℕ) (at more : ℕ) (old new : List ℕ) → at + 8 ≤ length bytes
     → tag_of (take 8 (drop at bytes)) ≡ 0
-    → more ≤ 255 → (at + 8) + 8 * more ≤ length bytes
-    → drop (at + 8) bytes ≡ replicate (8 * more) 0 ++ drop ((at + 8) + 8 * more) bytes
+    → IsZeroRun bytes (at + 8) more
     → (more < 255 → take 8 (drop ((at + 8) + 8 * more) bytes) ≡ replicate 8 0 → ⊥) → new ≡ old ++ (0 ∷ more ∷ [])
     → Puts bytes at ((at + 8) + 8 * more) old new
-puts_zeros bytes at more old new room tag most inside zeros last e =
+puts_zeros bytes at more old new room tag run last e =
     let next = (at + 8) + 8 * more in
     let is : take 8 (drop at bytes) ≡ replicate 8 0 = tag_zero (take 8 (drop at bytes)) tag
     ∙ ap (λ n. replicate n 0) (length_word bytes at room) in
@@ -35,8 +34,8 @@ puts_zeros bytes at more old new room tag most inside zeros last e =
       is_group = omega arith;
       choice = last;
       span = omega arith;
-      inside = inside;
-      content = word_then bytes at ∙ (λ i. is i ++ zeros i)
+      inside = run.inside;
+      content = word_then bytes at ∙ (λ i. is i ++ run.zeros i)
           ∙ sym (append_assoc (replicate 8 0) (replicate (8 * more) 0) (drop next bytes))
           ∙ ap (λ l. l ++ drop next bytes) (replicate-append-replicate 8 (8 * more) 0 ∙ ap (λ n. replicate n 0) size);
       text = e;

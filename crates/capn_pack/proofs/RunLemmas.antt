@@ -9,6 +9,7 @@ use Rattle.std.proofs.Math.Nat.{two-pow-succ}
 use Rattle.std.specs.Prelude.{count_ones}
 use Rattle.capn_pack.specs.Packed.{tag_of, named_bytes, IsNamedBy}
 use Rattle.capn_pack.specs.Chosen.{zero_count, IsDense, AllDense}
+use Rattle.capn_pack.specs.inner.Steps.{IsZeroRun, IsDenseRun}
 use Rattle.capn_pack.proofs.shared.SpreadLemmas.{ones_half, no_ones}
 
 -- ---- what a tag of zero or of all ones says
@@ -61,14 +62,9 @@ named_exact (suc x ∷ xs) =
 
 -- ---- zero words
 
-pub record ZeroTo (bytes : List ℕ) (start count : ℕ) : Type 0 where
-  pub most : count ≤ 255
-  pub inside : start + 8 * count ≤ length bytes
-  pub zeros : drop start bytes ≡ replicate (8 * count) 0 ++ drop (start + 8 * count) bytes
-
-pub zero_more : (bytes : List ℕ) (start count : ℕ) → ZeroTo bytes start count → count < 255
+pub zero_more : (bytes : List ℕ) (start count : ℕ) → IsZeroRun bytes start count → count < 255
     → start + 8 * count + 8 ≤ length bytes → tag_of (take 8 (drop (start + 8 * count) bytes)) ≡ 0
-    → ZeroTo bytes start (count + 1)
+    → IsZeroRun bytes start (count + 1)
 zero_more bytes start count z less room h =
     let p = start + 8 * count in
     let word = take 8 (drop p bytes) in
@@ -107,17 +103,10 @@ dense_join (suc n) m bs cs h long d =
 one_dense : (w : List ℕ) → IsDense w → AllDense 1 w
 one_dense w d = (subst IsDense (sym (take_all 8 w (omega (arith, d.0)))) d, drop_all 8 w (omega (arith, d.0)))
 
-pub record DenseTo (bytes : List ℕ) (start limit count : ℕ) : Type 0 where
-  pub most : count ≤ limit
-  pub inside : start + 8 * count ≤ length bytes
-  pub dense : AllDense count (slice_range bytes start (start + 8 * count))
-
 -- some words more
-pub dense_steps : (bytes : List ℕ) (start limit count step : ℕ) → DenseTo bytes start limit count
-    → step ≤ limit - count → (start + 8 * count) + 8 * step ≤ length bytes
-    → AllDense step (slice_range bytes (start + 8 * count) ((start + 8 * count) + 8 * step))
-    → DenseTo bytes start limit (count + step)
-dense_steps bytes start limit count step d most room more =
+pub dense_steps : (bytes : List ℕ) (start limit count step : ℕ) → IsDenseRun bytes start limit count
+    → IsDenseRun bytes (start + 8 * count) (limit - count) step → IsDenseRun bytes start limit (count + step)
+dense_steps bytes start limit count step d more =
     let p = start + 8 * count in
     let bs = slice_range bytes start p in
     let cs = slice_range bytes p (p + 8 * step) in
@@ -133,13 +122,13 @@ dense_steps bytes start limit count step d most room more =
     record {
       most = omega arith;
       inside = omega arith;
-      dense = subst (AllDense (count + step)) (sym grown) (dense_join count step bs cs d.dense size more);
+      dense = subst (AllDense (count + step)) (sym grown) (dense_join count step bs cs d.dense size more.dense);
     }
 
 -- one word more
-pub dense_more : (bytes : List ℕ) (start limit count : ℕ) → DenseTo bytes start limit count → count < limit
+pub dense_more : (bytes : List ℕ) (start limit count : ℕ) → IsDenseRun bytes start limit count → count < limit
     → start + 8 * count + 8 ≤ length bytes → 7 ≤ count_ones (tag_of (take 8 (drop (start + 8 * count) bytes)))
-    → DenseTo bytes start limit (count + 1)
+    → IsDenseRun bytes start limit (count + 1)
 dense_more bytes start limit count d less room h =
     let p = start + 8 * count in
     let word = take 8 (drop p bytes) in
@@ -147,8 +136,8 @@ dense_more bytes start limit count d less room h =
     let dense : IsDense word = (long, omega (arith, ones_tag word)) in
     let size : p + 8 * 1 - p ≡ 8 = omega arith in
     let here : slice_range bytes p (p + 8 * 1) ≡ word = ap (λ n. take n (drop p bytes)) size in
-    dense_steps bytes start limit count 1 d (omega arith) (omega arith)
-    (subst (AllDense 1) (sym here) (one_dense word dense))
+    dense_steps bytes start limit count 1 d
+    (record { most = omega arith; inside = omega arith; dense = subst (AllDense 1) (sym here) (one_dense word dense) })
 
 -- ---- words without a zero byte
 

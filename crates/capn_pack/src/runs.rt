@@ -1,6 +1,7 @@
 //! Lengths of runs of zero words and of dense words.
-ghost use Rattle.std.specs.Prelude.{◌≡◌, ◌+◌, ◌*◌, ◌<◌, ◌≤◌, ◌++◌, length, take, drop, slice_range, replicate};
-ghost use Rattle.capn_pack.specs.Chosen.{IsDense, AllDense};
+ghost use Rattle.std.specs.Prelude.{◌≡◌, ◌+◌, ◌*◌, ◌<◌, ◌≤◌, length, take, drop, replicate};
+ghost use Rattle.capn_pack.specs.Chosen.{IsDense};
+ghost use Rattle.capn_pack.specs.inner.Steps.{IsZeroRun, IsDenseRun};
 
 use crate::signs::{four_tags, tag};
 
@@ -19,9 +20,7 @@ pub(crate) fn word_at(bytes: &[u8], at: usize) -> [u8; 8]
 #[inline(always)]
 pub(crate) fn zero_run(bytes: &[u8], start: usize) -> usize
     requires { start ≤ length bytes.now }
-    ensures most { result ≤ 255 }
-    ensures inside { start + 8 * result ≤ length bytes.now }
-    ensures zeros { drop start bytes.now ≡ replicate (8 * result) 0 ++ drop (start + 8 * result) bytes.now }
+    ensures run { IsZeroRun bytes.now start result }
     ensures last { result < 255 → take 8 (drop (start + 8 * result) bytes.now) ≡ replicate 8 0 → ⊥ }
 {
     let mut count = 0;
@@ -39,9 +38,7 @@ pub(crate) fn zero_run(bytes: &[u8], start: usize) -> usize
 pub(crate) fn raw_run(bytes: &[u8], start: usize, limit: usize) -> usize
     requires inside { start ≤ length bytes.now }
     requires few { limit ≤ 255 }
-    ensures most { result ≤ limit }
-    ensures inside { start + 8 * result ≤ length bytes.now }
-    ensures dense { AllDense result (slice_range bytes.now start (start + 8 * result)) }
+    ensures run { IsDenseRun bytes.now start limit result }
     ensures last { result < limit → IsDense (take 8 (drop (start + 8 * result) bytes.now)) → ⊥ }
 {
     let mut count = 0;
@@ -71,9 +68,7 @@ fn four_at(bytes: &[u8], at: usize) -> [u8; 32]
 fn raw_step(bytes: &[u8], at: usize, limit: usize) -> usize
     requires inside { at ≤ length bytes.now }
     requires some { 0 < limit }
-    ensures most { result ≤ limit }
-    ensures inside { at + 8 * result ≤ length bytes.now }
-    ensures dense { AllDense result (slice_range bytes.now at (at + 8 * result)) }
+    ensures run { IsDenseRun bytes.now at limit result }
     ensures last { result ≡ 0 → IsDense (take 8 (drop at bytes.now)) → ⊥ }
 {
     if limit < 4 || bytes.len() < at + 32 || four_tags(&four_at(bytes, at)) != 4_294_967_295 {
@@ -87,9 +82,7 @@ fn raw_step(bytes: &[u8], at: usize, limit: usize) -> usize
 #[inline(always)]
 pub(crate) fn long_run(bytes: &[u8], start: usize) -> usize
     requires { start ≤ length bytes.now }
-    ensures most { result ≤ 255 }
-    ensures inside { start + 8 * result ≤ length bytes.now }
-    ensures dense { AllDense result (slice_range bytes.now start (start + 8 * result)) }
+    ensures run { IsDenseRun bytes.now start 255 result }
     ensures last { result < 255 → IsDense (take 8 (drop (start + 8 * result) bytes.now)) → ⊥ }
 {
     let mut count = 0;

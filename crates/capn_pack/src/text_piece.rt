@@ -1,7 +1,7 @@
 //! One piece of a packed text, after the bytes held.
 ghost use Rattle.std.specs.Prelude.{◌≡◌, ◌+◌, ◌<◌, ◌≤◌, ◌++◌, length, take, drop, IfOk, OnErr};
 ghost use Rattle.capn_pack.specs.PackedPieces.{Splits, Begins, NoGroupFirst};
-ghost use Rattle.capn_pack.specs.inner.Joins.{FeedGives, Joins};
+ghost use Rattle.capn_pack.specs.inner.Joins.{FeedGives, IsHeld, Joins};
 
 use crate::unpack_block::{SLACK, take_block};
 use crate::unpack_group::{GROUP, Stop, WORDS, take_group};
@@ -69,10 +69,8 @@ fn join_first<A: Allocator>(
     piece: &[u8],
     out: &mut Vec<u8, A>,
 ) -> Result<Joined, AllocError>
-    requires room { length held.old ≡ HELD }
     requires some { 0 < len }
-    requires most { len < GROUP }
-    requires begun { NoGroupFirst (take len held.old) }
+    requires held { IsHeld held.old len }
     ensures front { take len held.new ≡ take len held.old }
     ensures joined { IfOk result (λ j. Joins (take len held.old) piece.now held.new out.old.items out.new.items j) }
     ensures err { OnErr result (out.new.items ≡ out.old.items) }
@@ -123,10 +121,8 @@ fn feed_begun<A: Allocator>(
     piece: &[u8],
     out: &mut Vec<u8, A>,
 ) -> Result<Fed, AllocError>
-    requires room { length held.old ≡ HELD }
     requires some { 0 < len }
-    requires most { len < GROUP }
-    requires begun { NoGroupFirst (take len held.old) }
+    requires held { IsHeld held.old len }
     ensures { FeedGives (take len held.old ++ piece.now) out.old.items result held.new out.new.items }
 {
     match join_first(held, len, piece, out)? {
@@ -151,9 +147,7 @@ pub(crate) fn feed_held<A: Allocator>(
     piece: &[u8],
     out: &mut Vec<u8, A>,
 ) -> Result<Fed, AllocError>
-    requires room { length held.old ≡ HELD }
-    requires most { len < GROUP }
-    requires begun { NoGroupFirst (take len held.old) }
+    requires { IsHeld held.old len }
     ensures { FeedGives (take len held.old ++ piece.now) out.old.items result held.new out.new.items }
 {
     if len == 0 {

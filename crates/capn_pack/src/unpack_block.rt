@@ -1,9 +1,8 @@
 //! Groups read into a block, for one append.
-ghost use Rattle.std.specs.Prelude.{◌≡◌, ◌+◌, ◌*◌, ◌<◌, ◌-◌, ◌≤◌, ◌++◌, [], length, take, slice_index, slice_range};
-ghost use Rattle.std.specs.Prelude.{replicate, ℕ};
-ghost use Rattle.std.specs.Prelude.{IfSome, IfNone, IfOk, OnErr};
+ghost use Rattle.std.specs.Prelude.{◌≡◌, ◌+◌, ◌*◌, ◌<◌, ◌≤◌, ◌++◌, [], length, take, slice_index, slice_range};
+ghost use Rattle.std.specs.Prelude.{replicate, IfSome, IfOk, OnErr};
 ghost use Rattle.capn_pack.specs.UnpackRefusal.{StartsWithin};
-ghost use Rattle.capn_pack.specs.inner.Steps.{Takes, TakesRow};
+ghost use Rattle.capn_pack.specs.inner.Steps.{Fills, FillGives, TakesRow};
 
 use crate::block::{Block, store_bytes};
 use crate::lanes::spread_far;
@@ -44,12 +43,7 @@ fn fill_zeros(text: &[u8], at: usize, block: &mut [u8], fill: usize) -> Option<B
     requires tag { slice_index (slice_range text.now at (length text.now)) 0 ≡ 0 }
     requires room { fill + SLACK ≤ length block.old }
     ensures within { IfSome result (λ f. f.fill ≤ fill + SLACK) }
-    ensures forward { IfSome result (λ f. at < f.at) }
-    ensures reach { IfSome result (λ f. f.at ≤ at + REACH) }
-    ensures some { IfSome result (λ f. (count : ℕ)
-        × Takes (slice_range text.now at (length text.now)) 8 (f.at - at) count
-        (take fill block.old) (take f.fill block.new)) }
-    ensures none { IfNone result (block.new ≡ block.old) }
+    ensures gives { FillGives text.now at fill block.old block.new result }
 {
     let rest = &text[at..];
     let more = rest[1] as usize;
@@ -71,12 +65,7 @@ fn fill_raw(text: &[u8], at: usize, block: &mut [u8], fill: usize) -> Option<Blo
     requires tag { slice_index (slice_range text.now at (length text.now)) 0 ≡ 255 }
     requires room { fill + 8 + SLACK ≤ length block.old }
     ensures within { IfSome result (λ f. f.fill ≤ fill + SLACK) }
-    ensures forward { IfSome result (λ f. at < f.at) }
-    ensures reach { IfSome result (λ f. f.at ≤ at + REACH) }
-    ensures some { IfSome result (λ f. (count : ℕ)
-        × Takes (slice_range text.now at (length text.now)) 8 (f.at - at) count
-        (take fill block.old) (take f.fill block.new)) }
-    ensures none { IfNone result (block.new ≡ block.old) }
+    ensures gives { FillGives text.now at fill block.old block.new result }
 {
     let rest = &text[at..];
     let more = rest[9] as usize;
@@ -99,10 +88,7 @@ fn fill_named(text: &[u8], at: usize, block: &mut [u8], fill: usize) -> Block
     requires below { slice_index (slice_range text.now at (length text.now)) 0 < 255 }
     requires room { fill + 8 ≤ length block.old }
     ensures filled { result.fill ≡ fill + 8 }
-    ensures forward { at < result.at }
-    ensures reach { result.at ≤ at + REACH }
-    ensures takes { Takes (slice_range text.now at (length text.now)) 8 (result.at - at) 1
-        (take fill block.old) (take result.fill block.new) }
+    ensures fills { Fills text.now at fill 1 block.old block.new result }
 {
     let rest = &text[at..];
     let tag = rest[0];
@@ -122,12 +108,7 @@ fn fill_group(text: &[u8], at: usize, block: &mut [u8], fill: usize) -> Option<B
     requires far { at + REACH ≤ length text.now }
     requires room { fill + 8 + SLACK ≤ length block.old }
     ensures within { IfSome result (λ f. f.fill ≤ fill + SLACK) }
-    ensures forward { IfSome result (λ f. at < f.at) }
-    ensures reach { IfSome result (λ f. f.at ≤ at + REACH) }
-    ensures some { IfSome result (λ f. (count : ℕ)
-        × Takes (slice_range text.now at (length text.now)) 8 (f.at - at) count
-        (take fill block.old) (take f.fill block.new)) }
-    ensures none { IfNone result (block.new ≡ block.old) }
+    ensures gives { FillGives text.now at fill block.old block.new result }
 {
     let rest = &text[at..];
     // One test, by which most groups go.
@@ -146,11 +127,7 @@ fn fill_last(text: &[u8], at: usize, block: &mut [u8], fill: usize, limit: usize
     requires room { fill + 8 ≤ limit }
     requires slack { limit + SLACK ≤ length block.old }
     ensures within { IfSome result (λ f. f.fill ≤ limit) }
-    ensures forward { IfSome result (λ f. at < f.at) }
-    ensures some { IfSome result (λ f. (count : ℕ)
-        × Takes (slice_range text.now at (length text.now)) 8 (f.at - at) count
-        (take fill block.old) (take f.fill block.new)) }
-    ensures none { IfNone result (block.new ≡ block.old) }
+    ensures gives { FillGives text.now at fill block.old block.new result }
 {
     let rest = &text[at..];
     match rest[0] {

@@ -21,15 +21,15 @@ pub struct Unpacker {
 }
 
 impl Model for Unpacker {
-    ghost use Rattle.std.specs.Prelude.{◌<◌, take};
-    ghost use Rattle.capn_pack.specs.PackedPieces.{Held, NoGroupFirst};
-    ghost use Rattle.capn_pack.specs.declared.unpack_group.TheConstants.{GROUP};
+    ghost use Rattle.std.specs.Prelude.{take};
+    ghost use Rattle.capn_pack.specs.PackedPieces.{Held};
+    ghost use Rattle.capn_pack.specs.inner.Joins.{IsHeld};
 
     ghost Value = { Held };
 
     ghost view = { λ a. record { rest = take a.len a.held; offset = a.offset; failed = a.failed } };
 
-    ghost invariant = { λ a. (a.len < GROUP) × NoGroupFirst (take a.len a.held) };
+    ghost invariant = { λ a. IsHeld a.held a.len };
 }
 
 impl Default for Unpacker {

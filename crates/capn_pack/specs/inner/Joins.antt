@@ -3,9 +3,14 @@ use Rattle.std.specs.Prelude.{ℕ, ◌≡◌, ◌<◌, ◌≤◌, ◌++◌, List
 use Rattle.capn_pack.specs.Packed.{Group, IsGroup, group_text, group_bytes}
 use Rattle.capn_pack.specs.PackedPieces.{Begins, NoGroupFirst, Splits}
 use Rattle.capn_pack.specs.declared.unpack_group.TheConstants.{GROUP}
+use Rattle.capn_pack.specs.declared.text_piece.TheConstants.{HELD}
 use Rattle.capn_pack.specs.declared.text_piece.Fed.{Fed}
 use Rattle.capn_pack.specs.declared.text_piece.Joined.{Joined}
 use Rattle.capn_pack.specs.declared.text_piece.Joined.TheVariants.{Open, Whole}
+
+-- A buffer of the full room begins with `len` bytes of an unfinished group, or with none.
+abbrev pub IsHeld : List ℕ → ℕ → Type 0
+IsHeld held len = (length held ≡ HELD) × (len < GROUP) × NoGroupFirst (take len held)
 
 -- They are still unfinished and all held, or the front of the piece made the group whole.
 abbrev pub Joins : List ℕ → List ℕ → List ℕ → List ℕ → List ℕ → Joined → Type 0

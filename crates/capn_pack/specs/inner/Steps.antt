@@ -1,9 +1,12 @@
 -- Single steps of the code.
-use Rattle.std.specs.Prelude.{ℕ, ◌≡◌, ◌+◌, ◌*◌, ◌<◌, ◌≤◌, ◌++◌, List, length, take, drop, Result, Ok, Err}
+use Rattle.std.specs.Prelude.{ℕ, ◌≡◌, ◌+◌, ◌-◌, ◌*◌, ◌<◌, ◌≤◌, ◌++◌, List, length, take, drop, slice_range, replicate}
+use Rattle.std.specs.Prelude.{Option, Some, None, Result, Ok, Err}
 use Rattle.std.specs.List.{AllByRecursion}
 use Rattle.capn_pack.specs.Packed.{Group, IsGroup, group_text, group_bytes, group_words, texts, contents, word_count}
-use Rattle.capn_pack.specs.Chosen.{IsChoice, IsChosenRow}
+use Rattle.capn_pack.specs.Chosen.{AllDense, IsChoice, IsChosenRow}
 use Rattle.capn_pack.specs.UnpackRefusal.{IsCut, IsTooLong, StartsWithin}
+use Rattle.capn_pack.specs.declared.block.Block.{Block}
+use Rattle.capn_pack.specs.declared.unpack_block.TheConstants.{REACH}
 use Rattle.capn_pack.specs.declared.unpack_group.TheConstants.{GROUP}
 use Rattle.capn_pack.specs.declared.unpack_group.Stop.{Stop}
 use Rattle.capn_pack.specs.declared.unpack_group.Stop.TheVariants.{Memory, Cut, TooLong}
@@ -26,6 +29,18 @@ TakeGives rest room old (Ok taken) new = Takes rest room taken.bytes taken.words
 TakeGives rest room old (Err Memory) new = StartsWithin rest room × (new ≡ old)
 TakeGives rest room old (Err Cut) new = IsCut room rest × (length rest < GROUP) × (new ≡ old)
 TakeGives rest room old (Err TooLong) new = IsTooLong room rest × (new ≡ old)
+
+-- The group at one offset of the text, of `count` words, was read up to `f.at`, and its words fill a block from `fill`
+-- to `f.fill`.
+pub record Fills (text : List ℕ) (at fill count : ℕ) (old new : List ℕ) (f : Block) : Type 0 where
+  pub forward : at < f.at
+  pub reach : f.at ≤ at + REACH
+  pub takes : Takes (slice_range text at (length text)) 8 (f.at - at) count (take fill old) (take f.fill new)
+
+-- The answer of such a step: it filled some words, or left the block as it was.
+abbrev pub FillGives : List ℕ → ℕ → ℕ → List ℕ → List ℕ → Option Block → Type 0
+FillGives text at fill old new (Some f) = (count : ℕ) × Fills text at fill count old new f
+FillGives text at fill old new None = new ≡ old
 
 -- The next groups of the rest take `taken` bytes, and their words' bytes were appended.
 pub record TakesRow (rest : List ℕ) (taken : ℕ) (old new : List ℕ) : Type 0 where
@@ -53,3 +68,15 @@ pub record PutsRow (bytes : List ℕ) (at next : ℕ) (old new : List ℕ) : Typ
   pub inside : next ≤ length bytes
   pub content : drop at bytes ≡ contents groups ++ drop next bytes
   pub text : new ≡ old ++ texts groups
+
+-- So many words from one offset on are zero, at most 255.
+pub record IsZeroRun (bytes : List ℕ) (start count : ℕ) : Type 0 where
+  pub most : count ≤ 255
+  pub inside : start + 8 * count ≤ length bytes
+  pub zeros : drop start bytes ≡ replicate (8 * count) 0 ++ drop (start + 8 * count) bytes
+
+-- So many words from one offset on are dense, within the limit.
+pub record IsDenseRun (bytes : List ℕ) (start limit count : ℕ) : Type 0 where
+  pub most : count ≤ limit
+  pub inside : start + 8 * count ≤ length bytes
+  pub dense : AllDense count (slice_range bytes start (start + 8 * count))

@@ -11,11 +11,11 @@ returns-clause-some c =
     let at = c.args.at in
     let fill = c.args.fill in
     let more = c.raw_run-more.result in
-    let run = c.raw_run-more.ensures in
+    let run = c.raw_run-more.ensures.run in
     let front = c.gather.ensures ∙ ap (λ w. 255 ∷ named_bytes 255 w) c.word_at-word.ensures in
     let head = raw_head bytes block c.gather.result c.store.new.block at fill (omega arith) (omega arith)
     c.store.ensures front in
     puts_raw bytes at more _ _ c.requires.inside c.requires.tag (omega arith) run.inside run.dense
-    (λ less. run.last (omega arith))
+    (λ less. c.raw_run-more.ensures.last (omega arith))
     (raw_packed bytes block c.store.new.block c.store_bytes.new.block c.store_bytes-2.new.block at more fill
     (omega arith) (omega arith) (omega arith) head c.store_bytes.ensures c.store_bytes-2.ensures)

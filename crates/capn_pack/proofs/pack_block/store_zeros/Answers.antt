@@ -3,6 +3,5 @@ use Rattle.capn_pack.proofs.pack_block.store_zeros.Goals as goal
 
 pub returns-clause-some : goal.returns-clause-some
 returns-clause-some c =
-    let run = c.zero_run-more.ensures in
-    puts_zeros c.args.bytes.now c.args.at c.zero_run-more.result _ _ c.requires.inside c.requires.tag run.most
-    run.inside run.zeros run.last c.store_pair.ensures
+    puts_zeros c.args.bytes.now c.args.at c.zero_run-more.result _ _ c.requires.inside c.requires.tag
+    c.zero_run-more.ensures.run c.zero_run-more.ensures.last c.store_pair.ensures

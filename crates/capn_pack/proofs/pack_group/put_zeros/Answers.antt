@@ -3,6 +3,6 @@ use Rattle.capn_pack.proofs.pack_group.put_zeros.Goals as goal
 
 pub returns : goal.returns
 returns g c =
-    let run = c.zero_run-more.ensures in
     puts_zeros c.args.bytes.now c.args.at c.zero_run-more.result c.args.out.now.items c.extend_from_slice.new.self.items
-    c.requires.inside c.requires.tag run.most run.inside run.zeros run.last c.in_ok-extend_from_slice.ensures.items
+    c.requires.inside c.requires.tag c.zero_run-more.ensures.run c.zero_run-more.ensures.last
+    c.in_ok-extend_from_slice.ensures.items

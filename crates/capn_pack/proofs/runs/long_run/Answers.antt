@@ -5,6 +5,4 @@ pub returns-then-step-eq0-clause-last : goal.returns-then-step-eq0-clause-last
 returns-then-step-eq0-clause-last c less d = c.raw_step-step.ensures.last c.if-step-eq0.true d
 
 pub loop-count-preserved : goal.loop-count-preserved
-loop-count-preserved c =
-    let step = c.raw_step-step.ensures in
-    dense_steps _ _ _ _ _ c.loop-count.invariant step.most step.inside step.dense
+loop-count-preserved c = dense_steps _ _ _ _ _ c.loop-count.invariant c.raw_step-step.ensures.run

@@ -1,9 +1,9 @@
 use Rattle.std.proofs.Common.{◌-◌}
-use Rattle.capn_pack.proofs.RunLemmas.{DenseTo}
+use Rattle.capn_pack.specs.inner.Steps.{IsDenseRun}
 use Rattle.capn_pack.proofs.runs.long_run.Given as goal
 
 abbrev pub invariant-loop-count : goal.invariant-loop-count
-invariant-loop-count l = DenseTo l.bytes l.start 255 l.count
+invariant-loop-count l = IsDenseRun l.bytes l.start 255 l.count
 
 abbrev pub decreases-loop-count : goal.decreases-loop-count
 decreases-loop-count l = 255 - l.count

@@ -1,9 +1,9 @@
 use Rattle.std.proofs.Common.{◌-◌}
-use Rattle.capn_pack.proofs.RunLemmas.{ZeroTo}
+use Rattle.capn_pack.specs.inner.Steps.{IsZeroRun}
 use Rattle.capn_pack.proofs.runs.zero_run.Given as goal
 
 abbrev pub invariant-loop-count : goal.invariant-loop-count
-invariant-loop-count l = ZeroTo l.bytes l.start l.count
+invariant-loop-count l = IsZeroRun l.bytes l.start l.count
 
 abbrev pub decreases-loop-count : goal.decreases-loop-count
 decreases-loop-count l = 255 - l.count

@@ -6,12 +6,12 @@ use Rattle.capn_pack.proofs.text_piece.join_first.Goals as goal
 
 pub overflow_sub-result : goal.overflow_sub-result
 overflow_sub-result g c =
-    join_past _ c.args.piece.now _ _ _ _ _ _ _ _ (omega arith) c.fill.ensures.joined c.requires.begun c.in-Ok.ensures
+    join_past _ c.args.piece.now _ _ _ _ _ _ _ _ (omega arith) c.fill.ensures.joined c.requires.held.2 c.in-Ok.ensures
 
 pub returns-in-Ok-clause-joined : goal.returns-in-Ok-clause-joined
 returns-in-Ok-clause-joined g c =
     join_whole _ c.args.piece.now _ c.fill.new.held _ c.min-more.result _ _ _ _ _ (omega arith) (omega arith)
-    c.fill.ensures.joined c.requires.begun c.in-Ok.ensures
+    c.fill.ensures.joined c.requires.held.2 c.in-Ok.ensures
 
 pub returns-in-Err-Cut-clause-joined : goal.returns-in-Err-Cut-clause-joined
 returns-in-Err-Cut-clause-joined g c =

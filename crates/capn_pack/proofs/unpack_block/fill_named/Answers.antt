@@ -7,15 +7,8 @@ use Rattle.capn_pack.proofs.shared.GroupLemmas.{take_first, take_tail, length_re
 use Rattle.capn_pack.proofs.LaneLemmas.{eight_ones}
 use Rattle.capn_pack.proofs.unpack_block.fill_named.Goals as goal
 
-pub returns-clause-reach : goal.returns-clause-reach
-returns-clause-reach c =
-    let text = c.args.text.now in
-    let tag = get_or (slice_range text c.args.at (length text)) 0 0 in
-    let fits : tag < 2 ^ 8 = byte_of_rest text c.args.at 0 (λ k. omega (arith, c.type_inv.text k)) in
-    omega (arith, eight_ones tag (omega arith))
-
-pub returns-clause-takes : goal.returns-clause-takes
-returns-clause-takes c =
+pub returns-clause-fills : goal.returns-clause-fills
+returns-clause-fills c =
     let text = c.args.text.now in
     let at = c.args.at in
     let rest = slice_range text at (length text) in
@@ -35,4 +28,8 @@ returns-clause-takes c =
       fits = omega arith;
       content = c.store_word.ensures;
     } in
-    subst (λ n. Takes rest 8 n 1 front new) taken step
+    record {
+      forward = omega arith;
+      reach = omega (arith, eight_ones tag (omega arith));
+      takes = subst (λ n. Takes rest 8 n 1 front new) taken step;
+    }

@@ -6,8 +6,8 @@ use Rattle.capn_pack.proofs.shared.GroupLemmas.{take_raw_text, raw_is_group, byt
 use Rattle.capn_pack.proofs.SpanLemmas.{raw_unpacked}
 use Rattle.capn_pack.proofs.unpack_block.fill_raw.Goals as goal
 
-pub returns-clause-some : goal.returns-clause-some
-returns-clause-some c =
+pub returns-clause-gives : goal.returns-clause-gives
+returns-clause-gives c =
     let text = c.args.text.now in
     let at = c.args.at in
     let rest = slice_range text at (length text) in
@@ -30,4 +30,5 @@ returns-clause-some c =
       content = raw_unpacked rest c.args.block.now c.store_bytes.new.block c.store_bytes-2.new.block more c.args.fill
           (omega arith) long (omega arith) c.store_bytes.ensures c.store_bytes-2.ensures;
     } in
-    (1 + more, subst (λ n. Takes rest 8 n (1 + more) front new) taken step)
+    let takes = subst (λ n. Takes rest 8 n (1 + more) front new) taken step in
+    (1 + more, record { forward = omega arith; reach = omega arith; takes = takes })

@@ -4,9 +4,9 @@ use Rattle.capn_pack.proofs.unpack_block.fill_steps.Goals as goal
 
 pub loop-left-preserved : goal.loop-left-preserved
 loop-left-preserved c =
-    let group = c.in-Some.ensures.some in (
-      row_next _ _ _ _ _ 8 group.0 _ (omega (arith, c.in-Some.ensures.forward)) c.loop-left.invariant.0 group.1,
-      omega (arith, c.in-Some.ensures.reach),
+    let group = c.in-Some.ensures.gives in (
+      row_next _ _ _ _ _ 8 group.0 _ (omega (arith, group.1.forward)) c.loop-left.invariant.0 group.1.takes,
+      omega (arith, group.1.reach),
       omega (arith, c.in-Some.ensures.within),
-      omega (arith, c.in-Some.ensures.forward),
+      omega (arith, group.1.forward),
     )

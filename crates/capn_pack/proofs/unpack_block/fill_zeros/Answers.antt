@@ -7,8 +7,8 @@ use Rattle.capn_pack.proofs.shared.GroupLemmas.{take_two, length_rest, byte_of_r
 use Rattle.capn_pack.proofs.LaneLemmas.{stored}
 use Rattle.capn_pack.proofs.unpack_block.fill_zeros.Goals as goal
 
-pub returns-clause-some : goal.returns-clause-some
-returns-clause-some c =
+pub returns-clause-gives : goal.returns-clause-gives
+returns-clause-gives c =
     let text = c.args.text.now in
     let at = c.args.at in
     let rest = slice_range text at (length text) in
@@ -30,4 +30,5 @@ returns-clause-some c =
           c.args.fill 64 (8 * (1 + more)) end (omega arith) (omega arith) (omega arith) c.store_zeros.ensures
           (take-replicate (8 * (1 + more)) 64 0 (omega arith));
     } in
-    (1 + more, subst (λ n. Takes rest 8 n (1 + more) front new) taken step)
+    let takes = subst (λ n. Takes rest 8 n (1 + more) front new) taken step in
+    (1 + more, record { forward = omega arith; reach = omega arith; takes = takes })
