@@ -1,4 +1,5 @@
--- What is written at the end of a run, and the faults of a run over an archive.
+-- What is written at the end of a run, and the faults of a run over an archive. (For `write_closing` and
+-- `write_count`.)
 use Rattle.std.proofs.Common.{◌≡◌, ◌≢◌, ◌↔◌, ◌⊎◌, inl, inr, ℕ, List, [], ◌∷◌, ◌++◌, Bool, true, false, Option, None}
 use Rattle.std.proofs.Common.{Some, OnOk, IsErrOf, IsErrAnd, length, codes, arith}
 use Rattle.std.specs.Fmt.{decimal}

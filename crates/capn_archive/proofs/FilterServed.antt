@@ -1,4 +1,4 @@
--- A message that is let through, or held back.
+-- A message that is let through, or held back. (For `serve`.)
 use Rattle.std.proofs.Common.{◌≡◌, inl, inr, ℕ, List, [], Bool, true, false, Option, Some, Result, Ok, refl, ap}
 use Rattle.capn_serve.specs.declared.position.Position.{Position}
 use Rattle.capn_serve.specs.declared.fault.ServeFault.{ServeFault}

@@ -1,4 +1,4 @@
--- What a filter lets through is accepted.
+-- What a filter lets through is accepted. (For `let_through`.)
 use Rattle.std.proofs.Common.{◌≡◌, ◌≢◌, ◌⊎◌, inl, inr, ℕ, ◌≤◌, List, [], ◌∷◌, ◌++◌, length, take, Bool, false, Option}
 use Rattle.std.proofs.Common.{None, Result, Ok, Err, refl, ap, sym, subst, ◌∙◌, append_assoc, arith}
 use Rattle.std.proofs.Common.{append-nil, length-append}
@@ -220,7 +220,7 @@ module _ (order : FilterOrder) where
   listed_tally : (tally after : Tally) (at : Position) (frame text : List ℕ) (message : List (List ℕ))
       → (IsServedBy tasks.List limits tally at frame message text after
       ⊎ IsSkippedBy (listing limits) tally at frame message text after) → after.skipped ≡ tally.skipped
-  listed_tally tally after at frame text message (inl (findings, are, line, same)) =
+  listed_tally tally after at frame text message (inl (measured, are, line, same)) =
       ap (λ (t : Tally). t.skipped) same
   listed_tally tally after at frame text message (inr (going, refusal, refused, line, counted)) = absurd (cc)
 

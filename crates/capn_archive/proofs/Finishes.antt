@@ -1,4 +1,5 @@
--- The end of a run over an input that writes something after its last message.
+-- The end of a run over an input that writes something after its last message. (For `run_archive`, `run_service` and
+-- `serve_messages`.)
 use Rattle.std.proofs.Common.{◌≡◌, ◌≢◌, inl, inr, ℕ, ◌+◌, List, [], ◌++◌, length, take, Bool, true, false, Option}
 use Rattle.std.proofs.Common.{None, Some, IfSome, Result, Ok, Err, refl, ap, sym, subst, ◌∙◌}
 use Rattle.std.proofs.Math.Seq.{take-length, take-append-add}

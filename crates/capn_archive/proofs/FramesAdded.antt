@@ -1,4 +1,5 @@
--- Text that is added in two pieces, and the frame of canonical bytes.
+-- Text that is added in two pieces, and the frame of canonical bytes. (For `add_frame`, `add_kept`, `serve_canonical`
+-- and `serve_task`.)
 use Rattle.std.proofs.Common.{◌≡◌, inl, inr, ℕ, List, [], ◌++◌, length, take, Bool, false, Option, Result, Ok, Err}
 use Rattle.std.proofs.Common.{IsErrAnd, refl, ap, sym, subst, ◌∙◌, append-nil}
 use Rattle.std.proofs.Math.Seq.{take-append_seam}

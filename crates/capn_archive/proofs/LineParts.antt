@@ -1,4 +1,4 @@
--- Parts of a line that are put before others.
+-- Parts of a line that are put before others. (For `put_measured`.)
 use Rattle.std.proofs.Common.{◌≡◌, ℕ, List, ◌++◌, refl, ap, sym, ◌∙◌, append_assoc}
 
 -- a part before what was put before the rest

@@ -1,4 +1,4 @@
--- What a run over an archive does with a message, in one way.
+-- What a run over an archive does with a message, in one way. (For `one_text`.)
 use Rattle.std.proofs.Common.{◌≡◌, ◌↔◌, inl, inr, ℕ, List, Bool, true, false, Option, Some, None, refl, ap, sym}
 use Rattle.std.proofs.Common.{subst, ◌∙◌, arith}
 use Rattle.std.proofs.lemmas.Bool.{cases_lt}
@@ -23,14 +23,15 @@ use Rattle.capn_serve.specs.declared.position.Position.{Position}
 use Rattle.capn_serve.proofs.shared.OneServing.{IsOneWay}
 use Rattle.capn_archive.specs.CanonicalFrame.{framed}
 use Rattle.capn_canon.specs.Measure.{IsCanonicalOf, IsChecked}
-use Rattle.capn_archive.specs.Findings.{AreFindings, head_of}
+use Rattle.capn_canon.specs.Measure.{IsMeasure}
+use Rattle.capn_archive.specs.MessageHead.{head_of}
 use Rattle.capn_archive.specs.Digest.{IsDigest, IsDigestIfAny}
 use Rattle.capn_archive.specs.Lines.{digests_line, list_line}
 use Rattle.capn_archive.specs.Tally.{counted}
 use Rattle.capn_archive.specs.Tasks.{IsRefusedBy, IsServedBy, refuses, serves, skipped_text}
 use Rattle.capn_archive.specs.ArchiveRun.{archive_fold}
 use Rattle.capn_archive.specs.declared.archive_service.ArchiveService.{ArchiveService}
-use Rattle.capn_archive.specs.declared.findings.Findings.{Findings}
+use Rattle.capn_canon.specs.declared.surveyed_bare.MeasuredBare.{MeasuredBare}
 use Rattle.capn_archive.specs.declared.tally.Tally.{Tally}
 use Rattle.capn_archive.specs.declared.task.ArchiveOrder.{ArchiveOrder}
 use Rattle.capn_archive.specs.declared.task.Task.{Task}
@@ -116,21 +117,21 @@ module _ (m : List (List ℕ)) (limits : Bounds) where
       one_answer c.is_canonical d.is_canonical (IsCanonicalOf m h.value) h.answer answer in
       λ i. record { paid = pays i; visits = counts i; capability = caps i; is_canonical = canonical i }
 
-  one_findings : (f g : Findings) → AreFindings m limits f → AreFindings m limits g → f ≡ g
-  one_findings f g h k =
-      let checked = one_checked f.checked g.checked h.checked k.checked in
+  one_measured : (f g : MeasuredBare) → IsMeasure m limits f → IsMeasure m limits g → f ≡ g
+  one_measured f g h k =
+      let checked = one_checked f.survey g.survey h.checked k.checked in
       let depth = one_depth f.depth g.depth h.depth k.depth in
-      λ i. record { checked = checked i; depth = depth i }
+      λ i. record { survey = checked i; depth = depth i }
 
   module _ (tally : Tally) (at : Position) (frame : List ℕ) where
     one_served : (task : Task) (t u : List ℕ) (p q : Tally) → IsServedBy task limits tally at frame m t p
         → IsServedBy task limits tally at frame m u q → (t ≡ u) × (p ≡ q)
     one_served tasks.List t u p q (f, is, e, a) (g, also, h, b) = (
-      e ∙ ap (λ (x : Findings). list_line (head_of at frame m) x) (one_findings f g is also) ∙ sym h,
+      e ∙ ap (λ (x : MeasuredBare). list_line (head_of at frame m) x) (one_measured f g is also) ∙ sym h,
       a ∙ sym b,
     )
     one_served tasks.Digests t u p q (f, d, is, has, e, a) (g, c, also, owns, h, b) = (
-      e ∙ ap (λ (x : Findings). digests_line (head_of at frame m) x d) (one_findings f g is also)
+      e ∙ ap (λ (x : MeasuredBare). digests_line (head_of at frame m) x d) (one_measured f g is also)
           ∙ ap (λ (x : Option (List ℕ)). digests_line (head_of at frame m) g x) (one_digest_if_any d c has owns)
           ∙ sym h,
       a ∙ sym b,

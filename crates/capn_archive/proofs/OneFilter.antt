@@ -1,4 +1,4 @@
--- What the filter does with a message, in one way.
+-- What the filter does with a message, in one way. (For `one_text`.)
 use Rattle.std.proofs.Common.{◌≡◌, inl, inr, ℕ, List, Bool, true, false, sym, subst, ◌∙◌}
 use Rattle.capn_value.specs.Tree.{Tree}
 use Rattle.capn_walk.specs.Limits.{Bounds}

@@ -1,4 +1,4 @@
--- What the service does with a message, in one way.
+-- What the service does with a message, in one way. (For `one_text`.)
 use Rattle.std.proofs.Common.{◌≡◌, inl, inr, ℕ, List, true, false, ap, sym, ◌∙◌}
 use Rattle.capn_canon.specs.declared.refusal.Refusal.{Refusal}
 use Rattle.capn_canon.proofs.shared.OneRefusal.{one_message_refusal}

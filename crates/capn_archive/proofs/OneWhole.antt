@@ -1,4 +1,4 @@
--- One text and one ending of an input, with what is written at its end.
+-- One text and one ending of an input, with what is written at its end. (For `one_text`.)
 use Rattle.std.proofs.Common.{◌≡◌, ℕ, List, ◌++◌, Result, Ok, Err, ap, sym, ◌∙◌}
 use Rattle.capn_canon.specs.declared.form.Form.{Form}
 use Rattle.capn_serve.specs.declared.fault.RunFault.{RunFault}

@@ -1,4 +1,5 @@
--- What refuses a message is told alone: messages are skipped by runs that none refuses.
+-- What refuses a message is told alone: messages are skipped by runs that none refuses. (For `run_archive` and
+-- `run_service`.)
 use Rattle.std.proofs.Common.{◌≡◌, ℕ, List, Option, refl}
 use Rattle.capn_walk.specs.Limits.{Bounds}
 use Rattle.capn_canon.specs.Refusal.{IsRefusedMessage}

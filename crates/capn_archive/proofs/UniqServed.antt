@@ -1,4 +1,4 @@
--- A message that the service serves.
+-- A message that the service serves. (For `deduplicate` and `serve`.)
 use Rattle.std.proofs.Common.{◌≡◌, inl, inr, ℕ, List, [], Bool, true, false, Option, Some, Result, Ok, Err, refl}
 use Rattle.std.proofs.Common.{IsErrAnd}
 use Rattle.std.proofs.Common.{ap, sym, subst, ◌∙◌}

@@ -1,6 +1,6 @@
 pub mod inner
 pub mod CanonicalFrame
-pub mod Findings
+pub mod MessageHead
 pub mod Lines
 pub mod Digest
 pub mod Tally

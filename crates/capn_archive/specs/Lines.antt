@@ -9,7 +9,7 @@ use Rattle.capn_canon.specs.declared.refusal.Refusal.{Refusal}
 use Rattle.capn_canon.specs.declared.refusal.Refusal.TheVariants as refusals
 use Rattle.capn_canon.specs.Display.{refusal_text}
 use Rattle.capn_archive.specs.declared.message_head.MessageHead.{MessageHead}
-use Rattle.capn_archive.specs.declared.findings.Findings.{Findings}
+use Rattle.capn_canon.specs.declared.surveyed_bare.MeasuredBare.{MeasuredBare}
 use Rattle.capn_archive.specs.declared.tally.Greatest.{Greatest}
 use Rattle.capn_archive.specs.declared.limits_report.Needs.{Needs}
 
@@ -31,16 +31,16 @@ answer_text true = codes "yes"
 answer_text false = codes "no"
 
 -- what is found of a message that is accepted
-abbrev pub findings_text : Findings → List ℕ
-findings_text findings =
-    codes "paid " ++ (decimal findings.checked.paid ++ (codes " visits " ++ (decimal findings.checked.visits
-    ++ (codes " depth " ++ (decimal findings.depth ++ (codes " capability "
-    ++ (capability_text findings.checked.capability ++ (codes " canonical "
-    ++ answer_text findings.checked.is_canonical))))))))
+abbrev pub measured_text : MeasuredBare → List ℕ
+measured_text measured =
+    codes "paid " ++ (decimal measured.survey.paid ++ (codes " visits " ++ (decimal measured.survey.visits
+    ++ (codes " depth " ++ (decimal measured.depth ++ (codes " capability "
+    ++ (capability_text measured.survey.capability ++ (codes " canonical "
+    ++ answer_text measured.survey.is_canonical))))))))
 
 -- the line of a message that is accepted
-abbrev pub list_line : MessageHead → Findings → List ℕ
-list_line head findings = head_text head ++ (codes " " ++ (findings_text findings ++ codes "\n"))
+abbrev pub list_line : MessageHead → MeasuredBare → List ℕ
+list_line head measured = head_text head ++ (codes " " ++ (measured_text measured ++ codes "\n"))
 
 -- the digest of a message in 64 hexadecimal digits, or that there is none
 abbrev pub digest_text : Option (List ℕ) → List ℕ
@@ -48,9 +48,9 @@ digest_text (Some digest) = encode_lower digest
 digest_text None = codes "-"
 
 -- the line of a message that is accepted, with its digest
-abbrev pub digests_line : MessageHead → Findings → Option (List ℕ) → List ℕ
-digests_line head findings digest =
-    head_text head ++ (codes " " ++ (findings_text findings ++ (codes " sha256 " ++ (digest_text digest
+abbrev pub digests_line : MessageHead → MeasuredBare → Option (List ℕ) → List ℕ
+digests_line head measured digest =
+    head_text head ++ (codes " " ++ (measured_text measured ++ (codes " sha256 " ++ (digest_text digest
     ++ codes "\n"))))
 
 -- the line of a message that is skipped
@@ -98,18 +98,18 @@ limits_text needs = needs_text needs ++ (codes "\n" ++ (advice_text needs ++ cod
 abbrev second : MessageHead
 second = record { at = record { index = 1; offset = 16 }; bytes = 24; segments = 1; words = 2 }
 
-abbrev its_findings : Findings
-its_findings = record {
-  checked = record { paid = 2; visits = 1; capability = None; is_canonical = true };
+abbrev its_measured : MeasuredBare
+its_measured = record {
+  survey = record { paid = 2; visits = 1; capability = None; is_canonical = true };
   depth = 1;
 }
 
-a_listed_message : list_line second its_findings
+a_listed_message : list_line second its_measured
     ≡ codes "2 at 16 bytes 24 segments 1 words 2 paid 2 visits 1 depth 1 capability no canonical yes\n"
 unfolding digits
 a_listed_message = refl
 
-no_digest : digests_line second its_findings None
+no_digest : digests_line second its_measured None
     ≡ codes "2 at 16 bytes 24 segments 1 words 2 paid 2 visits 1 depth 1 capability no canonical yes sha256 -\n"
 unfolding digits
 no_digest = refl

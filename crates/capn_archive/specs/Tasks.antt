@@ -15,11 +15,12 @@ use Rattle.capn_serve.specs.Outgoing.{Outgoing, Adds, AddsBeginning, BreaksWithi
 use Rattle.capn_archive.specs.declared.task.Task.{Task}
 use Rattle.capn_archive.specs.declared.task.Task.TheVariants as tasks
 use Rattle.capn_archive.specs.declared.task.ArchiveOrder.{ArchiveOrder}
-use Rattle.capn_archive.specs.declared.findings.Findings.{Findings}
+use Rattle.capn_canon.specs.declared.surveyed_bare.MeasuredBare.{MeasuredBare}
 use Rattle.capn_archive.specs.declared.tally.Tally.{Tally}
 use Rattle.capn_archive.specs.declared.archive_service.ArchiveService.{ArchiveService}
 use Rattle.capn_archive.specs.CanonicalFrame.{framed}
-use Rattle.capn_archive.specs.Findings.{head_of, AreFindings}
+use Rattle.capn_canon.specs.Measure.{IsMeasure}
+use Rattle.capn_archive.specs.MessageHead.{head_of}
 use Rattle.capn_archive.specs.Digest.{IsDigestIfAny}
 use Rattle.capn_archive.specs.Lines.{digests_line, list_line, refused_line}
 use Rattle.capn_archive.specs.Tally.{counted, skipped}
@@ -43,12 +44,12 @@ IsRefusedBy tasks.Canonical message limits r = IsRefusedMessage message limits r
 -- digest; the frame of its canonical bytes; or nothing, but it is counted.
 abbrev pub IsServedBy : Task → Bounds → Tally → Position → List ℕ → List (List ℕ) → List ℕ → Tally → Type 0
 IsServedBy tasks.List limits tally at frame message text tally_after =
-    (findings : Findings) × AreFindings message limits findings
-    × (text ≡ list_line (head_of at frame message) findings) × (tally_after ≡ tally)
+    (measured : MeasuredBare) × IsMeasure message limits measured
+    × (text ≡ list_line (head_of at frame message) measured) × (tally_after ≡ tally)
 IsServedBy tasks.Digests limits tally at frame message text tally_after =
-    (findings : Findings) × (digest : Option (List ℕ)) × AreFindings message limits findings
+    (measured : MeasuredBare) × (digest : Option (List ℕ)) × IsMeasure message limits measured
     × IsDigestIfAny message limits digest
-    × (text ≡ digests_line (head_of at frame message) findings digest) × (tally_after ≡ tally)
+    × (text ≡ digests_line (head_of at frame message) measured digest) × (tally_after ≡ tally)
 IsServedBy tasks.Canonical limits tally at frame message text tally_after =
     (answer : List ℕ) × (price : ℕ) × AnswersMessage message limits answer price × (text ≡ framed answer)
     × (tally_after ≡ tally)

@@ -12,8 +12,8 @@ ghost use Rattle.capn_archive.specs.declared.tally.Tally.{Tally};
 
 use crate::canonical_frame::add_frame;
 use crate::digest::digest_if_any;
-use crate::findings::findings_of;
 use crate::lines::{put_digests_line, put_list_line, put_refused_line};
+use crate::measured::measured_of;
 use crate::message_head::head_of;
 use crate::tally::{Tally, count, skip};
 use crate::task::{ArchiveOrder, Task};
@@ -74,8 +74,8 @@ fn serve_list<S: Space, A: Allocator + Copy>(
     ensures { (tally : Tally) → Serves tasks.List limits tally at frame.now (S.message message.now) text.old.items
         text.new.items result tally }
 {
-    let findings = findings_of(alloc, message, limits)?;
-    put_list_line(&head_of(at, frame, message), &findings, text)
+    let measured = measured_of(alloc, message, limits)?;
+    put_list_line(&head_of(at, frame, message), &measured, text)
 }
 
 /// Appends the line of what is found of a message, with its digest.
@@ -90,9 +90,9 @@ fn serve_digests<S: Space, A: Allocator + Copy>(
     ensures { (tally : Tally) → Serves tasks.Digests limits tally at frame.now (S.message message.now) text.old.items
         text.new.items result tally }
 {
-    let findings = findings_of(alloc, message, limits)?;
+    let measured = measured_of(alloc, message, limits)?;
     let digest = digest_if_any(alloc, limits, message)?;
-    put_digests_line(&head_of(at, frame, message), &findings, digest, text)
+    put_digests_line(&head_of(at, frame, message), &measured, digest, text)
 }
 
 /// Counts a message.
@@ -107,14 +107,14 @@ fn serve_limits<S: Space, A: Allocator + Copy>(
     ensures { (text : List ℕ) → Serves tasks.Limits limits tally.old at frame.now (S.message message.now) text text
         result tally.new }
 {
-    let findings = findings_of(alloc, message, limits)?;
+    let measured = measured_of(alloc, message, limits)?;
     let head = head_of(at, frame, message);
     count(
         tally,
         at.index,
         head.words,
-        findings.checked.paid,
-        findings.depth,
+        measured.survey.paid,
+        measured.depth,
     );
     Ok(())
 }

@@ -5,8 +5,8 @@ ghost use Rattle.std.specs.Fmt.{decimal};
 ghost use Rattle.capn_archive.specs.Lines as spec;
 ghost use Rattle.capn_archive.specs.inner.LineRoom.{most_line};
 
-use crate::findings::Findings;
 use crate::message_head::MessageHead;
+use capn_canon::MeasuredBare;
 use capn_serve::number_of;
 use std::marker::Model;
 
@@ -117,18 +117,18 @@ impl Line {
     }
 
     /// Writes before it what is found of a message.
-    pub(crate) fn put_findings(&mut self, findings: &Findings)
+    pub(crate) fn put_measured(&mut self, measured: &MeasuredBare)
         requires { 126 + length self.old ≤ most_line }
-        ensures findings { self.new ≡ spec.findings_text findings.now ++ self.old }
+        ensures measured { self.new ≡ spec.measured_text measured.now ++ self.old }
         ensures few { length self.new ≤ 126 + length self.old }
     {
-        self.put_answer(findings.checked.is_canonical);
+        self.put_answer(measured.survey.is_canonical);
         self.put(b" canonical ");
-        self.put_capability(findings.checked.capability);
+        self.put_capability(measured.survey.capability);
         self.put(b" capability ");
-        self.put_named(b" depth ", findings.depth as u64);
-        self.put_named(b" visits ", findings.checked.visits as u64);
-        self.put_named(b"paid ", findings.checked.paid as u64);
+        self.put_named(b" depth ", measured.depth as u64);
+        self.put_named(b" visits ", measured.survey.visits as u64);
+        self.put_named(b"paid ", measured.survey.paid as u64);
     }
 
     /// Writes before it a digest in 64 hexadecimal digits, or `-` if there is none.

@@ -6,34 +6,33 @@ ghost use Rattle.capn_archive.specs.CanonicalFrame.{PutsFront, PutsText};
 ghost use Rattle.capn_archive.specs.Lines as spec;
 ghost use Rattle.capn_serve.specs.declared.fault.ServeFault.TheVariants as faults;
 
-use crate::findings::Findings;
 use crate::line::Line;
 use crate::message_head::MessageHead;
-use capn_canon::Refusal;
+use capn_canon::{MeasuredBare, Refusal};
 use capn_serve::ServeFault;
 use std::alloc::{AllocError, Allocator};
 
 /// The line of a message that is accepted.
-fn list_line(head: &MessageHead, findings: &Findings) -> Line
-    ensures { result ≡ spec.list_line head.now findings.now }
+fn list_line(head: &MessageHead, measured: &MeasuredBare) -> Line
+    ensures { result ≡ spec.list_line head.now measured.now }
 {
     let mut line = Line::new();
     line.put(b"\n");
-    line.put_findings(findings);
+    line.put_measured(measured);
     line.put(b" ");
     line.put_head(head);
     line
 }
 
 /// The line of a message that is accepted, with its digest.
-fn digests_line(head: &MessageHead, findings: &Findings, digest: Option<[u8; 32]>) -> Line
-    ensures { result ≡ spec.digests_line head.now findings.now digest }
+fn digests_line(head: &MessageHead, measured: &MeasuredBare, digest: Option<[u8; 32]>) -> Line
+    ensures { result ≡ spec.digests_line head.now measured.now digest }
 {
     let mut line = Line::new();
     line.put(b"\n");
     line.put_digest(digest);
     line.put(b" sha256 ");
-    line.put_findings(findings);
+    line.put_measured(measured);
     line.put(b" ");
     line.put_head(head);
     line
@@ -101,24 +100,24 @@ fn put_both<A: Allocator>(
 /// Appends the line of a message that is accepted, or nothing where memory is refused.
 pub(crate) fn put_list_line<A: Allocator>(
     head: &MessageHead,
-    findings: &Findings,
+    measured: &MeasuredBare,
     text: &mut Vec<u8, A>,
 ) -> Result<(), ServeFault>
-    ensures { PutsText (spec.list_line head.now findings.now) text.old.items text.new.items result }
+    ensures { PutsText (spec.list_line head.now measured.now) text.old.items text.new.items result }
 {
-    put_bytes(text, list_line(head, findings).as_bytes())
+    put_bytes(text, list_line(head, measured).as_bytes())
 }
 
 /// Appends the line of a message that is accepted, with its digest, or nothing where memory is refused.
 pub(crate) fn put_digests_line<A: Allocator>(
     head: &MessageHead,
-    findings: &Findings,
+    measured: &MeasuredBare,
     digest: Option<[u8; 32]>,
     text: &mut Vec<u8, A>,
 ) -> Result<(), ServeFault>
-    ensures { PutsText (spec.digests_line head.now findings.now digest) text.old.items text.new.items result }
+    ensures { PutsText (spec.digests_line head.now measured.now digest) text.old.items text.new.items result }
 {
-    put_bytes(text, digests_line(head, findings, digest).as_bytes())
+    put_bytes(text, digests_line(head, measured, digest).as_bytes())
 }
 
 /// Appends the line of a message that is skipped, or nothing where memory is refused.

@@ -1,7 +1,7 @@
 //! The place and the size of a message.
 
 ghost use Rattle.std.specs.Prelude.{◌≡◌};
-ghost use Rattle.capn_archive.specs.Findings as spec;
+ghost use Rattle.capn_archive.specs.MessageHead as spec;
 
 use capn_serve::Position;
 use capn_words::{Space, total_words};
