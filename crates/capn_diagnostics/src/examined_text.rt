@@ -1,4 +1,4 @@
-//! The texts of the findings about a slot.
+//! The lines about a refused slot: its word, its landing pads, its tag, its content, and the limit that it passes.
 
 use crate::examined::{Examined, Limit, Pad, RowWords, Stretch};
 use crate::holder_text::HolderText;

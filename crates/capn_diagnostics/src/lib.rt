@@ -45,7 +45,7 @@ pub use holder_text::HolderText;
 pub use message_text::{FrameLines, MessageHead, RefusedLines};
 pub use path_text::PathText;
 pub use pointer_text::PointerText;
-pub use refusal::{Told, explain_stop};
+pub use refusal::{Explanation, explain_stop};
 pub use segments_text::SegmentsText;
 pub use slot_text::SlotText;
 pub use tag_text::TagText;

@@ -21,7 +21,7 @@ use std::alloc::{Allocator, Global};
 
 /// A message that its walk refuses, explained.
 #[derive(Debug, Drop)]
-pub struct Told<A: Allocator = Global> {
+pub struct Explanation<A: Allocator = Global> {
     /// The reason, and the place at which its walk stopped.
     pub stopped: Stopped,
     /// The lines that explain it, as [`RefusedLines`] displays them.
@@ -43,7 +43,7 @@ pub fn explain_stop<S: Space, A: Allocator + Copy>(
     table: u32,
     limits: Limits,
     stopped: Stopped,
-) -> Result<Told<A>, Memory>
+) -> Result<Explanation<A>, Memory>
     requires refused { IsWalkRefused (S.message space.now) limits
         stopped.fault stopped.place stopped.paid stopped.visits }
     ensures told { IfOk result (λ told.
@@ -64,7 +64,7 @@ fn tell<S: Space, A: Allocator + Copy>(
     table: u32,
     limits: Limits,
     refused: &Refused<A>,
-) -> Result<Told<A>, Memory>
+) -> Result<Explanation<A>, Memory>
     requires refused { IsRefusedAt (S.message space.now) limits refused.now.stopped refused.now.path.items }
     ensures told { IfOk result (λ told.
         IsRefusalTold (S.message space.now) limits index offset table told.stopped told.text.items) }
@@ -77,7 +77,7 @@ fn tell<S: Space, A: Allocator + Copy>(
         slot: slot_lines(space, offset, table, limits, stopped, &refused.path),
     };
     let text = text_of(alloc, lines)?;
-    Ok(Told { stopped, text })
+    Ok(Explanation { stopped, text })
 }
 
 /// Writes all `lines` to memory.

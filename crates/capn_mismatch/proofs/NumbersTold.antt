@@ -19,7 +19,7 @@ use Rattle.capn_layout.proofs.shared.Shaped.{inside-of}
 use Rattle.capn_layout.proofs.shared.FirstBits.{list-of, plain-words}
 use Rattle.capn_layout.specs.FirstBits.{element_bits, first_bits, last_bits}
 use Rattle.capn_walk.specs.ValueAt.{IsInside, words_from}
-use Rattle.capn_mismatch.specs.declared.sought.Found.TheVariants as finding
+use Rattle.capn_mismatch.specs.declared.word_kind.WordKind.TheVariants as finding
 use Rattle.capn_mismatch.specs.inner.Search.{found_there, is_small}
 use Rattle.capn_value.specs.NumberWidth.{NumberWidth, bit, byte, pair, quad, oct}
 use Rattle.capn_target.specs.Target.{list_width}

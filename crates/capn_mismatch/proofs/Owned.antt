@@ -12,9 +12,9 @@ use Rattle.capn_target.specs.Target.{target}
 use Rattle.capn_walk.specs.Visits.{Visit, places, visits}
 use Rattle.capn_walk.specs.Index.{place_of}
 use Rattle.capn_walk.proofs.shared.Walks.{all-split}
-use Rattle.capn_mismatch.specs.declared.sought.Owner.{Owner}
-use Rattle.capn_mismatch.specs.declared.sought.Found.{Found}
-use Rattle.capn_mismatch.specs.declared.sought.Found.TheVariants as finding
+use Rattle.capn_mismatch.specs.declared.word_kind.Owner.{Owner}
+use Rattle.capn_mismatch.specs.declared.word_kind.WordKind.{WordKind}
+use Rattle.capn_mismatch.specs.declared.word_kind.WordKind.TheVariants as finding
 use Rattle.capn_mismatch.specs.inner.Search.{finds, found_there, owned, same}
 use Rattle.capn_path.specs.Finds.{IsPassed}
 use Rattle.capn_path.proofs.shared.Passing.{passed-both, begins}
@@ -36,7 +36,7 @@ module _ (cs : List ℕ) (base k : ℕ) where
   aim = record { word = here k }
 
   -- the kind of the word at a slot
-  abbrev pub found : Place → Option Found
+  abbrev pub found : Place → Option WordKind
   found at = finds (here k) at (target m at)
 
   -- ---- visits of which one is of the slot that owns the word
@@ -53,7 +53,7 @@ module _ (cs : List ℕ) (base k : ℕ) where
       h after (subst (λ (a : Owner). IsPassed m owned same a ys after) (same-after m owned aim b.between xs b.front)
       b.back)
 
-  pub owned-here : (v : Visit) (rest : List Visit) (x : Found) → found (place_of v) ≡ Some x → Owned (v ∷ rest)
+  pub owned-here : (v : Visit) (rest : List Visit) (x : WordKind) → found (place_of v) ≡ Some x → Owned (v ∷ rest)
   owned-here v rest x e after p = let a = p.0 in absurd cc
 
   pub owned-as : (vs us : List Visit) → vs ≡ us → Owned us → Owned vs
@@ -62,7 +62,7 @@ module _ (cs : List ℕ) (base k : ℕ) where
   pub pointer-here : found (here k) ≡ Some finding.Pointer
   pointer-here = if-yes ((0 == 0) && (k == k)) _ _ (grind (arith, nat_tests))
 
-  pub found-begins : (d : ℕ) (at : Place) (x : Found) → found at ≡ Some x → Owned (visits m base d at)
+  pub found-begins : (d : ℕ) (at : Place) (x : WordKind) → found at ≡ Some x → Owned (visits m base d at)
   found-begins d at x e =
       let b = begins m base d at in
       owned-as _ _ b.is (owned-here b.head b.rest x (ap found b.place ∙ e))
@@ -82,7 +82,7 @@ module _ (cs : List ℕ) (base k : ℕ) where
       (owned-right (flat_map f (places 0 p i)) (f (here (p + i)) ++ more)
       (owned-left (f (here (p + i))) more (subst (λ (w : ℕ). Owned (f (here w))) (sym e) (owned-slot d))))
 
-  pub not-there : (p : ℕ) (x : Result Target Fault) (y : Option Found) → p < k → target m (here p) ≡ x
+  pub not-there : (p : ℕ) (x : Result Target Fault) (y : Option WordKind) → p < k → target m (here p) ≡ x
       → found_there (here k) x ≡ y → found (here p) ≡ y
   not-there p x y lt e f =
       if-no ((0 == 0) && (p == k)) _ _ (grind (arith, nat_tests)) ∙ ap (found_there (here k)) e ∙ f

@@ -15,21 +15,21 @@ use Rattle.capn_target.specs.declared.target.Fault.{Fault}
 use Rattle.capn_target.specs.Target.{target, content_words}
 use Rattle.capn_walk.specs.Accepted.{root}
 use Rattle.capn_walk.specs.Limits.{Bounds}
-use Rattle.capn_mismatch.specs.declared.sought.Found.{Found}
-use Rattle.capn_mismatch.specs.declared.sought.Found.TheVariants as found
+use Rattle.capn_mismatch.specs.declared.word_kind.WordKind.{WordKind}
+use Rattle.capn_mismatch.specs.declared.word_kind.WordKind.TheVariants as found
 use Rattle.capn_mismatch.specs.Owner.{place, IsTag, IsSmall, IsLastWord, LeadsTo}
 use Rattle.capn_mismatch.specs.inner.Search.{is_at, is_small, ends_at, found_in, found_there, finds}
 use Rattle.capn_mismatch.specs.inner.Reached.{Reaches}
 use Rattle.capn_path.specs.Paths.{IsPathTo}
 
 -- what is found at a slot, at this place, which names this
-abbrev pub Tells : ℕ → Place → Result Target Fault → Found → Type 0
+abbrev pub Tells : ℕ → Place → Result Target Fault → WordKind → Type 0
 Tells word at r found.Pointer = at ≡ place word
 Tells word at r found.Tag = (t : Target) × (r ≡ Ok t) × IsTag word t
 Tells word at r found.LastWord = (t : Target) × (r ≡ Ok t) × IsLastWord word t
 
 -- it is what a choice was made of
-chosen : (b : Bool) (x y : Found) → (if b then Some x else None) ≡ Some y → (b ≡ true) × (x ≡ y)
+chosen : (b : Bool) (x y : WordKind) → (if b then Some x else None) ≡ Some y → (b ≡ true) × (x ≡ y)
 chosen true x y e = (refl, cc)
 chosen false x y e = absurd cc
 
@@ -58,7 +58,7 @@ ended s start n word e =
     let c : 0 < n = let d = q.0 in grind (arith, nat_tests) in
     (a, omega arith, b)
 
-in-it : (word : ℕ) (at : Place) (t : Target) (x : Found) → found_in (place word) t ≡ Some x → Tells word at (Ok t) x
+in-it : (word : ℕ) (at : Place) (t : Target) (x : WordKind) → found_in (place word) t ≡ Some x → Tells word at (Ok t) x
 in-it word at targets.Nil x e = absurd cc
 in-it word at (targets.Cap k) x e = absurd cc
 in-it word at (targets.Content s start (shapes.Node a b) pads) x e = absurd cc
@@ -68,7 +68,7 @@ in-it word at (targets.Content s start (shapes.Rows n a b span) pads) x e =
     let z = c.1 in
     tagged x z (eqb-true s 0 p.0) (eqb-true start word p.1)
   where
-    tagged : (x : Found) → found.Tag ≡ x → s ≡ 0 → start ≡ word
+    tagged : (x : WordKind) → found.Tag ≡ x → s ≡ 0 → start ≡ word
         → Tells word at (Ok (targets.Content s start (shapes.Rows n a b span) pads)) x
     tagged found.Tag z a b = (targets.Content s start (shapes.Rows n _ _ span) pads, refl, (a, b))
     tagged found.Pointer z a b = absurd cc
@@ -79,37 +79,37 @@ in-it word at (targets.Content s start (shapes.Many width n) pads) x e =
     let q = ended s start (content_words width n) word p.1 in
     last x c.1 (small width p.0) q
   where
-    last : (x : Found) → found.LastWord ≡ x → IsSmall width
+    last : (x : WordKind) → found.LastWord ≡ x → IsSmall width
         → (s ≡ 0) × (start ≤ word) × (start + content_words width n ≡ word + 1)
         → Tells word at (Ok (targets.Content s start (shapes.Many width n) pads)) x
     last found.LastWord z a q = (targets.Content s start (shapes.Many width n) pads, refl, (a, q.0, q.1, q.2))
     last found.Pointer z a q = absurd cc
     last found.Tag z a q = absurd cc
 
-there : (word : ℕ) (at : Place) (r : Result Target Fault) (x : Found) → found_there (place word) r ≡ Some x
+there : (word : ℕ) (at : Place) (r : Result Target Fault) (x : WordKind) → found_there (place word) r ≡ Some x
     → Tells word at r x
 there word at (Ok t) x e = in-it word at t x e
 there word at (Err f) x e = absurd cc
 
-pub tells : (word : ℕ) (at : Place) (r : Result Target Fault) (x : Found) → finds (place word) at r ≡ Some x
+pub tells : (word : ℕ) (at : Place) (r : Result Target Fault) (x : WordKind) → finds (place word) at r ≡ Some x
     → Tells word at r x
 tells word at r x =
-    pick (λ (k : Option Found). k ≡ Some x → Tells word at r x) (is_at at.segment at.word (place word))
+    pick (λ (k : Option WordKind). k ≡ Some x → Tells word at r x) (is_at at.segment at.word (place word))
     (Some found.Pointer) (found_there (place word) r)
     (λ t e. pointer x (at-place at word t) (let z : found.Pointer ≡ x = cc in z))
     (λ t e. there word at r x e)
   where
-    pointer : (x : Found) → at ≡ place word → found.Pointer ≡ x → Tells word at r x
+    pointer : (x : WordKind) → at ≡ place word → found.Pointer ≡ x → Tells word at r x
     pointer found.Pointer a z = a
     pointer found.Tag a z = absurd cc
     pointer found.LastWord a z = absurd cc
 
 module _ (words : List ℕ) (limits : Bounds) (word : ℕ) where
-  abbrev pub Search : List ℕ → Found → Type 0
+  abbrev pub Search : List ℕ → WordKind → Type 0
   Search new x =
       Reaches (words ∷ []) (base limits.tariff) (place word) limits.depth root [] new x
 
-  path : (new : List ℕ) (x : Found) (g : Search new x) → IsPathTo (words ∷ []) limits g.number new g.to
+  path : (new : List ℕ) (x : WordKind) (g : Search new x) → IsPathTo (words ∷ []) limits g.number new g.to
   path new x g = let f = g.is in rw f g.leads
 
   pub pointer-owned : (new : List ℕ) → Search new found.Pointer

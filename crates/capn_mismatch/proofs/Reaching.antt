@@ -15,8 +15,8 @@ use Rattle.capn_path.specs.Finds.{Meets}
 use Rattle.capn_path.specs.Steps.{AreNumbersIn}
 use Rattle.capn_path.specs.Paths.{Leads}
 use Rattle.capn_path.proofs.shared.Steps.{length-places, length-rows, row-split, middle, stays, goes-down}
-use Rattle.capn_mismatch.specs.declared.sought.Owner.{Owner}
-use Rattle.capn_mismatch.specs.declared.sought.Found.{Found}
+use Rattle.capn_mismatch.specs.declared.word_kind.Owner.{Owner}
+use Rattle.capn_mismatch.specs.declared.word_kind.WordKind.{WordKind}
 use Rattle.capn_mismatch.specs.inner.Search.{finds, owned, same}
 use Rattle.capn_mismatch.specs.inner.Reached.{rows_of, place_in, numbers, Reaches, ReachesBelow}
 use Rattle.capn_mismatch.proofs.Owned.{same-after}
@@ -81,7 +81,7 @@ is-in (shapes.Rows n a b span) s start row i lt l =
     }
 
 module _ (m : List (List ℕ)) (base : ℕ) (word : Place) where
-  pub reaches-here : (d : ℕ) (at : Place) (path : List ℕ) (x : Found) → finds word at (target m at) ≡ Some x
+  pub reaches-here : (d : ℕ) (at : Place) (path : List ℕ) (x : WordKind) → finds word at (target m at) ≡ Some x
       → Reaches m base word d at path path x
   reaches-here d at path x e = record {
     rest = [];
@@ -93,7 +93,7 @@ module _ (m : List (List ℕ)) (base : ℕ) (word : Place) where
   }
 
   -- from the slot that names an object
-  pub reaches-object : (d : ℕ) (at : Place) (s start pads : ℕ) (shape : Shape) (old new : List ℕ) (x : Found)
+  pub reaches-object : (d : ℕ) (at : Place) (s start pads : ℕ) (shape : Shape) (old new : List ℕ) (x : WordKind)
       → target m at ≡ Ok (targets.Content s start shape pads) → 0 < d
       → ReachesBelow m base word (d - 1) (slot s start) shape old new x → Reaches m base word d at old new x
   reaches-object d at s start pads shape old new x e some h =
@@ -107,7 +107,7 @@ module _ (m : List (List ℕ)) (base : ℕ) (word : Place) where
       }
 
   -- from an object, by one of its slots
-  pub reaches-below : (d s start row i : ℕ) (shape : Shape) (at : Place) (old pushed new : List ℕ) (x : Found)
+  pub reaches-below : (d s start row i : ℕ) (shape : Shape) (at : Place) (old pushed new : List ℕ) (x : WordKind)
       → AreIn s start shape row i at → pushed ≡ old ++ numbers shape row i → Reaches m base word d at pushed new x
       → ReachesBelow m base word d (slot s start) shape old new x
   reaches-below d s start row i shape at old pushed new x among push h =
@@ -134,7 +134,7 @@ module _ (m : List (List ℕ)) (base : ℕ) (word : Place) where
       }
 
   -- what a search among visits has found is reached
-  pub reaches-met : (d : ℕ) (at : Place) (path : List ℕ) (x : Found)
+  pub reaches-met : (d : ℕ) (at : Place) (path : List ℕ) (x : WordKind)
       → Meets m owned same (visits m base d at) (Leads m base d at) (record { word = word }) path x
       → Reaches m base word d at [] path x
   reaches-met d at path x h =

@@ -22,7 +22,7 @@ use Rattle.capn_target.specs.Target.{if_inside, tagged}
 use Rattle.capn_layout.specs.Layout.{point, row_contents, lays_in_rows}
 use Rattle.capn_layout.proofs.shared.LayLengths.{length-row_contents}
 use Rattle.capn_layout.proofs.shared.Shaped.{found, inside-of}
-use Rattle.capn_mismatch.specs.declared.sought.Found.TheVariants as finding
+use Rattle.capn_mismatch.specs.declared.word_kind.WordKind.TheVariants as finding
 use Rattle.capn_words.specs.Pointers.{word_of}
 use Rattle.capn_words.specs.declared.pointer.Pointer.TheVariants.{Node}
 use Rattle.capn_mismatch.proofs.Pointed.{here, has-room, had-room, rows-named, tag-named}

@@ -6,7 +6,7 @@ ghost use Rattle.capn_target.specs.Shapes.{IsContent, RowsFit, extent};
 ghost use Rattle.capn_mismatch.specs.inner.Reached.{Reaches, ReachesBelow, numbers};
 
 use crate::likely::likely_step;
-use crate::sought::{Found, finds};
+use crate::word_kind::{WordKind, finds};
 use capn_target::{Shape, Target, resolve};
 use capn_words::{Memory, Place, Space};
 use std::alloc::Allocator;
@@ -23,7 +23,7 @@ pub fn descend<S: Space, A: Allocator>(
     depth: u32,
     word: Place,
     path: &mut Vec<u32, A>,
-) -> Result<Option<Found>, Memory>
+) -> Result<Option<WordKind>, Memory>
     requires place { IsPlace (S.message space.now) at }
     ensures { IfOk result (λ r. IfSome r (λ found. (base : ℕ)
         → Reaches (S.message space.now) base word depth at path.old.items path.new.items found)) }
@@ -67,7 +67,7 @@ fn descend_below<S: Space, A: Allocator>(
     depth: u32,
     word: Place,
     path: &mut Vec<u32, A>,
-) -> Result<Option<Found>, Memory>
+) -> Result<Option<WordKind>, Memory>
     requires content { IsContent (S.message space.now) start (extent shape) }
     requires rows { RowsFit shape }
     ensures { IfOk result (λ r. IfSome r (λ found. (base : ℕ)

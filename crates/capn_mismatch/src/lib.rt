@@ -28,9 +28,9 @@ mod message_mismatch;
 mod only_segment;
 mod owner;
 mod slot_rows;
-mod sought;
 mod surveyed;
 mod whose;
+mod word_kind;
 
 pub use accepted::lines_of_measured;
 pub use answer::Mismatch;

@@ -8,8 +8,8 @@ ghost use Rattle.capn_mismatch.specs.inner.Owned.{HasOwner};
 ghost use Rattle.capn_mismatch.specs.inner.Reached.{Reaches};
 
 use crate::descent::descend;
-use crate::sought::{Found, Owner};
 use crate::whose::Whose;
+use crate::word_kind::{Owner, WordKind};
 use capn_path::seek;
 use capn_walk::Limits;
 use capn_words::{Bare, Memory, Place};
@@ -29,9 +29,9 @@ pub fn owner<A: Allocator + Copy>(
 {
     let (found, path) = slot_of(alloc, canonical, limits, word)?;
     match found {
-        Found::Pointer => Ok(Whose::Pointer(path)),
-        Found::Tag => Ok(Whose::Tag(path)),
-        Found::LastWord => Ok(Whose::LastWord(path)),
+        WordKind::Pointer => Ok(Whose::Pointer(path)),
+        WordKind::Tag => Ok(Whose::Tag(path)),
+        WordKind::LastWord => Ok(Whose::LastWord(path)),
     }
 }
 
@@ -42,7 +42,7 @@ fn slot_of<A: Allocator + Copy>(
     canonical: &Bare<'_>,
     limits: Limits,
     word: u32,
-) -> Result<(Found, Vec<u32, A>), Memory>
+) -> Result<(WordKind, Vec<u32, A>), Memory>
     requires some { 0 < length canonical.now }
     requires owned { HasOwner canonical.now limits word }
     ensures { IfOk result (λ r. Reaches (canonical.now ∷ []) (base limits.tariff) (place word) limits.depth root

@@ -5,7 +5,7 @@ use Rattle.capn_walk.specs.Visits.{visits}
 use Rattle.capn_walk.specs.Accepted.{root}
 use Rattle.capn_walk.specs.Limits.{Bounds}
 use Rattle.capn_path.specs.Finds.{IsPassed}
-use Rattle.capn_mismatch.specs.declared.sought.Owner.{Owner}
+use Rattle.capn_mismatch.specs.declared.word_kind.Owner.{Owner}
 use Rattle.capn_mismatch.specs.Owner.{place}
 use Rattle.capn_mismatch.specs.inner.Search.{owned, same}
 

@@ -10,7 +10,7 @@ use Rattle.capn_target.specs.Target.{target}
 use Rattle.capn_path.specs.Paths.{Leads}
 use Rattle.capn_path.specs.Steps.{AreNumbersIn, DescendsTo}
 use Rattle.capn_mismatch.specs.declared.slot_rows.SlotRows.{SlotRows}
-use Rattle.capn_mismatch.specs.declared.sought.Found.{Found}
+use Rattle.capn_mismatch.specs.declared.word_kind.WordKind.{WordKind}
 use Rattle.capn_mismatch.specs.inner.Search.{finds}
 
 -- the slots of an object that begins at a place, in rows of one form
@@ -45,7 +45,7 @@ numbers shape row slot = slot ∷ []
 module _ (m : List (List ℕ)) (base : ℕ) (word : Place) where
   -- a slot that is reached by some numbers, with which the path goes on from the old one, and the kind of the word
   -- there
-  pub record ReachesIn (Onward : List ℕ → Place → ℕ → Type 0) (old new : List ℕ) (x : Found) : Type 0 where
+  pub record ReachesIn (Onward : List ℕ → Place → ℕ → Type 0) (old new : List ℕ) (x : WordKind) : Type 0 where
     pub rest : List ℕ
     pub is : new ≡ old ++ rest
     pub to : Place
@@ -54,10 +54,10 @@ module _ (m : List (List ℕ)) (base : ℕ) (word : Place) where
     pub leads : Onward rest to number
 
   -- from a slot on
-  abbrev pub Reaches : ℕ → Place → List ℕ → List ℕ → Found → Type 0
+  abbrev pub Reaches : ℕ → Place → List ℕ → List ℕ → WordKind → Type 0
   Reaches depth at = ReachesIn (Leads m base depth at)
 
   -- from an object on
-  abbrev pub ReachesBelow : ℕ → Place → Shape → List ℕ → List ℕ → Found → Type 0
+  abbrev pub ReachesBelow : ℕ → Place → Shape → List ℕ → List ℕ → WordKind → Type 0
   ReachesBelow depth start shape =
       ReachesIn (DescendsTo m base depth (slots start.segment start.word shape) (AreNumbersIn shape))

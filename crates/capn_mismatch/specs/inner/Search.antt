@@ -10,9 +10,9 @@ use Rattle.capn_target.specs.declared.target.Shape.TheVariants as shapes
 use Rattle.capn_target.specs.declared.target.Fault.{Fault}
 use Rattle.capn_target.specs.Target.{content_words}
 use Rattle.capn_walk.specs.Surveyed.{cap_of}
-use Rattle.capn_mismatch.specs.declared.sought.Owner.{Owner}
-use Rattle.capn_mismatch.specs.declared.sought.Found.{Found}
-use Rattle.capn_mismatch.specs.declared.sought.Found.TheVariants as found
+use Rattle.capn_mismatch.specs.declared.word_kind.Owner.{Owner}
+use Rattle.capn_mismatch.specs.declared.word_kind.WordKind.{WordKind}
+use Rattle.capn_mismatch.specs.declared.word_kind.WordKind.TheVariants as found
 
 -- a word of a segment is at a place
 abbrev pub is_at : ℕ → ℕ → Place → Bool
@@ -31,7 +31,7 @@ abbrev pub ends_at : ℕ → ℕ → ℕ → Place → Bool
 ends_at s start n place = (s == place.segment) && (nat_lt 0 n && (start + n == place.word + 1))
 
 -- the kind of a word in the target of a slot: its tag, or its last word
-abbrev pub found_in : Place → Target → Option Found
+abbrev pub found_in : Place → Target → Option WordKind
 found_in word (targets.Content s start (shapes.Rows n a b span) pads) =
     if is_at s start word then Some found.Tag else None
 found_in word (targets.Content s start (shapes.Many width n) pads) =
@@ -39,16 +39,16 @@ found_in word (targets.Content s start (shapes.Many width n) pads) =
 found_in word named = None
 
 -- that kind, if a slot has a target
-abbrev pub found_there : Place → Result Target Fault → Option Found
+abbrev pub found_there : Place → Result Target Fault → Option WordKind
 found_there word (Ok named) = found_in word named
 found_there word (Err e) = None
 
 -- the kind of a word at a slot, which owns it: its pointer, or a word of its target
-abbrev pub finds : Place → Place → Result Target Fault → Option Found
+abbrev pub finds : Place → Place → Result Target Fault → Option WordKind
 finds word at named = if is_at at.segment at.word word then Some found.Pointer else found_there word named
 
 -- the find of a search for the owner
-abbrev pub owned : Owner → Place → Result Target Fault → Option Found
+abbrev pub owned : Owner → Place → Result Target Fault → Option WordKind
 owned aim = finds aim.word
 
 module _ {G : Type 0} where

@@ -1,4 +1,4 @@
-//! The find of a word at a slot.
+//! The kind of a word at the slot that owns it.
 
 ghost use Rattle.std.specs.Prelude.{◌≡◌, ◌<◌, ◌^◌};
 ghost use Rattle.capn_mismatch.specs.inner.Search as search;
@@ -16,7 +16,7 @@ pub struct Owner {
 
 /// The kind of a word at the slot that owns it.
 #[derive(Clone, Copy)]
-pub enum Found {
+pub enum WordKind {
     /// It is the slot's pointer.
     Pointer,
     /// It is the tag of the list of structs that the slot names.
@@ -26,23 +26,23 @@ pub enum Found {
 }
 
 impl Aim for Owner {
-    type Found = Found;
+    type Found = WordKind;
 
     ghost finds = { search.owned };
 
     ghost next = { search.same };
 
-    fn test(&mut self, at: Place, named: Result<Target, Fault>) -> Option<Found> {
+    fn test(&mut self, at: Place, named: Result<Target, Fault>) -> Option<WordKind> {
         finds(self.word, at, named)
     }
 }
 
 /// Returns the kind of `word` at the slot at `at` with the target or the fault `named`, if the slot owns the word.
-pub fn finds(word: Place, at: Place, named: Result<Target, Fault>) -> Option<Found>
+pub fn finds(word: Place, at: Place, named: Result<Target, Fault>) -> Option<WordKind>
     ensures { result ≡ search.finds word at named }
 {
     if is_at(at.segment, at.word, word) {
-        return Some(Found::Pointer);
+        return Some(WordKind::Pointer);
     }
     match named {
         Ok(target) => found_in(word, target),
@@ -51,7 +51,7 @@ pub fn finds(word: Place, at: Place, named: Result<Target, Fault>) -> Option<Fou
 }
 
 /// Returns the kind of `word` in the object that a slot names: its tag, or its last word.
-fn found_in(word: Place, target: Target) -> Option<Found>
+fn found_in(word: Place, target: Target) -> Option<WordKind>
     ensures { result ≡ search.found_in word target }
 {
     match target {
@@ -66,13 +66,13 @@ fn found_in(word: Place, target: Target) -> Option<Found>
             Shape::Node { .. } => None,
             Shape::Rows { .. } => {
                 if is_at(segment, start, word) {
-                    return Some(Found::Tag);
+                    return Some(WordKind::Tag);
                 }
                 None
             }
             Shape::Many { width, count } => {
                 if is_small(width) && ends_at(segment, start, content_words(width, count), word) {
-                    return Some(Found::LastWord);
+                    return Some(WordKind::LastWord);
                 }
                 None
             }
