@@ -1,4 +1,4 @@
--- A program with one subcommand more, by its line.
+-- A program with one subcommand more, by its line. (For `with_commands`.)
 use Rattle.std.proofs.Common.{◌≡◌, Result, IfOk, ap, ap₂, ◌∙◌}
 use Rattle.std.proofs.lemmas.Result.{IfOk-weaker}
 use Rattle.clap.specs.Words.{AddsSubcommand, App, Shape, app_of, with_subcommand}

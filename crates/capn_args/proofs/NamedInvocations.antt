@@ -1,4 +1,5 @@
--- What the subcommands order that have more than one invocation, or one with a flag.
+-- What the subcommands order that have more than one invocation, or one with a flag. (For `command_line.rt`,
+-- `explain_options.rt`, `pick_options.rt` and `show_options.rt`.)
 use Rattle.std.proofs.Common.{◌≡◌, ◌⊎◌, inl, inr, Bor, List, Bool, true, false, Option, Some, None, IsSome, codes}
 use Rattle.std.proofs.Common.{arith, refl, sym, ap, ℕ, ◌==◌, ◌||◌}
 use Rattle.clap.specs.Words.{Row, Text, first_of}

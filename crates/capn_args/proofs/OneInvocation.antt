@@ -1,4 +1,5 @@
--- A subcommand with the values of its options means one invocation at most.
+-- A subcommand with the values of its options means one invocation at most. (For `command_of`, `invocation_of`,
+-- `meaning` and `show_of`.)
 use Rattle.std.proofs.Common.{◌≡◌, ℕ, ◌+◌, ◌*◌, ◌==◌, ◌||◌, List, Bool, true, false, Option, Some, None, refl, sym, ap}
 use Rattle.std.proofs.Common.{◌∙◌, Bor, codes, slice_index, unwrap_or, arith}
 use Rattle.clap.specs.Words.{Row, Text, first_of}

@@ -1,4 +1,4 @@
--- A subcommand with the values of its options means one command at most.
+-- A subcommand with the values of its options means one command at most. (For `command` and `unpack_of`.)
 use Rattle.std.proofs.Common.{◌≡◌, ℕ, ◌+◌, List, Option, Some, None, refl, sym, ap, ap₂, ◌∙◌, codes, slice_index}
 use Rattle.std.proofs.Common.{unwrap_or, arith, Bool, true, false, ◌==◌, ◌||◌}
 use Rattle.std.specs.Str.Parse.{digits_value, without_leading_plus}

@@ -1,4 +1,4 @@
--- The numbers of a text that were read, and those that are still to come.
+-- The numbers of a text that were read, and those that are still to come. (For `numbers_in`.)
 use Rattle.std.proofs.Common.{ℕ, List, ◌++◌, Option, option_map}
 
 -- the numbers that were read, before those that are still to come

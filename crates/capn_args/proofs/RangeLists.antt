@@ -1,4 +1,4 @@
--- The ranges of a text that were read, and those that are still to come.
+-- The ranges of a text that were read, and those that are still to come. (For `ranges_in`.)
 use Rattle.std.proofs.Common.{◌≡◌, ℕ, ◌<◌, ◌≤◌, List, [], ◌∷◌, ◌++◌, Option, Some, None, option_map, refl, ap, sym, ◌∙◌}
 use Rattle.std.proofs.Common.{subst, append_assoc, option_and_then, length, take, drop, ◌-◌, arith, get_or}
 use Rattle.std.proofs.lemmas.List.{take_all}

@@ -1,4 +1,4 @@
-//! What is said of options that mean nothing.
+//! The choice of what is said of options that mean nothing, for each command.
 
 ghost use Rattle.std.specs.Prelude.{◌≡◌, ◌⊎◌};
 ghost use Rattle.clap.specs.Words.{kind_of};

@@ -1,4 +1,4 @@
-//! What is said of options that mean nothing.
+//! The messages about options that mean nothing.
 
 /// The message of a value that `--tariff` does not take.
 pub const NO_SUCH_TARIFF: &str = "--tariff takes strict or plain";

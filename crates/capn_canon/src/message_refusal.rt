@@ -1,4 +1,4 @@
-//! Refusals of canonical bytes for a message or a buffer.
+//! The types of the reasons why a message has no canonical bytes, or a buffer gets none.
 
 use crate::refusal::Refusal;
 use capn_walk::Stopped;

@@ -1,4 +1,4 @@
-//! Refusals of canonical bytes for an input.
+//! The type of the reasons why an input has no canonical bytes.
 
 use capn_pack::UnpackFault;
 use capn_stream::FrameFault;

@@ -1,4 +1,4 @@
--- A comparison that finds no difference.
+-- A comparison that finds no difference. (For `same_exactly`.)
 use Rattle.std.proofs.Common.{◌≡◌, ◌≢◌, ◌⊎◌, inl, inr, ℕ, ◌+◌, ◌≤◌, List, [], ◌∷◌, ◌++◌, length, Bool, true, false}
 use Rattle.std.proofs.Common.{Option, None, Result, Ok, Err, refl, ap, sym, subst, ◌∙◌, append-nil, arith, nat_lt, cond}
 use Rattle.std.proofs.lemmas.Bool.{le-ltb, ltb-false}

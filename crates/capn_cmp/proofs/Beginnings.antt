@@ -1,4 +1,4 @@
--- The beginning of a text that a writer has kept.
+-- The beginning of a text that a writer has kept. (For `begin_text` and `end_text`.)
 use Rattle.std.proofs.Common.{◌≡◌, ℕ, List, [], ◌∷◌, ◌++◌, Bool, Some, take, drop, refl, sym, ap, subst, ◌∙◌}
 use Rattle.std.proofs.lemmas.List.{append_assoc, take-append-drop}
 use Rattle.capn_words.specs.Message.{IsBare}

@@ -1,4 +1,4 @@
--- A message that was compared, as one that the service serves.
+-- A message that was compared, as one that the service serves. (For `compare`.)
 use Rattle.std.proofs.Common.{◌≡◌, ◌≢◌, inl, inr, ℕ, List, [], Bool, true, false, Result, Ok, Err, refl, ap, subst}
 use Rattle.std.proofs.Common.{sym, ◌∙◌}
 use Rattle.capn_walk.specs.Limits.{Bounds}

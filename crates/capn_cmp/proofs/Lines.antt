@@ -1,4 +1,4 @@
--- Lines of two texts, one after the other.
+-- Lines of two texts, one after the other. (For `compare`, `lines_apart` and `split_line`.)
 use Rattle.std.proofs.Common.{◌≡◌, ◌≢◌, ◌↔◌, ℕ, suc, ◌+◌, ◌<◌, List, [], ◌∷◌, ◌++◌, length, take, refl, sym, ap}
 use Rattle.std.proofs.Common.{subst, ◌∙◌, slice_index_or, arith, Bool, true, false, not, nat_eq}
 use Rattle.std.specs.Cmp.Lexicographic.{pointwise, pointwise_decides}

@@ -1,4 +1,4 @@
--- What a comparison does with a message, in one way.
+-- What a comparison does with a message, in one way. (For `one_text`.)
 use Rattle.std.proofs.Common.{◌≡◌, ◌≢◌, inl, inr, ℕ, List, [], ◌∷◌, Bool, true, false, Some, None, Result}
 use Rattle.std.proofs.Common.{refl, ap, ap₂, sym, subst, ◌∙◌}
 use Rattle.capn_words.proofs.shared.OneSegment.{one_bare}

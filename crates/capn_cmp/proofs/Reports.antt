@@ -1,4 +1,4 @@
--- The report on a message that differs, from its parts.
+-- The report on a message that differs, from its parts. (For `report_by` and `report_of`.)
 use Rattle.std.proofs.Common.{◌≡◌, ℕ, ◌+◌, List, [], ◌∷◌, ◌++◌, codes, sym, ap, subst, ◌∙◌}
 use Rattle.std.proofs.lemmas.List.{append_assoc}
 use Rattle.std.specs.Fmt.{decimal}

@@ -1,4 +1,4 @@
--- A comparison writes something exactly where a message differs.
+-- A comparison writes something exactly where a message differs. (For `one_text`.)
 use Rattle.std.proofs.Common.{◌≡◌, ◌≢◌, ◌⊎◌, inl, inr, ℕ, List, [], ◌∷◌, ◌++◌, length, codes, Bool, true, false, Option}
 use Rattle.std.proofs.Common.{Result, Ok, Err, refl, ap, sym, subst, ◌∙◌, arith, cond, nat_lt}
 use Rattle.capn_serve.specs.Fold.{AreServed, Fold, IsFolded, Part, texts_of}

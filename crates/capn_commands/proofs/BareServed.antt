@@ -1,4 +1,4 @@
--- A run over a bare input whose one message is served is the run of its plan.
+-- A run over a bare input whose one message is served is the run of its plan. (For `run_one`.)
 use Rattle.std.proofs.Common.{◌≡◌, ◌≢◌, ◌⊎◌, inl, inr, ℕ, ◌≤◌, ◌^◌, List, [], ◌∷◌, length, Bool, true, false}
 use Rattle.std.proofs.Common.{Option, None, Some, IfSome, Ok, Err, refl, ap, sym, subst, arith, take_all}
 use Rattle.capn_words.proofs.shared.OneSegment.{bare_length}

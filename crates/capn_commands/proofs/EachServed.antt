@@ -1,4 +1,4 @@
--- A run over a stream whose messages are served is the run of its plan.
+-- A run over a stream whose messages are served is the run of its plan. (For `run_each`.)
 use Rattle.std.proofs.Common.{◌≡◌, ◌⊎◌, inl, inr, ℕ, List, Bool, true, false, Option, Some, None, IfSome}
 use Rattle.std.proofs.Common.{Ok, Err, refl, ap, sym, subst}
 use Rattle.std.specs.Io.KnownBytes.{Appends}

@@ -1,4 +1,5 @@
--- What is answered of the first bytes of an input, as many as the longest frame has and one, is answered of all.
+-- What is answered of the first bytes of an input, as many as the longest frame has and one, is answered of all. (For
+-- `one_message.rt` and `whole_input.rt`.)
 use Rattle.std.proofs.Common.{◌≡◌, ◌⊎◌, inl, inr, ℕ, ◌+◌, ◌*◌, ◌<◌, ◌≤◌, List, length, take, drop}
 use Rattle.std.proofs.Common.{subst, arith, length-take, take-append-drop, Result, Ok, Err, Vec}
 use Rattle.std.proofs.lemmas.Bool.{cases_lt}

@@ -1,4 +1,4 @@
--- A reader that gives an input, read by read.
+-- A reader that gives an input, read by read. (For `read_words`.)
 use Rattle.std.proofs.Common.{◌≡◌, inl, inr, ℕ, ◌<◌, ◌^◌, List, length, refl}
 use Rattle.std.proofs.Common.{Option, Bool, true}
 use Rattle.std.proofs.Common.{Result, Ok, Err}

@@ -1,4 +1,5 @@
--- What is made of an input, from what was read of it.
+-- What is made of an input, from what was read of it. (For `make_framed`, `make_text`, `make_trimmed` and
+-- `make_verdict`.)
 use Rattle.std.proofs.Common.{◌≡◌, ◌⊎◌, inl, inr, ℕ, ◌+◌, ◌*◌, ◌^◌, List, Bool, Option, Result, Ok}
 use Rattle.std.proofs.Common.{Err, IsErr, IsErrAnd}
 use Rattle.std.proofs.Common.{Vec, ap, sym, subst, ◌∙◌, arith, take_all}

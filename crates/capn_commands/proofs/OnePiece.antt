@@ -1,4 +1,4 @@
--- A run over the one message of an input that is served is the run of its plan.
+-- A run over the one message of an input that is served is the run of its plan. (For `run_framed`.)
 use Rattle.std.proofs.Common.{◌≡◌, ◌≢◌, inl, inr, ℕ, List, Bool, Option, Result, sym, subst}
 use Rattle.capn_walk.specs.Limits.{Bounds}
 use Rattle.capn_walk.specs.declared.walk_answer.Stopped.{Stopped}

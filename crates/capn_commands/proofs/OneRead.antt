@@ -1,4 +1,5 @@
--- The frame of the one message of an input, as it was read, and how the message was served.
+-- The frame of the one message of an input, as it was read, and how the message was served. (For `read_frame`,
+-- `serve_frame` and `serve_message`.)
 use Rattle.std.proofs.Common.{◌≡◌, ◌⊎◌, ◌||◌, inl, inr, ℕ, ◌+◌, ◌*◌, ◌≤◌, List, [], ◌++◌, length, take, Bool, true}
 use Rattle.std.proofs.Common.{false, Option, Result, Ok, Err, Vec, ap, sym, subst, ◌∙◌, arith, length-take}
 use Rattle.std.proofs.Math.Seq.{take-append-add, take-append_seam, take-length, take-nil, take_all}

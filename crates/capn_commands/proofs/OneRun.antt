@@ -1,4 +1,5 @@
--- A run over the one message that an input is, from what was read and how the message was served.
+-- A run over the one message that an input is, from what was read and how the message was served. (For `serve_frame`
+-- and `serve_one`.)
 use Rattle.std.proofs.Common.{◌≡◌, ◌⊎◌, ◌↔◌, inl, inr, ℕ, ◌+◌, ◌*◌, ◌<◌, ◌≤◌, ◌^◌, List, [], length, take, Bool, true}
 use Rattle.std.proofs.Common.{false, Option, None, Some, IfSome, Result, Ok, Err, Vec, refl, ap, sym, subst, ◌∙◌, arith}
 use Rattle.std.proofs.Common.{take_all}

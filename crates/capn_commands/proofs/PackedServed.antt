@@ -1,4 +1,4 @@
--- A run over a packed stream whose messages are served is the run of its plan.
+-- A run over a packed stream whose messages are served is the run of its plan. (For `run_each_packed`.)
 use Rattle.std.proofs.Common.{◌≡◌, ◌⊎◌, inl, inr, ℕ, ◌+◌, ◌*◌, ◌-◌, ◌^◌, ◌≤◌, List, [], ◌∷◌, ◌++◌, length}
 use Rattle.std.proofs.Common.{Bool, true, false, Option, Some, None, IfSome, Ok, Err, refl, ap, sym, subst, arith}
 use Rattle.std.proofs.Common.{length-append, length-take}

@@ -1,4 +1,4 @@
--- A message of which a part is shown, as a message that a service served.
+-- A message of which a part is shown, as a message that a service served. (For `message_texts.rt` and `part_texts.rt`.)
 use Rattle.std.proofs.Common.{◌≡◌, inl, inr, ℕ, List, [], ◌++◌, false, Option, Result}
 use Rattle.std.proofs.Common.{Ok, Err, refl, sym, subst, ◌∙◌, append-nil, take, Bool, true, IsErrAnd}
 use Rattle.std.specs.Prelude.{if◌then◌else◌}

@@ -1,4 +1,4 @@
--- One more read.
+-- One more read. (For `read_words`.)
 use Rattle.std.proofs.Common.{◌≡◌, ℕ, ◌<◌, ◌^◌, List, ◌++◌, length, refl, ap, ◌∙◌}
 use Rattle.std.proofs.Common.{arith, length-append, append-nil, Option, None, Some, IfSome, Bool, true}
 use Rattle.std.proofs.Common.{false, nat_lt, ◌||◌}

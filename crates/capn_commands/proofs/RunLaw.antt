@@ -1,4 +1,4 @@
--- A run ends as it must for all that its reader had to give.
+-- A run ends as it must for all that its reader had to give. (For `perform`, `run` and `run_bare_piece`.)
 use Rattle.std.proofs.Common.{◌≡◌, ◌⊎◌, inl, inr, ℕ, ◌+◌, ◌≤◌, ◌^◌, List, [], Bool, Option, None, Some, IfSome, Result}
 use Rattle.std.proofs.Common.{Err, refl, ap, sym, subst}
 use Rattle.std.proofs.KnownBytes.{Appends-nil}

@@ -1,4 +1,5 @@
--- Messages that are served by the fold of a piece: the row of their texts, and how a run ends after them.
+-- Messages that are served by the fold of a piece: the row of their texts, and how a run ends after them. (For
+-- `run_each`, `run_each_packed` and `run_one`.)
 use Rattle.std.proofs.Common.{◌≡◌, ◌⊎◌, ◌↔◌, inl, inr, ℕ, ◌≤◌, List, [], ◌∷◌, ◌++◌, length, take, Option, Some, None}
 use Rattle.std.proofs.Common.{Result, Ok, Err, refl, ap, sym, subst, ◌∙◌, arith, length-append, map}
 use Rattle.std.proofs.Math.Seq.{take-length, take-append-le}

@@ -1,4 +1,5 @@
--- A message whose text is written while it is made, as a message that a service served.
+-- A message whose text is written while it is made, as a message that a service served. (For `add_line`, `add_shown`
+-- and `serve`.)
 use Rattle.std.proofs.Common.{◌≡◌, ◌≢◌, ◌⊎◌, inl, inr, ℕ, List, [], ◌∷◌, ◌++◌, false, codes, Option, Result}
 use Rattle.std.proofs.Common.{Ok, Err, refl, sym, subst, ◌∙◌, append-nil, take}
 use Rattle.std.specs.Io.KnownBytes.{Appends}

@@ -1,4 +1,4 @@
--- A packed input whose words are unpacked while it comes.
+-- A packed input whose words are unpacked while it comes. (For `end_pending`, `read_words` and `take_chunk`.)
 use Rattle.std.proofs.Common.{◌≡◌, ◌⊎◌, inl, inr, ℕ, ◌+◌, ◌*◌, ◌<◌, ◌≤◌, List, [], ◌∷◌, ◌++◌, length, take, drop}
 use Rattle.std.proofs.Common.{slice_index, refl, ap, sym, subst, ◌∙◌, arith, append_assoc, append-nil, length-append}
 use Rattle.std.proofs.Common.{take-append-drop, length-take, Bool, true, false, Ok, Err, Vec}

@@ -1,4 +1,4 @@
--- A run over an input that is taken whole.
+-- A run over an input that is taken whole. (For `write_made`.)
 use Rattle.std.proofs.Common.{◌≡◌, ◌⊎◌, ◌↔◌, inl, inr, ℕ, ◌<◌, ◌≤◌, ◌^◌, List, [], length, Bool, true, false}
 use Rattle.std.proofs.Common.{Option, IfSome, Result, Ok, Err, IsOkUnless, OnOk, Vec, refl, ap, sym}
 use Rattle.std.proofs.Common.{subst, arith, take_all}

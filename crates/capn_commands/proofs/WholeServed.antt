@@ -1,4 +1,4 @@
--- Faults that lower calls report.
+-- Faults that lower calls report. (For `bare_message.rt`, `command_run.rt` and `one_message.rt`.)
 use Rattle.std.proofs.Common.{◌≡◌, inl, inr, ℕ, List}
 use Rattle.capn_commands.specs.MessageText.{IsNoMessageText}
 use Rattle.capn_commands.specs.WholeInput.{MakesNothing}

@@ -1,4 +1,4 @@
--- What is found stays so.
+-- What is found stays so. (For `add`, `contains` and `double`.)
 use Rattle.std.proofs.Common.{◌≡◌, ℕ, ◌+◌, ◌-◌, ◌*◌, ◌/◌, ◌%◌, ◌<◌, ◌≤◌, ◌≢◌, inl, inr, ◌⊎◌, List, [], ◌∷◌, ◌++◌}
 use Rattle.std.proofs.Common.{length, get_or, set, true, false, nat_eq, arith, ap, sym, ◌∙◌, subst, refl, length-append}
 use Rattle.std.specs.BTreeSet.{insert_key}

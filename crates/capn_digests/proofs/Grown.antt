@@ -1,4 +1,4 @@
--- A set of digests that has grown.
+-- A set of digests that has grown. (For `add` and `double`.)
 use Rattle.std.proofs.Common.{◌≡◌, ℕ, ◌+◌, ◌*◌, ◌-◌, ◌^◌, ◌<◌, ◌≤◌, ◌/◌, ◌%◌, List, ◌++◌, length, get_or}
 use Rattle.std.proofs.Common.{inl, inr, arith, ap, sym, ◌∙◌, subst, refl}
 use Rattle.std.proofs.Math.Nat.{mod-lt}

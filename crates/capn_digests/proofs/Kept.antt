@@ -1,4 +1,4 @@
--- A bucket with one slot more.
+-- A bucket with one slot more. (For `double` and `kept`.)
 use Rattle.std.proofs.Common.{◌≡◌, ℕ, ◌+◌, ◌<◌, ◌≢◌, List, length, get_or, set, ◌%◌, ◌++◌, take, drop, arith, ap, sym}
 use Rattle.std.proofs.Common.{◌∙◌, subst, below_more}
 use Rattle.std.specs.Prelude.{slice_range}

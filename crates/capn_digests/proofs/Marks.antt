@@ -1,4 +1,4 @@
--- Marks that stay.
+-- Marks that stay. (For `and_one`.)
 use Rattle.std.proofs.Common.{◌≡◌, ℕ, min, max, bit_and, bit_or, arith, ap, sym, ◌∙◌}
 use Rattle.std.specs.Int.{bit_at}
 use Rattle.std.proofs.lemmas.Nat.Bits.{same_from_bits, bit_at_and, bit_at_or}

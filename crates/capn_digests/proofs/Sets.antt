@@ -1,4 +1,4 @@
--- The digests of a list and of a tree, as a set.
+-- The digests of a list and of a tree, as a set. (For `add`, `contains`, `insert` and `new`.)
 use Rattle.std.proofs.Common.{◌≡◌, ℕ, ◌+◌, ◌<◌, List, [], ◌∷◌, ◌++◌, Bool, true, false, cond, not, ◌||◌}
 use Rattle.std.proofs.Common.{length, get_or, suc, inl, inr, arith, ap, sym, ◌∙◌, refl, length-append}
 use Rattle.std.specs.List.{list_any}

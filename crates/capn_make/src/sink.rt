@@ -1,4 +1,4 @@
-//! Sinks: machines that take an input piece by piece, and the one loop that reads for them.
+//! Sinks: machines that take an input piece by piece, and the loop of this crate that reads for them.
 //!
 //! Nothing here names anything else of this crate, so that it can stand below all that read an input. A sink says by
 //! its ghost members what it holds of the bytes that it took ([`Sink::takes`]) and what is true at the end of an input

@@ -1,4 +1,4 @@
-//! Values with what they hold.
+//! The parser of values with all that they hold: the recursion over the lines of a text.
 
 ghost use Rattle.std.specs.Prelude.{◌≡◌, ◌+◌, ◌*◌, ◌≤◌, map, IfErr};
 ghost use Rattle.capn_value.specs.TreeOf.{tree_of, body_of};

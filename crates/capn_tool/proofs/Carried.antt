@@ -1,4 +1,4 @@
--- A command that was carried out: what a run did, and the flush after it.
+-- A command that was carried out: what a run did, and the flush after it. (For `carry_out`.)
 use Rattle.std.proofs.Common.{◌≡◌, ◌⊎◌, ◌↔◌, inl, inr, ℕ, List, [], Bool, true, Option, Some, None, Result}
 use Rattle.std.proofs.Common.{Ok, Err, IfSome, IsErrOf, refl, sym, subst, ◌∙◌}
 use Rattle.std.specs.Io.KnownBytes.{Keeps}

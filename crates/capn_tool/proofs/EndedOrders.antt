@@ -1,4 +1,4 @@
--- An order that was carried out, from its run and the end of that.
+-- An order that was carried out, from its run and the end of that. (For `program`.)
 use Rattle.std.proofs.Common.{ℕ, List, Bool, Option, Result, refl}
 use Rattle.clap.specs.Words.{Text, subcommand_of}
 use Rattle.capn_serve.specs.Ending.{WritesEnding, status_of_ending}

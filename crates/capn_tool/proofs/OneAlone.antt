@@ -1,4 +1,4 @@
--- What is shown of an input that is one message, in one way.
+-- What is shown of an input that is one message, in one way. (For `one_alone`.)
 use Rattle.std.proofs.Common.{◌≡◌, inl, inr, ℕ, List, Bool, true, false, Result, Ok, Err}
 use Rattle.capn_walk.specs.Limits.{Bounds}
 use Rattle.capn_serve.specs.declared.pick.StreamForm.{StreamForm}

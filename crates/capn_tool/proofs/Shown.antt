@@ -1,4 +1,4 @@
--- Help or the version that was shown.
+-- Help or the version that was shown. (For `show_help` and `show_version`.)
 use Rattle.std.proofs.Common.{◌≡◌, ◌∙◌, inl, inr, ℕ, List, Bool, true, Option, Result, Ok, Err, IsErr, IsErrAnd}
 use Rattle.std.proofs.Common.{IsErrOf, ◌↔◌, ap}
 use Rattle.std.specs.Io.KnownBytes.{Appends, Keeps}

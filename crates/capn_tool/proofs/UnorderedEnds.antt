@@ -1,4 +1,4 @@
--- Words that order nothing, and how the program ends then.
+-- Words that order nothing, and how the program ends then. (For `end_unordered`.)
 use Rattle.std.proofs.Common.{◌≡◌, ℕ, Bool, true, false, Result, Err, refl, sym, ◌∙◌}
 use Rattle.clap.specs.declared.error.ErrorKind.{ErrorKind}
 use Rattle.clap.specs.declared.error.ErrorKind.TheVariants as kinds

@@ -1,4 +1,4 @@
--- What a writer holds after a flush, and what a write added.
+-- What a writer holds after a flush, and what a write added. (For `tell_said`.)
 use Rattle.std.proofs.Common.{◌≡◌, ◌∙◌, ℕ, List, length, Bool, true, false, Option, Some, None, Result, Ok, Err, OnOk}
 use Rattle.std.proofs.Common.{IsErrOf, is_err, ◌||◌, ◌↔◌, refl, sym, subst}
 use Rattle.std.proofs.Math.Seq.{take-length}

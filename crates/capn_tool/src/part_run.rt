@@ -1,4 +1,4 @@
-//! A run of `show`, over messages or their parts.
+//! The run of `show` for its options: over all messages of an input, or over exactly one.
 
 ghost use Rattle.std.specs.Prelude.{◌≡◌, false};
 ghost use Rattle.capn_tool.specs.PartRun as spec;

@@ -1,4 +1,5 @@
--- An input that is one message has one text and one ending, if a service does one thing with a message.
+-- An input that is one message has one text and one ending, if a service does one thing with a message. (For
+-- capn_tool.)
 use Rattle.std.proofs.Common.{◌≡◌, inl, inr, ℕ, List, Bool, true, false, Result, Ok, Err, refl, ap, sym, subst, ◌∙◌}
 use Rattle.capn_pack.proofs.shared.GroupLaws.{one_reading}
 use Rattle.capn_walk.specs.Limits.{Bounds}
