@@ -17,7 +17,7 @@ use capn_words::Watched;
 use std::alloc::Allocator;
 use std::io::{Read, Write};
 
-/// The run of an order, before its first message.
+/// Returns the run of `order` before its first message.
 fn first_run(order: ArchiveOrder) -> Run<ArchiveService>
     ensures { result ≡ spec.first_run order }
 {
@@ -48,7 +48,7 @@ fn serve_messages<R: Read, W: Write, A: Allocator + Copy>(
     serve_form(alloc, order.form, most, run, reader, writer)
 }
 
-/// Why a run ends whose messages, or what is written after them, a fault ended.
+/// Returns the fault with which `run` ends, from the `fault` that stopped its loop or its closing text.
 fn fault_of(run: &Run<ArchiveService>, fault: RunFault) -> ArchiveFault
     ensures { result ≡ finish.fault_after run.now.service.tally.skipped run.now.at.index fault }
 {
@@ -57,12 +57,11 @@ fn fault_of(run: &Run<ArchiveService>, fault: RunFault) -> ArchiveFault
 
 /// Reads the messages of an archive, and writes what its task says: of each message, and at the end.
 ///
-/// It reads as [`serve_form`] does. The run ends as done; as `Skipped` after all of its input, if messages were
-/// skipped; or with the first fault: a frame, a group or a message that is refused, at its position, which is
-/// `RefusedAfterSkipped` where messages were skipped before a frame or a group that is refused; `InputTooLong`; `Io` if
-/// and only if the reader or the writer failed; `Memory` if a growth was refused. The texts of the messages before a
-/// fault have been written, and nothing after these. It holds what its loop holds, the canonical bytes of one message,
-/// and a tally.
+/// It reads as [`serve_form`] does. The run ends as done, as `Skipped` after all of its input if messages were skipped,
+/// or with the first fault. `Refused`: a frame, a group or a message is refused, at its position. `RefusedAfterSkipped`
+/// instead, if messages were skipped before that frame or group. `InputTooLong`. `Io` if and only if the reader or the
+/// writer failed. `Memory` if a growth was refused. The texts of the messages before a fault have been written, and
+/// nothing after these. It holds what its loop holds, the canonical bytes of one message, and a tally.
 pub fn run_archive<R: Read, W: Write, A: Allocator + Copy>(
     alloc: A,
     order: ArchiveOrder,

@@ -24,11 +24,11 @@ use capn_words::{Space, Watched};
 use std::alloc::Allocator;
 use std::io::Write;
 
-/// The service of an archive: what is done with each message, and what was kept of those before.
+/// The service of an archive: the work that is done with each message, and the tally of the messages before it.
 ///
-/// A message writes what its task says. One that is refused ends the run, or, if the order says to keep going, is
-/// skipped: it is counted, and `list` writes its line, with digests or without. Of a run it keeps a tally, whatever
-/// its length.
+/// It writes of each message what the task asks for. A refused message ends the run, or is skipped if the order says to
+/// keep going. A skipped message is counted, and `list` writes its line, with digests or without. The tally takes the
+/// same room however long the run is.
 #[derive(Clone, Copy, Debug, PartialEq, Eq)]
 pub struct ArchiveService {
     /// The work that is done with each message.
@@ -37,8 +37,8 @@ pub struct ArchiveService {
     pub tally: Tally,
 }
 
-/// Adds the frame of a message's canonical bytes. Those of a message that is canonical are its own: one pass finds
-/// them, and no copy is made of them.
+/// Adds the frame of a message's canonical bytes. If the message is canonical, these are its own bytes: one pass finds
+/// them, and no others are made.
 fn serve_canonical<S: Space, W: Write, A: Allocator + Copy>(
     alloc: A,
     limits: Limits,
@@ -168,7 +168,7 @@ fn skip_message<S: Space, A: Allocator + Copy>(
 }
 
 impl ArchiveService {
-    /// Adds what a message writes, and keeps what is kept of it.
+    /// Serves a message as the task says, or skips it if it is refused and the order says to keep going.
     fn add_message<S: Space, W: Write, A: Allocator + Copy>(
         &mut self,
         alloc: A,

@@ -10,7 +10,7 @@ use capn_words::Watched;
 use std::alloc::Allocator;
 use std::io::Write;
 
-/// The table of one segment of this number of words.
+/// Returns the table of one segment of this number of `words`.
 #[tactic(auto, unfolding(capn_stream::specs::Frames::entry))]
 fn head_of(words: u32) -> [u8; 8]
     ensures { result ≡ head words }
@@ -19,7 +19,7 @@ fn head_of(words: u32) -> [u8; 8]
     [0, 0, 0, 0, a, b, c, d]
 }
 
-/// Adds the frame of one segment with these bytes, which are not copied if they are long.
+/// Adds the frame of one segment with the contents `bytes`, which are not copied if they are long.
 pub(crate) fn add_frame<W: Write, A: Allocator>(
     bytes: &[u8],
     text: &mut Vec<u8, A>,

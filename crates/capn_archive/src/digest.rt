@@ -12,8 +12,8 @@ use capn_words::Space;
 use sha2::{Digest, Sha256};
 use std::alloc::Allocator;
 
-/// The digest of a message's canonical bytes. Those of a message that is canonical are hashed where they lie: one pass
-/// finds them, and no copy is made of them.
+/// Returns the digest of a message's canonical bytes. If the message is canonical, its own bytes are hashed where they
+/// lie: one pass finds them, and no others are made.
 pub(crate) fn digest_of<S: Space, A: Allocator + Copy>(
     alloc: A,
     limits: Limits,
@@ -33,7 +33,7 @@ pub(crate) fn digest_of<S: Space, A: Allocator + Copy>(
     }
 }
 
-/// The digest of a message, or `None` if its value has a capability; or why its walk refuses it.
+/// Returns the digest of a message, or `None` if its value has a capability. `Refused`: its walk refuses it.
 pub(crate) fn digest_if_any<S: Space, A: Allocator + Copy>(
     alloc: A,
     limits: Limits,

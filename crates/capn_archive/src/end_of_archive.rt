@@ -16,8 +16,8 @@ use capn_words::Watched;
 use std::alloc::Allocator;
 use std::io::Write;
 
-/// The fault of an input that is refused at a position, after this many messages: with those of them that were skipped,
-/// if any was.
+/// Returns the fault of an input that is refused at the position `at`. If some of the `messages` before it were
+/// skipped, the fault counts them.
 fn after_skipped(
     skipped: Option<SkippedSoFar>,
     messages: u64,
@@ -34,7 +34,8 @@ fn after_skipped(
     }
 }
 
-/// The same by what is refused: messages may have been skipped before a frame, or a group of a packed text.
+/// Returns the fault of an input by its `refusal`. Only the fault of a frame, or of a packed text, counts the messages
+/// that were skipped before it.
 fn refused_after(
     skipped: Option<SkippedSoFar>,
     messages: u64,
@@ -52,7 +53,8 @@ fn refused_after(
     }
 }
 
-/// The fault of a run over an archive, for one of a run over messages, after this many, of which these were skipped.
+/// Maps the fault of a run over messages to the fault of a run over an archive. The run had `messages` before it, and
+/// skipped those in `skipped`.
 pub(crate) fn fault_after(
     skipped: Option<SkippedSoFar>,
     messages: u64,
@@ -68,7 +70,8 @@ pub(crate) fn fault_after(
     }
 }
 
-/// Returns the outcome of a run that served all of its input, `messages` of them, and skipped those of `skipped`.
+/// Returns the outcome of a run over all of its input, which had this number of `messages`, and skipped those in
+/// `skipped` among them.
 pub(crate) fn outcome(skipped: Option<SkippedSoFar>, messages: u64) -> Result<(), ArchiveFault>
     ensures { result ≡ finish.outcome_by skipped messages }
 {
@@ -89,7 +92,7 @@ fn needs_of(order: &ArchiveOrder, run: &Run<ArchiveService>) -> Needs
     }
 }
 
-/// Writes what is written after the last message.
+/// Writes the text after the last message: the limits that all need, or nothing for another task.
 pub(crate) fn write_closing<W: Write, A: Allocator + Copy>(
     alloc: A,
     order: &ArchiveOrder,

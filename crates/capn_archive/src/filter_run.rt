@@ -15,14 +15,15 @@ use capn_words::Watched;
 use std::alloc::Allocator;
 use std::io::{Read, Write};
 
-/// The run of an order, before its first message.
+/// Returns the run of `order` before its first message.
 fn first_run(order: FilterOrder) -> Run<FilterService>
     ensures { result ≡ spec.first_run order }
 {
     Run::new(FilterService::new(order))
 }
 
-/// Returns the outcome of `run` where no fault ended it: by a message that is not canonical, or with its input.
+/// Returns the outcome of `run`, which no fault ended: it stopped at a message that is not canonical, or at the end of
+/// its input.
 fn outcome_of(run: &Run<FilterService>) -> Result<(), ArchiveFault>
     ensures { result ≡ finish.outcome_unless run.now.service.ended run.now.service.skipped run.now.at.index }
 {
@@ -32,7 +33,7 @@ fn outcome_of(run: &Run<FilterService>) -> Result<(), ArchiveFault>
     }
 }
 
-/// Why one ends whose messages a fault ended.
+/// Returns the fault with which `run` ends, from the `fault` that stopped its loop.
 fn fault_of(run: &Run<FilterService>, fault: RunFault) -> ArchiveFault
     ensures { result ≡ finish.fault_after run.now.service.skipped run.now.at.index fault }
 {
@@ -61,17 +62,16 @@ fn run_service<R: Read, W: Write, A: Allocator + Copy>(
     }
 }
 
-/// Reads the messages of an archive, and writes the frame of each that is accepted, as it stands; of a packed input the
-/// bytes that the frame unpacks to, and of a bare input all of it. If the order is for canonical messages, it writes
-/// only those: of one segment, whose contents are the canonical bytes of the value.
+/// Reads the messages of an archive, and writes the frame of each accepted one, as it stands. From a packed input it
+/// writes the bytes that the frame unpacks to, and from a bare input all of it. If the order is for canonical messages,
+/// it writes only those: of one segment, whose contents are the canonical bytes of the value.
 ///
-/// It reads as [`serve_form`] does, and what a piece decided is written before more is read. The run ends as done; as
-/// `Skipped` after all of its input, if messages were skipped; or with the first fault: a frame, a group or a message
-/// that is refused, at its position, which is `RefusedAfterSkipped` where messages were skipped before a frame or a
-/// group that is refused; `NotCanonical`, at its position, with a message that is accepted and not canonical, and
-/// nothing is read after it; `InputTooLong`; `Io` if and only if the reader or the writer failed; `Memory` if a growth
-/// was refused. The frames let through before a fault have been written, and nothing after these. It holds what its
-/// loop holds.
+/// It reads as [`serve_form`] does, and writes what a piece decided before it reads more. The run ends as done, as
+/// `Skipped` after all of its input if messages were skipped, or with the first fault. `Refused`: a frame, a group or a
+/// message is refused, at its position. `RefusedAfterSkipped` instead, if messages were skipped before that frame or
+/// group. `NotCanonical`: a message is accepted but not canonical, at its position, and nothing is read after it.
+/// `InputTooLong`. `Io` if and only if the reader or the writer failed. `Memory` if a growth was refused. The frames
+/// let through before a fault have been written, and nothing after these. It holds what its loop holds.
 pub fn run_filter<R: Read, W: Write, A: Allocator + Copy>(
     alloc: A,
     order: FilterOrder,

@@ -15,17 +15,16 @@ use std::io::Write;
 /// The service that lets messages through: it writes the frame of each message that is accepted, as it stands, or only
 /// of those that are canonical.
 ///
-/// A message that is held back writes nothing. It ends the run, or, if the order says to keep going, is skipped. One
-/// that its walk refuses ends it with that refusal. One that is accepted and not canonical is refused by the service
-/// itself: it is served no more after that, and keeps where the message is. Of a run it keeps how many messages were
-/// skipped, and takes no memory.
+/// A message that is held back writes nothing. If the order says to keep going, it is skipped. Otherwise it ends the
+/// run. If its walk refuses it, the run ends with that refusal. If it is accepted but not canonical, the service keeps
+/// the position of the message, and asks for no more. It counts the skipped messages, and takes no memory.
 #[derive(Clone, Copy, Debug, PartialEq, Eq)]
 pub struct FilterService {
     /// The order that it carries out.
     pub order: FilterOrder,
-    /// The messages that it has skipped, if any was.
+    /// The messages that it has skipped, if any.
     pub skipped: Option<SkippedSoFar>,
-    /// The position of the message that ended the run, if one did that is not canonical.
+    /// The position of the message that ended the run because it is not canonical, if one did.
     pub ended: Option<Position>,
 }
 
@@ -69,7 +68,7 @@ fn judge<S: Space, A: Allocator + Copy>(alloc: A, order: &FilterOrder, message: 
 }
 
 impl FilterService {
-    /// A service that has let nothing through.
+    /// Returns a service that has let nothing through.
     pub(crate) fn new(order: FilterOrder) -> FilterService
         ensures { result ≡ first_state order }
     {

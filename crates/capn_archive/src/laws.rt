@@ -2,7 +2,7 @@
 
 ghost use Rattle.capn_archive.specs.Laws.{FilteredIsListed, FiltersAccepted, OneArchive, OneFilter, OneUniq};
 
-/// An order says one text and one ending of an input.
+/// States that an order decides the text and the ending of a run over an input: there is one of each.
 pub fn one_text()
     ensures archive { OneArchive }
     ensures uniq { OneUniq }

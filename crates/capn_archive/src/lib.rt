@@ -3,9 +3,9 @@
 //!
 //! [`run_archive`] carries an order out, an [`ArchiveOrder`]: by its service, the [`ArchiveService`], it lists
 //! messages, says what limits they need, or writes their canonical bytes as frames. [`run_uniq`] carries out a
-//! [`UniqOrder`] by a [`UniqService`]: it leaves out messages whose canonical bytes one before them had. [`run_filter`]
-//! carries out a [`FilterOrder`] by a [`FilterService`]: it lets messages through that are accepted. The loops over the
-//! messages are those of [`capn_serve`].
+//! [`UniqOrder`] by a [`UniqService`]: it leaves out each message with the canonical bytes of an earlier one.
+//! [`run_filter`] carries out a [`FilterOrder`] by a [`FilterService`]: it lets accepted messages through. The loops
+//! over the messages are those of [`capn_serve`].
 #![tactic(auto)]
 
 mod archive_run;

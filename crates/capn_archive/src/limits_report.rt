@@ -79,7 +79,7 @@ impl fmt::Display for Needs {
     }
 }
 
-/// The greatest amount, 0 if there is no message.
+/// Returns the greatest amount, or 0 if there is no message.
 fn amount_of(greatest: Option<Greatest>) -> u64
     ensures value { result ≡ spec.amount_of greatest }
     ensures small { result < 2 ^ 32 }
@@ -112,7 +112,7 @@ impl<'a> fmt::Display for Advice<'a> {
     }
 }
 
-/// The five lines of the limits that the messages of an archive need.
+/// Returns the five lines of the limits that the messages of an archive need.
 pub(crate) fn limits_text<A: Allocator>(alloc: A, needs: &Needs) -> Result<String<A>, RunFault>
     ensures found { IfOk result (λ text. string_bytes text ≡ spec.limits_text needs.now) }
     ensures only { IfErr result (λ e. e ≡ faults.Memory) }

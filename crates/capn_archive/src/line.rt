@@ -32,7 +32,7 @@ impl Model for Line {
 }
 
 impl Line {
-    /// A line of which nothing is written yet.
+    /// Returns a line in which nothing is written yet.
     pub(crate) fn new() -> Line
         ensures { result ≡ [] }
     {
@@ -49,7 +49,7 @@ impl Line {
         &self.bytes[self.start..]
     }
 
-    /// Writes bytes before it.
+    /// Writes `part` in front of the line.
     pub(crate) fn put(&mut self, part: &[u8])
         requires { length part.now + length self.old ≤ most_line }
         ensures { self.new ≡ part.now ++ self.old }
@@ -59,7 +59,7 @@ impl Line {
         self.start = start;
     }
 
-    /// Writes a number before it.
+    /// Writes a number in front of the line.
     fn put_number(&mut self, n: u64)
         requires { 20 + length self.old ≤ most_line }
         ensures number { self.new ≡ decimal n ++ self.old }
@@ -68,7 +68,7 @@ impl Line {
         self.start = itoa::write_digits(n, &mut self.bytes, self.start);
     }
 
-    /// Writes a name and a number before it.
+    /// Writes a name and a number in front of the line.
     fn put_named(&mut self, name: &[u8], n: u64)
         requires { length name.now + 20 + length self.old ≤ most_line }
         ensures named { self.new ≡ name.now ++ (decimal n ++ self.old) }
@@ -78,7 +78,7 @@ impl Line {
         self.put(name);
     }
 
-    /// Writes before it where a message is, and how large.
+    /// Writes the position and the size of a message in front of the line.
     pub(crate) fn put_head(&mut self, head: &MessageHead)
         requires { 148 + length self.old ≤ most_line }
         ensures { self.new ≡ spec.head_text head.now ++ self.old }
@@ -91,7 +91,7 @@ impl Line {
         self.put(digits.format(number_of(head.at.index)).as_bytes());
     }
 
-    /// Writes before it the index of a capability, or that there is none.
+    /// Writes the index of a capability in front of the line, or that there is none.
     fn put_capability(&mut self, capability: Option<u32>)
         requires { 20 + length self.old ≤ most_line }
         ensures capability { self.new ≡ spec.capability_text capability ++ self.old }
@@ -103,7 +103,7 @@ impl Line {
         }
     }
 
-    /// Writes before it whether something is so.
+    /// Writes `yes` or `no` in front of the line.
     fn put_answer(&mut self, answer: bool)
         requires { 3 + length self.old ≤ most_line }
         ensures answer { self.new ≡ spec.answer_text answer ++ self.old }
@@ -116,7 +116,7 @@ impl Line {
         }
     }
 
-    /// Writes before it what is found of a message.
+    /// Writes the numbers that were `measured` in front of the line.
     pub(crate) fn put_measured(&mut self, measured: &MeasuredBare)
         requires { 126 + length self.old ≤ most_line }
         ensures measured { self.new ≡ spec.measured_text measured.now ++ self.old }
@@ -131,7 +131,7 @@ impl Line {
         self.put_named(b"paid ", measured.survey.paid as u64);
     }
 
-    /// Writes before it a digest in 64 hexadecimal digits, or `-` if there is none.
+    /// Writes a digest in front of the line, in 64 hexadecimal digits, or `-` if there is none.
     pub(crate) fn put_digest(&mut self, digest: Option<[u8; 32]>)
         requires { 64 + length self.old ≤ most_line }
         ensures digest { self.new ≡ spec.digest_text digest ++ self.old }

@@ -12,7 +12,7 @@ use capn_canon::{MeasuredBare, Refusal};
 use capn_serve::ServeFault;
 use std::alloc::{AllocError, Allocator};
 
-/// The line of a message that is accepted.
+/// Returns the line of an accepted message.
 fn list_line(head: &MessageHead, measured: &MeasuredBare) -> Line
     ensures { result ≡ spec.list_line head.now measured.now }
 {
@@ -24,7 +24,7 @@ fn list_line(head: &MessageHead, measured: &MeasuredBare) -> Line
     line
 }
 
-/// The line of a message that is accepted, with its digest.
+/// Returns the line of an accepted message, with its digest.
 fn digests_line(head: &MessageHead, measured: &MeasuredBare, digest: Option<[u8; 32]>) -> Line
     ensures { result ≡ spec.digests_line head.now measured.now digest }
 {
@@ -38,7 +38,7 @@ fn digests_line(head: &MessageHead, measured: &MeasuredBare, digest: Option<[u8;
     line
 }
 
-/// The position and the size of a message.
+/// Returns the position and the size of a message, as the beginning of its line.
 fn head_text(head: &MessageHead) -> Line
     ensures { result ≡ spec.head_text head.now }
 {
@@ -47,7 +47,7 @@ fn head_text(head: &MessageHead) -> Line
     line
 }
 
-/// The end of the line of a message that is skipped: why it is refused.
+/// Returns the end of a skipped message's line: the reason why it is refused.
 fn refusal_end<A: Allocator>(alloc: A, refusal: &Refusal) -> Result<String<A>, ServeFault>
     ensures found { IfOk result (λ text. string_bytes text ≡ codes " refused " ++ (refusal_text refusal.now
         ++ codes "\n")) }
@@ -69,7 +69,7 @@ fn put_bytes<A: Allocator>(text: &mut Vec<u8, A>, bytes: &[u8]) -> Result<(), Se
     }
 }
 
-/// Appends some bytes and others. Where memory is refused, a beginning may be there.
+/// Appends `front` and `back`. If memory is refused, a beginning of them may be there.
 fn push_both<A: Allocator>(
     text: &mut Vec<u8, A>,
     front: &[u8],
@@ -81,7 +81,7 @@ fn push_both<A: Allocator>(
     text.extend_from_slice(back)
 }
 
-/// Appends them, or nothing where memory is refused.
+/// Appends `front` and `back`, or nothing if memory is refused.
 fn put_both<A: Allocator>(
     text: &mut Vec<u8, A>,
     front: &[u8],

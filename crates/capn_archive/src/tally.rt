@@ -17,7 +17,7 @@ pub struct Greatest {
 /// The sums and maxima of the messages that a run has served.
 #[derive(Clone, Copy, Debug, PartialEq, Eq)]
 pub struct Tally {
-    /// The messages that were skipped, if any was.
+    /// The messages that were skipped, if any.
     pub skipped: Option<SkippedSoFar>,
     /// The greatest number of words, if any message was counted.
     pub words: Option<Greatest>,
@@ -27,8 +27,8 @@ pub struct Tally {
     pub depth: Option<Greatest>,
 }
 
-/// The greater of what was greatest so far and an amount of the message of this index. Of two that are equal, the
-/// earlier.
+/// Returns the greater of the greatest amount `so_far` and the `amount` of the message `index`: the earlier one, if
+/// they are equal.
 fn greater(so_far: Option<Greatest>, amount: u32, index: u64) -> Greatest
     ensures { result ≡ spec.greater so_far amount index }
 {
@@ -44,7 +44,7 @@ fn greater(so_far: Option<Greatest>, amount: u32, index: u64) -> Greatest
     }
 }
 
-/// Nothing has been counted.
+/// Returns a tally in which nothing is counted.
 pub(crate) fn no_tally() -> Tally
     ensures { result ≡ spec.no_tally }
 {

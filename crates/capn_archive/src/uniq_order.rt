@@ -2,7 +2,7 @@
 
 use capn_canon::{Form, Limits};
 
-/// The order of a run that leaves out messages whose canonical bytes one before them had, by their SHA-256.
+/// The order of a run that leaves out each message with the canonical bytes of an earlier one, compared by SHA-256.
 #[derive(Clone, Copy, Debug, PartialEq, Eq)]
 pub struct UniqOrder {
     /// The encoding of the input.

@@ -17,14 +17,14 @@ use capn_words::Watched;
 use std::alloc::Allocator;
 use std::io::{Read, Write};
 
-/// The run of an order, before its first message.
+/// Returns the run of `order` before its first message.
 fn first_run<A: Allocator + Copy>(alloc: A, order: UniqOrder) -> Run<UniqService<A>>
     ensures { result ≡ spec.first_run order }
 {
     Run::new(UniqService::new(alloc, order))
 }
 
-/// The line of a count: how many messages are kept, of how many.
+/// Returns the line of the count: how many messages are kept, and how many were served.
 fn count_line<A: Allocator>(alloc: A, kept: usize, served: u64) -> Result<String<A>, RunFault>
     ensures found { IfOk result (λ line. string_bytes line ≡ spec.count_line kept served) }
     ensures only { IfErr result (λ e. e ≡ faults.Memory) }
@@ -35,7 +35,7 @@ fn count_line<A: Allocator>(alloc: A, kept: usize, served: u64) -> Result<String
     }
 }
 
-/// Writes what is written after the last message.
+/// Writes the line of the count after the last message, if the order asks for it.
 fn write_count<W: Write, A: Allocator + Copy>(
     alloc: A,
     run: &Run<UniqService<A>>,
@@ -60,7 +60,7 @@ fn outcome_of<A: Allocator>(run: &Run<UniqService<A>>) -> Result<(), ArchiveFaul
     outcome(run.service.skipped(), run.at.index)
 }
 
-/// Why one ends whose messages, or what is written after them, a fault ended.
+/// Returns the fault with which `run` ends, from the `fault` that stopped its loop or its closing line.
 fn fault_of<A: Allocator>(run: &Run<UniqService<A>>, fault: RunFault) -> ArchiveFault
     ensures { result ≡ finish.fault_after run.now.service.skipped run.now.at.index fault }
 {
@@ -92,17 +92,16 @@ fn run_service<R: Read, W: Write, A: Allocator + Copy>(
     }
 }
 
-/// Reads the messages of an archive, and writes the frame of each, as it stands, whose canonical bytes no message
-/// before it had, by their SHA-256; of a packed input the bytes that the frame unpacks to, and of a bare input all of
-/// it. If the order is to count, it writes nothing but at the end a line `U of N`: how many are kept, and how many were
-/// served.
+/// Reads the messages of an archive, and writes those with canonical bytes that no message before them had, compared by
+/// SHA-256. Each is written as its frame stands. From a packed input it is the bytes that the frame unpacks to, and
+/// from a bare input all of it. If the order is to count, only a line `U of N` is written, at the end: how many
+/// messages are kept, and how many were served.
 ///
-/// It reads as [`serve_form`] does. The run ends as done; as `Skipped` after all of its input, if messages were
-/// skipped; or with the first fault: a frame, a group or a message that is refused, at its position, which is
-/// `RefusedAfterSkipped` where messages were skipped before a frame or a group that is refused; `InputTooLong`; `Io` if
-/// and only if the reader or the writer failed; `Memory` if a growth was refused. The frames kept before a fault have
-/// been written, and nothing after these. It holds what its loop holds, the canonical bytes of one message, and the
-/// digests of those kept.
+/// It reads as [`serve_form`] does. The run ends as done, as `Skipped` after all of its input if messages were skipped,
+/// or with the first fault. `Refused`: a frame, a group or a message is refused, at its position. `RefusedAfterSkipped`
+/// instead, if messages were skipped before that frame or group. `InputTooLong`. `Io` if and only if the reader or the
+/// writer failed. `Memory` if a growth was refused. The frames kept before a fault have been written, and nothing after
+/// these. It holds what its loop holds, the canonical bytes of one message, and the digests of those kept.
 pub fn run_uniq<R: Read, W: Write, A: Allocator + Copy>(
     alloc: A,
     order: UniqOrder,

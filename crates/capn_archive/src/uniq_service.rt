@@ -18,12 +18,12 @@ use std::alloc::Allocator;
 use std::io::Write;
 use std::marker::Model;
 
-/// The service that leaves duplicates out: it writes the frame of each message, as it stands, whose canonical bytes no
-/// message before had, by their SHA-256.
+/// The service that leaves duplicates out: it writes the frame of a message, as it stands, if no message before it had
+/// the same canonical bytes, compared by SHA-256.
 ///
-/// A message that is refused by its walk, or for a capability, ends the run, or, if the order says to keep going, is
-/// skipped: it writes nothing and is no duplicate of another. Of a run it holds the set of the digests of the messages
-/// kept.
+/// A message that is refused, by its walk or for a capability, ends the run, or is skipped if the order says to keep
+/// going. A skipped message writes nothing, and later ones are not compared with it. The service holds the digests of
+/// the messages that it has kept.
 #[derive(Drop)]
 pub struct UniqService<A: Allocator> {
     order: UniqOrder,
@@ -61,7 +61,7 @@ fn insert_digest<A: Allocator + Copy>(
     }
 }
 
-/// Adds what a message writes: its frame, unless messages are only counted or it is a duplicate.
+/// Adds the frame of a message, unless messages are only counted or it is a duplicate.
 fn add_kept<W: Write, A: Allocator>(
     count: bool,
     is_duplicate: bool,
@@ -81,7 +81,7 @@ fn add_kept<W: Write, A: Allocator>(
 }
 
 impl<B: Allocator> UniqService<B> {
-    /// The order that it carries out.
+    /// Returns the order that it carries out.
     pub(crate) fn order(&self) -> UniqOrder
         ensures { result ≡ self.now.order }
     {
@@ -102,7 +102,7 @@ impl<B: Allocator> UniqService<B> {
         self.served
     }
 
-    /// The messages that it has skipped, if any was.
+    /// Returns the messages that it has skipped, if any.
     pub(crate) fn skipped(&self) -> Option<SkippedSoFar>
         ensures { result ≡ self.now.skipped }
     {
@@ -111,7 +111,7 @@ impl<B: Allocator> UniqService<B> {
 }
 
 impl<B: Allocator + Copy> UniqService<B> {
-    /// A service that has kept nothing. It takes no memory.
+    /// Returns a service that has kept nothing. It takes no memory.
     pub(crate) fn new(alloc: B, order: UniqOrder) -> UniqService<B>
         ensures { result ≡ spec.first_state order }
     {

@@ -16,8 +16,8 @@ use capn_commands::Command;
 use std::alloc::Global;
 use std::convert::AsStr;
 
-/// The command over messages or bytes that the words order, the first of them being the program's name, as
-/// [`invocation_of`] reads them. What is answered there as `Usage` is so here, and so is any other invocation, as a
+/// Returns the command over messages or bytes that the words order, as [`invocation_of`] reads them: the first word is
+/// the program's name. If that call answers a `Usage`, so does this one. Any other invocation is answered as a
 /// subcommand that is not known.
 pub fn command_of<'a, S: AsStr>(alloc: Global, words: &'a [S]) -> Result<Command, Usage>
     // A command that is given is what the words mean.

@@ -29,7 +29,7 @@ use clap::ArgMatches;
 use std::alloc::Global;
 use std::convert::AsStr;
 
-/// The run over an archive that is for this task and has these options, if they mean one.
+/// Returns the order of a run over an archive for this `task` with these options, if they mean one.
 fn archive_of(task: Task, matches: &ArgMatches) -> Option<ArchiveOrder>
     ensures task { IfSome result (λ archive. archive.task ≡ task) }
     ensures options { IfSome result (AreOptions (rows_of (found_of matches.now))) }
@@ -61,7 +61,7 @@ fn list_of<'a>(matches: &ArgMatches<'a>) -> Option<Invocation<'a>>
     Some(Invocation::Archive(archive_of(task, matches)?))
 }
 
-/// The run of `uniq` that has these options, if they mean one.
+/// Returns the order of `uniq` with these options, if they mean one.
 fn uniq_of(matches: &ArgMatches) -> Option<UniqOrder>
     ensures are { IfSome result (UniqIs (rows_of (found_of matches.now))) }
     ensures served { (uniq : UniqOrder) → UniqIs (rows_of (found_of matches.now)) uniq → IsSome result }
@@ -74,7 +74,7 @@ fn uniq_of(matches: &ArgMatches) -> Option<UniqOrder>
     })
 }
 
-/// The run of `filter` that has these options, if they mean one.
+/// Returns the order of `filter` with these options, if they mean one.
 fn filter_of(matches: &ArgMatches) -> Option<FilterOrder>
     ensures are { IfSome result (FilterIs (rows_of (found_of matches.now))) }
     ensures served { (filter : FilterOrder) → FilterIs (rows_of (found_of matches.now)) filter → IsSome result }
@@ -87,7 +87,7 @@ fn filter_of(matches: &ArgMatches) -> Option<FilterOrder>
     })
 }
 
-/// The run of `cmp` that has these options, if they mean one.
+/// Returns the order of `cmp` with these options, if they mean one.
 fn cmp_of(matches: &ArgMatches) -> Option<CmpOrder>
     ensures are { IfSome result (CmpIs (rows_of (found_of matches.now))) }
     ensures served { (cmp : CmpOrder) → CmpIs (rows_of (found_of matches.now)) cmp → IsSome result }
@@ -98,7 +98,7 @@ fn cmp_of(matches: &ArgMatches) -> Option<CmpOrder>
     })
 }
 
-/// The run of `make` that has these options, if they mean one.
+/// Returns the order of `make` with these options, if they mean one.
 fn make_of(matches: &ArgMatches) -> Option<Make>
     ensures are { IfSome result (MakeIs (rows_of (found_of matches.now))) }
     ensures served { (make : Make) → MakeIs (rows_of (found_of matches.now)) make → IsSome result }

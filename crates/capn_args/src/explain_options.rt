@@ -14,7 +14,8 @@ use crate::option_values::{flag_of, text_in};
 use capn_explain::{Explain, ExplainRefused};
 use clap::ArgMatches;
 
-/// The number that `--number` gives, or that none is given; nothing where its value is no number of a message.
+/// Reads `--number`: returns the number of a message, or `Some(None)` if the option is not given. `None`: its value is
+/// no number of a message.
 fn numbered(matches: &ArgMatches) -> Option<Option<u64>>
     ensures read { IfSome result (IsNumbered (rows_of (found_of matches.now))) }
     ensures served { (number : Option ℕ) → IsNumbered (rows_of (found_of matches.now)) number → IsSome result }
@@ -28,7 +29,7 @@ fn numbered(matches: &ArgMatches) -> Option<Option<u64>>
     }
 }
 
-/// Returns the run that explains one message and has these options, if they mean one.
+/// Returns the order to explain one message with these options, if they mean one.
 fn one_of(matches: &ArgMatches) -> Option<Explain>
     ensures are { IfSome result (ExplainIs (rows_of (found_of matches.now))) }
     ensures served { (explain : Explain) → ExplainIs (rows_of (found_of matches.now)) explain → IsSome result }
@@ -43,8 +44,8 @@ fn one_of(matches: &ArgMatches) -> Option<Explain>
     })
 }
 
-/// Returns the run that explains every message that is refused and has these options, if they mean one: `--number` is
-/// not given.
+/// Returns the order to explain every refused message with these options, if they mean one. `--number` must not be
+/// given.
 fn refused_of(matches: &ArgMatches) -> Option<ExplainRefused>
     ensures are { IfSome result (RefusedIs (rows_of (found_of matches.now))) }
     ensures served { (refused : ExplainRefused) → RefusedIs (rows_of (found_of matches.now)) refused → IsSome result }
@@ -57,8 +58,8 @@ fn refused_of(matches: &ArgMatches) -> Option<ExplainRefused>
     }
 }
 
-/// Returns the run of `explain` that has these options, if they mean one: with `--keep-going` every message that is
-/// refused is explained.
+/// Returns the order of `explain` with these options, if they mean one: with `--keep-going`, to explain every refused
+/// message.
 pub(crate) fn explain_of(matches: &ArgMatches) -> Option<Explanation>
     ensures are { IfSome result (ExplanationIs (rows_of (found_of matches.now))) }
     ensures served { (explanation : Explanation) → ExplanationIs (rows_of (found_of matches.now)) explanation

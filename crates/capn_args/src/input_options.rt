@@ -12,7 +12,7 @@ use capn_walk::Limits;
 use capn_words::MOST_MESSAGE_WORDS;
 use clap::ArgMatches;
 
-/// The form that `--form` names, if it names one.
+/// Returns the form that `--form` names, if it names one.
 pub(crate) fn form_of(matches: &ArgMatches) -> Option<Form>
     ensures named { IfSome result (λ form. FormIs (rows_of (found_of matches.now)) form) }
     ensures served { (form : Form) → FormIs (rows_of (found_of matches.now)) form → IsSome result }
@@ -25,7 +25,7 @@ pub(crate) fn form_of(matches: &ArgMatches) -> Option<Form>
     }
 }
 
-/// The tariff that `--tariff` names, if it names one.
+/// Returns the tariff that `--tariff` names, if it names one.
 fn tariff_of(matches: &ArgMatches) -> Option<Tariff>
     ensures named { IfSome result (λ tariff. TariffIs (rows_of (found_of matches.now)) tariff) }
     ensures served { (tariff : Tariff) → TariffIs (rows_of (found_of matches.now)) tariff → IsSome result }
@@ -37,7 +37,7 @@ fn tariff_of(matches: &ArgMatches) -> Option<Tariff>
     }
 }
 
-/// The number that an option has, given or usual.
+/// Returns the number that the option `id` has, given or usual.
 fn number_of(matches: &ArgMatches, id: &str) -> Option<u32>
     ensures read { IfSome result (λ n. NumberIs (rows_of (found_of matches.now)) id.now n) }
     ensures served { (n : ℕ) → NumberIs (rows_of (found_of matches.now)) id.now n → n < 2 ^ 32 → IsSome result }
@@ -46,7 +46,8 @@ fn number_of(matches: &ArgMatches, id: &str) -> Option<u32>
     Some(number)
 }
 
-/// The limits that the three number options and `--tariff` have, if each is in its range and names something.
+/// Returns the limits that the three number options and `--tariff` have, if the numbers are in range and the tariff is
+/// known.
 pub(crate) fn limits_of(matches: &ArgMatches) -> Option<Limits>
     ensures are { IfSome result (λ limits. LimitsAre (rows_of (found_of matches.now)) limits) }
     ensures served { (limits : Bounds) → LimitsAre (rows_of (found_of matches.now)) limits → IsSome result }
@@ -58,7 +59,7 @@ pub(crate) fn limits_of(matches: &ArgMatches) -> Option<Limits>
     Some(limits.with_tariff(tariff_of(matches)?))
 }
 
-/// The most words that may be unpacked: those of a message, and of the longest segment table.
+/// Returns the most words that may be unpacked: those of a message, and of the longest segment table.
 pub(crate) fn unpacked_words_of(matches: &ArgMatches) -> Option<u32>
     ensures are { IfSome result (λ most. UnpackedIs (rows_of (found_of matches.now)) most) }
     ensures served { (most : ℕ) → UnpackedIs (rows_of (found_of matches.now)) most → IsSome result }

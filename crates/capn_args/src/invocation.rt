@@ -12,9 +12,9 @@ use capn_walk::Limits;
 /// Pack or unpack. Output is written before more input is read.
 #[derive(Clone, Copy, Debug, PartialEq, Eq)]
 pub enum Flow {
-    /// They are packed.
+    /// Bytes are packed.
     Pack,
-    /// They are unpacked.
+    /// Bytes are unpacked.
     Unpack,
 }
 
@@ -51,7 +51,7 @@ pub enum Explanation {
 pub struct Only<'a> {
     /// The encoding of the input.
     pub form: StreamForm,
-    /// The limits of a message, of which its number of words alone counts.
+    /// The limits of a message. Only the limit on its words counts.
     pub limits: Limits,
     /// The list: numbers and ranges in ascending order, parted by commas.
     pub list: &'a str,

@@ -2,12 +2,12 @@
 
 ghost use Rattle.capn_args.specs.Meaning.{MeansOne, MeansOneInvocation};
 
-/// A subcommand with the values of its options means one invocation at most.
+/// States that a subcommand with the values of its options means at most one invocation.
 pub fn meaning()
     ensures { MeansOneInvocation }
 {}
 
-/// And one command over messages or bytes at most.
+/// States that a subcommand with the values of its options means at most one command over messages or bytes.
 pub fn command()
     ensures { MeansOne }
 {}

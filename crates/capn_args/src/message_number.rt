@@ -5,7 +5,7 @@ ghost use Rattle.capn_args.specs.MessageNumber as spec;
 
 use crate::path::with_digit;
 
-/// The number of a text, if that is one from 1 to 2^64 - 1 in digits, without leading zeros and signs.
+/// Reads `text` as a number from 1 to 2^64 - 1, in digits without a sign or leading zeros. `None`: it is none.
 pub(crate) fn message_number(text: &str) -> Option<u64>
     ensures { result ≡ spec.number_of text.now }
 {

@@ -17,8 +17,8 @@ use clap::ArgMatches;
 use clap::error::ErrorKind;
 use std::alloc::Global;
 
-/// The message for options of `pick` that mean nothing: what its `--form` takes, or else what `--only` takes, or else
-/// what goes without that.
+/// Returns the message for options of `pick` that mean nothing: about `--form`, else about the value of `--only`, else
+/// about the options that don't go with it.
 fn said_of_pick(matches: &ArgMatches) -> &'static str {
     if stream_form_of(matches).is_none() {
         return option_mistakes::NO_FRAMED_FORM;
@@ -35,7 +35,7 @@ fn said_of_pick(matches: &ArgMatches) -> &'static str {
     }
 }
 
-/// The message for options of `cmp` that mean nothing: what its `--form` takes, or else what `--tariff` takes.
+/// Returns the message for options of `cmp` that mean nothing: about `--form`, else about `--tariff`.
 fn said_of_cmp(matches: &ArgMatches) -> &'static str {
     match stream_form_of(matches) {
         Some(_) => option_mistakes::NO_SUCH_TARIFF,
@@ -43,8 +43,8 @@ fn said_of_cmp(matches: &ArgMatches) -> &'static str {
     }
 }
 
-/// The message for options of `show` that mean nothing, whose form and limits are fine: what `--at` takes, or else what
-/// JSON goes without.
+/// Returns the message for options of `show` that mean nothing although its form and limits are fine: about the value
+/// of `--at`, else about an option that doesn't go with `--json`.
 fn said_of_show(matches: &ArgMatches) -> &'static str {
     match text_in(matches, "at") {
         Some(path) => {
@@ -60,8 +60,8 @@ fn said_of_show(matches: &ArgMatches) -> &'static str {
     }
 }
 
-/// The message for options of `explain` that mean nothing, whose form and limits are fine: what `--number` takes, or
-/// else what `--keep-going` goes without.
+/// Returns the message for options of `explain` that mean nothing although its form and limits are fine: about the
+/// value of `--number`, else about `--keep-going` beside it.
 fn said_of_explain(matches: &ArgMatches) -> &'static str {
     match text_in(matches, "number") {
         Some(text) => match message_number(text) {
@@ -72,9 +72,9 @@ fn said_of_explain(matches: &ArgMatches) -> &'static str {
     }
 }
 
-/// The message for options of this command that mean nothing: for `pick` and `cmp`, one of their own; for `unpack`,
-/// which two don't go together; for the others, that on `--form`, or else on `--tariff`, or else on `--at` and `--json`
-/// of `show`, on `--number` and `--keep-going` of `explain`, and on `--keep-going` of `canonical`.
+/// Returns the message for options of the command `name` that mean nothing. `pick`, `cmp` and `unpack` have messages of
+/// their own. For the others it is about `--form`, else about `--tariff`, else about the other options of `show`,
+/// `explain` or `canonical`.
 fn said_of(name: &str, matches: &ArgMatches) -> &'static str {
     if name == "pick" {
         return said_of_pick(matches);
@@ -98,7 +98,7 @@ fn said_of(name: &str, matches: &ArgMatches) -> &'static str {
     }
 }
 
-/// The command whose options mean nothing, and the message for them.
+/// Returns the command whose options mean nothing, and the message for them.
 fn mistake_of<'a>(matches: &'a ArgMatches) -> (&'a str, &'static str) {
     match matches.subcommand() {
         Some((name, found)) => (name, said_of(name, found)),

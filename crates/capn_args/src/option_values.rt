@@ -24,7 +24,7 @@ pub(crate) fn flag_of(matches: &ArgMatches, id: &str) -> Option<bool>
     Some(given)
 }
 
-/// The text that the option of this name has, if it is given.
+/// Returns the text that the option `id` has, if it is given.
 pub(crate) fn text_in<'a>(matches: &ArgMatches<'a>, id: &str) -> Option<&'a str>
     ensures given { IfSome result (λ text. first_of id.now (rows_of (found_of matches.now)) ≡ Some text.now) }
     ensures none { IfNone result (first_of id.now (rows_of (found_of matches.now)) ≡ None) }
@@ -52,7 +52,7 @@ pub(crate) fn is_usual(matches: &ArgMatches, id: &str) -> bool
     }
 }
 
-/// The number that an option has, given or usual.
+/// Returns the number that the option `id` has, given or usual.
 fn number_of(matches: &ArgMatches, id: &str) -> Option<u64>
     ensures read { IfSome result (λ n. NumberIs (rows_of (found_of matches.now)) id.now n) }
     ensures served { (n : ℕ) → NumberIs (rows_of (found_of matches.now)) id.now n → n < 2 ^ 64 → IsSome result }
@@ -61,7 +61,7 @@ fn number_of(matches: &ArgMatches, id: &str) -> Option<u64>
     Some(number)
 }
 
-/// The number that an option has, given or usual, if it is from the least to the most.
+/// Returns the number that the option `id` has, given or usual, if it is from `least` to `most`.
 pub(crate) fn number_in(matches: &ArgMatches, id: &str, least: u64, most: u64) -> Option<u64>
     ensures read { IfSome result (NumberIn (rows_of (found_of matches.now)) id.now least most) }
     ensures served { (n : ℕ) → NumberIn (rows_of (found_of matches.now)) id.now least most n → n < 2 ^ 64
@@ -74,7 +74,7 @@ pub(crate) fn number_in(matches: &ArgMatches, id: &str, least: u64, most: u64) -
     None
 }
 
-/// The form of a stream that `--form` names, if it names one.
+/// Returns the form of a stream that `--form` names, if it names one.
 pub(crate) fn stream_form_of(matches: &ArgMatches) -> Option<StreamForm>
     ensures named { IfSome result (λ form. FormIs (rows_of (found_of matches.now)) (plans.form_of form)) }
     ensures served { (form : StreamForm) → FormIs (rows_of (found_of matches.now)) (plans.form_of form)
@@ -87,7 +87,7 @@ pub(crate) fn stream_form_of(matches: &ArgMatches) -> Option<StreamForm>
     }
 }
 
-/// The usual limits, with this number of words of a message.
+/// Returns the usual limits, with this number of `words` of a message.
 pub(crate) fn limits_with(words: u32) -> Limits
     requires some { 1 ≤ words }
     requires few { words ≤ most_message_words }

@@ -6,7 +6,7 @@ ghost use Rattle.capn_args.specs.Path as spec;
 
 use std::alloc::{AllocError, Allocator};
 
-/// The number whose digits so far make this one, with one digit more, if it is a digit and the number stays below 2^64.
+/// Appends the digit `c` to the number `begun`. `None`: `c` is no digit, or the number would pass 2^64 - 1.
 pub(crate) fn with_digit(begun: Option<u64>, c: u8) -> Option<u64>
     ensures { result ≡ spec.with_digit begun c }
 {
@@ -40,8 +40,8 @@ pub(crate) fn is_path(text: &str) -> bool
     begun.is_some()
 }
 
-/// The numbers of a path, in the order in which they stand, or none where no path is given; of a text that is no path
-/// some numbers. It takes memory for these, of 8 bytes each, and where no path is given none. (Own.)
+/// Returns the numbers of `path`, in order. Without a path there are none, and no memory is taken; otherwise each
+/// number takes 8 bytes. If the text is no path, it returns some numbers. (Own.)
 pub fn numbers_of<A: Allocator>(alloc: A, path: Option<&str>) -> Result<Vec<u64, A>, AllocError>
     ensures found { IfOk result (λ numbers. (are : List ℕ) → spec.numbers_of path.entry ≡ Some are
         → numbers.items ≡ are) }
@@ -53,7 +53,7 @@ pub fn numbers_of<A: Allocator>(alloc: A, path: Option<&str>) -> Result<Vec<u64,
     }
 }
 
-/// The numbers of the text of a path.
+/// Returns the numbers of `text`, the text of a path.
 fn numbers_in<A: Allocator>(alloc: A, text: &str) -> Result<Vec<u64, A>, AllocError>
     ensures { IfOk result (λ numbers. (path : List ℕ) → spec.path_of text.now ≡ Some path → numbers.items ≡ path) }
 {

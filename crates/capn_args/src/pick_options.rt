@@ -14,7 +14,7 @@ use capn_serve::Pick;
 use capn_words::MOST_MESSAGE_WORDS;
 use clap::ArgMatches;
 
-/// The run of `pick` that has these options, without `--only`, if they mean one.
+/// Returns the order of `pick` with these options, without `--only`, if they mean one.
 fn pick_of(matches: &ArgMatches) -> Option<Pick>
     ensures are { IfSome result (PickIs (rows_of (found_of matches.now))) }
     ensures served { (pick : Pick) → PickIs (rows_of (found_of matches.now)) pick → IsSome result }
@@ -34,7 +34,7 @@ fn pick_of(matches: &ArgMatches) -> Option<Pick>
     }
 }
 
-/// The list of `--only`, if it is one, and neither `--from` nor `--to` is given.
+/// Returns the list of `--only`, if its value is one and neither `--from` nor `--to` is given.
 fn list_of_only<'a>(matches: &ArgMatches<'a>) -> Option<&'a str>
     ensures are { IfSome result (λ list. ListIs (rows_of (found_of matches.now)) list.now) }
     ensures served { (list : Text) → ListIs (rows_of (found_of matches.now)) list → IsSome result }
@@ -46,7 +46,7 @@ fn list_of_only<'a>(matches: &ArgMatches<'a>) -> Option<&'a str>
     None
 }
 
-/// The run of `pick` that has these options, with `--only`, if they mean one.
+/// Returns the order of `pick` with these options, with `--only`, if they mean one.
 fn only_of<'a>(matches: &ArgMatches<'a>) -> Option<Only<'a>>
     ensures are { IfSome result (OnlyIs (rows_of (found_of matches.now))) }
     ensures served { (only : Only) → OnlyIs (rows_of (found_of matches.now)) only → IsSome result }

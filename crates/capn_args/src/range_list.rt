@@ -20,7 +20,7 @@ pub struct Begun {
     pub digits: Option<u64>,
 }
 
-/// A range of which nothing has been read, after this number.
+/// Returns the beginning of a range: nothing of it has been read, and `last` is the last number before it.
 fn fresh(last: u64) -> Begun
     ensures { result ≡ spec.fresh last }
 {
@@ -31,7 +31,8 @@ fn fresh(last: u64) -> Begun
     }
 }
 
-/// The range that has been read, if its first number is greater than all before it, and not greater than its last one.
+/// Returns the range that has been read, if it is complete: it begins after all numbers before it, and doesn't end
+/// before it begins.
 fn range_of(begun: Begun) -> Option<Range>
     ensures is { result ≡ spec.range_of begun }
     ensures above { IfSome result (λ range. (begun.last < range.from) × (range.from ≤ range.to)) }
@@ -104,8 +105,8 @@ pub(crate) fn is_range_list(text: &str) -> bool
     range_of(begun).is_some()
 }
 
-/// The ranges of a list, in ascending order; of another text some ascending ranges. It takes memory for these, of 16
-/// bytes each. (Own.)
+/// Returns the ranges of a list, in ascending order, or some ascending ranges if `text` is no list. Each takes 16 bytes
+/// of memory. (Own.)
 #[tactic(auto, using(crate::proofs::RangeLists::one_more, crate::proofs::RangeLists::so_far_above))]
 pub fn ranges_in<A: Allocator>(alloc: A, text: &str) -> Result<Vec<Range, A>, AllocError>
     ensures found { IfOk result (λ ranges. (are : List Range) → spec.ranges_in text.now ≡ Some are

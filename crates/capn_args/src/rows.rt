@@ -50,7 +50,7 @@ pub const COMMANDS: [&str; 14] = [
     "make",
 ];
 
-/// The page of help of a command.
+/// Returns the page of help of a command.
 pub(crate) fn page_of(name: &str) -> Page {
     match name {
         "show" => messages_help::SHOW,

@@ -19,7 +19,7 @@ use capn_show::Style;
 use capn_walk::Limits;
 use clap::ArgMatches;
 
-/// The style of two flags.
+/// Returns the style of the flags `--text` and `--json`.
 fn style_for(text: bool, json: bool) -> Style
     ensures { result ≡ spec.style_for text json }
 {
@@ -32,7 +32,7 @@ fn style_for(text: bool, json: bool) -> Style
     }
 }
 
-/// The style that `--text` and `--json` order.
+/// Returns the style that `--text` and `--json` order.
 fn style_of(matches: &ArgMatches) -> Option<Style>
     ensures read { IfSome result (StyleIs (rows_of (found_of matches.now))) }
     ensures served { (style : Style) → StyleIs (rows_of (found_of matches.now)) style → IsSome result }

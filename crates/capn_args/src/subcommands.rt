@@ -15,7 +15,7 @@ use clap::Command;
 use clap::error::ErrorKind;
 use std::alloc::{AllocError, Global};
 
-/// A command of this name without options, with its page of help.
+/// Returns a command called `name` without options, with its page of help.
 fn plain_command<'a>(alloc: Global, name: &'a str, page: Page) -> Command<'a>
     ensures app { app_of result ≡ new_app name.now }
     ensures local { (out-Command result).has_globals ≡ false }
@@ -27,7 +27,8 @@ fn plain_command<'a>(alloc: Global, name: &'a str, page: Page) -> Command<'a>
         .override_usage(page.usage)
 }
 
-/// The parser's error of this kind for the options of a command, or for what they order, with that command's usage.
+/// Returns the parser's error of this `kind`, with `text` as its message and with the usage of the command called
+/// `name`.
 pub(crate) fn mistake(
     alloc: Global,
     kind: ErrorKind,
@@ -50,7 +51,7 @@ fn is_taken(name: &str, row: &OptionRow) -> bool
     row.commands.iter().any(|command| *command == name)
 }
 
-/// A command with the options that it takes of these.
+/// Adds to `command`, which is called `name`, those options of `rows` that it takes.
 fn with_options<'a>(
     alloc: Global,
     name: &str,
@@ -69,7 +70,7 @@ fn with_options<'a>(
     Ok(command)
 }
 
-/// The command of this name.
+/// Returns the command called `name`.
 fn named_command<'a>(alloc: Global, name: &'a str) -> Result<Command<'a>, AllocError>
     ensures { IfOk result (λ c. HasLine c (line_of name.now)) }
 {
@@ -77,7 +78,7 @@ fn named_command<'a>(alloc: Global, name: &'a str) -> Result<Command<'a>, AllocE
     with_options(alloc, name, command, &OPTIONS)
 }
 
-/// A program with the commands of these names beside those that it has.
+/// Adds the commands called `names` to `program`.
 fn with_commands<'a>(
     alloc: Global,
     program: Command<'a>,
@@ -92,7 +93,7 @@ fn with_commands<'a>(
     Ok(program)
 }
 
-/// The program without a command.
+/// Returns the program without a command.
 fn top_command<'a>(alloc: Global) -> Command<'a>
     ensures { app_of result ≡ top_line }
 {
@@ -101,7 +102,7 @@ fn top_command<'a>(alloc: Global) -> Command<'a>
         .version(help::VERSION)
 }
 
-/// The whole command line. Refused memory is answered.
+/// Returns the whole command line. Refused memory is answered.
 pub fn program_command<'a>(alloc: Global) -> Result<Command<'a>, AllocError>
     ensures { IfOk result (λ c. app_of c ≡ program_line) }
 {

@@ -8,7 +8,7 @@ use crate::help::TITLE;
 use clap::error::ErrorKind;
 use std::alloc::{AllocError, Allocator};
 
-/// Why a command line orders nothing: a request for help or for the version, a mistake, or no memory.
+/// The reason why a command line orders nothing: a request for help or for the version, a mistake, or refused memory.
 #[derive(Drop)]
 pub struct Usage {
     /// The error of the parser of the command line.
@@ -18,8 +18,8 @@ pub struct Usage {
 impl Usage {
     ghost use Rattle.capn_args.specs.Usage.{IsHelp, NeedsMemory, WishesHelp, WishesVersion, error_of};
 
-    /// The exit status: 3 if memory ran out, 0 for a request for help, 2 for any other. The program shows the version
-    /// instead and ends with 0.
+    /// Returns the exit status: 3 if memory ran out, 0 for a request for help, 2 for any other. For the version the
+    /// program shows that instead, and ends with 0.
     pub fn status(&self) -> u8
         ensures { result ≡ usage_status_of (kind_of (error_of self.now)) }
     {
@@ -51,7 +51,7 @@ impl Usage {
         matches!(self.error.kind(), ErrorKind::DisplayVersion)
     }
 
-    /// The text for the user: help below its title, or what is said of a mistake.
+    /// Returns the text for the user: help below its title, or the message about a mistake.
     pub fn text<A: Allocator + Copy>(&self, alloc: A) -> Result<String<A>, AllocError>
         ensures { WishesHelp self.now → IfOk result (λ text. IsHelp (string_bytes text)) }
     {

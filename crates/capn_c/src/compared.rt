@@ -48,8 +48,8 @@ fn same_message<A: Space, B: Space>(
     Ok(same_surveyed(first, second, limits))
 }
 
-/// Does the same with a second message whose frame is `bytes`. Memory is asked for only by one of more than 64
-/// segments.
+/// Compares as [`same_message`] does, with a second message in the frame `bytes`. Memory is asked for only by a frame
+/// of more than 64 segments.
 fn same_frame<A: Space>(
     alloc: Global,
     first: &A,
@@ -66,7 +66,7 @@ fn same_frame<A: Space>(
     same_message(alloc, first, &second, limits)
 }
 
-/// Does the same with a second message whose packed text is `bytes`.
+/// Compares as [`same_message`] does, with a second message in the frame that `bytes` pack.
 fn same_packed<A: Space>(
     alloc: Global,
     first: &A,
@@ -83,7 +83,7 @@ fn same_packed<A: Space>(
     same_frame(alloc, first, stream.as_slice(), limits)
 }
 
-/// Does the same with a second message that `bytes` encode in this `form`.
+/// Compares as [`same_message`] does, with a second message that `bytes` encode in this `form`.
 fn same_in<A: Space>(
     alloc: Global,
     first: &A,

@@ -64,7 +64,7 @@ pub fn path_of(mismatch: &Mismatch<Global>) -> &[u32]
     }
 }
 
-/// Returns a mismatch of this `kind` and no other number, with a path of so many `numbers`.
+/// Returns a mismatch of this `kind` and no other number. Its path has this number of `numbers`.
 fn of_kind(kind: u32, numbers: u32) -> CapnDeparted
     ensures { result ≡ record {
       is = 0;
@@ -89,7 +89,7 @@ fn of_kind(kind: u32, numbers: u32) -> CapnDeparted
     }
 }
 
-/// Returns `mismatch` as C reads it, with a path of so many `numbers`.
+/// Returns `mismatch` as C reads it. Its path has this number of `numbers`.
 pub fn departed_of(mismatch: &Mismatch<Global>, numbers: u32) -> CapnDeparted
     requires numbers { numbers ≡ length (mismatches.path_of mismatch.now) }
     ensures { result ≡ told.departed_of mismatch.now }

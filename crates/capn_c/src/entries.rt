@@ -12,7 +12,7 @@ use capn_words::Space;
 #[derive(Clone, Copy)]
 #[repr(C)]
 pub struct CapnEntry {
-    /// The offset in the bytes at which the content begins: of a composite list that of its tag.
+    /// The offset in the bytes at which the content begins. Of a composite list that is the offset of its tag.
     pub offset: u64,
     /// The number of elements or rows of a list; the index of a capability; else 0.
     pub count: u32,

@@ -26,8 +26,8 @@ use capn_walk::{Limits, Surveyed, index_into_form};
 use capn_words::{Bare, Space};
 use std::alloc::Global;
 
-/// Writes the index of an accepted message, which comes after a table of `table` bytes and has its segments at
-/// `starts`, to `out`, in which it has room.
+/// Writes the index of an accepted message to `out`, which has room for it. The message comes after a table of `table`
+/// bytes, and its segments begin at `starts`.
 fn write_index<S: Space>(
     space: &S,
     limits: Limits,

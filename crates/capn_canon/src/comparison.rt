@@ -18,7 +18,7 @@ use capn_walk::Limits;
 use capn_words::Space;
 use std::sync::ledger::Ledger;
 
-/// Surveys the message `space` within `limits`; a refusal is that of this `side`.
+/// Surveys the message `space` within `limits`. A refusal is reported for this `side`.
 fn survey_side<S: Space, L: Ledger>(
     space: &CountedSpace<'_, S, L>,
     side: Side,

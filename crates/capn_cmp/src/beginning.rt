@@ -23,8 +23,8 @@ const WAYS: Marks = Marks {
     table: 0,
 };
 
-/// A writer that keeps what it takes, and takes no more than there is room for. Its memory is taken before it writes,
-/// so that a growth which is refused is never taken for the end of its room.
+/// A writer that keeps what it takes, up to the number of bytes that it has room for. Its memory is asked for before it
+/// writes, so that a refused growth is never mistaken for the end of its room.
 #[derive(Drop)]
 struct Beginning<A: Allocator> {
     bytes: Vec<u8, A>,
@@ -66,14 +66,14 @@ fn new_writer<A: Allocator>(bytes: Vec<u8, A>, room: usize) -> Watched<Beginning
     Watched::new(Beginning { bytes, room })
 }
 
-/// The bytes that a writer has kept.
+/// Returns the bytes that `writer` has kept.
 fn kept_by<A: Allocator>(writer: Watched<Beginning<A>>) -> Vec<u8, A>
     ensures { result.items ≡ (inner_of writer).bytes.items }
 {
     writer.into_inner().bytes
 }
 
-/// Ends a text with the line `end`, and writes what is kept of it. At `Io` there is no more room.
+/// Appends the line `end` to `text`, and writes that to `writer`. `Io`: there is no more room.
 fn end_text<A: Allocator>(
     text: &mut Vec<u8, A>,
     writer: &mut Watched<Beginning<A>>,
@@ -87,8 +87,8 @@ fn end_text<A: Allocator>(
     }
 }
 
-/// The beginning of the text that `show --ways --form bare` writes of canonical bytes, as much of it as there is room
-/// for, or a little less; or all of it.
+/// Returns a beginning of the text that `show --ways --form bare` writes of `canonical` bytes, or all of it. It is as
+/// long as there is `room` for, or a little shorter.
 pub(crate) fn begin_text<A: Allocator + Copy>(
     alloc: A,
     limits: Limits,

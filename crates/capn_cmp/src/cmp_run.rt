@@ -23,7 +23,7 @@ pub enum Comparison {
     Different,
 }
 
-/// The form of an input that holds a stream so.
+/// Returns the form of an input that holds a stream in this `form`.
 fn form_of(form: StreamForm) -> Form
     ensures { result ≡ spec.form_of form }
 {
@@ -33,7 +33,7 @@ fn form_of(form: StreamForm) -> Form
     }
 }
 
-/// The answer of a run whose messages no fault ended.
+/// Returns the answer of `run`, which no fault ended.
 fn found_by<A: Allocator>(run: &Run<CmpService<A>>) -> Result<Comparison, CmpFault>
     ensures { result ≡ spec.found_by run.now.service.differs run.now.at.index }
 {
@@ -50,13 +50,14 @@ fn found_by<A: Allocator>(run: &Run<CmpService<A>>) -> Result<Comparison, CmpFau
 /// canonical bytes.
 ///
 /// It reads `reader` as [`serve_form`] does, and judges each message as soon as it is whole. At the first message that
-/// differs it writes three lines to `writer`, and reads no more: where the message is, and the first lines in which the
-/// texts differ that `show --ways --form bare` writes of the first message's canonical bytes and of its own. Else it
-/// writes nothing. It answers `Same` if all of the input was served, two messages at least; `Different`; or the first
-/// fault: a frame, a group or a message that is refused, by its walk or for a capability, at its position; `TooFew`
-/// after all of an input of fewer than two messages; `InputTooLong`; `Io` if and only if the reader or the writer
-/// failed; `Memory` if a growth was refused. It holds what its loop holds, the canonical bytes of the first message and
-/// of one more, and at a difference the beginnings of both texts.
+/// differs it writes three lines to `writer`, and reads no more. The first line says where the message is. The others
+/// are the first two lines that differ in the texts that `show --ways --form bare` writes of the canonical bytes: those
+/// of the first message, and those of this one. If no message differs, it writes nothing. It answers `Same` if all of
+/// the input was served and had at least two messages, `Different`, or the first fault. A frame or a group may be
+/// refused, or a message by its walk or for a capability, at its position. `TooFew`: the whole input has fewer than two
+/// messages. `InputTooLong`. `Io` if and only if the reader or the writer failed. `Memory` if a growth was refused. It
+/// holds what its loop holds, the canonical bytes of the first message and of one more, and at a difference the
+/// beginnings of both texts.
 pub fn run_cmp<R: Read, W: Write, A: Allocator + Copy>(
     alloc: A,
     order: CmpOrder,

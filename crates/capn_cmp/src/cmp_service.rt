@@ -17,9 +17,9 @@ use std::marker::Model;
 
 /// The service that compares messages with the first one.
 ///
-/// A message that is refused by its walk, or for a capability, ends the run. The first message's canonical bytes are
-/// kept. One that has others differs: it writes where it is, and the first lines in which the texts of both values
-/// differ, and no more is served. Any other message writes nothing.
+/// A message that is refused, by its walk or for a capability, ends the run. The canonical bytes of the first message
+/// are kept. The first message with other canonical bytes differs: the service writes where it is and the first lines
+/// in which the texts of both values differ, and is done. Any other message writes nothing.
 #[derive(Drop)]
 pub struct CmpService<A: Allocator> {
     limits: Limits,
@@ -36,7 +36,7 @@ impl<A: Allocator> Model for CmpService<A> {
 }
 
 impl<B: Allocator> CmpService<B> {
-    /// A service that has served nothing. It takes no memory.
+    /// Returns a service that has served nothing. It takes no memory.
     pub(crate) fn new(alloc: B, limits: Limits) -> CmpService<B>
         ensures { result ≡ spec.first_state limits }
     {
@@ -54,7 +54,7 @@ impl<B: Allocator> CmpService<B> {
         self.differs
     }
 
-    /// Serves a message with these canonical bytes.
+    /// Compares the `canonical` bytes of a message with those of the first one, or keeps them if it is the first.
     #[tactic(auto, using(crate::proofs::CmpServed::keeps, crate::proofs::CmpServed::no_memory))]
     fn compare<W: Write, A: Allocator + Copy>(
         &mut self,

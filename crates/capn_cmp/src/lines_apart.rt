@@ -3,7 +3,7 @@
 ghost use Rattle.std.specs.Prelude.{◌≡◌, ◌∷◌, ◌++◌, IfSome};
 ghost use Rattle.capn_cmp.specs.LinesApart.{AreApart, IsUnbroken};
 
-/// The first line of `bytes`, without its newline, and what comes after it, if a line ends.
+/// Splits `bytes` after their first line: returns it without its newline, and the rest. `None`: no line ends.
 fn split_line(bytes: &[u8]) -> Option<(&[u8], &[u8])>
     ensures { IfSome result (λ parts. (bytes.now ≡ parts.0.now ++ 10 ∷ parts.1.now) × IsUnbroken parts.0.now) }
 {
@@ -15,7 +15,7 @@ fn split_line(bytes: &[u8]) -> Option<(&[u8], &[u8])>
     None
 }
 
-/// The first lines in which two texts differ, without their newlines, if both texts have them whole.
+/// Returns the first lines in which two texts differ, without their newlines, if both texts have them whole.
 pub(crate) fn lines_apart<'a>(text: &'a [u8], other: &'a [u8]) -> Option<(&'a [u8], &'a [u8])>
     ensures { IfSome result (λ lines. AreApart text.now other.now lines.0.now lines.1.now) }
 {

@@ -22,7 +22,8 @@ fn put_part<A: Allocator>(text: &mut Vec<u8, A>, part: &[u8]) -> Result<(), Serv
     }
 }
 
-/// The report on the message at this position: these lines, of the first message and of it, are the first that differ.
+/// Returns the report on the message at the position `at`: the first lines that differ are `line` of the first message,
+/// and `other` of this one.
 #[tactic(auto, using(crate::proofs::Reports::in_parts))]
 fn report_of<A: Allocator + Copy>(
     alloc: A,
@@ -48,8 +49,9 @@ fn report_of<A: Allocator + Copy>(
     Ok(text)
 }
 
-/// The report on the message at this position, if these beginnings of both texts have the first lines in which the
-/// texts differ: that of the first message's canonical bytes, and that of its own.
+/// Returns the report on the message at the position `at`. `None`: the beginnings `text` and `other` of the two texts
+/// don't reach the first lines in which these differ. `text` is of the canonical bytes `first` of the first message,
+/// and `other` of the message's own `bytes`.
 fn report_by<A: Allocator + Copy>(
     alloc: A,
     at: Position,
@@ -72,10 +74,12 @@ fn report_by<A: Allocator + Copy>(
     }
 }
 
-/// The report on the message at this position, whose canonical bytes differ from the first message's.
+/// Returns the report on the message at the position `at`. Its canonical `bytes` differ from those of the `first`
+/// message.
 ///
-/// Of both texts a beginning is made, and twice as much again, until both have the first lines in which they differ.
-/// It holds both, each at most twice as long as the text up to the end of these lines, or 65,536 bytes.
+/// It makes a beginning of both texts, at first of 65,536 bytes, and doubles that until both reach the first lines in
+/// which they differ. It holds both beginnings. Each is at most twice as long as the text up to the end of these lines,
+/// or 65,536 bytes.
 pub(crate) fn find_report<A: Allocator + Copy>(
     alloc: A,
     at: Position,

@@ -16,8 +16,8 @@ use capn_words::Watched;
 use std::alloc::Allocator;
 use std::io::{Read, Write};
 
-/// Writes the piece of the one bare message that an input is, which is that of any message: so not of its price. No
-/// more is held than the input and what the service holds.
+/// Writes the text or the digest of a bare input, which is one message. The price isn't written here, since its line
+/// also says whether the bytes are canonical. It holds no more than the input and what the service holds.
 pub fn run_one<R: Read, W: Write, A: Allocator + Copy>(
     alloc: A,
     piece: MessageText,

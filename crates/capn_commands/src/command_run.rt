@@ -44,7 +44,7 @@ fn write_made<W: Write, A: Allocator>(
     }
 }
 
-/// Writes a piece of the one bare message that an input is.
+/// Writes the text, the price or the digest of a bare input, which is one message.
 fn run_bare_piece<R: Read, W: Write, A: Allocator + Copy>(
     alloc: A,
     piece: MessageText,

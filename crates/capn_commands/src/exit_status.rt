@@ -40,8 +40,8 @@ impl Ending for ToolFault {
     }
 }
 
-/// The exit status of a run: 0 where it is done, 1 where the input is refused, 3 where memory, the reader or the
-/// writer failed or the input is too long.
+/// Returns the exit status of a run: 0 if it is done, 1 if the input is refused, 3 if memory, the reader or the writer
+/// failed or the input is too long.
 pub fn status(outcome: &Result<(), ToolFault>) -> u8
     ensures { result ≡ status_of outcome.now }
 {
@@ -68,7 +68,7 @@ impl fmt::Display for Text {
     }
 }
 
-/// The text of a fault, as the program prints it after `capn: `. `Memory` if there is none for the text.
+/// Returns the text of a fault, as the program prints it after `capn: `. `Memory` if there is none for the text.
 pub fn fault_text<A: Allocator>(alloc: A, fault: &ToolFault) -> Result<String<A>, Memory>
     ensures { IfOk result (λ text. string_bytes text ≡ spec.fault_text fault.now) }
 {

@@ -25,7 +25,7 @@ fn is_quoted(style: Style) -> bool
     }
 }
 
-/// The marks of a message at a position.
+/// Returns the marks of a message at the position `at`.
 pub(crate) fn marks_of<S: Space>(texts: &PartTexts, at: Position, message: &S) -> Marks
     ensures { result ≡ spec.marks_of texts.now at (S.message message.now) }
 {
@@ -38,14 +38,14 @@ pub(crate) fn marks_of<S: Space>(texts: &PartTexts, at: Position, message: &S) -
     }
 }
 
-/// The byte after a message of this many words.
+/// Returns the byte after a message of this number of `words`.
 fn byte_after(marks: Marks, words: u32) -> u128
     ensures { result ≡ spec.byte_after marks words }
 {
     u128::from(marks.offset) + 8 * (u128::from(marks.table) + u128::from(words))
 }
 
-/// The line `end`, behind an empty path if paths are asked for.
+/// Returns the line `end`, behind an empty path if paths are asked for.
 fn path_end(ways: bool) -> &'static [u8]
     ensures { result.now ≡ (if ways then 9 ∷ [] else []) ++ (codes "end" ++ 10 ∷ []) }
 {

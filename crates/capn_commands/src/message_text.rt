@@ -14,7 +14,7 @@ use capn_words::{Bare, Space};
 use sha2::{Digest, Sha256};
 use std::alloc::Allocator;
 
-/// Appends the line of a price and a number of visits, which ends in these bytes, or nothing where memory is refused.
+/// Appends the line of a price and a number of visits, which ends with `end`, or nothing if memory is refused.
 #[inline(always)]
 fn put_priced<A: Allocator>(
     text: &mut Vec<u8, A>,
@@ -50,8 +50,7 @@ fn put_price_line<A: Allocator>(
     put_priced(text, paid, visits, b"\n")
 }
 
-/// Appends the line of what the walk of a message paid, in words, and how many visits it made. After a fault the text
-/// is as it was.
+/// Appends the line of a message's price, in words, and of its number of visits. After a fault the text is as it was.
 #[inline(always)]
 pub fn put_price<S: Space, A: Allocator + Copy>(
     alloc: A,
@@ -65,8 +64,8 @@ pub fn put_price<S: Space, A: Allocator + Copy>(
     put_price_line(text, surveyed.paid, surveyed.visits)
 }
 
-/// Appends the line of a bare message's price and number of visits, which says whether its bytes are canonical. It
-/// takes memory only for the line. After a fault the text is as it was.
+/// Appends the line of a bare message: its price, its number of visits, and whether its bytes are canonical. It takes
+/// memory only for the line. After a fault the text is as it was.
 pub fn put_verdict<A: Allocator + Copy>(
     alloc: A,
     space: &Bare<'_>,
@@ -82,7 +81,7 @@ pub fn put_verdict<A: Allocator + Copy>(
     put_priced(text, checked.paid, checked.visits, b" not-canonical\n")
 }
 
-/// The 64 hexadecimal digits of the SHA-256 of some bytes, and the end of a line.
+/// Returns the 64 hexadecimal digits of the SHA-256 of some bytes, and the end of a line.
 fn digest_line(bytes: &[u8]) -> [u8; 65]
     ensures { result ≡ encode_lower (sha256 bytes.now) ++ 10 ∷ [] }
 {
@@ -103,8 +102,8 @@ fn put_digest_line<A: Allocator>(bytes: &[u8], text: &mut Vec<u8, A>) -> Result<
     }
 }
 
-/// Appends the line of the digest of a message's canonical bytes. Those of a message that is canonical are hashed where
-/// they lie: one pass finds them, and no copy is made of them. After a fault the text is as it was.
+/// Appends the line of the digest of a message's canonical bytes. If the message is canonical, its own bytes are hashed
+/// where they lie: one pass finds them, and no others are made. After a fault the text is as it was.
 pub fn put_digest<S: Space, A: Allocator + Copy>(
     alloc: A,
     space: &S,

@@ -29,7 +29,7 @@ pub struct MessageTexts {
     pub limits: Limits,
 }
 
-/// The run over an input, before its first message.
+/// Returns the run over an input before its first message.
 pub(crate) fn first_run(piece: MessageText, limits: Limits) -> Run<MessageTexts>
     ensures { result ≡ spec.first_run piece limits }
 {
@@ -97,7 +97,7 @@ fn served(put: Result<(), ToolFault>) -> Result<(), ServeFault>
     }
 }
 
-/// Ends a message whose piece was put, or has none, and writes what is long.
+/// Turns `put`, the outcome of a message's text, into the outcome of its service, and writes the text once it is long.
 #[inline(always)]
 fn end_piece<W: Write, A: Allocator>(
     put: Result<(), ToolFault>,

@@ -49,7 +49,7 @@ fn serve_message<M: Space, S: Service + Drop, W: Write, A: Allocator + Copy>(
     }
 }
 
-/// Has the one message served that bytes are the frame of, and writes all of its text.
+/// Has the message of the frame `frame` served, and writes all of its text. Bytes after the frame are refused.
 fn serve_frame<S: Service + Drop, W: Write, A: Allocator + Copy>(
     alloc: A,
     service: S,
@@ -74,13 +74,14 @@ fn serve_frame<S: Service + Drop, W: Write, A: Allocator + Copy>(
     }
 }
 
-/// Has the one message served that an input is, and writes all of its text. The input is a frame, packed or not, of a
-/// message of at most this many words.
+/// Has the one message of an input served, and writes all of its text. The input is its frame, packed or not, and the
+/// message has at most `most` words.
 ///
-/// All of the input is read first: it is refused as [`canonicalise`](capn_canon::canonicalise) refuses its bytes, where
-/// these are no message, or more than one; then as the service refuses the message. In both cases nothing is written.
-/// `InputTooLong` for a byte past 2^32; `Io` exactly where the reader or the writer failed; `Memory` where a growth was
-/// refused. Of the input the longest frame is held, and one byte; of a packed one what it packs, at most as long.
+/// All of the input is read first. If it is no message, or more than one, it is refused as
+/// [`canonicalise`](capn_canon::canonicalise) refuses its bytes; otherwise the service may refuse the message. In both
+/// cases nothing is written. `InputTooLong` for a byte past 2^32; `Io` exactly where the reader or the writer failed;
+/// `Memory` where a growth was refused. Of a stream it holds at most the longest frame and one byte. Of a packed input
+/// it holds what that packs, which is at most as long.
 pub fn serve_one<S: Service + Drop, R: Read, W: Write, A: Allocator + Copy>(
     alloc: A,
     service: S,
@@ -102,7 +103,7 @@ pub fn serve_one<S: Service + Drop, R: Read, W: Write, A: Allocator + Copy>(
     serve_frame(alloc, service, most, &frame, writer)
 }
 
-/// Writes a piece of the one message that an input is, in a frame.
+/// Writes the text, the price or the digest of an input that is one message in a frame.
 pub(crate) fn run_framed<R: Read, W: Write, A: Allocator + Copy>(
     alloc: A,
     piece: MessageText,

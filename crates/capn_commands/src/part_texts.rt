@@ -95,7 +95,7 @@ fn add_part<S: Space, W: Write, A: Allocator + Copy>(
     }
 }
 
-/// The same with marks.
+/// Adds the text of the value at a path from a message's root, with marks, and its line `end`.
 fn add_marked<S: Space, W: Write, A: Allocator + Copy>(
     alloc: A,
     message: &S,
@@ -123,7 +123,8 @@ fn has_marks(texts: &PartTexts) -> bool
     texts.offsets || texts.ways
 }
 
-/// The same with marks where any is asked for, and else in a style.
+/// Adds the text of the value at a path from a message's root, and its end: with marks if `texts` asks for any,
+/// otherwise in its style.
 fn add_text<S: Space, W: Write, A: Allocator + Copy>(
     alloc: A,
     texts: &PartTexts,

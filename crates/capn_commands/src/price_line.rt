@@ -84,8 +84,8 @@ impl PriceLine {
     }
 }
 
-/// The line of a price and a number of visits of one digit each, as those of a small message are. It has no part whose
-/// length has to be looked at.
+/// Returns the line of a price and a number of visits of one digit each, as a small message has them. No part of it has
+/// a length that has to be looked at.
 #[inline(always)]
 pub fn short_line(paid: u32, visits: u32) -> [u8; 19]
     requires paid { paid < 10 }

@@ -29,7 +29,7 @@ pub(crate) const START: Position = Position {
     offset: 0,
 };
 
-/// The packed text of words.
+/// Returns the packed text of words.
 fn packed<A: Allocator + Copy>(alloc: A, bytes: &[u8]) -> Result<Vec<u8, A>, ToolFault>
     ensures { Gives wholes.Packed bytes.now result }
 {
@@ -40,7 +40,7 @@ fn packed<A: Allocator + Copy>(alloc: A, bytes: &[u8]) -> Result<Vec<u8, A>, Too
     }
 }
 
-/// The line of one bare message's price, which says whether its bytes are canonical.
+/// Returns the line of a bare message's price, which says whether its bytes are canonical.
 fn verdict<A: Allocator + Copy>(
     alloc: A,
     bytes: &[u8],
@@ -58,8 +58,9 @@ fn verdict<A: Allocator + Copy>(
     }
 }
 
-/// The frame that an input holds of its one message, which has at most this many words. All of the input is read; no
-/// more is held of a stream than the longest such frame, and one byte, and of a packed one than it packs.
+/// Reads all of an input that should be one frame, and returns what can be needed of it. Of a stream that is at most
+/// the longest frame of a message of `most` words, and one byte more. Of a packed input it is no more than the words
+/// that it packs.
 pub(crate) fn read_frame<R: Read, A: Allocator>(
     alloc: A,
     reader: &mut Watched<R>,
@@ -81,7 +82,7 @@ pub(crate) fn read_frame<R: Read, A: Allocator>(
     }
 }
 
-/// The canonical bytes of the one message that an input is in a frame.
+/// Returns the canonical bytes of an input that is one message in a frame.
 fn make_framed<R: Read, A: Allocator + Copy>(
     alloc: A,
     reader: &mut Watched<R>,
@@ -97,7 +98,7 @@ fn make_framed<R: Read, A: Allocator + Copy>(
     Ok(canonical.bytes)
 }
 
-/// The packed text of an input's words, which are held whole.
+/// Returns the packed text of an input's words, which are held whole.
 pub fn make_text<R: Read, A: Allocator + Copy>(
     alloc: A,
     reader: &mut Watched<R>,
@@ -110,7 +111,7 @@ pub fn make_text<R: Read, A: Allocator + Copy>(
     packed(alloc, &input.bytes)
 }
 
-/// The canonical bytes of the one bare message that an input is.
+/// Returns the canonical bytes of a bare input, which is one message.
 fn make_trimmed<R: Read, A: Allocator + Copy>(
     alloc: A,
     reader: &mut Watched<R>,
@@ -125,7 +126,7 @@ fn make_trimmed<R: Read, A: Allocator + Copy>(
     Ok(canonical.bytes)
 }
 
-/// The line of the price of the one bare message that an input is.
+/// Returns the line of the price of a bare input, which is one message.
 pub fn make_verdict<R: Read, A: Allocator + Copy>(
     alloc: A,
     reader: &mut Watched<R>,
@@ -139,7 +140,7 @@ pub fn make_verdict<R: Read, A: Allocator + Copy>(
     verdict(alloc, &bytes, limits)
 }
 
-/// The canonical bytes of the one message that an input is in a form.
+/// Returns the canonical bytes of an input that is one message in this `form`.
 pub fn make_canonical<R: Read, A: Allocator + Copy>(
     alloc: A,
     reader: &mut Watched<R>,

@@ -47,7 +47,7 @@ impl<A: Allocator> Model for DigestSet<A> {
 }
 
 impl<A: Allocator + Copy> DigestSet<A> {
-    /// The empty set. It takes no memory.
+    /// Returns the empty set. It takes no memory.
     pub fn new(alloc: A) -> DigestSet<A>
         ensures { result ≡ no_digests }
     {
@@ -111,7 +111,7 @@ impl<A: Allocator + Copy> DigestSet<A> {
 }
 
 impl<A: Allocator> DigestSet<A> {
-    /// The number of digests.
+    /// Returns the number of digests.
     pub fn len(&self) -> usize
         ensures { result ≡ set.len self.now.seen }
     {
@@ -140,7 +140,7 @@ mod tests {
     use super::*;
     use std::test::Fail;
 
-    /// A digest whose first bytes are those of a number.
+    /// Returns a digest that begins with the bytes of `number`; `last` fills the others.
     fn digest(number: u32, last: u8) -> [u8; 32] {
         let mut digest = [last; 32];
         digest[..4].copy_from_slice(&number.to_le_bytes());
@@ -164,8 +164,8 @@ mod tests {
         Ok(())
     }
 
-    /// With ample memory none of 1,000,001 digests is refused. A body that asks for no memory where it has to grow, and
-    /// gives up, ends there: no clause can say that memory is there.
+    /// Tests that none of 1,000,001 digests is refused with ample memory. No clause can say that memory is there, so a
+    /// body that gives up instead of asking for memory would keep every clause.
     #[test]
     fn more_than_a_million_digests(rt: HostRuntime) -> Result<(), Fail> {
         let mut digests = DigestSet::new(rt.alloc());

@@ -9,7 +9,7 @@ ghost use Rattle.capn_digests.specs.Digests.{HasToGrow, count_of};
 use crate::slot::{Head, NO_HEAD, NO_SLOT, SLOTS, Slot};
 use std::alloc::{AllocError, Allocator};
 
-/// A bucket with the slots alone whose tags are of bucket `at` of so many.
+/// Returns a bucket, and its head, with only those slots of `bucket` whose tags belong to bucket `at` of `buckets`.
 fn kept(head: Head, bucket: &[Slot; SLOTS], at: usize, buckets: usize) -> (Head, [Slot; SLOTS])
     requires { 0 < buckets }
     ensures held { (s : SlotValue) → s.tag % buckets ≡ at → IsHeld head bucket.now s → IsHeld result.0 result.1 s }
@@ -31,7 +31,7 @@ fn kept(head: Head, bucket: &[Slot; SLOTS], at: usize, buckets: usize) -> (Head,
     (new, kept)
 }
 
-/// Has bucket `at` keep the slots alone whose tags are its own.
+/// Drops the slots of bucket `at` whose tags belong to another bucket.
 fn keep_own(heads: &mut [Head], table: &mut [[Slot; SLOTS]], at: usize)
     requires within { at < length heads.old }
     requires even { length table.old ≡ length heads.old }
@@ -44,7 +44,7 @@ fn keep_own(heads: &mut [Head], table: &mut [[Slot; SLOTS]], at: usize)
     table[at] = bucket;
 }
 
-/// Has each bucket keep the slots alone whose tags are its own.
+/// Drops from each bucket the slots whose tags belong to another bucket.
 fn keep_each_own(heads: &mut [Head], table: &mut [[Slot; SLOTS]])
     requires { length table.old ≡ length heads.old }
     ensures fewer { (i : ℕ) → (slice_index_or heads.new i no_head).count ≤ (slice_index_or heads.old i no_head).count }

@@ -35,7 +35,7 @@ pub(crate) const NO_HEAD: Head = Head {
     overflowed: false,
 };
 
-/// The first four bytes of a digest, as a number.
+/// Returns the first four bytes of a digest, as a number.
 #[inline(always)]
 #[tactic(auto, unfolding(crate::specs::Tag::tag))]
 pub(crate) fn tag_of(digest: &[u8; 32]) -> u32
@@ -47,7 +47,7 @@ pub(crate) fn tag_of(digest: &[u8; 32]) -> u32
         + digest[3] as u32 * 0x100_0000
 }
 
-/// Two bits of 32, by a tag.
+/// Returns two bits of 32, by a tag.
 #[inline(always)]
 pub(crate) fn marks_of(tag: u32) -> u32
     ensures { result ≡ marks tag }
@@ -55,7 +55,7 @@ pub(crate) fn marks_of(tag: u32) -> u32
     (1u32 << (tag >> 27)) | (1u32 << ((tag >> 22) % 32))
 }
 
-/// One bit of 16, by a tag.
+/// Returns one bit of 16, by a tag.
 #[inline(always)]
 pub(crate) fn more_of(tag: u32) -> u16
     ensures { result ≡ more tag }
@@ -75,7 +75,7 @@ impl Head {
         self.overflowed || (self.marks & marks == marks && self.more & more == more)
     }
 
-    /// This head with one slot more, of this tag.
+    /// Returns this head with one more slot, of this `tag`.
     #[inline(always)]
     pub(crate) fn and_one(self, tag: u32) -> Head
         requires { self.count < 16 }

@@ -5,7 +5,7 @@ ghost use Rattle.capn_text.specs.Streams.{end_line};
 ghost use Rattle.capn_make.specs.inner.RunParts as spec;
 ghost use Rattle.capn_make.specs.inner.RunParts.{begins_with};
 
-/// Returns `true` if that line stands at the front of `bytes`.
+/// Returns `true` if `bytes` begin with the line `end`.
 fn begins_with_end(bytes: &[u8]) -> bool
     ensures { result ≡ begins_with end_line bytes.now }
 {
@@ -25,7 +25,7 @@ fn begins_with_end(bytes: &[u8]) -> bool
     true
 }
 
-/// Returns `true` if it stands in `bytes`.
+/// Returns `true` if the line `end` stands anywhere in `bytes`.
 fn holds_end(bytes: &[u8]) -> bool
     ensures { result ≡ spec.holds_end bytes.now }
 {
@@ -39,8 +39,8 @@ fn holds_end(bytes: &[u8]) -> bool
     false
 }
 
-/// Returns `true` if `rest`, what is left of an input, is to be looked at. It had `before` bytes before some came, and
-/// `tested` the last time that it was: there are four times as many now, or an end of a text has come.
+/// Returns `true` if `rest`, the part of an input that is left, is to be looked at. That is so if it has four times as
+/// many bytes as the last time, when it had `tested`, or if an end of a text has come since it had `before` bytes.
 pub(crate) fn is_due(rest: &[u8], before: usize, tested: usize) -> bool
     requires { before ≤ length rest.now }
     ensures due { result ≡ true

@@ -65,8 +65,8 @@ fn is_whole(rest: &[u8], line: u64, fault: MakeFault) -> bool
     }
 }
 
-/// Returns `true` if `fault` is that of a wrong line that isn't `cut`: it is wrong whatever follows, though its end may
-/// be to come.
+/// Returns `true` if `fault` is a wrong line that isn't `cut`. It is wrong whatever follows, even if its end is still
+/// to come.
 fn is_lost(fault: MakeFault, cut: bool) -> bool
     ensures { result ≡ spec.is_lost fault cut }
 {
@@ -169,9 +169,9 @@ impl<A: Allocator + Copy> Progress<A> {
         Ok(())
     }
 
-    /// Looks at what is left after bytes came on it, which had `before` bytes: if a text may have its end by now, or
-    /// there are four times as many as the last time, makes the texts that are whole and writes their messages, in form
-    /// bare none. Returns the fault of an input that is refused whatever follows.
+    /// Looks at the bytes that are left, after some were added to the first `before` of them. If a text may have ended,
+    /// or there are four times as many as the last time, it makes the texts that are whole and writes their messages;
+    /// in the form bare it writes none. Returns the fault of an input that is refused whatever follows.
     pub(crate) fn look<W: Write>(
         &mut self,
         before: usize,

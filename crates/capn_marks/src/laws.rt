@@ -2,7 +2,7 @@
 
 ghost use Rattle.capn_marks.specs.Laws.{WithoutMarks};
 
-/// States: a text for which no marks are asked is that in lines: marks stand before lines, and change none of them.
+/// States: a text without marks is the text in lines. Marks stand before lines, and change none of them.
 pub fn without_marks()
     ensures { WithoutMarks }
 {}

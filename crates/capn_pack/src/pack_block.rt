@@ -8,8 +8,8 @@ use crate::lanes::gather;
 use crate::runs::{raw_run, word_at, zero_run};
 use crate::signs::tag;
 
-/// The number of bytes that are written at once after the head of a raw group: those of the words that follow its first
-/// one, which are fewer than eight, and any.
+/// The number of bytes that are written at once after the head of a raw group: the words after its first one, of which
+/// there are fewer than eight, and any bytes that follow.
 const SPAN: usize = 64;
 
 /// The most bytes that one group needs of a block: the head of a raw group has ten.

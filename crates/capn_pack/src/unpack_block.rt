@@ -238,8 +238,8 @@ fn fill_block(text: &[u8], block: &mut [u8], limit: usize) -> Block
     fill_rest(text, from, block, limit)
 }
 
-/// Appends the words of the groups that come first in `rest` to `out`, as many as `block` holds and as `room`, a number
-/// of words, allows; it may be none.
+/// Appends the words of the first groups of `rest` to `out`: of as many groups as `block` holds and `room`, a number of
+/// words, allows. There may be none.
 pub(crate) fn take_block<A: Allocator>(
     rest: &[u8],
     room: usize,

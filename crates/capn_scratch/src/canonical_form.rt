@@ -16,7 +16,7 @@ use capn_canon::{CanonicalLength, Form, Limits};
 use capn_stream::MOST_TABLE_WORDS;
 use capn_words::Bare;
 
-/// Writes the canonical bytes of the message of one segment that `bytes` are the words of.
+/// Writes the canonical bytes of a message of one segment, which has the words `bytes`.
 fn of_bare(bytes: &[u8], limits: Limits, out: &mut [u8]) -> Result<CanonicalLength, FormRefusal>
     ensures { (scratch : ℕ) → IsFormTold forms.Bare bytes.now limits scratch out.old out.new result }
 {
@@ -26,7 +26,7 @@ fn of_bare(bytes: &[u8], limits: Limits, out: &mut [u8]) -> Result<CanonicalLeng
     }
 }
 
-/// Writes the canonical bytes of the message whose frame `bytes` are.
+/// Writes the canonical bytes of the message in the frame `bytes`.
 fn of_stream(
     bytes: &[u8],
     limits: Limits,
@@ -38,7 +38,7 @@ fn of_stream(
     of_frame(bytes, scratch, 0, limits, out)
 }
 
-/// Writes the canonical bytes of the message whose frame `bytes` pack, in `words` words, which are unpacked to `text`.
+/// Unpacks `bytes`, which pack a frame of `words` words, to `text`, and writes the canonical bytes of its message.
 fn of_unpacked(
     bytes: &[u8],
     words: usize,
@@ -59,7 +59,7 @@ fn of_unpacked(
     }
 }
 
-/// Writes the canonical bytes of the message whose frame `bytes` pack.
+/// Writes the canonical bytes of the message in the frame that `bytes` pack.
 fn of_packed(
     bytes: &[u8],
     limits: Limits,

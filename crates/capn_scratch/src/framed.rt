@@ -52,8 +52,8 @@ fn of_cut(
     write(&message, limits, out)
 }
 
-/// Does what [`of_frame`] does, of a whole frame that comes first in `bytes`, whose contents are `words`, and which
-/// ends at byte `end`.
+/// Does what [`of_frame`] does for a whole frame at the front of `bytes`, up to the byte `end`. Its contents are
+/// `words`, and it has `count` segments besides the last.
 fn of_words(
     bytes: &[u8],
     words: Bare<'_>,

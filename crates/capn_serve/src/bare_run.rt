@@ -21,7 +21,7 @@ use capn_words::{Bare, BareFault, MOST_WORDS, Watched};
 use std::alloc::Allocator;
 use std::io::{Read, Write};
 
-/// Why this number of bytes is not one segment.
+/// Returns the fault of a bare input of `len` bytes, which are not one segment.
 fn bare_fault(len: u64) -> BareFault
     requires { 8 * most_words < len }
     ensures { (bytes : List ℕ) → length bytes ≡ len → ReadsBare bytes (Err result) }
@@ -33,8 +33,8 @@ fn bare_fault(len: u64) -> BareFault
     }
 }
 
-/// The bytes of a bare input, which is read to its end; refused at this position if there are more than one segment
-/// has. The other faults are those of [`read_all`](crate::read_all).
+/// Reads a bare input to its end, and returns its bytes. If there are more than one segment has, they are refused at
+/// the position `at`. The other faults are those of [`read_all`](crate::read_all).
 pub fn read_bare<R: Read, A: Allocator>(
     alloc: A,
     at: Position,

@@ -1,4 +1,4 @@
-//! What a run held of its input when it ended.
+//! The part of its input that a run held when it ended.
 
 ghost use Rattle.std.specs.Prelude.{◌≡◌, []};
 
@@ -26,7 +26,7 @@ impl<A: Allocator + Copy> Model for Begun<A> {
 }
 
 impl<A: Allocator + Copy> Begun<A> {
-    /// Before any run: nothing has come. It takes no memory.
+    /// Returns the state before any run, in which nothing has come. It takes no memory.
     pub fn new(alloc: A) -> Begun<A>
         ensures { result ≡ record { rest = []; group = [] } }
     {

@@ -24,7 +24,7 @@ pub enum ServeFault {
     Refused(Refusal),
 }
 
-/// Returns how a message ends whose survey stopped with `stopped`: memory was refused, or the message is.
+/// Returns the fault of a message whose survey `stopped`: `Memory` if memory was refused, else its refusal.
 pub fn fault_of_stop(stopped: Stopped) -> ServeFault
     ensures { ((stopped.fault ≡ walk_faults.Memory) × (result ≡ serve_faults.Memory))
         ⊎ ((stopped.fault ≢ walk_faults.Memory) × (result ≡ serve_faults.Refused (refusals.Walk stopped))) }
@@ -35,7 +35,7 @@ pub fn fault_of_stop(stopped: Stopped) -> ServeFault
     }
 }
 
-/// Why a run over a stream ends before all of its input was served.
+/// The reason why a run over a stream ends before all of its input was served.
 #[derive(Clone, Copy, Debug, PartialEq, Eq)]
 pub enum RunFault {
     /// A growth was refused.

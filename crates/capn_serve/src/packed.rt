@@ -1,4 +1,4 @@
-//! What is held of a packed stream.
+//! The part of a packed stream that is held.
 
 ghost use Rattle.std.specs.Prelude.{◌≡◌, ◌≤◌, [], false};
 ghost use Rattle.capn_words.specs.Message.{most_message_words};
@@ -20,7 +20,8 @@ pub(crate) struct Packed<A: Allocator + Copy> {
     pub left: u64,
 }
 
-/// Before the first byte of a packed stream, of which at most `limit` unpacked bytes are taken. It takes no memory.
+/// Returns the state before the first byte of a packed stream. At most `limit` unpacked bytes of it are taken. It takes
+/// no memory.
 pub(crate) fn new_packed<A: Allocator + Copy>(alloc: A, most: u32, limit: u64) -> Packed<A>
     requires { most ≤ most_message_words }
     ensures unpacker { result.unpacker ≡ record { rest = []; offset = 0; failed = false } }

@@ -16,7 +16,7 @@ pub enum StreamForm {
 pub struct Pick {
     /// The encoding of the input.
     pub form: StreamForm,
-    /// The limits of a message, of which its number of words alone counts.
+    /// The limits of a message. Only the limit on its words counts.
     pub limits: Limits,
     /// The number of the first message that is picked, counted from 1.
     pub from: u64,

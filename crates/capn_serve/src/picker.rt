@@ -32,7 +32,7 @@ fn is_first(rest: &[Range], number: u128) -> bool
     }
 }
 
-/// The ranges that are left after a number.
+/// Returns the ranges of `rest` that are left after the message `number`.
 #[inline(always)]
 fn left<'r>(rest: &'r [Range], number: u128) -> &'r [Range]
     ensures { result.now ≡ spec.left rest.now number }

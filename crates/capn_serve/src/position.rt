@@ -14,7 +14,7 @@ pub struct Position {
     pub offset: u64,
 }
 
-/// The number, counted from 1, of the message that is after this number of others.
+/// Returns the number, counted from 1, of the message that comes after `index` others.
 pub fn number_of(index: u64) -> u128
     ensures { result ≡ index + 1 }
 {

@@ -83,7 +83,7 @@ fn say_frame<E: Write>(fault: &FrameFault, line: &mut Line, errors: &mut Watched
     }
 }
 
-/// The name of a fault of a walk.
+/// Returns the name of a fault of a walk.
 fn name_of(fault: Fault) -> &'static [u8]
     ensures { result.now ≡ fault_name fault }
 {

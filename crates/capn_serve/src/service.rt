@@ -63,7 +63,7 @@ pub struct Run<S> {
 }
 
 impl<S> Run<S> {
-    /// The run of a service, before the first message.
+    /// Returns the run of `service` before the first message.
     pub fn new(service: S) -> Run<S>
         ensures { result ≡ first_run service }
     {

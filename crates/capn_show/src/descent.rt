@@ -97,7 +97,7 @@ pub fn step_down<S: Space>(space: &S, found: Target, number: u64) -> Option<Part
     }
 }
 
-/// Returns the target of the pointer at `at`, at which a value is.
+/// Returns the target of the pointer at `at`. There has to be a value.
 pub fn named<S: Space>(space: &S, at: Place) -> Target
     requires message { IsMessage (S.message space.now) }
     requires place { IsPlace (S.message space.now) at }

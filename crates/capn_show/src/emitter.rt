@@ -1,4 +1,4 @@
-//! Emitters: what stands before each line of a text.
+//! Emitters of the lines of a text, with what stands before each.
 
 ghost use Rattle.std.specs.Prelude.{◌≡◌, ℕ, ◌<◌, ◌≤◌, ◌^◌, List, [], length, take, ⊤, IfErr, OnOk};
 ghost use Rattle.capn_words.specs.Message.{IsMessage, segment_at};

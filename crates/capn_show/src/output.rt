@@ -12,7 +12,7 @@ use capn_words::Watched;
 use std::alloc::Allocator;
 use std::io::Write;
 
-/// The number of bytes from which on a text is written.
+/// The number of bytes at which a text is long enough to be written.
 const BLOCK: usize = 65536;
 
 /// Writes `text` to `writer`, and empties it.

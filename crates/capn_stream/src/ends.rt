@@ -16,8 +16,8 @@ use std::alloc::{AllocError, Allocator};
 /// The number of segments whose starts are kept in place.
 const MOST_KEPT: usize = 64;
 
-/// The ends of all segments of a message but the last: the first 63 in place, and the others in a list. Which of both
-/// has the end of a segment is known by its number alone.
+/// The ends of all segments of a message but the last: the first 63 in place, and the others in a list. The number of a
+/// segment alone tells which of the two has its end.
 #[derive(Debug, Drop)]
 pub(crate) struct Ends<A: Allocator> {
     /// The number of them.

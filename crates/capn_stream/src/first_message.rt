@@ -47,8 +47,7 @@ pub fn first<'a, A: Allocator + Copy>(
 /// frame takes.
 ///
 /// It answers what [`first`] answers if the message has one segment and at most `max_words` words, and takes no memory.
-/// `None` exactly if no such message comes first; why none does is for `first` to say. (Page: serialization over a
-/// stream.)
+/// `None` exactly if no such message comes first; [`first`] says why. (Page: serialization over a stream.)
 #[inline(always)]
 pub fn first_bare<'a>(bytes: &'a [u8], max_words: u32) -> Option<(Bare<'a>, usize)>
     requires { max_words ≤ most_message_words }

@@ -2,7 +2,7 @@
 
 ghost use Rattle.capn_stream.specs.Laws.{FramedAreNotRefused, OneFrame, OneRefusal};
 
-/// States: one message comes first in some bytes at most; else they are refused for one reason, and never both.
+/// States: bytes begin with at most one message. Otherwise they are refused for one reason, and never both.
 pub fn framing()
     ensures one { OneFrame }
     ensures refusal { OneRefusal }

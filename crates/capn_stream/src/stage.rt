@@ -47,7 +47,7 @@ pub(crate) fn part_left(stage: Stage, bytes: &[u8]) -> usize
     end_of(stage) - bytes.len()
 }
 
-/// The room for which the first bytes of a frame ask, so that a small one takes memory once.
+/// The room that is asked for with the first bytes of a frame, so that a small frame takes memory once.
 const FIRST_ROOM: usize = 64;
 
 /// Makes room in `bytes` for `count` more, if they are the first. It never grows what has some, so that those that

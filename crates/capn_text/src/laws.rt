@@ -37,7 +37,7 @@ pub fn whole_lines()
     ensures first { NoBeginningComes }
 {}
 
-/// States: what is shown of values with texts between quotes has as its plain form what is shown of them without. A
+/// States: the plain form of a text that was shown with texts between quotes is the text that is shown without them. A
 /// text has one plain form, and each line of that is of one line of the text.
 pub fn plain_forms()
     ensures shown { QuotedIsPlain }

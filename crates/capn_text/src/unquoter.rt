@@ -175,9 +175,9 @@ impl<A: Allocator + Copy> Unquoter<A> {
         Ok(())
     }
 
-    /// Takes the next `piece`, and appends to `out` the plain form of each line that is whole by now, and of the
-    /// unfinished one what came of it, if by its first 1,024 bytes that can't be one between quotes. After a failure
-    /// nothing is known of it.
+    /// Takes the next `piece`, and appends to `out` the plain form of each line that is whole by now. It also appends
+    /// what has come of the unfinished line, if its first bytes, at most 1,024, show that it isn't one between quotes.
+    /// After a failure nothing is known of it.
     pub fn push(&mut self, piece: &[u8], out: &mut Vec<u8, A>) -> Result<(), AllocError>
         ensures quiet { OnOk result (ended_lines self.new.front ≡ 0) }
         ensures empty { OnOk result (self.new.through ≡ true → self.new.front ≡ []) }

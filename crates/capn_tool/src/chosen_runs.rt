@@ -30,7 +30,7 @@ pub(crate) fn flow_through<R: Read, W: Write>(
     }
 }
 
-/// Makes what the texts of the input say, between quotes or not.
+/// Makes messages of the texts of the input, with lists of bytes between quotes or without.
 pub(crate) fn make_by<R: Read, W: Write>(
     alloc: Global,
     order: Make,

@@ -12,7 +12,7 @@ use capn_serve::{Ending, RunFault, end};
 use capn_words::Watched;
 use std::io::Write;
 
-/// The end of a run that has found this: done, or its fault.
+/// Returns the end of a run that has `found` an answer or a fault.
 fn done_of(found: Result<Comparison, CmpFault>) -> Result<(), CmpFault>
     ensures { result ≡ spec.done_of found }
 {
@@ -22,7 +22,7 @@ fn done_of(found: Result<Comparison, CmpFault>) -> Result<(), CmpFault>
     }
 }
 
-/// The exit status of what a run has found, which ended so after the flush of its output.
+/// Returns the exit status of a comparison by what it `found`, and by how it `ended` after the flush of its output.
 fn status_after(found: Result<Comparison, CmpFault>, ended: &Result<(), CmpFault>) -> u8
     ensures { result ≡ spec.cmp_status found ended.now }
 {
@@ -36,9 +36,9 @@ fn status_after(found: Result<Comparison, CmpFault>, ended: &Result<(), CmpFault
     }
 }
 
-/// Flushes the output after a comparison, writes the line that says why there is none, if so, and answers the exit
-/// status: that a message differs is 1, and no line says so on `errors`. If the flush after a comparison fails, the run
-/// ends as one of an output that failed.
+/// Flushes the output after a comparison, writes the line of its fault if it has one, and returns the exit status. If a
+/// message differs, the status is 1, and no line is written to `errors`. If there is an answer but the flush fails, the
+/// run ends as one with an output that failed.
 pub(crate) fn finish_found<W: Write, E: Write>(
     found: Result<Comparison, CmpFault>,
     writer: &mut Watched<W>,

@@ -4,12 +4,12 @@ ghost use Rattle.capn_tool.specs.Laws.{OneShown, OneShownAlone};
 
 pub use capn_args::laws::{command, meaning};
 
-/// By an order and a path one text of an input is shown, and a run over it ends in one way.
+/// States that an order and a path decide the text that is shown of an input, and the ending of the run.
 pub fn one_text()
     ensures { OneShown }
 {}
 
-/// By an order for exactly one message one text of an input is shown, too, and the run ends in one way.
+/// States that an order for exactly one message, too, decides the text that is shown of an input, and the ending.
 pub fn one_alone()
     ensures { OneShownAlone }
 {}

@@ -23,8 +23,8 @@ pub(crate) fn write_all<W: Write>(writer: &mut Watched<W>, text: &[u8]) -> Resul
     }
 }
 
-/// Flushes the writer after a run that ended so. A run that was done ends with this fault of an output that failed, if
-/// the flush fails; any other ends as it did.
+/// Flushes `writer` after a run with this `outcome`. If the run was done and the flush fails, it ends with `io`, the
+/// fault of an output that failed. Any other run ends as it did.
 pub(crate) fn flush_after<F: Copy, W: Write>(
     outcome: Result<(), F>,
     io: F,

@@ -24,7 +24,7 @@ use std::alloc::Global;
 use std::convert::AsStr;
 use std::io::{Read, Write};
 
-/// The whole program, from the words of the command line, the first of them its name, to the exit status.
+/// Runs the whole program, from the words of the command line to the exit status. The first word is its name.
 ///
 /// It does what the words order, from the reader to the writer: a command as [`capn_commands::run`] promises, parts of
 /// messages as [`show_parts`] shows them, what explains a message, or each that is refused, as [`run_explain`] or

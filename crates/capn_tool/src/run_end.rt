@@ -10,8 +10,8 @@ use capn_serve::{Ending, end};
 use capn_words::Watched;
 use std::io::Write;
 
-/// Flushes the output after a run that ended so, writes the line that says why it ended, if it is not done, and answers
-/// the exit status. If the run is done and the flush fails, it ends with this fault of an output that failed; any other
+/// Flushes the output after a run with this `outcome`, writes the line of its fault if it has one, and returns the exit
+/// status. If the run was done and the flush fails, it ends with `io`, the fault of an output that failed. Any other
 /// run ends as it did.
 pub(crate) fn finish<F: Ending + Copy, W: Write, E: Write>(
     outcome: Result<(), F>,
