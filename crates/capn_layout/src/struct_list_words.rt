@@ -13,8 +13,8 @@ use capn_target::counted::{CountedSpace, Reads};
 use capn_words::{Place, Space};
 use std::sync::ledger::Ledger;
 
-/// Appends the first `words` and `slots` words of two parts of a row, the second of which comes after the whole of the
-/// first. They are one piece if the first is kept whole.
+/// Appends the first `words` words of the first part of a row, which has `size` words, and the first `slots` words of
+/// the second part, which follows. If the first part is kept whole, both are copied as one piece.
 #[inline(always)]
 fn push_parts<S: Space, L: Ledger>(
     space: &CountedSpace<'_, S, L>,

@@ -45,8 +45,8 @@ pub trait AskedSecond {
     /// The message may be asked so often.
     ghost allows: { Self → ℕ → Type 0 };
 
-    /// Does `task` on `other`, whose reads count in `reads`, and on this message with a new count, which is opened by
-    /// one read of the number of segments: that is the one more.
+    /// Does `task` on `other`, with reads that count in `reads`, and on this message with a new count. One read of the
+    /// number of segments opens that count: the one more that is allowed.
     fn ask_beside<S: Space, L: Ledger, T: PairTask>(
         self,
         other: &CountedSpace<'_, S, L>,

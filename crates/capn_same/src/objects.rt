@@ -245,8 +245,7 @@ fn are_same_slots<S: Space, T: Space, L: Ledger, M: Ledger>(
     are_zero(b, behind(two.start, shared), two.count - shared, second)
 }
 
-/// Returns `true` if each of `count` rows of `a`, of which `one` is the first, is the same as that of `b`, of which
-/// `two` is the first.
+/// Returns `true` if `count` rows of `a`, from `one` on, are the same as those of `b` from `two` on, row by row.
 #[cycle(sameness)]
 #[inline(never)]
 fn are_same_rows<S: Space, T: Space, L: Ledger, M: Ledger>(

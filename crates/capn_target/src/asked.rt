@@ -67,7 +67,7 @@ pub trait Asked {
     /// The message may be asked so often.
     ghost allows: { Self → ℕ → Type 0 };
 
-    /// Does `task` with a new count, which is opened by one read of the number of segments: that is the one more.
+    /// Does `task` with a new count. One read of the number of segments opens it: the one more that is allowed.
     fn ask<T: CountedTask>(self, task: T) -> T::Told
         requires { allows self (T.most task + 1) }
         ensures { T.tells task (message self) result };

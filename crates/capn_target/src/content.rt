@@ -1,4 +1,4 @@
-//! Content at a word of a segment, by its form.
+//! Content at a word of a segment, by its form, or the fault of its range or its tag.
 
 ghost use Rattle.std.specs.Prelude.{◌≡◌, ℕ, ◌<◌, ◌≤◌, ◌+◌, ◌^◌, length, slice_index};
 ghost use Rattle.capn_words.specs.Message.{segment_at};

@@ -8,8 +8,8 @@ use capn_value::Items;
 use std::alloc::{AllocError, Allocator};
 use std::marker::Model;
 
-/// Bytes of a message, which were counted when they were given. Each is had once: what is read is gone, or all that are
-/// left are copied. So the count bounds what is read, and no call gives the slice.
+/// Bytes of a message, which were counted when they were given. Each byte can be had once: a byte that is read is gone,
+/// and a copy takes all that are left. No call gives the slice, so the count bounds what is read.
 #[derive(Drop)]
 pub struct PaidBytes<'s> {
     bytes: &'s [u8],
@@ -88,7 +88,7 @@ impl<'s> PaidBytes<'s> {
         word
     }
 
-    /// Copies all that are left over `out`, which has just as many.
+    /// Copies the bytes that are left to `out`, which has room for just these.
     #[inline(always)]
     pub fn copy_to(self, out: &mut [u8])
         requires { length self ≡ length out.old }

@@ -34,8 +34,7 @@ impl<L: Ledger> Model for Reads<L> {
 }
 
 impl<L: Ledger> Reads<L> {
-    /// Counts one more: a read, or a turn of a loop. Whoever writes a loop has to call it once a turn: nothing makes
-    /// him.
+    /// Counts one read, or one turn of a loop. The author of a loop has to call it in each turn; nothing enforces that.
     #[inline(always)]
     pub fn tick(&mut self)
         ensures { self.new ≡ self.old + 1 }

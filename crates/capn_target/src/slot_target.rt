@@ -1,4 +1,4 @@
-//! The target of a slot, behind any landing pads.
+//! The target of a slot, behind any landing pads, or the first fault of its pointer.
 
 ghost use Rattle.std.specs.Prelude.{◌≡◌, ℕ, ◌<◌, ◌≤◌, ◌+◌, ◌^◌, length, Ok, Err, IfOk, OnOk, nat_lt, if◌then◌else◌};
 ghost use Rattle.capn_words.specs.Message.{segment_at, IsPlace};

@@ -91,8 +91,8 @@ pub fn index_found<S: Space, L: Ledger, F: EntryForm>(
     }
 }
 
-/// Writes the entries of the slot at `at`, whose `pointer` is that of a struct or list that is near, to `room` from
-/// index `first` on.
+/// Writes the entries of the slot at `at`, whose `pointer` names a near struct or list, to `room` from index `first`
+/// on.
 #[cycle(index_slots)]
 #[inline(always)]
 fn index_near<S: Space, L: Ledger, F: EntryForm>(

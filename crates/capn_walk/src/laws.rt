@@ -38,8 +38,8 @@ pub fn targets()
     ensures ways { laws.ContentByThreeWays }
 {}
 
-/// States: no message is both accepted and refused. Visits are within a budget, or have a first one that isn't, which
-/// is one. A message is refused for its own words, never because memory ran out.
+/// States: no message is both accepted and refused. Either all visits are within a budget, or exactly one is the first
+/// that isn't. A message is refused for its own words, never because memory ran out.
 pub fn verdicts()
     ensures apart { laws.Apart }
     ensures decided { laws.Decided }

@@ -115,7 +115,7 @@ impl Limits {
         self.budget
     }
 
-    /// Returns the greatest depth of an object; that of the root is 1.
+    /// Returns the greatest depth of an object. The root has depth 1.
     pub fn depth(self) -> u32
         ensures value { result ≡ self.depth }
         ensures some { 1 ≤ result }

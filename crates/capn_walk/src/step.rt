@@ -1,4 +1,4 @@
-//! The price of a step, and its target's slots.
+//! The price of a step, with the faults of depth and budget, and its target's slots.
 
 ghost use Rattle.std.specs.Prelude.{◌≡◌, ◌<◌, ◌≤◌, ℕ, Ok, Err, IfOk, MatchResult};
 ghost use Rattle.capn_words.specs.Message.{IsMessage};

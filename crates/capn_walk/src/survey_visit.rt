@@ -30,8 +30,8 @@ pub struct Visited {
     pub below: SlotsLeft,
 }
 
-/// Visits the slot at `at`, whose `pointer` is that of a near struct, at most `depth` objects deep, with `left` words
-/// left to pay; each content costs `base` beside its size.
+/// Visits the slot at `at`, whose `pointer` names a near struct, at most `depth` objects deep, with `left` words left
+/// to pay. Each content costs `base` beside its size.
 #[inline(always)]
 pub fn visit_struct<S: Space, L: Ledger>(
     space: &CountedSpace<'_, S, L>,
@@ -56,7 +56,7 @@ pub fn visit_struct<S: Space, L: Ledger>(
     visit_found(space, at, found, depth, left, base)
 }
 
-/// Returns the price of a visit of the slot at `at`, whose `pointer` is that of a near list of numbers, at most `depth`
+/// Returns the price of a visit of the slot at `at`, whose `pointer` names a near list of numbers, at most `depth`
 /// objects deep, with `left` words left to pay.
 #[inline(always)]
 pub fn visit_numbers<S: Space, L: Ledger>(
@@ -197,7 +197,7 @@ pub fn is_plain(width: Width) -> bool
     }
 }
 
-/// Returns the lesser of `least` and `depth`, that of a visit, if depths are asked for (`DEEP`) and this is a visit of
+/// Returns the lesser of `least` and the `depth` of a visit, if depths are asked for (`DEEP`) and the visit is of
 /// content; else `least`.
 #[inline(always)]
 pub fn lowered<const DEEP: bool>(least: u32, depth: u32, capability: Option<u32>) -> u32
