@@ -27,7 +27,7 @@ pub use status_codes::{
     BAD_FORM, BAD_LIMITS, BAD_STYLE, BAD_TARIFF, DIFFERENT, DONE, MEMORY, NO_ROOM, NOT_CANONICAL,
     NOT_WHOLE, PACKED_CUT, PACKED_TOO_LONG, code_of_frame, number_of_frame, refuse, refuse_packed,
 };
-pub use styles::{end_of, style_of};
+pub use styles::style_of;
 
 // The types in the signatures above.
 pub use capn_canon::{Form, Refusal};

@@ -1,7 +1,6 @@
 //! Styles of text, as C passes them.
 
 ghost use Rattle.std.specs.Prelude.{◌≡◌, ◌↔◌, IsSome, IfSome};
-ghost use Rattle.capn_abi.specs.Styles as shown;
 ghost use Rattle.capn_abi.specs.Styles.{IsStyle, style_named};
 
 use capn_show::Style;
@@ -17,16 +16,5 @@ pub fn style_of(number: u32) -> Option<Style>
         2 => Some(Style::Json),
         3 => Some(Style::JsonText),
         _ => None,
-    }
-}
-
-/// Returns the end of the text of a message in this `style`: the line `end`, but nothing in JSON, where the text is one
-/// line.
-pub fn end_of(style: Style) -> &'static [u8]
-    ensures { result.now ≡ shown.end_of style }
-{
-    match style {
-        Style::Lines | Style::Quoted => b"end\n",
-        Style::Json | Style::JsonText => b"",
     }
 }

@@ -10,7 +10,7 @@ use Rattle.capn_canon.specs.declared.form.Form.{Form}
 use Rattle.capn_canon.specs.declared.form.Form.TheVariants as forms
 use Rattle.capn_args.specs.Meaning.{Means, AreOptions, AreSame, HasNoFlag, IsFlow, IsNumbered, IsSamePath}
 use Rattle.capn_args.specs.Meaning.{IsTask, MakeIs, MeansOneInvocation, MeansInvocation, OnlyIs, PickIs, ShowIs}
-use Rattle.capn_args.specs.Meaning.{StyleIs}
+use Rattle.capn_args.specs.Meaning.{StyleIs, style_for}
 use Rattle.capn_args.specs.Meaning.{CmpIs, ExplainIs, ExplanationIs, FilterIs, RefusedIs, UniqIs, PathIs, MarksAre}
 use Rattle.capn_args.specs.Meaning.{is_plain, usual_with}
 use Rattle.capn_commands.specs.Plan.{form_of}
@@ -288,34 +288,11 @@ listed rows p q (f, w, usual, a, b, none) (g, v, usually, list) =
 
 -- a style is known by its flags
 pub style_one : (rows : List Row) (s t : Style) → StyleIs rows s → StyleIs rows t → s ≡ t
-style_one rows styles.Lines styles.Lines a b = refl
-style_one rows styles.Lines styles.Quoted a b =
-    absurd (let bad : false ≡ true = flag_one rows (codes "text") false true a.0 b.0 in cc)
-style_one rows styles.Lines styles.Json a b =
-    absurd (let bad : false ≡ true = flag_one rows (codes "json") false true a.1 b.1 in cc)
-style_one rows styles.Lines styles.JsonText a b =
-    absurd (let bad : false ≡ true = flag_one rows (codes "text") false true a.0 b.0 in cc)
-style_one rows styles.Quoted styles.Lines a b =
-    absurd (let bad : true ≡ false = flag_one rows (codes "text") true false a.0 b.0 in cc)
-style_one rows styles.Quoted styles.Quoted a b = refl
-style_one rows styles.Quoted styles.Json a b =
-    absurd (let bad : true ≡ false = flag_one rows (codes "text") true false a.0 b.0 in cc)
-style_one rows styles.Quoted styles.JsonText a b =
-    absurd (let bad : false ≡ true = flag_one rows (codes "json") false true a.1 b.1 in cc)
-style_one rows styles.Json styles.Lines a b =
-    absurd (let bad : true ≡ false = flag_one rows (codes "json") true false a.1 b.1 in cc)
-style_one rows styles.Json styles.Quoted a b =
-    absurd (let bad : false ≡ true = flag_one rows (codes "text") false true a.0 b.0 in cc)
-style_one rows styles.Json styles.Json a b = refl
-style_one rows styles.Json styles.JsonText a b =
-    absurd (let bad : false ≡ true = flag_one rows (codes "text") false true a.0 b.0 in cc)
-style_one rows styles.JsonText styles.Lines a b =
-    absurd (let bad : true ≡ false = flag_one rows (codes "text") true false a.0 b.0 in cc)
-style_one rows styles.JsonText styles.Quoted a b =
-    absurd (let bad : true ≡ false = flag_one rows (codes "json") true false a.1 b.1 in cc)
-style_one rows styles.JsonText styles.Json a b =
-    absurd (let bad : true ≡ false = flag_one rows (codes "text") true false a.0 b.0 in cc)
-style_one rows styles.JsonText styles.JsonText a b = refl
+style_one rows s t (text, json, a, b, is) (other, too, c, d, also) =
+    sym is
+    ∙ ap (λ (x : Bool). style_for x json) (flag_one rows (codes "text") text other a c)
+    ∙ ap (λ (x : Bool). style_for other x) (flag_one rows (codes "json") json too b d)
+    ∙ also
 
 -- and a path by the value of `--at`
 path_one : (rows : List Row) (f g : Bool) (v w : Option (Bor Text)) → PathIs rows f v → PathIs rows g w → IsSamePath v w

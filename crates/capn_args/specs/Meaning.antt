@@ -1,5 +1,5 @@
 -- What a subcommand and the values of its options order. (Own.)
-use Rattle.std.specs.Prelude.{ℕ, ◌≡◌, ◌||◌, not, List, Bool, true, false, Option, Some, None, codes, ⊤, IsSome}
+use Rattle.std.specs.Prelude.{ℕ, ◌≡◌, ◌&&◌, ◌||◌, not, List, Bool, true, false, Option, Some, None, codes, ⊤, IsSome}
 use Rattle.std.specs.Borrow.{Bor}
 use Rattle.clap.specs.Words.{Row, Text, first_of}
 use Rattle.capn_words.specs.Message.{most_message_words}
@@ -16,6 +16,7 @@ use Rattle.capn_archive.specs.declared.task.ArchiveOrder.{ArchiveOrder}
 use Rattle.capn_archive.specs.declared.task.Task.{Task}
 use Rattle.capn_archive.specs.declared.task.Task.TheVariants as tasks
 use Rattle.capn_archive.specs.declared.uniq_order.UniqOrder.{UniqOrder}
+use Rattle.capn_show.specs.Style.{has_lines, is_quoted}
 use Rattle.capn_show.specs.declared.style.Style.{Style}
 use Rattle.capn_show.specs.declared.style.Style.TheVariants as styles
 use Rattle.capn_serve.specs.declared.pick.Pick.{Pick}
@@ -118,19 +119,17 @@ IsFlow name rows flows.Pack = (name ≡ codes "pack") × FlagIs rows (codes "str
 IsFlow name rows flows.Unpack =
     (name ≡ codes "unpack") × FlagIs rows (codes "streaming") true × IsUsual rows (codes "message-words")
 
--- the style that two flags order
-abbrev pub StyleIs : List Row → Style → Type 0
-StyleIs rows styles.Lines = FlagIs rows (codes "text") false × FlagIs rows (codes "json") false
-StyleIs rows styles.Quoted = FlagIs rows (codes "text") true × FlagIs rows (codes "json") false
-StyleIs rows styles.Json = FlagIs rows (codes "text") false × FlagIs rows (codes "json") true
-StyleIs rows styles.JsonText = FlagIs rows (codes "text") true × FlagIs rows (codes "json") true
+-- the style of two flags: whether texts are asked for, and whether JSON is
+abbrev pub style_for : Bool → Bool → Style
+style_for false false = styles.Lines
+style_for true false = styles.Quoted
+style_for false true = styles.Json
+style_for true true = styles.JsonText
 
--- a text in this style has lines, before which marks can stand: JSON has none
-abbrev pub has_lines : Style → Bool
-has_lines styles.Lines = true
-has_lines styles.Quoted = true
-has_lines styles.Json = false
-has_lines styles.JsonText = false
+-- the style that `--text` and `--json` order
+abbrev pub StyleIs : List Row → Style → Type 0
+StyleIs rows style = (text : Bool) × (json : Bool) × FlagIs rows (codes "text") text
+    × FlagIs rows (codes "json") json × (style_for text json ≡ style)
 
 -- each mark is asked for or isn't; JSON goes without them
 abbrev pub MarksAre : List Row → Style → Bool → Bool → Type 0
@@ -139,10 +138,7 @@ MarksAre rows style offsets ways = FlagIs rows (codes "offsets") offsets × Flag
 
 -- lines without marks, as a plain `show` writes them
 abbrev pub is_plain : Style → Bool → Bool → Bool
-is_plain styles.Lines offsets ways = not (offsets || ways)
-is_plain styles.Quoted offsets ways = false
-is_plain styles.Json offsets ways = false
-is_plain styles.JsonText offsets ways = false
+is_plain style offsets ways = has_lines style && (not (is_quoted style) && not (offsets || ways))
 
 -- `--at` is given, and its value is a path; or it isn't, and the text is not that of a plain `show`
 abbrev pub PathIs : List Row → Bool → Option (Bor Text) → Type 0

@@ -1,3 +1,2 @@
 -- What no public clause cites.
-pub mod Styles
 pub mod Rows

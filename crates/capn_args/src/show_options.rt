@@ -6,7 +6,6 @@ ghost use Rattle.capn_show.specs.declared.style.Style.{Style};
 ghost use Rattle.capn_args.specs.OptionValues.{FlagIs, FormIs, LimitsAre};
 ghost use Rattle.capn_args.specs.Meaning as meaning;
 ghost use Rattle.capn_args.specs.Meaning.{MarksAre, MeansInvocation, StyleIs};
-ghost use Rattle.capn_args.specs.inner.Styles as spec;
 ghost use Rattle.capn_args.specs.declared.invocation.Invocation.{Invocation};
 
 use crate::input_options::{form_of, limits_of};
@@ -21,7 +20,7 @@ use clap::ArgMatches;
 
 /// Returns the style of the flags `--text` and `--json`.
 fn style_for(text: bool, json: bool) -> Style
-    ensures { result ≡ spec.style_for text json }
+    ensures { result ≡ meaning.style_for text json }
 {
     if text {
         if json { Style::JsonText } else { Style::Quoted }
@@ -42,16 +41,6 @@ fn style_of(matches: &ArgMatches) -> Option<Style>
     Some(style_for(text, json))
 }
 
-/// Tells if `style` writes lines, before which offsets and paths can stand.
-pub(crate) fn has_lines(style: Style) -> bool
-    ensures { result ≡ meaning.has_lines style }
-{
-    match style {
-        Style::Lines | Style::Quoted => true,
-        Style::Json | Style::JsonText => false,
-    }
-}
-
 /// Returns whether `--offsets` and `--ways` are given, if `style` goes with them.
 fn marks_of(matches: &ArgMatches, style: Style) -> Option<(bool, bool)>
     ensures read { IfSome result (λ marks. MarksAre (rows_of (found_of matches.now)) style marks.0 marks.1) }
@@ -60,7 +49,7 @@ fn marks_of(matches: &ArgMatches, style: Style) -> Option<(bool, bool)>
 {
     let offsets = flag_of(matches, "offsets")?;
     let ways = flag_of(matches, "ways")?;
-    if has_lines(style) || !(offsets || ways) {
+    if style.has_lines() || !(offsets || ways) {
         return Some((offsets, ways));
     }
     None
@@ -70,10 +59,7 @@ fn marks_of(matches: &ArgMatches, style: Style) -> Option<(bool, bool)>
 fn is_plain(style: Style, offsets: bool, ways: bool) -> bool
     ensures { result ≡ meaning.is_plain style offsets ways }
 {
-    match style {
-        Style::Lines => !(offsets || ways),
-        Style::Quoted | Style::Json | Style::JsonText => false,
-    }
+    style.has_lines() && !style.is_quoted() && !(offsets || ways)
 }
 
 /// Returns the invocation of `show` without `--at`, in `style`: all of each message, or of exactly one.

@@ -9,7 +9,8 @@ use Rattle.capn_walk.specs.Limits.{Bounds}
 use Rattle.capn_show.specs.Styled.{styled}
 use Rattle.capn_show.specs.declared.style.Style.{Style}
 use Rattle.capn_show.specs.declared.style.Style.TheVariants as styles
-use Rattle.capn_abi.specs.Styles.{end_of, style_named}
+use Rattle.capn_abi.specs.Styles.{style_named}
+use Rattle.capn_show.specs.Style.{end_of}
 use Rattle.capn_canon.specs.Denotes.{Denotes}
 use Rattle.capn_canon.specs.MemoryNeed.{MayNeedMemory}
 use Rattle.capn_canon.specs.declared.form.Form.{Form}

@@ -8,7 +8,6 @@ ghost use Rattle.capn_canon.specs.declared.refusal.Refusal.TheVariants as refusa
 ghost use Rattle.capn_c.specs.Shown.{MayNeedText, ShowsIn, ShowsMessage};
 ghost use Rattle.capn_c.specs.inner.Told.{IsTextTold};
 
-use capn_abi::end_of;
 use capn_canon::{Form, MessageTask, Refusal, run_task, survey};
 use capn_show::{Style, show_part};
 use capn_walk::{Limits, Surveyed};
@@ -35,7 +34,7 @@ fn text_of<S: Space>(alloc: Global, space: &S, limits: Limits, style: Style) -> 
     let mut text = Vec::new(alloc);
     let mut writer = Watched::new(Vec::new(alloc));
     match show_part(alloc, &mut text, &mut writer, space, limits, style, &[]) {
-        Ok(()) => match text.extend_from_slice(end_of(style)) {
+        Ok(()) => match text.extend_from_slice(style.end()) {
             Ok(()) => joined(writer.into_inner(), text),
             Err(_) => None,
         },

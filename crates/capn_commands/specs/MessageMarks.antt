@@ -3,18 +3,10 @@ use Rattle.std.specs.Prelude.{◌≡◌, ℕ, ◌+◌, ◌*◌, List, [], ◌∷
 use Rattle.std.specs.Prelude.{refl}
 use Rattle.std.specs.Fmt.{decimal, digits}
 use Rattle.capn_marks.specs.declared.marks.Marks.{Marks}
-use Rattle.capn_show.specs.declared.style.Style.{Style}
-use Rattle.capn_show.specs.declared.style.Style.TheVariants as styles
+use Rattle.capn_show.specs.Style.{is_quoted}
 use Rattle.capn_serve.specs.Table.{table_words}
 use Rattle.capn_serve.specs.declared.position.Position.{Position}
 use Rattle.capn_commands.specs.declared.part_texts.PartTexts.{PartTexts}
-
--- whether lists of bytes that are texts stand between quotes in a style of lines
-abbrev pub is_quoted : Style → Bool
-is_quoted styles.Lines = false
-is_quoted styles.Quoted = true
-is_quoted styles.Json = false
-is_quoted styles.JsonText = false
 
 -- the marks of a message at a position
 abbrev pub marks_of : PartTexts → Position → List (List ℕ) → Marks

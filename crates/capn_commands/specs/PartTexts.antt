@@ -1,5 +1,5 @@
 -- What is written of a message: in a style or with marks, what is at a path from its root, and what ends it. (Own.)
-use Rattle.std.specs.Prelude.{◌≡◌, ℕ, ◌||◌, List, [], ◌∷◌, ◌++◌, codes, if◌then◌else◌}
+use Rattle.std.specs.Prelude.{◌≡◌, ℕ, ◌||◌, List, ◌++◌, if◌then◌else◌}
 use Rattle.capn_words.specs.Message.{total}
 use Rattle.capn_value.specs.Tree.{Tree}
 use Rattle.capn_walk.specs.Accepted.{IsValueOf, IsWalkRefused}
@@ -7,19 +7,11 @@ use Rattle.capn_walk.specs.declared.walk_answer.Stopped.{Stopped}
 use Rattle.capn_canon.specs.declared.refusal.Refusal.{Refusal}
 use Rattle.capn_canon.specs.declared.refusal.Refusal.TheVariants as refusals
 use Rattle.capn_marks.specs.MarkedPart.{marked_at}
+use Rattle.capn_show.specs.Style.{end_of}
 use Rattle.capn_show.specs.Styled.{styled}
-use Rattle.capn_show.specs.declared.style.Style.{Style}
-use Rattle.capn_show.specs.declared.style.Style.TheVariants as styles
 use Rattle.capn_serve.specs.declared.position.Position.{Position}
 use Rattle.capn_commands.specs.MessageMarks.{marked_end, marks_of}
 use Rattle.capn_commands.specs.declared.part_texts.PartTexts.{PartTexts}
-
--- what ends the text of a message: the line `end`, but nothing in JSON, where the text is one line
-abbrev pub end_of : Style → List ℕ
-end_of styles.Lines = codes "end" ++ 10 ∷ []
-end_of styles.Quoted = codes "end" ++ 10 ∷ []
-end_of styles.Json = []
-end_of styles.JsonText = []
 
 -- the text of what is at a path from a value of a message: with marks, where any is asked for, or in a style
 abbrev pub part_of : PartTexts → Position → List (List ℕ) → Tree → List ℕ

@@ -10,20 +10,9 @@ ghost use Rattle.capn_commands.specs.inner.AddedParts.{AddsEnd};
 use crate::part_texts::{PartTexts, add_end};
 use capn_marks::Marks;
 use capn_serve::{Position, ServeFault, table_words};
-use capn_show::Style;
 use capn_words::{Space, Watched};
 use std::alloc::Allocator;
 use std::io::Write;
-
-/// Tells if `style` writes lists of bytes that are texts between quotes.
-fn is_quoted(style: Style) -> bool
-    ensures { result ≡ spec.is_quoted style }
-{
-    match style {
-        Style::Quoted => true,
-        Style::Lines | Style::Json | Style::JsonText => false,
-    }
-}
 
 /// Returns the marks of a message at the position `at`.
 pub(crate) fn marks_of<S: Space>(texts: &PartTexts, at: Position, message: &S) -> Marks
@@ -32,7 +21,7 @@ pub(crate) fn marks_of<S: Space>(texts: &PartTexts, at: Position, message: &S) -
     Marks {
         offsets: texts.offsets,
         ways: texts.ways,
-        quoted: is_quoted(texts.style),
+        quoted: texts.style.is_quoted(),
         offset: at.offset,
         table: table_words(texts.form, message),
     }

@@ -5,6 +5,7 @@ ghost use Rattle.capn_words.specs.Message.{total};
 ghost use Rattle.capn_words.specs.Watched.{has_failed};
 ghost use Rattle.capn_marks.specs.MarkedPart.{marked_at};
 ghost use Rattle.capn_show.specs.Outgoing.{outgoing};
+ghost use Rattle.capn_show.specs.Style.{end_of};
 ghost use Rattle.capn_show.specs.Styled.{styled};
 ghost use Rattle.capn_commands.specs.MessageMarks as marking;
 ghost use Rattle.capn_commands.specs.PartTexts as spec;
@@ -48,16 +49,6 @@ fn fault_of(fault: ShowFault) -> ServeFault
     }
 }
 
-/// Returns the end of a message's text: the line `end`, or nothing for JSON, whose text is one line.
-fn end_of(style: Style) -> &'static [u8]
-    ensures { result.now ≡ spec.end_of style }
-{
-    match style {
-        Style::Lines | Style::Quoted => b"end\n",
-        Style::Json | Style::JsonText => b"",
-    }
-}
-
 /// Adds an end to the text, or nothing if memory is refused, and writes what is long.
 pub(crate) fn add_end<W: Write, A: Allocator>(
     end: &[u8],
@@ -86,11 +77,11 @@ fn add_part<S: Space, W: Write, A: Allocator + Copy>(
     writer: &mut Watched<W>,
 ) -> Result<(), ServeFault>
     requires fine { has_failed writer.old ≡ false }
-    ensures { AddsPart (S.message message.now) limits (styled style path.now) (spec.end_of style)
+    ensures { AddsPart (S.message message.now) limits (styled style path.now) (end_of style)
         (outgoing W.contents writer.old text.old.items) (outgoing W.contents writer.new text.new.items) result }
 {
     match show_part(alloc, text, writer, message, limits, style, path) {
-        Ok(()) => add_end(end_of(style), text, writer),
+        Ok(()) => add_end(style.end(), text, writer),
         Err(fault) => Err(fault_of(fault)),
     }
 }

@@ -9,5 +9,6 @@ pub mod Outgoing
 pub mod Part
 pub mod Quoting
 pub mod ReadyPlaces
+pub mod Style
 pub mod Styled
 pub mod Written

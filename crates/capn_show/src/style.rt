@@ -1,5 +1,8 @@
 //! Styles of a value's text.
 
+ghost use Rattle.std.specs.Prelude.{◌≡◌};
+ghost use Rattle.capn_show.specs.Style as spec;
+
 /// A style of the text of a value.
 #[derive(Clone, Copy, Debug, PartialEq, Eq)]
 pub enum Style {
@@ -13,4 +16,36 @@ pub enum Style {
     /// One line of JSON, in which a list of bytes that is a text is written as one: its last byte is zero, and those
     /// before it are well-formed UTF-8 without control characters, but tab, newline and carriage return.
     JsonText,
+}
+
+impl Style {
+    /// Returns the end of the text of a message: the line `end`, but nothing in JSON, where the text is one line.
+    pub fn end(self) -> &'static [u8]
+        ensures { result.now ≡ spec.end_of self }
+    {
+        match self {
+            Style::Lines | Style::Quoted => b"end\n",
+            Style::Json | Style::JsonText => b"",
+        }
+    }
+
+    /// Returns `true` if it writes lines, before which offsets and paths can stand.
+    pub fn has_lines(self) -> bool
+        ensures { result ≡ spec.has_lines self }
+    {
+        match self {
+            Style::Lines | Style::Quoted => true,
+            Style::Json | Style::JsonText => false,
+        }
+    }
+
+    /// Returns `true` if it writes lists of bytes that are texts between quotes, in lines.
+    pub fn is_quoted(self) -> bool
+        ensures { result ≡ spec.is_quoted self }
+    {
+        match self {
+            Style::Quoted => true,
+            Style::Lines | Style::Json | Style::JsonText => false,
+        }
+    }
 }

@@ -1,7 +1,7 @@
 use Rattle.std.proofs.Common.{List, ℕ, subst}
 use Rattle.capn_show.specs.Outgoing.{outgoing}
 use Rattle.capn_show.specs.Styled.{styled}
-use Rattle.capn_commands.specs.PartTexts.{end_of}
+use Rattle.capn_show.specs.Style.{end_of}
 use Rattle.capn_commands.specs.inner.AddedParts.{AddsEnd}
 use Rattle.capn_commands.proofs.PartServed.{part_fault, part_line}
 use Rattle.capn_commands.proofs.part_texts.add_part.Goals as goal
@@ -13,7 +13,7 @@ returns-in-Ok g c =
     part_line (g.S.Space.message c.args.message.now) c.args.limits (styled c.args.style c.args.path.now)
     (end_of c.args.style) (outgoing g.W.Write.contents c.args.writer.now c.args.text.now.items) q r c.add_end.result
     c.in-Ok.ensures.shown
-    (subst (λ (l : List ℕ). AddsEnd l q r c.add_end.result) c.end_of.ensures c.add_end.ensures)
+    (subst (λ (l : List ℕ). AddsEnd l q r c.add_end.result) c.end.ensures c.add_end.ensures)
 
 pub returns-in-Err : goal.returns-in-Err
 returns-in-Err g c =
