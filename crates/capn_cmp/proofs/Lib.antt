@@ -2,7 +2,6 @@ pub mod Lines
 pub mod Beginnings
 pub mod Reports
 pub mod CmpServed
-pub mod CmpRuns
 pub mod OneComparison
 pub mod AllSame
 pub mod WrittenReports

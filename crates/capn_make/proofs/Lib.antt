@@ -1,5 +1,4 @@
 pub mod CanonBytes
-pub mod Failures
 pub mod FramesOfCanon
 pub mod FirstTexts
 pub mod Unended
