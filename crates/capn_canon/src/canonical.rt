@@ -6,7 +6,7 @@ ghost use Rattle.capn_value.specs.FirstCap.{first_cap};
 ghost use Rattle.capn_walk.specs.Accepted.{IsValueOf};
 ghost use Rattle.capn_layout.specs.Layout.{canon};
 ghost use Rattle.capn_canon.specs.Denotes.{AnswersMessage};
-ghost use Rattle.capn_canon.specs.inner.Outcomes.{IsCanonicalised};
+ghost use Rattle.capn_canon.specs.inner.Outcomes.{IsCanonicalised, ReadsWithin};
 ghost use Rattle.capn_canon.specs.Canonicity.{ReadsBack, PaysItsCost, IsItsOwnForm, IsFormExactlyOf};
 ghost use Rattle.capn_canon.specs.Refusal.{IsRefusedMessage, IsPaidWithin};
 ghost use Rattle.capn_canon.specs.declared.refusal.Refusal.TheVariants as refusals;
@@ -38,8 +38,7 @@ fn canonical_of_inner<A: Allocator + Copy, S: Space, L: Ledger>(
     reads: &mut Reads<L>,
 ) -> Result<Canonical<A>, Refusal>
     ensures told { IsCanonicalised space.now limits result (λ c. c.bytes.items) (λ c. c.paid) }
-    ensures reads { IfOk result (λ c. reads.new + 3 ≤ reads.old + 56 * (c.paid + 1)) }
-    ensures work { reads.new + 3 ≤ reads.old + 56 * (limits.budget + 1) }
+    ensures reads { ReadsWithin 56 limits result (λ c. c.paid) reads.old (reads.new + 3) }
 {
     space.bounds();
     let _budget = limits.budget();
@@ -61,8 +60,7 @@ fn canonical_by_segments<A: Allocator + Copy, S: Space, L: Ledger>(
     reads: &mut Reads<L>,
 ) -> Result<Canonical<A>, Refusal>
     ensures told { IsCanonicalised space.now limits result (λ c. c.bytes.items) (λ c. c.paid) }
-    ensures reads { IfOk result (λ c. reads.new ≤ reads.old + 56 * (c.paid + 1)) }
-    ensures work { reads.new ≤ reads.old + 56 * (limits.budget + 1) }
+    ensures reads { ReadsWithin 56 limits result (λ c. c.paid) reads.old reads.new }
 {
     match space.only_segment(reads) {
         Some(only) => canonical_of_inner(alloc, &only.space(), limits, reads),

@@ -8,6 +8,7 @@ ghost use Rattle.capn_canon.specs.CanonicalLength.{HasBytes};
 ghost use Rattle.capn_canon.specs.Refusal.{IsPaidWithin};
 ghost use Rattle.capn_canon.specs.declared.same_refusal.Side.TheVariants.{First, Second};
 ghost use Rattle.capn_canon.specs.SameMessages.{SaysSame, IsUnfit, IsNotCompared, IsSameTold};
+ghost use Rattle.capn_canon.specs.inner.Outcomes.{ReadsWithin};
 
 use crate::refusal::Refusal;
 use crate::same_refusal::{SameRefusal, Side};
@@ -28,8 +29,7 @@ fn survey_side<S: Space, L: Ledger>(
     ensures found { IfOk result (λ _. HasBytes space.now limits) }
     ensures refused { IfErr result (λ e. (e.side ≡ side) × IsUnfit space.now limits e.refusal) }
     ensures bounded { IfErr result (λ e. IsPaidWithin limits.budget e.refusal) }
-    ensures reads { IfOk result (λ _. reads.new ≤ reads.old + 14 * (price space.now limits + 1) + 1) }
-    ensures work { reads.new ≤ reads.old + 14 * (limits.budget + 1) + 1 }
+    ensures reads { ReadsWithin 14 limits result (λ _. price space.now limits) (reads.old + 1) reads.new }
 {
     match survey_value(space, limits, reads) {
         Ok(_) => Ok(()),
@@ -52,8 +52,7 @@ fn same_beside<S: Space, T: Space, L: Ledger, M: Ledger>(
     ensures told { IsSameTold a.now b.now limits result }
     ensures side { IfErr result (λ e. e.side ≡ Second) }
     ensures first { first.new ≤ first.old + 20 * price a.now limits + 11 }
-    ensures paid { IfOk result (λ _. second.new + 3 ≤ second.old + 34 * (price b.now limits + 1)) }
-    ensures second { second.new + 3 ≤ second.old + 34 * (limits.budget + 1) }
+    ensures second { ReadsWithin 34 limits result (λ _. price b.now limits) second.old (second.new + 3) }
 {
     a.bounds();
     b.bounds();
@@ -75,8 +74,7 @@ fn same_by_segments<S: Space, T: Space, L: Ledger, M: Ledger>(
     ensures told { IsSameTold a.now b.now limits result }
     ensures side { IfErr result (λ e. e.side ≡ Second) }
     ensures first { first.new ≤ first.old + 20 * price a.now limits + 11 }
-    ensures paid { IfOk result (λ _. second.new ≤ second.old + 34 * (price b.now limits + 1)) }
-    ensures second { second.new ≤ second.old + 34 * (limits.budget + 1) }
+    ensures second { ReadsWithin 34 limits result (λ _. price b.now limits) second.old second.new }
 {
     match b.only_segment(second) {
         Some(only) => same_beside(a, &only.space(), limits, first, second),
@@ -94,10 +92,8 @@ fn same_of<S: Space, T: Space, L: Ledger, M: Ledger>(
 ) -> Result<bool, SameRefusal>
     ensures told { IsSameTold a.now b.now limits result }
     ensures unread { IfErr result (λ e. e.side ≡ First → second.new ≡ second.old) }
-    ensures first_paid { IfOk result (λ _. first.new + 3 ≤ first.old + 34 * (price a.now limits + 1)) }
-    ensures second_paid { IfOk result (λ _. second.new ≤ second.old + 34 * (price b.now limits + 1)) }
-    ensures first { first.new + 3 ≤ first.old + 34 * (limits.budget + 1) }
-    ensures second { second.new ≤ second.old + 34 * (limits.budget + 1) }
+    ensures first { ReadsWithin 34 limits result (λ _. price a.now limits) first.old (first.new + 3) }
+    ensures second { ReadsWithin 34 limits result (λ _. price b.now limits) second.old second.new }
 {
     a.bounds();
     let _budget = limits.budget();
@@ -116,10 +112,8 @@ fn same_by_first<S: Space, T: Space, L: Ledger, M: Ledger>(
 ) -> Result<bool, SameRefusal>
     ensures told { IsSameTold a.now b.now limits result }
     ensures unread { IfErr result (λ e. e.side ≡ First → second.new ≡ second.old) }
-    ensures first_paid { IfOk result (λ _. first.new ≤ first.old + 34 * (price a.now limits + 1)) }
-    ensures second_paid { IfOk result (λ _. second.new ≤ second.old + 34 * (price b.now limits + 1)) }
-    ensures first { first.new ≤ first.old + 34 * (limits.budget + 1) }
-    ensures second { second.new ≤ second.old + 34 * (limits.budget + 1) }
+    ensures first { ReadsWithin 34 limits result (λ _. price a.now limits) first.old first.new }
+    ensures second { ReadsWithin 34 limits result (λ _. price b.now limits) second.old second.new }
 {
     match a.only_segment(first) {
         Some(only) => same_of(&only.space(), b, limits, first, second),

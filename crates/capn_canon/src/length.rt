@@ -7,7 +7,7 @@ ghost use Rattle.capn_walk.specs.Accepted.{IsValueOf, IsBounded, paid as price};
 ghost use Rattle.capn_layout.specs.Layout.{canon};
 ghost use Rattle.capn_canon.specs.CanonicalLength.{IsCanonicalLength, HasBytes};
 ghost use Rattle.capn_canon.specs.MessageRefusal.{HasNoBytes, IsMessagePaidWithin};
-ghost use Rattle.capn_canon.specs.inner.Outcomes.{IsBeyond, IsLengthTold};
+ghost use Rattle.capn_canon.specs.inner.Outcomes.{IsBeyond, IsLengthTold, ReadsWithin};
 
 use crate::message_refusal::MessageRefusal;
 use crate::value_survey::survey_value;
@@ -62,8 +62,7 @@ fn length_of<S: Space, L: Ledger>(
     reads: &mut Reads<L>,
 ) -> Result<CanonicalLength, MessageRefusal>
     ensures told { IsLengthTold space.now limits result }
-    ensures reads { IfOk result (λ c. reads.new + 3 ≤ reads.old + 34 * (c.paid + 1)) }
-    ensures work { reads.new + 3 ≤ reads.old + 34 * (limits.budget + 1) }
+    ensures reads { ReadsWithin 34 limits result (λ c. c.paid) reads.old (reads.new + 3) }
 {
     space.bounds();
     let _budget = limits.budget();
@@ -85,8 +84,7 @@ fn length_by_segments<S: Space, L: Ledger>(
     reads: &mut Reads<L>,
 ) -> Result<CanonicalLength, MessageRefusal>
     ensures told { IsLengthTold space.now limits result }
-    ensures reads { IfOk result (λ c. reads.new ≤ reads.old + 34 * (c.paid + 1)) }
-    ensures work { reads.new ≤ reads.old + 34 * (limits.budget + 1) }
+    ensures reads { ReadsWithin 34 limits result (λ c. c.paid) reads.old reads.new }
 {
     match space.only_segment(reads) {
         Some(only) => length_of(&only.space(), limits, reads),

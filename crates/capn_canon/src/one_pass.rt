@@ -7,13 +7,13 @@
 //! further cost of a list of structs is paid with its rows: at most two for each word of theirs, to see that all are
 //! kept, and a turn for each row with slots.
 
-ghost use Rattle.std.specs.Prelude.{◌≡◌, ◌+◌, ◌-◌, ◌*◌, ◌%◌, ◌^◌, ◌<◌, ◌≤◌, [], ◌∷◌, slice_index, IfSome, IsSome};
+ghost use Rattle.std.specs.Prelude.{◌≡◌, ◌+◌, ◌-◌, ◌*◌, ◌%◌, ◌^◌, ◌<◌, ◌≤◌, [], ◌∷◌, slice_index, IfSome};
 ghost use Rattle.capn_words.specs.Message.{IsMessage};
 ghost use Rattle.capn_words.specs.declared.pointer.Width.TheVariants.{Rows};
 ghost use Rattle.capn_canon.specs.inner.Due.{Due, DueFirst, DueIn, DueRows};
-ghost use Rattle.capn_canon.specs.inner.InPlace.{IsOpen, HasObject, HasList, Leads, Finds, FindsFirst, FindsRows};
+ghost use Rattle.capn_canon.specs.inner.InPlace.{IsOpen, HasObject, HasList, GoesOn, Finds, FindsFirst, FindsRows};
 ghost use Rattle.capn_canon.specs.inner.InPlace.{Opens};
-ghost use Rattle.capn_canon.specs.inner.PassReads.{may_read};
+ghost use Rattle.capn_canon.specs.inner.PassReads.{may_read, Passes};
 
 use crate::counted_words::{CountedWords, word_at};
 use crate::objects::{check_numbers, open_composite, open_pointers, open_struct};
@@ -38,10 +38,8 @@ pub fn check_object<S: Space, L: Ledger, const DEEP: bool>(
 ) -> Option<Progress>
     requires message { IsMessage (space ∷ []) }
     requires opened { IsOpen space pass }
-    ensures found { IfSome result (λ q. Finds space.entry base DEEP pass least.old q least.new) }
-    ensures only { Due space.entry base pass → IsSome result }
-    ensures reads { IfSome result (λ q. reads.new + 10 * q.left ≤ reads.old + may_read pass) }
-    ensures most { reads.new ≤ reads.old + may_read pass }
+    ensures { Passes (Finds space.entry base DEEP pass least.old) (Due space.entry base pass) (may_read pass) result
+        least.new reads.old reads.new }
 {
     check_slots::<S, L, DEEP>(&space, base, pass, least, reads)
 }
@@ -58,10 +56,8 @@ fn check_slots<S: Space, L: Ledger, const DEEP: bool>(
 ) -> Option<Progress>
     requires message { IsMessage (space.now ∷ []) }
     requires opened { IsOpen space.now pass }
-    ensures found { IfSome result (λ q. Finds space.now base DEEP pass least.old q least.new) }
-    ensures only { Due space.now base pass → IsSome result }
-    ensures reads { IfSome result (λ q. reads.new + 10 * q.left ≤ reads.old + may_read pass) }
-    ensures most { reads.new ≤ reads.old + may_read pass }
+    ensures { Passes (Finds space.now base DEEP pass least.old) (Due space.now base pass) (may_read pass) result
+        least.new reads.old reads.new }
 {
     let mut left = pass;
     while left.from < left.end {
@@ -88,8 +84,7 @@ fn check_slot<S: Space, L: Ledger, const DEEP: bool>(
     requires message { IsMessage (space.now ∷ []) }
     requires opened { IsOpen space.now pass }
     requires some { pass.from < pass.end }
-    ensures found { IfSome result (λ r. (pass.from < r.from) × IsOpen space.now r
-        × Leads space.now base DEEP pass least.old r least.new) }
+    ensures found { IfSome result (λ r. GoesOn space.now base DEEP pass least.old r least.new) }
     ensures only { Due space.now base pass → DueIn space.now base result }
     ensures reads { IfSome result (λ r. reads.new + 1 + may_read r ≤ reads.old + may_read pass) }
     ensures most { reads.new + 1 ≤ reads.old + may_read pass }
@@ -134,8 +129,7 @@ fn check_struct<S: Space, L: Ledger, const DEEP: bool>(
     requires object { HasObject space.now pass }
     requires word { word ≡ slice_index space.now pass.from }
     requires near { word % 2 ^ 32 ≡ 4 * (pass.next - pass.from - 1) }
-    ensures found { IfSome result (λ r. (pass.from < r.from) × IsOpen space.now r
-        × Leads space.now base DEEP pass least.old r least.new) }
+    ensures found { IfSome result (λ r. GoesOn space.now base DEEP pass least.old r least.new) }
     ensures only { 0 < word → Due space.now base pass → DueIn space.now base result }
     ensures reads { IfSome result (λ r. reads.new + 2 + may_read r ≤ reads.old + may_read pass) }
     ensures most { reads.new + 2 ≤ reads.old + may_read pass }
@@ -162,8 +156,7 @@ fn check_below<S: Space, L: Ledger, const DEEP: bool>(
     requires later { pass.from < below.from }
     requires opened { IsOpen space.now below }
     requires named { Opens space.now base pass below }
-    ensures found { IfSome result (λ r. (pass.from < r.from) × IsOpen space.now r
-        × Leads space.now base DEEP pass least.old r least.new) }
+    ensures found { IfSome result (λ r. GoesOn space.now base DEEP pass least.old r least.new) }
     ensures only { Due space.now base below → Due space.now base pass → DueIn space.now base result }
     ensures reads { IfSome result (λ r.
         reads.new + 7 + may_read r ≤ reads.old + may_read below + 7 * (pass.end - pass.from)) }
@@ -192,10 +185,8 @@ fn check_first<S: Space, L: Ledger, const DEEP: bool>(
 ) -> Option<Progress>
     requires message { IsMessage (space.now ∷ []) }
     requires opened { IsOpen space.now below }
-    ensures found { IfSome result (λ q. Finds space.now base DEEP below least.old q least.new) }
-    ensures only { Due space.now base below → IsSome result }
-    ensures reads { IfSome result (λ q. reads.new + 10 * q.left ≤ reads.old + may_read below) }
-    ensures most { reads.new ≤ reads.old + may_read below }
+    ensures { Passes (Finds space.now base DEEP below least.old) (Due space.now base below) (may_read below) result
+        least.new reads.old reads.new }
 {
     if below.from == below.end {
         return Some(below.here());
@@ -226,8 +217,7 @@ fn check_list<S: Space, L: Ledger, const DEEP: bool>(
     requires object { HasObject space.now pass }
     requires word { word ≡ slice_index space.now pass.from }
     requires near { word % 2 ^ 32 ≡ 4 * (pass.next - pass.from - 1) + 1 }
-    ensures found { IfSome result (λ r. (pass.from < r.from) × IsOpen space.now r
-        × Leads space.now base DEEP pass least.old r least.new) }
+    ensures found { IfSome result (λ r. GoesOn space.now base DEEP pass least.old r least.new) }
     ensures only { Due space.now base pass → DueIn space.now base result }
     ensures reads { IfSome result (λ r. reads.new + 2 + may_read r ≤ reads.old + may_read pass) }
     ensures most { reads.new + 2 ≤ reads.old + may_read pass }
@@ -273,10 +263,8 @@ fn check_composite<S: Space, L: Ledger, const DEEP: bool>(
 ) -> Option<Progress>
     requires message { IsMessage (space.now ∷ []) }
     requires list { HasList space.now pass Rows span }
-    ensures found { IfSome result (λ q. FindsFirst space.now base DEEP pass least.old q least.new) }
-    ensures only { DueFirst space.now base pass → IsSome result }
-    ensures reads { IfSome result (λ q. reads.new + 10 * q.left ≤ reads.old + 10 * pass.left + 5) }
-    ensures most { reads.new ≤ reads.old + 10 * pass.left + 5 }
+    ensures { Passes (FindsFirst space.now base DEEP pass least.old) (DueFirst space.now base pass)
+        (10 * pass.left + 5) result least.new reads.old reads.new }
 {
     match open_composite(space.again(), base, span, pass, reads) {
         Some(opened) => {
@@ -319,14 +307,9 @@ fn check_rows<S: Space, L: Ledger, const DEEP: bool>(
     requires opened { IsOpen space pass }
     requires some { 0 < slots }
     requires inside { pass.from + count * (words + slots) ≡ pass.end }
-    ensures found { IfSome result (λ q.
-        FindsRows space.entry base DEEP words slots pass.from count pass.next pass.depth pass.left pass.visits least.old
-        q least.new) }
-    ensures only { DueRows space.entry base words slots pass.from count pass.next pass.depth pass.left
-        → IsSome result }
-    ensures reads { IfSome result (λ q.
-        reads.new + 10 * q.left ≤ reads.old + 10 * pass.left + 8 * (count * slots)) }
-    ensures most { reads.new ≤ reads.old + 10 * pass.left + 8 * (count * slots) }
+    ensures { Passes (FindsRows space.entry base DEEP words slots pass.from count pass.next pass.depth pass.left
+        pass.visits least.old) (DueRows space.entry base words slots pass.from count pass.next pass.depth pass.left)
+        (10 * pass.left + 8 * (count * slots)) result least.new reads.old reads.new }
 {
     let mut progress = pass.here();
     let mut row = pass.from;

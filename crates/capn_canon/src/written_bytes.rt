@@ -7,7 +7,7 @@ ghost use Rattle.capn_canon.specs.Denotes.{AnswersMessage};
 ghost use Rattle.capn_canon.specs.Canonicity.{ReadsBack, PaysItsCost, IsItsOwnForm, IsFormExactlyOf};
 ghost use Rattle.capn_canon.specs.MessageRefusal.{IsIntoPaidWithin};
 ghost use Rattle.capn_canon.specs.Theorem.{AnsweredInto, WrittenInto, RefusedInto};
-ghost use Rattle.capn_canon.specs.inner.Outcomes.{IsInto};
+ghost use Rattle.capn_canon.specs.inner.Outcomes.{IsInto, ReadsWithin};
 
 use crate::length::{CanonicalLength, length_beyond};
 use crate::message_refusal::IntoRefusal;
@@ -26,8 +26,7 @@ fn write_message<S: Space, L: Ledger>(
     reads: &mut Reads<L>,
 ) -> Result<CanonicalLength, IntoRefusal>
     ensures into { IsInto space.now limits out.old out.new result }
-    ensures reads { IfOk result (λ c. reads.new + 3 ≤ reads.old + 54 * (c.paid + 1)) }
-    ensures work { reads.new + 3 ≤ reads.old + 54 * (limits.budget + 1) }
+    ensures reads { ReadsWithin 54 limits result (λ c. c.paid) reads.old (reads.new + 3) }
 {
     space.bounds();
     let _budget = limits.budget();
@@ -54,8 +53,7 @@ fn write_by_segments<S: Space, L: Ledger>(
     reads: &mut Reads<L>,
 ) -> Result<CanonicalLength, IntoRefusal>
     ensures into { IsInto space.now limits out.old out.new result }
-    ensures reads { IfOk result (λ c. reads.new ≤ reads.old + 54 * (c.paid + 1)) }
-    ensures work { reads.new ≤ reads.old + 54 * (limits.budget + 1) }
+    ensures reads { ReadsWithin 54 limits result (λ c. c.paid) reads.old reads.new }
 {
     match space.only_segment(reads) {
         Some(only) => write_message(&only.space(), limits, out, reads),

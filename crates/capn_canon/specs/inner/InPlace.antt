@@ -60,6 +60,14 @@ module _ (all : List ℕ) (base : ℕ) where
     pub fits : q.next ≤ length all
     pub few : q.visits ≤ q.next
 
+-- the slots in hand are below the next free word, which is no word past the end, and no more slots were met than
+-- words (Own.)
+pub record IsOpen (all : List ℕ) (p : Pass) : Type 0 where
+  pub order : p.from ≤ p.end
+  pub before : p.end ≤ p.next
+  pub fits : p.next ≤ length all
+  pub few : p.visits ≤ p.next
+
 -- if a pass learns how deep it comes, objects of this height lower the least depth that was left (Own.)
 abbrev pub IsLowered : Bool → ℕ → ℕ → ℕ → ℕ → Type 0
 IsLowered deep depth height least low = IsTrue deep → least ≤ depth → low ≡ min least (depth - height)
@@ -111,6 +119,10 @@ module _ (all : List ℕ) (base : ℕ) (deep : Bool) where
   abbrev pub Leads : Pass → ℕ → Pass → ℕ → Type 0
   Leads p least r later = (q : Progress) (low : ℕ) → Finds r later q low → Finds p least q low
 
+  -- this pass goes on at a later slot (Own.)
+  abbrev pub GoesOn : Pass → ℕ → Pass → ℕ → Type 0
+  GoesOn p least r later = (p.from < r.from) × IsOpen all r × Leads p least r later
+
 -- the least depth left, once it is lowered to one that is left (Own.)
 abbrev pub IsLeast : Bool → ℕ → ℕ → ℕ → Type 0
 IsLeast deep depth least low = IsTrue deep → low ≡ min least depth
@@ -130,14 +142,6 @@ module _ (all : List ℕ) (base : ℕ) where
   abbrev pub OpensRows : Pass → RowPass → Type 0
   OpensRows p r = (deep : Bool) (least here : ℕ) (q : Progress) (low : ℕ) → IsLeast deep r.pass.depth least here
       → FindsInRows all base deep r here q low → FindsFirst all base deep p least q low
-
--- the slots in hand are below the next free word, which is no word past the end, and no more slots were met than
--- words (Own.)
-pub record IsOpen (all : List ℕ) (p : Pass) : Type 0 where
-  pub order : p.from ≤ p.end
-  pub before : p.end ≤ p.next
-  pub fits : p.next ≤ length all
-  pub few : p.visits ≤ p.next
 
 -- the first slot in hand isn't null, and may have an object (Own.)
 pub record HasObject (all : List ℕ) (p : Pass) : Type 0 where

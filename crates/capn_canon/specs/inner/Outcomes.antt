@@ -1,5 +1,5 @@
 -- The outcomes of private calls, of a message and of bytes in a form.
-use Rattle.std.specs.Prelude.{◌≡◌, ◌≢◌, ℕ, ◌<◌, ◌≤◌, List, length, Option, Some, None, Result, IfOk, IfErr}
+use Rattle.std.specs.Prelude.{◌≡◌, ◌≢◌, ℕ, ◌+◌, ◌*◌, ◌<◌, ◌≤◌, List, length, Option, Some, None, Result, IfOk, IfErr}
 use Rattle.std.specs.Prelude.{OnErr, IsErrOf, MatchResult}
 use Rattle.capn_value.specs.Tree.{Tree}
 use Rattle.capn_value.specs.FirstCap.{first_cap}
@@ -57,6 +57,12 @@ pub record IsSurveyed (message : List (List ℕ)) (limits : Bounds) (r : Result 
   pub refused : IfErr r (λ e. IsUnaccepted message limits e)
   pub no_memory : IfErr r (λ e. e ≢ refusals.Memory)
   pub bounded : MatchResult r (λ s. IsBounded limits.budget s.paid s.visits) (λ e. IsPaidWithin limits.budget e)
+
+-- a call makes at most n reads of a message for each word of a price, and n more; so it does for the budget, whatever
+-- it answers
+abbrev pub ReadsWithin : {T E : Type 0} → ℕ → Bounds → Result T E → (T → ℕ) → ℕ → ℕ → Type 0
+ReadsWithin n limits r price old new =
+    IfOk r (λ c. new ≤ old + n * (price c + 1)) × (new ≤ old + n * (limits.budget + 1))
 
 -- there is room for n bytes, or there is not and this is their number
 abbrev pub IsBeyond : ℕ → ℕ → Option ℕ → Type 0

@@ -1,4 +1,5 @@
 use Rattle.std.proofs.Common.{sym, arith, subst, ℕ}
+use Rattle.std.proofs.lemmas.Result.{err_from_is_err_and}
 use Rattle.capn_layout.specs.MessageSlots.{HasSlot}
 use Rattle.capn_layout.specs.Ready.{IsReady}
 use Rattle.capn_canon.proofs.calls.AtRoot.{root-ready}
@@ -37,22 +38,12 @@ returns-clause-reads g c =
     let pays = f.pays in
     let few = c.in_ok-surveyed.ensures.bounded.few in
     let walk = c.in_ok-surveyed.ensures.reads in
+    let work = c.in_ok-surveyed.ensures.work in
     let laid = c.in_ok-bytes.ensures.reads f.value f.is.is (base c.args.limits.tariff) in
-    omega arith
+    (omega arith, omega arith)
 
-pub returns-clause-work : goal.returns-clause-work
-returns-clause-work g c =
-    let f = c.in_ok-surveyed.ensures.found.0 in
-    let cost = denoted_cost c.args.space.now c.args.limits f.value c.bounds.ensures (omega arith) (omega arith) f.is in
-    let cheap = cost.0 in
-    let within = cost.1 in
-    let pays = f.pays in
-    let walk = c.in_ok-surveyed.ensures.work in
-    let laid = c.in_ok-bytes.ensures.reads f.value f.is.is (base c.args.limits.tariff) in
-    omega arith
-
-pub returns-in_err-bytes-clause-work : goal.returns-in_err-bytes-clause-work
-returns-in_err-bytes-clause-work g c =
+pub returns-in_err-bytes-clause-reads : goal.returns-in_err-bytes-clause-reads
+returns-in_err-bytes-clause-reads g c =
     let f = c.in_ok-surveyed.ensures.found.0 in
     let cost = denoted_cost c.args.space.now c.args.limits f.value c.bounds.ensures (omega arith) (omega arith) f.is in
     let cheap = cost.0 in
@@ -60,4 +51,5 @@ returns-in_err-bytes-clause-work g c =
     let pays = f.pays in
     let walk = c.in_ok-surveyed.ensures.work in
     let laid = c.in_err-bytes.ensures.reads f.value f.is.is (base c.args.limits.tariff) in
-    omega arith
+    let e = err_from_is_err_and c.from_residual-in_err-bytes.result c.from_residual-in_err-bytes.ensures.1 in
+    (rw e.1 tt, omega arith)

@@ -26,21 +26,12 @@ returns-clause-first g c =
     let reads = c.surveyed_same_counted.ensures.first h.0 h.1.is (base c.args.limits.tariff) in
     omega arith
 
-pub returns-clause-paid : goal.returns-clause-paid
-returns-clause-paid g c =
-    let h = c.in_ok-survey_side.ensures.found in
-    let cost = denoted_cost c.args.b.now c.args.limits h.0 c.bounds-2.ensures (omega arith) (omega arith) h.1 in
-    let cheap = cost.0 in
-    let walk = c.in_ok-survey_side.ensures.reads in
-    let reads = c.surveyed_same_counted.ensures.second h.0 h.1.is (base c.args.limits.tariff) in
-    omega arith
-
 pub returns-clause-second : goal.returns-clause-second
 returns-clause-second g c =
     let h = c.in_ok-survey_side.ensures.found in
     let cost = denoted_cost c.args.b.now c.args.limits h.0 c.bounds-2.ensures (omega arith) (omega arith) h.1 in
     let cheap = cost.0 in
     let within = cost.1 in
-    let walk = c.in_ok-survey_side.ensures.work in
+    let walk = c.in_ok-survey_side.ensures.reads in
     let reads = c.surveyed_same_counted.ensures.second h.0 h.1.is (base c.args.limits.tariff) in
-    omega arith
+    (omega arith, omega arith)

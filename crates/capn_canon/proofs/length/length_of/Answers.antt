@@ -18,18 +18,10 @@ returns-clause-reads g c =
     let f = c.in_ok-surveyed.ensures.found.0 in
     let cost = denoted_cost c.args.space.now c.args.limits f.value c.bounds.ensures (omega arith) (omega arith) f.is in
     let cheap = cost.0 in
+    let within = cost.1 in
     let pays = f.pays in
     let few = c.in_ok-surveyed.ensures.bounded.few in
     let walk = c.in_ok-surveyed.ensures.reads in
+    let work = c.in_ok-surveyed.ensures.work in
     let size = c.surveyed_length_counted.ensures.reads f.value f.is.is (base c.args.limits.tariff) in
-    omega arith
-
-pub returns-clause-work : goal.returns-clause-work
-returns-clause-work g c =
-    let f = c.in_ok-surveyed.ensures.found.0 in
-    let cost = denoted_cost c.args.space.now c.args.limits f.value c.bounds.ensures (omega arith) (omega arith) f.is in
-    let cheap = cost.0 in
-    let within = cost.1 in
-    let walk = c.in_ok-surveyed.ensures.work in
-    let size = c.surveyed_length_counted.ensures.reads f.value f.is.is (base c.args.limits.tariff) in
-    omega arith
+    (omega arith, omega arith)

@@ -35,8 +35,13 @@ check_slots-returns g t c =
       most = let turns = v.reads in omega arith;
     }
 
-pub check_slots-returns-in-None-clause-only : goal.check_slots-returns-in-None-clause-only
-check_slots-returns-in-None-clause-only g t c h = absurd (c.in-None.ensures.only (c.loop-left.invariant.due h))
+pub check_slots-returns-in-None : goal.check_slots-returns-in-None
+check_slots-returns-in-None g t c = record {
+  found = tt;
+  only = λ h. absurd (c.in-None.ensures.only (c.loop-left.invariant.due h));
+  reads = tt;
+  most = let turns = c.loop-left.invariant.reads in omega arith;
+}
 
 -- ---- a slot
 
@@ -217,15 +222,7 @@ check_first-returns-then-below g t c =
     }
 
 pub check_first-returns : goal.check_first-returns
-check_first-returns g t c =
-    let found = rw c.again.ensures at c.check_object.ensures.found in
-    let only = rw c.again.ensures at c.check_object.ensures.only in
-    record {
-      found = found;
-      only = only;
-      reads = c.check_object.ensures.reads;
-      most = c.check_object.ensures.most;
-    }
+check_first-returns g t c = rw c.again.ensures at c.check_object.ensures
 
 -- ---- a list
 
@@ -336,20 +333,33 @@ check_rows-loop-i-preserved g t c =
           omega arith;
     }
 
-pub check_rows-returns-in-None-clause-only : goal.check_rows-returns-in-None-clause-only
-check_rows-returns-in-None-clause-only g t c h =
+pub check_rows-returns-in-None : goal.check_rows-returns-in-None
+check_rows-returns-in-None g t c =
     let all = c.args.space in
     let a = c.args in
     let i = c.loop-i.i in
     let lt = c.loop-i-test.true in
     let v = c.loop-i.invariant in
-    let row = row-due all a.base a.words a.slots c.loop-i.row (a.count - i) c.loop-i.progress.next a.pass.depth
-    c.loop-i.progress.left (v.due h) (omega arith) in
     let e : a.slots ≡ c.loop-i.row + a.words + a.slots - (c.loop-i.row + a.words) = omega arith in
-    let f = c.in-None.ensures.only
-    (subst (λ (k : ℕ). DueSlots all a.base (c.loop-i.row + a.words) k c.loop-i.progress.next a.pass.depth
-    c.loop-i.progress.left) e row) in
-    absurd (cc)
+    let one : suc (a.count - (i + 1)) ≡ a.count - i = omega arith in
+    record {
+      found = tt;
+      only = λ h.
+          let f = c.in-None.ensures.only
+          (subst (λ (k : ℕ). DueSlots all a.base (c.loop-i.row + a.words) k c.loop-i.progress.next a.pass.depth
+          c.loop-i.progress.left) e
+          (row-due all a.base a.words a.slots c.loop-i.row (a.count - i) c.loop-i.progress.next a.pass.depth
+          c.loop-i.progress.left (v.due h) (omega arith))) in
+          absurd (cc);
+      reads = tt;
+      most =
+          let rest = ap (λ (k : ℕ). k * a.slots) one in
+          let before = v.reads in
+          let turn = c.tick.ensures in
+          let row = c.in-None.ensures.most in
+          let some = c.requires.some in
+          omega arith;
+    }
 
 pub check_rows-returns : goal.check_rows-returns
 check_rows-returns g t c =
@@ -370,19 +380,6 @@ check_rows-returns g t c =
       reads = let turns = v.reads in omega arith;
       most = let turns = v.reads in omega arith;
     }
-
-pub check_rows-returns-in-None-clause-most : goal.check_rows-returns-in-None-clause-most
-check_rows-returns-in-None-clause-most g t c =
-    let a = c.args in
-    let i = c.loop-i.i in
-    let lt = c.loop-i-test.true in
-    let one : suc (a.count - (i + 1)) ≡ a.count - i = omega arith in
-    let rest = ap (λ (k : ℕ). k * a.slots) one in
-    let before = c.loop-i.invariant.reads in
-    let turn = c.tick.ensures in
-    let row = c.in-None.ensures.most in
-    let some = c.requires.some in
-    omega arith
 
 -- ---- a list of structs
 
@@ -412,7 +409,7 @@ check_composite-returns-then-tag-eq0 g t c =
           let rest = ap (λ (q : Progress). q.left) c.here.ensures in
           let open_reads = c.in-Some.ensures.reads in
           omega arith;
-      most = c.in-Some.ensures.most;
+      most = let open_reads = c.in-Some.ensures.most in omega arith;
     }
 
 pub check_composite-returns-else-tag-eq0 : goal.check_composite-returns-else-tag-eq0
@@ -433,7 +430,8 @@ check_composite-returns-else-tag-eq0 g t c =
       most = omega arith;
     }
 
-pub check_composite-returns-in-None-clause-only : goal.check_composite-returns-in-None-clause-only
-check_composite-returns-in-None-clause-only g t c h =
+pub check_composite-returns-in-None : goal.check_composite-returns-in-None
+check_composite-returns-in-None g t c =
     let due = rw c.again.ensures at c.in-None.ensures.only in
-    absurd (due h)
+    let read = c.in-None.ensures.most in
+    record { found = tt; only = λ h. absurd (due h); reads = tt; most = omega arith }
