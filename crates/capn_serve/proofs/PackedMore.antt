@@ -9,7 +9,7 @@ use Rattle.std.proofs.lemmas.Bool.Decides.{nat_tests}
 use Rattle.std.proofs.lemmas.Grind.{flat_map-append}
 use Rattle.std.specs.Io.KnownBytes.{Appends}
 use Rattle.capn_words.specs.Watched.{HasBegun}
-use Rattle.capn_pack.specs.Packed.{group_text, texts}
+use Rattle.capn_pack.specs.Packed.{texts}
 use Rattle.capn_pack.specs.PackedPieces as packing
 use Rattle.capn_pack.specs.PackedPieces.{Feeds, Held, Splits, advanced}
 use Rattle.capn_pack.proofs.shared.StreamLemmas.{begins_then, splits_open, splits_then}

@@ -6,12 +6,12 @@ ghost use Rattle.capn_words.specs.Watched.{inner_of, has_failed};
 ghost use Rattle.capn_stream.specs.StreamPieces.{IsUnfinished};
 ghost use Rattle.capn_serve.specs.Fold.{fold_until};
 ghost use Rattle.capn_serve.specs.PackedRun.{RunsPacked};
-ghost use Rattle.capn_serve.specs.PackedChunkRun.{EndsPacked, IsUnpacking, ServesPacked, ServesPart, pending};
+ghost use Rattle.capn_serve.specs.PackedChunkRun.{EndsPacked, IsUnpacking, ServesPart, pending};
 ghost use Rattle.capn_serve.specs.Outgoing.{outgoing, sent};
-ghost use Rattle.capn_serve.specs.ChunkRun.{HasRoom, IsListening};
 ghost use Rattle.capn_serve.specs.StreamRun.{start, taken_of};
 ghost use Rattle.capn_serve.specs.WhatCame.{IsOwnRefusal, TellsGroups};
-ghost use Rattle.capn_serve.specs.inner.Holding.{Holds, HoldsPacked};
+ghost use Rattle.capn_serve.specs.inner.Holding.{Holds};
+ghost use Rattle.capn_serve.specs.inner.Serving.{HasServedPacked, IsReady};
 
 use crate::chunk::CHUNK;
 use crate::fault::RunFault;
@@ -39,11 +39,8 @@ fn serve_part<S: Service, W: Write, A: Allocator + Copy>(
     text: &mut Vec<u8, A>,
     writer: &mut Watched<W>,
 ) -> Result<(), RunFault>
-    requires small { most ≤ most_message_words }
-    requires fine { has_failed writer.old ≡ false }
-    requires room { HasRoom run.old.at (length packed.old.framer.rest + packed.old.left) }
-    requires going { S.done run.old.service run.old.at ≡ false }
-    requires listening { IsListening (fold_until S.serves S.refuses S.done most) packed.old.framer }
+    requires ready { IsReady (fold_until S.serves S.refuses S.done most) run.old packed.old.framer packed.old.left
+        (has_failed writer.old) }
     ensures served { ServesPart (fold_until S.serves S.refuses S.done most) run.old packed.old.left packed.old.framer
         packed.old.part.items (outgoing (W.contents (inner_of writer.old)) text.old.items)
         (outgoing (W.contents (inner_of writer.new)) text.new.items) (has_failed writer.new) result
@@ -83,19 +80,14 @@ fn serve_slice<S: Service, W: Write, A: Allocator + Copy>(
     text: &mut Vec<u8, A>,
     writer: &mut Watched<W>,
 ) -> Result<(), RunFault>
-    requires small { most ≤ most_message_words }
-    requires fine { has_failed writer.old ≡ false }
-    requires room { HasRoom run.old.at (length packed.old.framer.rest + packed.old.left) }
-    requires going { S.done run.old.service run.old.at ≡ false }
-    requires listening { IsListening (fold_until S.serves S.refuses S.done most) packed.old.framer }
+    requires ready { IsReady (fold_until S.serves S.refuses S.done most) run.old packed.old.framer packed.old.left
+        (has_failed writer.old) }
     requires held { packed.old.unpacker.failed ≡ false }
-    ensures served { ServesPacked (fold_until S.serves S.refuses S.done most) run.old
+    ensures { HasServedPacked (fold_until S.serves S.refuses S.done most) run.old
         (pending packed.old.unpacker packed.old.framer packed.old.left) bytes.now
         (outgoing (W.contents (inner_of writer.old)) text.old.items)
         (outgoing (W.contents (inner_of writer.new)) text.new.items) (has_failed writer.new) result
         packed.new.unpacker packed.new.framer packed.new.left run.new }
-    ensures came { IfErr result (λ e. HoldsPacked (fold_until S.serves S.refuses S.done most) run.old
-        (pending packed.old.unpacker packed.old.framer packed.old.left) bytes.now e packed.new.framer.rest run.new) }
 {
     packed.part.clear();
     match packed.unpacker.feed(bytes, &mut packed.part) {
@@ -114,20 +106,15 @@ fn serve_slices<S: Service, W: Write, A: Allocator + Copy>(
     text: &mut Vec<u8, A>,
     writer: &mut Watched<W>,
 ) -> Result<(), RunFault>
-    requires small { most ≤ most_message_words }
-    requires fine { has_failed writer.old ≡ false }
-    requires room { HasRoom run.old.at (length packed.old.framer.rest + packed.old.left) }
-    requires going { S.done run.old.service run.old.at ≡ false }
-    requires listening { IsListening (fold_until S.serves S.refuses S.done most) packed.old.framer }
+    requires ready { IsReady (fold_until S.serves S.refuses S.done most) run.old packed.old.framer packed.old.left
+        (has_failed writer.old) }
     requires unpacking { IsUnpacking packed.old.unpacker }
     requires short { length bytes.now ≤ 65536 }
-    ensures served { ServesPacked (fold_until S.serves S.refuses S.done most) run.old
+    ensures { HasServedPacked (fold_until S.serves S.refuses S.done most) run.old
         (pending packed.old.unpacker packed.old.framer packed.old.left) bytes.now
         (outgoing (W.contents (inner_of writer.old)) text.old.items)
         (outgoing (W.contents (inner_of writer.new)) text.new.items) (has_failed writer.new) result
         packed.new.unpacker packed.new.framer packed.new.left run.new }
-    ensures came { IfErr result (λ e. HoldsPacked (fold_until S.serves S.refuses S.done most) run.old
-        (pending packed.old.unpacker packed.old.framer packed.old.left) bytes.now e packed.new.framer.rest run.new) }
 {
     let mut at = 0;
     while at < bytes.len() {
@@ -151,19 +138,14 @@ fn serve_packed<S: Service, W: Write, A: Allocator + Copy>(
     text: &mut Vec<u8, A>,
     writer: &mut Watched<W>,
 ) -> Result<(), RunFault>
-    requires small { most ≤ most_message_words }
-    requires fine { has_failed writer.old ≡ false }
-    requires room { HasRoom run.old.at (length packed.old.framer.rest + packed.old.left) }
-    requires going { S.done run.old.service run.old.at ≡ false }
-    requires listening { IsListening (fold_until S.serves S.refuses S.done most) packed.old.framer }
+    requires ready { IsReady (fold_until S.serves S.refuses S.done most) run.old packed.old.framer packed.old.left
+        (has_failed writer.old) }
     requires unpacking { IsUnpacking packed.old.unpacker }
     requires short { length bytes.now ≤ 65536 }
-    ensures served { ServesPacked (fold_until S.serves S.refuses S.done most) run.old
+    ensures { HasServedPacked (fold_until S.serves S.refuses S.done most) run.old
         (pending packed.old.unpacker packed.old.framer packed.old.left) bytes.now
         (sent (W.contents (inner_of writer.old))) (sent (W.contents (inner_of writer.new)))
         (has_failed writer.new) result packed.new.unpacker packed.new.framer packed.new.left run.new }
-    ensures came { IfErr result (λ e. HoldsPacked (fold_until S.serves S.refuses S.done most) run.old
-        (pending packed.old.unpacker packed.old.framer packed.old.left) bytes.now e packed.new.framer.rest run.new) }
 {
     text.clear();
     let served = serve_slices(alloc, most, run, packed, bytes, text, writer);

@@ -1,15 +1,14 @@
 //! The messages of a stream in chunks.
 
-ghost use Rattle.std.specs.Prelude.{◌≡◌, ◌⊎◌, ℕ, ◌≤◌, ◌+◌, ◌++◌, [], length, false, IfErr};
-ghost use Rattle.capn_words.specs.Message.{most_message_words};
+ghost use Rattle.std.specs.Prelude.{◌≡◌, ◌⊎◌, ℕ, ◌+◌, [], length, false, IfErr};
 ghost use Rattle.capn_words.specs.Watched.{inner_of, has_failed};
 ghost use Rattle.capn_stream.specs.StreamPieces.{IsFrame, IsUnfinished};
 ghost use Rattle.capn_serve.specs.Fold.{fold_until};
 ghost use Rattle.capn_serve.specs.Outgoing.{outgoing, sent};
 ghost use Rattle.capn_serve.specs.ChunkRun as spec;
-ghost use Rattle.capn_serve.specs.ChunkRun.{AddsMessage, HasRoom, IsListening, Passes, Serves, ServesHeld, ServesNext};
-ghost use Rattle.capn_serve.specs.ChunkRun.{ServesWhole};
-ghost use Rattle.capn_serve.specs.inner.Holding.{Holds, IsOfMessage};
+ghost use Rattle.capn_serve.specs.ChunkRun.{AddsMessage, HasRoom, Passes, ServesHeld, ServesWhole};
+ghost use Rattle.capn_serve.specs.inner.Holding.{IsOfMessage};
+ghost use Rattle.capn_serve.specs.inner.Serving.{CanServe, HasServed, HasServedNext, IsReady};
 
 use crate::fault::RunFault;
 use crate::message::add_message;
@@ -73,9 +72,8 @@ fn serve_whole<S: Service, W: Write, A: Allocator + Copy>(
     text: &mut Vec<u8, A>,
     writer: &mut Watched<W>,
 ) -> Result<usize, RunFault>
-    requires small { most ≤ most_message_words }
-    requires fine { has_failed writer.old ≡ false }
-    requires room { HasRoom run.old.at (length bytes.now) }
+    requires can { CanServe (fold_until S.serves S.refuses S.done most) run.old (length bytes.now)
+        (has_failed writer.old) }
     ensures served { ServesWhole (fold_until S.serves S.refuses S.done most) run.old bytes.now
         (outgoing (W.contents (inner_of writer.old)) text.old.items)
         (outgoing (W.contents (inner_of writer.new)) text.new.items) (has_failed writer.new) result run.new }
@@ -124,9 +122,8 @@ fn serve_held<S: Service, W: Write, A: Allocator + Copy>(
     text: &mut Vec<u8, A>,
     writer: &mut Watched<W>,
 ) -> Result<(), RunFault>
-    requires small { most ≤ most_message_words }
-    requires fine { has_failed writer.old ≡ false }
-    requires room { HasRoom run.old.at (length framer.old.rest) }
+    requires can { CanServe (fold_until S.serves S.refuses S.done most) run.old (length framer.old.rest)
+        (has_failed writer.old) }
     requires good { framer.old.failed ≡ false }
     requires same { framer.old.most ≡ most }
     requires going { S.done run.old.service run.old.at ≡ false }
@@ -157,16 +154,11 @@ fn serve_next<S: Service, W: Write, A: Allocator + Copy>(
     text: &mut Vec<u8, A>,
     writer: &mut Watched<W>,
 ) -> Result<usize, RunFault>
-    requires small { most ≤ most_message_words }
-    requires fine { has_failed writer.old ≡ false }
-    requires room { HasRoom run.old.at (length framer.old.rest + length bytes.now) }
-    requires going { S.done run.old.service run.old.at ≡ false }
-    requires listening { IsListening (fold_until S.serves S.refuses S.done most) framer.old }
-    ensures served { ServesNext (fold_until S.serves S.refuses S.done most) run.old framer.old bytes.now
+    requires ready { IsReady (fold_until S.serves S.refuses S.done most) run.old framer.old (length bytes.now)
+        (has_failed writer.old) }
+    ensures { HasServedNext (fold_until S.serves S.refuses S.done most) run.old framer.old bytes.now
         (outgoing (W.contents (inner_of writer.old)) text.old.items)
         (outgoing (W.contents (inner_of writer.new)) text.new.items) (has_failed writer.new) result framer.new run.new }
-    ensures came { IfErr result (λ e. Holds (fold_until S.serves S.refuses S.done most) run.old
-        (framer.old.rest ++ bytes.now) e framer.new.rest run.new) }
 {
     match framer.feed(bytes) {
         Ok(taken) => {
@@ -177,36 +169,7 @@ fn serve_next<S: Service, W: Write, A: Allocator + Copy>(
     }
 }
 
-/// Serves the messages that these bytes begin with, or begins the next one. Answers how many bytes it took.
-fn serve_fresh<S: Service, W: Write, A: Allocator + Copy>(
-    alloc: A,
-    most: u32,
-    run: &mut Run<S>,
-    framer: &mut Framer<A>,
-    bytes: &[u8],
-    text: &mut Vec<u8, A>,
-    writer: &mut Watched<W>,
-) -> Result<usize, RunFault>
-    requires small { most ≤ most_message_words }
-    requires fine { has_failed writer.old ≡ false }
-    requires room { HasRoom run.old.at (length framer.old.rest + length bytes.now) }
-    requires going { S.done run.old.service run.old.at ≡ false }
-    requires listening { IsListening (fold_until S.serves S.refuses S.done most) framer.old }
-    requires empty { framer.old.rest ≡ [] }
-    ensures served { ServesNext (fold_until S.serves S.refuses S.done most) run.old framer.old bytes.now
-        (outgoing (W.contents (inner_of writer.old)) text.old.items)
-        (outgoing (W.contents (inner_of writer.new)) text.new.items) (has_failed writer.new) result framer.new run.new }
-    ensures came { IfErr result (λ e. Holds (fold_until S.serves S.refuses S.done most) run.old
-        (framer.old.rest ++ bytes.now) e framer.new.rest run.new) }
-{
-    let whole = serve_whole(alloc, most, run, bytes, text, writer)?;
-    if 0 < whole {
-        return Ok(whole);
-    }
-    serve_next(alloc, most, run, framer, bytes, text, writer)
-}
-
-/// Serves the messages that these bytes begin with, or takes bytes up to the end of the one that has begun. Answers how
+/// Serves the messages that these bytes begin with, if none has begun, or takes bytes up to the end of one. Answers how
 /// many bytes it took.
 fn serve_some<S: Service, W: Write, A: Allocator + Copy>(
     alloc: A,
@@ -217,19 +180,18 @@ fn serve_some<S: Service, W: Write, A: Allocator + Copy>(
     text: &mut Vec<u8, A>,
     writer: &mut Watched<W>,
 ) -> Result<usize, RunFault>
-    requires small { most ≤ most_message_words }
-    requires fine { has_failed writer.old ≡ false }
-    requires room { HasRoom run.old.at (length framer.old.rest + length bytes.now) }
-    requires going { S.done run.old.service run.old.at ≡ false }
-    requires listening { IsListening (fold_until S.serves S.refuses S.done most) framer.old }
-    ensures served { ServesNext (fold_until S.serves S.refuses S.done most) run.old framer.old bytes.now
+    requires ready { IsReady (fold_until S.serves S.refuses S.done most) run.old framer.old (length bytes.now)
+        (has_failed writer.old) }
+    ensures { HasServedNext (fold_until S.serves S.refuses S.done most) run.old framer.old bytes.now
         (outgoing (W.contents (inner_of writer.old)) text.old.items)
         (outgoing (W.contents (inner_of writer.new)) text.new.items) (has_failed writer.new) result framer.new run.new }
-    ensures came { IfErr result (λ e. Holds (fold_until S.serves S.refuses S.done most) run.old
-        (framer.old.rest ++ bytes.now) e framer.new.rest run.new) }
 {
-    if framer.is_empty() {
-        return serve_fresh(alloc, most, run, framer, bytes, text, writer);
+    if !framer.is_empty() {
+        return serve_next(alloc, most, run, framer, bytes, text, writer);
+    }
+    let whole = serve_whole(alloc, most, run, bytes, text, writer)?;
+    if 0 < whole {
+        return Ok(whole);
     }
     serve_next(alloc, most, run, framer, bytes, text, writer)
 }
@@ -244,16 +206,11 @@ pub(crate) fn serve_bytes<S: Service, W: Write, A: Allocator + Copy>(
     text: &mut Vec<u8, A>,
     writer: &mut Watched<W>,
 ) -> Result<(), RunFault>
-    requires small { most ≤ most_message_words }
-    requires fine { has_failed writer.old ≡ false }
-    requires room { HasRoom run.old.at (length framer.old.rest + length bytes.now) }
-    requires going { S.done run.old.service run.old.at ≡ false }
-    requires listening { IsListening (fold_until S.serves S.refuses S.done most) framer.old }
-    ensures served { Serves (fold_until S.serves S.refuses S.done most) run.old framer.old bytes.now
+    requires ready { IsReady (fold_until S.serves S.refuses S.done most) run.old framer.old (length bytes.now)
+        (has_failed writer.old) }
+    ensures { HasServed (fold_until S.serves S.refuses S.done most) run.old framer.old bytes.now
         (outgoing (W.contents (inner_of writer.old)) text.old.items)
         (outgoing (W.contents (inner_of writer.new)) text.new.items) (has_failed writer.new) result framer.new run.new }
-    ensures came { IfErr result (λ e. Holds (fold_until S.serves S.refuses S.done most) run.old
-        (framer.old.rest ++ bytes.now) e framer.new.rest run.new) }
 {
     let mut at = 0;
     while at < bytes.len() {
@@ -276,16 +233,11 @@ pub(crate) fn serve_chunk<S: Service, W: Write, A: Allocator + Copy>(
     text: &mut Vec<u8, A>,
     writer: &mut Watched<W>,
 ) -> Result<(), RunFault>
-    requires small { most ≤ most_message_words }
-    requires fine { has_failed writer.old ≡ false }
-    requires room { HasRoom run.old.at (length framer.old.rest + length bytes.now) }
-    requires going { S.done run.old.service run.old.at ≡ false }
-    requires listening { IsListening (fold_until S.serves S.refuses S.done most) framer.old }
-    ensures served { Serves (fold_until S.serves S.refuses S.done most) run.old framer.old bytes.now
+    requires ready { IsReady (fold_until S.serves S.refuses S.done most) run.old framer.old (length bytes.now)
+        (has_failed writer.old) }
+    ensures { HasServed (fold_until S.serves S.refuses S.done most) run.old framer.old bytes.now
         (sent (W.contents (inner_of writer.old))) (sent (W.contents (inner_of writer.new)))
         (has_failed writer.new) result framer.new run.new }
-    ensures came { IfErr result (λ e. Holds (fold_until S.serves S.refuses S.done most) run.old
-        (framer.old.rest ++ bytes.now) e framer.new.rest run.new) }
 {
     text.clear();
     let served = serve_bytes(alloc, most, run, framer, bytes, text, writer);

@@ -203,14 +203,14 @@ chunks-preserved g c =
           kept.0;
     }
 
-pub serve_packed-requires-clause-fine : goal.serve_packed-requires-clause-fine
-serve_packed-requires-clause-fine g c = c.chunks.invariant.writer
-
-pub serve_packed-requires-clause-room : goal.serve_packed-requires-clause-room
-serve_packed-requires-clause-room g c = c.chunks.invariant.room
-
-pub serve_packed-requires-clause-listening : goal.serve_packed-requires-clause-listening
-serve_packed-requires-clause-listening g c = c.chunks.invariant.listening
+pub serve_packed-requires-clause-ready : goal.serve_packed-requires-clause-ready
+serve_packed-requires-clause-ready g c =
+    let i = c.chunks.invariant in
+    record {
+      can = record { small = c.requires.small; fine = i.writer; room = i.room };
+      going = i.going;
+      listening = i.listening;
+    }
 
 pub serve_packed-requires-clause-unpacking : goal.serve_packed-requires-clause-unpacking
 serve_packed-requires-clause-unpacking g c =

@@ -1,4 +1,4 @@
-use Rattle.std.proofs.Common.{◌∙◌, ℕ, List, sym, subst, arith}
+use Rattle.std.proofs.Common.{◌≤◌, ◌∙◌, ℕ, List, sym, subst, arith}
 use Rattle.std.proofs.Math.Seq.{take_all}
 use Rattle.std.proofs.lemmas.Result.{err_from_is_err_and}
 use Rattle.capn_words.specs.Watched.{inner_of}
@@ -13,27 +13,32 @@ use Rattle.capn_serve.proofs.packed_run.serve_slices.Goals as goal
 
 pub loop-at-init : goal.loop-at-init
 loop-at-init g c = record {
-  fine = c.requires.fine;
+  fine = c.requires.ready.can.fine;
   held = c.requires.unpacking.good;
-  listening = c.requires.listening;
-  room = c.requires.room;
-  going = c.requires.going;
+  listening = c.requires.ready.listening;
+  room = c.requires.ready.can.room;
+  going = c.requires.ready.going;
   within = omega arith;
   told = packed_none (fold_until g.S.Service.serves g.S.Service.refuses g.S.Service.done c.args.most) c.args.run.now
       (pending c.args.packed.now.unpacker c.args.packed.now.framer c.args.packed.now.left) _ c.requires.unpacking;
 }
 
-pub returns-in_err-serve_slice-clause-served : goal.returns-in_err-serve_slice-clause-served
-returns-in_err-serve_slice-clause-served g c =
+pub returns-in_err-serve_slice : goal.returns-in_err-serve_slice
+returns-in_err-serve_slice g c =
+    let f = fold_until g.S.Service.serves g.S.Service.refuses g.S.Service.done c.args.most in
+    let before = pending c.args.packed.now.unpacker c.args.packed.now.framer c.args.packed.now.left in
+    let here = pending c.loop-at.packed.unpacker c.loop-at.packed.framer c.loop-at.packed.left in
     let i = c.loop-at.invariant in
+    let forward : c.loop-at.at ≤ c.min-end.result = omega (arith, c.min-end.ensures, i.within) in
     let p = err_from_is_err_and c.from_residual.result c.from_residual.ensures.1 in
     rw (p.1, p.2)
-    (slice_stop (fold_until g.S.Service.serves g.S.Service.refuses g.S.Service.done c.args.most) c.args.run.now
-    c.loop-at.run
-    (pending c.args.packed.now.unpacker c.args.packed.now.framer c.args.packed.now.left)
-    (pending c.loop-at.packed.unpacker c.loop-at.packed.framer c.loop-at.packed.left) c.args.bytes.now c.loop-at.at
-    c.min-end.result (omega (arith, c.min-end.ensures, i.within)) _ _ i.told _ _ c.in_err-serve_slice.field-0.0
-    c.in_err-serve_slice.ensures.served)
+    (record {
+      served = slice_stop f c.args.run.now c.loop-at.run before here c.args.bytes.now c.loop-at.at c.min-end.result
+          forward _ _ i.told _ _ c.in_err-serve_slice.field-0.0 c.in_err-serve_slice.ensures.served;
+      came = packed_holds_slice f c.args.run.now c.loop-at.run c.serve_slice.new.run before here c.args.bytes.now
+          c.serve_slice.new.packed.framer.rest c.loop-at.at c.min-end.result _ _ c.in_err-serve_slice.field-0.0 forward
+          i.told c.in_err-serve_slice.ensures.came;
+    })
 
 pub loop-at-preserved : goal.loop-at-preserved
 loop-at-preserved g c =
@@ -59,56 +64,51 @@ loop-at-preserved g c =
           (pending packed.unpacker packed.framer packed.left) _ kept.0;
     }
 
-pub serve_slice-requires-clause-fine : goal.serve_slice-requires-clause-fine
-serve_slice-requires-clause-fine g c = c.loop-at.invariant.fine
-
-pub serve_slice-requires-clause-room : goal.serve_slice-requires-clause-room
-serve_slice-requires-clause-room g c = c.loop-at.invariant.room
-
-pub serve_slice-requires-clause-listening : goal.serve_slice-requires-clause-listening
-serve_slice-requires-clause-listening g c = c.loop-at.invariant.listening
+pub serve_slice-requires-clause-ready : goal.serve_slice-requires-clause-ready
+serve_slice-requires-clause-ready g c =
+    let i = c.loop-at.invariant in
+    record {
+      can = record { small = c.requires.ready.can.small; fine = i.fine; room = i.room };
+      going = i.going;
+      listening = i.listening;
+    }
 
 pub serve_slice-requires-clause-held : goal.serve_slice-requires-clause-held
 serve_slice-requires-clause-held g c = c.loop-at.invariant.held
 
-pub returns-after-loop-at-clause-served : goal.returns-after-loop-at-clause-served
-returns-after-loop-at-clause-served g c =
+pub returns-after-loop-at : goal.returns-after-loop-at
+returns-after-loop-at g c =
+    let f = fold_until g.S.Service.serves g.S.Service.refuses g.S.Service.done c.args.most in
+    let before = pending c.args.packed.now.unpacker c.args.packed.now.framer c.args.packed.now.left in
+    let here = pending c.loop-at.packed.unpacker c.loop-at.packed.framer c.loop-at.packed.left in
     let i = c.loop-at.invariant in
     let all = take_all c.loop-at.at c.args.bytes.now c.loop-at-test.false in
-    let told = subst (λ (l : List ℕ). TellsPacked (fold_until g.S.Service.serves g.S.Service.refuses g.S.Service.done
-    c.args.most) c.args.run.now (pending c.args.packed.now.unpacker c.args.packed.now.framer c.args.packed.now.left) l
-    (pending c.loop-at.packed.unpacker c.loop-at.packed.framer c.loop-at.packed.left)
+    let told = subst (λ (l : List ℕ). TellsPacked f c.args.run.now before l here
     (outgoing (g.W.Write.contents (inner_of c.args.writer.now)) c.args.text.now.items)
-    (outgoing (g.W.Write.contents (inner_of c.loop-at.writer)) c.loop-at.text.items) c.loop-at.run) all i.told in (
-      reach_all (fold_until g.S.Service.serves g.S.Service.refuses g.S.Service.done c.args.most) c.args.run.now
-          (pending c.args.packed.now.unpacker c.args.packed.now.framer c.args.packed.now.left) c.loop-at.run
-          c.args.bytes.now (pending c.loop-at.packed.unpacker c.loop-at.packed.framer c.loop-at.packed.left) _ _ told,
-      λ going. (told, i.listening),
-      i.fine,
-    )
+    (outgoing (g.W.Write.contents (inner_of c.loop-at.writer)) c.loop-at.text.items) c.loop-at.run) all i.told in
+    record {
+      served = (
+        reach_all f c.args.run.now before c.loop-at.run c.args.bytes.now here _ _ told,
+        λ going. (told, i.listening),
+        i.fine,
+      );
+      came = tt;
+    }
 
 -- no more is served
-pub returns-then-is_done-clause-served : goal.returns-then-is_done-clause-served
-returns-then-is_done-clause-served g c =
+pub returns-then-is_done : goal.returns-then-is_done
+returns-then-is_done g c =
+    let f = fold_until g.S.Service.serves g.S.Service.refuses g.S.Service.done c.args.most in
+    let before = pending c.args.packed.now.unpacker c.args.packed.now.framer c.args.packed.now.left in
+    let here = pending c.loop-at.packed.unpacker c.loop-at.packed.framer c.loop-at.packed.left in
     let i = c.loop-at.invariant in
-    let next = c.in_ok-serve_slice.ensures.served in (
-      slice_reach (fold_until g.S.Service.serves g.S.Service.refuses g.S.Service.done c.args.most) c.args.run.now
-          c.loop-at.run (pending c.args.packed.now.unpacker c.args.packed.now.framer c.args.packed.now.left)
-          (pending c.loop-at.packed.unpacker c.loop-at.packed.framer c.loop-at.packed.left) c.args.bytes.now
-          c.loop-at.at c.min-end.result (omega (arith, c.min-end.ensures, i.within)) _ _ i.told c.serve_slice.new.run
-          _ next.0,
-      λ going. absurd (not_both _ (sym c.is_done.ensures ∙ c.if-is_done.true) going),
-      next.2,
-    )
-
-pub returns-in_err-serve_slice-clause-came : goal.returns-in_err-serve_slice-clause-came
-returns-in_err-serve_slice-clause-came g c =
-    let i = c.loop-at.invariant in
-    let p = err_from_is_err_and c.from_residual.result c.from_residual.ensures.1 in
-    rw (p.1, p.2)
-    (packed_holds_slice (fold_until g.S.Service.serves g.S.Service.refuses g.S.Service.done c.args.most) c.args.run.now
-    c.loop-at.run c.serve_slice.new.run
-    (pending c.args.packed.now.unpacker c.args.packed.now.framer c.args.packed.now.left)
-    (pending c.loop-at.packed.unpacker c.loop-at.packed.framer c.loop-at.packed.left) c.args.bytes.now
-    c.serve_slice.new.packed.framer.rest c.loop-at.at c.min-end.result _ _ c.in_err-serve_slice.field-0.0
-    (omega (arith, c.min-end.ensures, i.within)) i.told c.in_err-serve_slice.ensures.came)
+    let next = c.in_ok-serve_slice.ensures.served in
+    record {
+      served = (
+        slice_reach f c.args.run.now c.loop-at.run before here c.args.bytes.now c.loop-at.at c.min-end.result
+            (omega (arith, c.min-end.ensures, i.within)) _ _ i.told c.serve_slice.new.run _ next.0,
+        λ going. absurd (not_both _ (sym c.is_done.ensures ∙ c.if-is_done.true) going),
+        next.2,
+      );
+      came = tt;
+    }

@@ -50,16 +50,16 @@ module _ {X : Type 0} (f : Fold X) (x : X) where
 
 pub loop-at-init : goal.loop-at-init
 loop-at-init g c = record {
-  fine = c.requires.fine;
-  listening = c.requires.listening;
-  going = c.requires.going;
+  fine = c.requires.ready.can.fine;
+  listening = c.requires.ready.listening;
+  going = c.requires.ready.going;
   within = omega arith;
   told = served_none (fold_until g.S.Service.serves g.S.Service.refuses g.S.Service.done c.args.most) c.args.run.now
       c.args.framer.now.rest _;
 }
 
-pub serve_some-requires-clause-room : goal.serve_some-requires-clause-room
-serve_some-requires-clause-room g c =
+pub serve_some-requires : goal.serve_some-requires
+serve_some-requires g c =
     let i = c.loop-at.invariant in
     let left = length-take (length c.args.bytes.now - c.loop-at.at) (drop c.loop-at.at c.args.bytes.now) in
     let size = length-drop c.loop-at.at c.args.bytes.now in
@@ -70,19 +70,34 @@ serve_some-requires-clause-room g c =
     (c.args.framer.now.rest ++ take c.loop-at.at c.args.bytes.now) c.loop-at.framer.rest _ _
     (length c.args.bytes.now - c.loop-at.at) i.told
     (record {
-      offset = omega (arith, c.requires.room.offset, all, front, i.within);
-      index = c.requires.room.index;
+      offset = omega (arith, c.requires.ready.can.room.offset, all, front, i.within);
+      index = c.requires.ready.can.room.index;
     }) in
-    record { offset = omega (arith, room.offset, left, size); index = room.index }
+    record {
+      ready = record {
+        can = record {
+          small = c.requires.ready.can.small;
+          fine = i.fine;
+          room = record { offset = omega (arith, room.offset, left, size); index = room.index };
+        };
+        going = i.going;
+        listening = i.listening;
+      };
+    }
 
-pub returns-in_err-at-clause-served : goal.returns-in_err-at-clause-served
-returns-in_err-at-clause-served g c =
+pub returns-in_err-at : goal.returns-in_err-at
+returns-in_err-at g c =
+    let f = fold_until g.S.Service.serves g.S.Service.refuses g.S.Service.done c.args.most in
+    let told = c.loop-at.invariant.told in
     let p = err_from_is_err_and c.from_residual.result c.from_residual.ensures.1 in
     rw (p.1, p.2)
-    (served_stop (fold_until g.S.Service.serves g.S.Service.refuses g.S.Service.done c.args.most) c.args.run.now
-    c.loop-at.run
-    c.args.framer.now c.loop-at.framer c.args.bytes.now c.loop-at.at _ _ _ c.loop-at.invariant.told _
-    c.in_err-at.field-0.0 c.in_err-at.ensures.served)
+    (record {
+      served = served_stop f c.args.run.now c.loop-at.run c.args.framer.now c.loop-at.framer c.args.bytes.now
+          c.loop-at.at _ _ _ told _ c.in_err-at.field-0.0 c.in_err-at.ensures.served;
+      came = holds_served f c.args.run.now c.loop-at.run c.serve_some.new.run c.args.framer.now c.loop-at.framer
+          c.args.bytes.now c.serve_some.new.framer.rest c.loop-at.at _ _ c.in_err-at.field-0.0 told
+          c.in_err-at.ensures.came;
+    })
 
 pub loop-at-preserved : goal.loop-at-preserved
 loop-at-preserved g c =
@@ -108,29 +123,25 @@ loop-at-smaller g c =
     let moved : 0 < c.in_ok-at.field-0 = next.1 (omega (arith, rest, size, c.loop-at-test.true)) in
     omega (arith, next.0, rest, size, moved, c.loop-at-test.true)
 
-pub returns-after-loop-at-clause-served : goal.returns-after-loop-at-clause-served
-returns-after-loop-at-clause-served g c =
+pub returns-after-loop-at : goal.returns-after-loop-at
+returns-after-loop-at g c =
     let i = c.loop-at.invariant in
-    served_all (fold_until g.S.Service.serves g.S.Service.refuses g.S.Service.done c.args.most) c.args.run.now
-    c.loop-at.run
-    c.args.framer.now c.loop-at.framer c.args.bytes.now c.loop-at.at _ _ _ c.loop-at-test.false i.told i.listening
-    i.fine
+    record {
+      served = served_all (fold_until g.S.Service.serves g.S.Service.refuses g.S.Service.done c.args.most)
+          c.args.run.now c.loop-at.run c.args.framer.now c.loop-at.framer c.args.bytes.now c.loop-at.at _ _ _
+          c.loop-at-test.false i.told i.listening i.fine;
+      came = tt;
+    }
 
-pub returns-then-is_done-clause-served : goal.returns-then-is_done-clause-served
-returns-then-is_done-clause-served g c =
+pub returns-then-is_done : goal.returns-then-is_done
+returns-then-is_done g c =
+    let f = fold_until g.S.Service.serves g.S.Service.refuses g.S.Service.done c.args.most in
     let next = c.in_ok-at.ensures.served in
-    let i = c.loop-at.invariant in
-    served_done (fold_until g.S.Service.serves g.S.Service.refuses g.S.Service.done c.args.most) c.args.run.now
-    c.serve_some.new.run c.args.framer.now c.serve_some.new.framer c.args.bytes.now (c.loop-at.at + c.in_ok-at.field-0)
-    _ _ _ (sym c.is_done.ensures ∙ c.if-is_done.true)
-    (served_more (fold_until g.S.Service.serves g.S.Service.refuses g.S.Service.done c.args.most) c.args.run.now
-    c.loop-at.run c.args.framer.now c.loop-at.framer c.args.bytes.now c.loop-at.at _ _ _ i.told c.serve_some.new.run
-    c.in_ok-at.field-0 c.serve_some.new.framer.rest next.2.0) next.2.2
-
-pub returns-in_err-at-clause-came : goal.returns-in_err-at-clause-came
-returns-in_err-at-clause-came g c =
-    let p = err_from_is_err_and c.from_residual.result c.from_residual.ensures.1 in
-    rw (p.1, p.2)
-    (holds_served (fold_until g.S.Service.serves g.S.Service.refuses g.S.Service.done c.args.most) c.args.run.now
-    c.loop-at.run c.serve_some.new.run c.args.framer.now c.loop-at.framer c.args.bytes.now c.serve_some.new.framer.rest
-    c.loop-at.at _ _ c.in_err-at.field-0.0 c.loop-at.invariant.told c.in_err-at.ensures.came)
+    record {
+      served = served_done f c.args.run.now c.serve_some.new.run c.args.framer.now c.serve_some.new.framer
+          c.args.bytes.now (c.loop-at.at + c.in_ok-at.field-0) _ _ _ (sym c.is_done.ensures ∙ c.if-is_done.true)
+          (served_more f c.args.run.now c.loop-at.run c.args.framer.now c.loop-at.framer c.args.bytes.now c.loop-at.at
+          _ _ _ c.loop-at.invariant.told c.serve_some.new.run c.in_ok-at.field-0 c.serve_some.new.framer.rest next.2.0)
+          next.2.2;
+      came = tt;
+    }

@@ -35,7 +35,8 @@ pub returns-in-Err-clause-served : goal.returns-in-Err-clause-served
 returns-in-Err-clause-served g c =
     held_passed (fold_until g.S.Service.serves g.S.Service.refuses g.S.Service.done c.args.most) c.args.run.now
     c.args.framer.now
-    c.requires.good c.requires.same c.args.most _ _ c.in-Err.fault c.pass.result refl c.requires.fine c.requires.held
+    c.requires.good c.requires.same c.args.most _ _ c.in-Err.fault c.pass.result refl c.requires.can.fine
+    c.requires.held
     (subst (λ (p : List ℕ). (m : List (List ℕ)) (t : ℕ) → StandsFirst p c.args.most m t
     → c.in-Err.fault ≡ frame_faults.Memory) c.held-held.ensures c.in-Err.ensures.only) c.pass.ensures
 

@@ -83,15 +83,25 @@ returns-in-Ok-eq0-clause-runs g c =
     c.in-Ok-eq0.field-0-test
     c.in-Ok-eq0.ensures.bytes (omega arith) ends
 
-pub serve_chunk-requires-clause-room : goal.serve_chunk-requires-clause-room
-serve_chunk-requires-clause-room g c =
+pub serve_chunk-requires : goal.serve_chunk-requires
+serve_chunk-requires g c =
     let i = c.chunks.invariant in
     let size = length-take c.min-within.result (c.read.new.buf ++ drop (c.min-room.result + 1) c.chunks.buffer) in
     let room = room_heard g.S.Service.serves g.S.Service.refuses g.S.Service.done c.args.most c.args.run.now
     c.chunks.run _ _ _ _
     c.chunks.taken c.chunks.framer.rest c.min-within.result c.requires.fresh i.heard
     (omega (arith, i.within, c.min-within.ensures, c.ranges.limit)) in
-    record { offset = omega (arith, room.offset, size); index = room.index }
+    record {
+      ready = record {
+        can = record {
+          small = c.requires.small;
+          fine = i.writer;
+          room = record { offset = omega (arith, room.offset, size); index = room.index };
+        };
+        going = i.going;
+        listening = i.listening;
+      };
+    }
 
 pub returns-in_err-serve_chunk-in-Ok-clause-runs : goal.returns-in_err-serve_chunk-in-Ok-clause-runs
 returns-in_err-serve_chunk-in-Ok-clause-runs g c =
