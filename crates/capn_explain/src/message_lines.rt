@@ -9,7 +9,7 @@ ghost use Rattle.capn_explain.specs.Reports.{IsTold, PutsAccount, PutsText};
 
 use crate::account::{Account, account_of};
 use crate::explain::Explain;
-use capn_diagnostics::{Told, explain_stop};
+use capn_diagnostics::{Explanation, explain_stop};
 use capn_serve::{Position, ServeFault, table_words};
 use capn_walk::{Measured, Stopped};
 use capn_words::Space;
@@ -22,7 +22,7 @@ pub(crate) fn told_of<S: Space, A: Allocator + Copy>(
     at: Position,
     message: &S,
     stopped: Stopped,
-) -> Result<Told<A>, ServeFault>
+) -> Result<Explanation<A>, ServeFault>
     requires refused { IsWalkRefused (S.message message.now) order.now.limits
         stopped.fault stopped.place stopped.paid stopped.visits }
     ensures told { IfOk result (λ told.
