@@ -3,7 +3,7 @@
 use crate::invocations::expect_usage;
 use capn_tool::{
     ArchiveOrder, CmpOrder, FilterOrder, Form, Invocation, Limits, Only, Pick, StreamForm, Tariff,
-    Task, UniqOrder, invocation_of,
+    Task, UniqOrder, invocation_of, program_command,
 };
 use std::alloc::Global;
 use std::process::Abort;
@@ -352,21 +352,10 @@ fn help_names_each_command(rt: HostRuntime) {
         Err(usage) => usage.text(rt.alloc()).ok(),
     };
     let text = text.expect(&rt, "help");
-    for name in [
-        "show",
-        "check",
-        "explain",
-        "list",
-        "limits",
-        "canonical",
-        "hash",
-        "uniq",
-        "filter",
-        "pick",
-        "pack",
-        "unpack",
-        "make",
-    ] {
+    let tool = program_command(rt.alloc()).expect(&rt, "memory");
+    assert!(rt; tool.has_subcommands());
+    for command in tool.get_subcommands() {
+        let name = command.get_name();
         let line = format!(in rt.alloc(); "\n  {name} ").expect(&rt, "memory");
         assert!(rt; text.as_str().contains(line.as_str()), "{name}");
     }

@@ -1,6 +1,7 @@
 //! Outputs of runs over a failing reader or writer.
 
 use crate::broken::{Ending, Input, ended};
+use capn_tool::program_command;
 use std::alloc::Global;
 use std::process::Abort;
 
@@ -256,4 +257,86 @@ fn the_writer_of_words_fails_after_each_byte(rt: HostRuntime) {
     let packed = packed(rt.alloc());
     let words = ["capn", "unpack", "--streaming"];
     expect_what_has_room(&rt, rt.alloc(), &words, packed.text.as_slice());
+}
+
+/// Each command is tried after each ninth byte, which is at each place of a word in turn.
+const STEP: usize = 9;
+
+/// Returns what a command writes of the last message of the archive.
+fn written(alloc: Global, name: &str) -> Ending {
+    let input = Input::whole(&ARCHIVE[72..], usize::MAX);
+    ended(alloc, &["capn", name], input)
+}
+
+/// After each ninth byte that came, no more was written than the run writes whose input ends there, and the run has
+/// ended by its reader.
+fn expect_no_more_than_came(rt: &impl Abort, alloc: Global, words: &[&str], bytes: &[u8]) {
+    for count in 0..=bytes.len() {
+        if count % STEP == 0 {
+            let (came, most) = (&bytes[..count], piece_of(count));
+            let whole = ended(alloc, words, Input::whole(came, most));
+            let cut = unread(alloc, words, came, most);
+            let begins = whole.text.starts_with(cut.text.as_slice());
+            assert!(rt;
+                begins && ends_by_its_reader(&cut, &whole),
+                "{words:?} {count}"
+            );
+        }
+    }
+}
+
+/// Of the whole text as much was written as the writer takes, after each ninth byte of it, and the run says that its
+/// output failed. Returns `true` if there is a text.
+fn writes_what_has_room(rt: &impl Abort, alloc: Global, words: &[&str], bytes: &[u8]) -> bool {
+    let whole = ended(alloc, words, Input::whole(bytes, usize::MAX));
+    for room in 0..whole.text.len() {
+        if room % STEP == 0 {
+            let cut = unwritten(alloc, words, bytes, room);
+            assert!(rt;
+                cut.is_broken() && cut.text.as_slice() == &whole.text[..room],
+                "{words:?} {room}"
+            );
+        }
+    }
+    !whole.text.is_empty()
+}
+
+/// Each command of the table, over two messages, over one, over its packed text, and over its text.
+#[test]
+fn the_reader_of_each_command_fails(rt: HostRuntime) {
+    let tool = program_command(rt.alloc()).expect(&rt, "memory");
+    let packed = written(rt.alloc(), "pack");
+    let shown = written(rt.alloc(), "show");
+    for command in tool.get_subcommands() {
+        let words = ["capn", command.get_name()];
+        for bytes in [
+            &ARCHIVE[56..],
+            &ARCHIVE[72..],
+            packed.text.as_slice(),
+            shown.text.as_slice(),
+        ] {
+            expect_no_more_than_came(&rt, rt.alloc(), &words, bytes);
+        }
+    }
+}
+
+/// Each command of the table writes something of one of these.
+#[test]
+fn the_writer_of_each_command_fails(rt: HostRuntime) {
+    let tool = program_command(rt.alloc()).expect(&rt, "memory");
+    let packed = written(rt.alloc(), "pack");
+    let shown = written(rt.alloc(), "show");
+    for command in tool.get_subcommands() {
+        let words = ["capn", command.get_name()];
+        let mut writes = false;
+        for bytes in [
+            &ARCHIVE[56..],
+            &ARCHIVE[72..],
+            packed.text.as_slice(),
+            shown.text.as_slice(),
+        ] {
+            writes |= writes_what_has_room(&rt, rt.alloc(), &words, bytes);
+        }
+        assert!(rt; writes, "{words:?}");
+    }
 }

@@ -2,7 +2,7 @@
 
 use capn_tool::{
     Command, Explain, ExplainRefused, Explanation, Flow, Form, Invocation, Limits, Make,
-    MessageText, Style, Tariff, invocation_of,
+    MessageText, Style, Tariff, invocation_of, program_command,
 };
 use std::alloc::Global;
 use std::process::Abort;
@@ -157,17 +157,12 @@ fn exactly_one_message_is_taken(rt: HostRuntime) {
         };
         assert!(rt; one, "{option}");
     }
-    for name in [
-        "canonical",
-        "list",
-        "limits",
-        "uniq",
-        "filter",
-        "cmp",
-        "pick",
-        "explain",
-    ] {
-        expect_usage(&rt, rt.alloc(), &["capn", name, "--one"], 2);
+    let tool = program_command(rt.alloc()).expect(&rt, "memory");
+    for command in tool.get_subcommands() {
+        match command.get_name() {
+            "show" | "check" | "hash" => {}
+            name => expect_usage(&rt, rt.alloc(), &["capn", name, "--one"], 2),
+        }
     }
 }
 
