@@ -1,89 +1,19 @@
 -- One more read.
-use Rattle.std.proofs.Common.{◌≡◌, inl, inr, ℕ, ◌+◌, ◌-◌, ◌≤◌, ◌<◌, min, List, [], ◌++◌, length, take, refl}
-use Rattle.std.proofs.Common.{sym, ap}
-use Rattle.std.proofs.Common.{subst, ◌∙◌, arith, length-append, length-take-le, append-nil, Option, None, Some, IfSome}
-use Rattle.std.proofs.Common.{Bool, true, false, nat_lt, ◌||◌}
+use Rattle.std.proofs.Common.{◌≡◌, inl, inr, ℕ, ◌+◌, ◌-◌, ◌≤◌, ◌<◌, min, List, [], ◌++◌, length, take, sym, ap, ◌∙◌}
+use Rattle.std.proofs.Common.{arith, length-take-le, append-nil, Bool, true, false, nat_lt, ◌||◌}
 use Rattle.std.proofs.Math.Seq.{take-append-add, take_all}
 use Rattle.std.proofs.lemmas.List.{take-take, take-append-le}
 use Rattle.std.proofs.lemmas.Bool.{cases_lt}
 use Rattle.std.proofs.lemmas.Bool.Decides.{nat_tests}
-use Rattle.std.specs.Io.KnownBytes.{Consumes, IsAtEnd}
-use Rattle.std.proofs.KnownBytes.{Consumes-trans}
-use Rattle.capn_serve.specs.StreamRun.{Kept, taken_of, has_more}
+use Rattle.capn_serve.specs.StreamRun.{taken_of}
 
-is_below : (a b : ℕ) → a < b → nat_lt a b ≡ true
+pub is_below : (a b : ℕ) → a < b → nat_lt a b ≡ true
 is_below a b h = grind (arith, nat_tests)
 
-is_not_below : (a b : ℕ) → b ≤ a → nat_lt a b ≡ false
+pub is_not_below : (a b : ℕ) → b ≤ a → nat_lt a b ≡ false
 is_not_below a b h = grind (arith, nat_tests)
 
-below : (a b : ℕ) → nat_lt a b ≡ true → a < b
-below a b e = grind (arith, nat_tests)
-
 module _ (limit : ℕ) where
-  -- the read that found the end: all was taken
-  pub kept_end : (a b c : Option (List ℕ)) (xs buf : List ℕ) (n : ℕ) → n ≡ 0 → Consumes a b xs
-      → Consumes b c (take n buf)
-      × (n ≡ 0 → 0 < length buf → IsAtEnd c) → 0 < length buf → length xs ≤ limit → Kept limit a c xs false xs
-  kept_end a b c xs buf n zero first second some short =
-      let none : Consumes b c [] = subst (λ (k : ℕ). Consumes b c (take k buf)) zero second.0 in
-      let end = second.1 zero some in
-      record {
-        read = subst (Consumes a c) (append-nil xs) (Consumes-trans a b c xs [] first none);
-        bounded = omega (arith, short);
-        are = take_all limit xs short;
-        more = is_not_below limit (length xs) short;
-        ended = λ e. end;
-      }
-
-  pub read_end : (a b c : Option (List ℕ)) (xs buf : List ℕ) (n : ℕ) → n ≡ 0 → Consumes a b xs
-      → Consumes b c (take n buf)
-      × (n ≡ 0 → 0 < length buf → IsAtEnd c) → 0 < length buf → length xs ≤ limit
-      → (bytes : List ℕ) × Kept limit a c xs false bytes
-  read_end a b c xs buf n zero first second some short =
-      (xs, kept_end a b c xs buf n zero first second some short)
-
-  -- a read past the greatest number of bytes: the first of them were taken
-  pub kept_past : (a b c : Option (List ℕ)) (xs buf : List ℕ) (n k : ℕ) → Consumes a b xs → Consumes b c (take n buf)
-      → n ≤ length buf → length xs + k ≡ limit → k < n → length xs + n ≤ limit + 1
-      → Kept limit a c (xs ++ take k buf) true (xs ++ take n buf)
-  kept_past a b c xs buf n k first second within full past bound =
-      let count : length (xs ++ take n buf) ≡ length xs + n =
-      omega (arith, length-append xs (take n buf), length-take-le n buf within) in
-      let front : take k (take n buf) ≡ take k buf = take-take k n buf (omega (arith, past)) in
-      record {
-        read = Consumes-trans a b c xs (take n buf) first second;
-        bounded = omega (arith, count, bound);
-        are =
-            ap (λ (i : ℕ). take i (xs ++ take n buf)) (sym full)
-            ∙ take-append-add xs (take n buf) k
-            ∙ ap (λ (p : List ℕ). xs ++ p) front;
-        more = is_below limit (length (xs ++ take n buf)) (omega (arith, count, full, past));
-        ended = λ e. absurd (cc);
-      }
-
-  pub read_past : (a b c : Option (List ℕ)) (xs buf : List ℕ) (n k : ℕ) → Consumes a b xs → Consumes b c (take n buf)
-      → n ≤ length buf → length xs + k ≡ limit → k < n → length xs + n ≤ limit + 1
-      → (bytes : List ℕ) × Kept limit a c (xs ++ take k buf) true bytes
-  read_past a b c xs buf n k first second within full past bound =
-      (xs ++ take n buf, kept_past a b c xs buf n k first second within full past bound)
-
-  -- what was taken is what a run takes of all that a reader had, where that is known
-  pub kept_all : (old new : Option (List ℕ)) (kept bytes : List ℕ) (is_longer : Bool)
-      → Kept limit old new kept is_longer bytes
-      → IfSome old (λ all. (taken_of limit all ≡ kept) × (has_more limit all ≡ is_longer))
-  kept_all None new kept bytes is_longer h = tt
-  kept_all (Some all) None kept bytes is_longer h = absurd h.read
-  kept_all (Some all) (Some rest) kept bytes false h =
-      let whole : all ≡ bytes = h.read ∙ ap (λ (r : List ℕ). bytes ++ r) (h.ended refl) ∙ append-nil bytes in
-      (ap (taken_of limit) whole ∙ h.are, ap (has_more limit) whole ∙ h.more)
-  kept_all (Some all) (Some rest) kept bytes true h =
-      let more : limit < length bytes = below limit (length bytes) h.more in
-      let is : all ≡ bytes ++ rest = h.read in (
-        ap (taken_of limit) is ∙ take-append-le limit bytes rest (omega (arith, more)) ∙ h.are,
-        is_below limit (length all) (rw is (omega (arith, more, length-append bytes rest))),
-      )
-
   cut_front : (buf : List ℕ) (m k w : ℕ) → k ≤ length buf → w ≡ min k m → take m (take k buf) ≡ take w buf
   cut_front buf m k w within least = elim (cases_lt m k) [
     | inl past ↦ (let e : m ≡ w = omega (arith, past, least) in take-take m k buf (omega (arith, past))

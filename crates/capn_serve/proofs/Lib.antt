@@ -5,13 +5,13 @@ pub mod More
 pub mod Next
 pub mod Added
 pub mod InputRead
-pub mod RunEnds
+pub mod IntakeRuns
+pub mod StreamIntake
 pub mod WholeRead
 pub mod BareEnds
 pub mod PackedMore
-pub mod PackedEnds
 pub mod Holding
-pub mod Stopped
+pub mod PackedIntake
 pub mod Ranges
 pub mod Picks
 pub mod EachForm

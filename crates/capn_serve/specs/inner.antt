@@ -2,3 +2,5 @@
 pub mod Picker
 pub mod Holding
 pub mod Serving
+pub mod IntakeRun
+pub mod Intakes

@@ -16,6 +16,7 @@ mod chunk;
 mod ending;
 mod fault;
 mod form_run;
+mod intake;
 pub mod laws;
 mod line;
 mod message;

@@ -7,14 +7,14 @@ ghost use Rattle.capn_stream.specs.StreamPieces.{IsUnfinished};
 ghost use Rattle.capn_serve.specs.Fold.{fold_until};
 ghost use Rattle.capn_serve.specs.PackedRun.{RunsPacked};
 ghost use Rattle.capn_serve.specs.PackedChunkRun.{EndsPacked, IsUnpacking, ServesPart, pending};
-ghost use Rattle.capn_serve.specs.Outgoing.{outgoing, sent};
+ghost use Rattle.capn_serve.specs.Outgoing.{outgoing};
 ghost use Rattle.capn_serve.specs.StreamRun.{start, taken_of};
 ghost use Rattle.capn_serve.specs.WhatCame.{IsOwnRefusal, TellsGroups};
 ghost use Rattle.capn_serve.specs.inner.Holding.{Holds};
 ghost use Rattle.capn_serve.specs.inner.Serving.{HasServedPacked, IsReady};
 
-use crate::chunk::CHUNK;
 use crate::fault::RunFault;
+use crate::intake::{Intake, serve_pieces};
 use crate::output::send_rest;
 use crate::packed::{Packed, new_packed};
 use crate::position::Position;
@@ -128,30 +128,6 @@ fn serve_slices<S: Service, W: Write, A: Allocator + Copy>(
     Ok(())
 }
 
-/// Serves all messages that packed bytes make whole, and writes their texts. The text is room for them.
-fn serve_packed<S: Service, W: Write, A: Allocator + Copy>(
-    alloc: A,
-    most: u32,
-    run: &mut Run<S>,
-    packed: &mut Packed<A>,
-    bytes: &[u8],
-    text: &mut Vec<u8, A>,
-    writer: &mut Watched<W>,
-) -> Result<(), RunFault>
-    requires ready { IsReady (fold_until S.serves S.refuses S.done most) run.old packed.old.framer packed.old.left
-        (has_failed writer.old) }
-    requires unpacking { IsUnpacking packed.old.unpacker }
-    requires short { length bytes.now ≤ 65536 }
-    ensures { HasServedPacked (fold_until S.serves S.refuses S.done most) run.old
-        (pending packed.old.unpacker packed.old.framer packed.old.left) bytes.now
-        (sent (W.contents (inner_of writer.old))) (sent (W.contents (inner_of writer.new)))
-        (has_failed writer.new) result packed.new.unpacker packed.new.framer packed.new.left run.new }
-{
-    text.clear();
-    let served = serve_slices(alloc, most, run, packed, bytes, text, writer);
-    send_rest(served, text, writer)
-}
-
 /// Ends a run at the end of its packed input, with a fault if a message or a group is cut. What is held stays.
 fn end_of_packed<A: Allocator + Copy>(at: Position, packed: &mut Packed<A>) -> Result<(), RunFault>
     requires held { packed.old.unpacker.failed ≡ false }
@@ -164,6 +140,35 @@ fn end_of_packed<A: Allocator + Copy>(at: Position, packed: &mut Packed<A>) -> R
     match packed.unpacker.finish() {
         Ok(()) => end_of_input(at, &packed.framer),
         Err(fault) => Err(RunFault::Refused(at, Refusal::Packed(fault))),
+    }
+}
+
+/// Packed bytes are taken as they come, and the messages in what they unpack to are served before more of them.
+impl<A: Allocator + Copy> Intake<A> for Packed<A> {
+    ghost use Rattle.capn_serve.specs.inner.Intakes.{GivesPacked, TakesPacked};
+
+    ghost takes = { λ X f first x now y bytes c d. TakesPacked f x first.left now.unpacker now.framer now.left y bytes c
+        d };
+
+    ghost gives = { λ X f first x now y bytes longer c d r. GivesPacked f x first.left now.unpacker now.framer y bytes
+        longer c d r };
+
+    fn serve<S: Service, W: Write>(
+        &mut self,
+        alloc: A,
+        most: u32,
+        run: &mut Run<S>,
+        piece: &[u8],
+        text: &mut Vec<u8, A>,
+        writer: &mut Watched<W>,
+    ) -> Result<(), RunFault> {
+        text.clear();
+        let served = serve_slices(alloc, most, run, self, piece, text, writer);
+        send_rest(served, text, writer)
+    }
+
+    fn finish<S: Service>(&mut self, run: &Run<S>) -> Result<(), RunFault> {
+        end_of_packed(run.at, self)
     }
 }
 
@@ -195,39 +200,7 @@ pub(crate) fn packed_into<S: Service, R: Read, W: Write, A: Allocator + Copy>(
         ⊎ TellsGroups (fold_until S.serves S.refuses S.done most) run.old limit (taken_of most_packed input) e
         (record { rest = packed.new.framer.rest; group = packed.new.unpacker.rest }) run.new)) }
 {
-    if run.is_done() {
-        return Ok(());
-    }
-    let mut text = Vec::new(alloc);
-    let mut buffer = [0; CHUNK as usize];
-    let mut taken = 0;
-    'chunks: loop {
-        let left = most_packed - taken;
-        let room = left.min(CHUNK - 1) + 1;
-        match reader.read(&mut buffer[..room as usize]) {
-            Err(_) => return Err(RunFault::Io),
-            Ok(0) => return end_of_packed(run.at, packed),
-            Ok(count) => {
-                let within = left.min(count as u64);
-                serve_packed(
-                    alloc,
-                    most,
-                    run,
-                    packed,
-                    &buffer[..within as usize],
-                    &mut text,
-                    writer,
-                )?;
-                if run.is_done() {
-                    return Ok(());
-                }
-                if within < count as u64 {
-                    return Err(RunFault::InputTooLong);
-                }
-                taken += within;
-            }
-        }
-    }
+    serve_pieces(alloc, most, most_packed, run, packed, reader, writer)
 }
 
 /// Reads a packed stream, in chunks of at most 65,536 bytes, and has each message served that is whole before it reads

@@ -4,7 +4,7 @@ ghost use Rattle.std.specs.Prelude.{◌≡◌, ◌⊎◌, ℕ, ◌+◌, [], leng
 ghost use Rattle.capn_words.specs.Watched.{inner_of, has_failed};
 ghost use Rattle.capn_stream.specs.StreamPieces.{IsFrame, IsUnfinished};
 ghost use Rattle.capn_serve.specs.Fold.{fold_until};
-ghost use Rattle.capn_serve.specs.Outgoing.{outgoing, sent};
+ghost use Rattle.capn_serve.specs.Outgoing.{outgoing};
 ghost use Rattle.capn_serve.specs.ChunkRun as spec;
 ghost use Rattle.capn_serve.specs.ChunkRun.{AddsMessage, HasRoom, Passes, ServesHeld, ServesWhole};
 ghost use Rattle.capn_serve.specs.inner.Holding.{IsOfMessage};
@@ -12,7 +12,6 @@ ghost use Rattle.capn_serve.specs.inner.Serving.{CanServe, HasServed, HasServedN
 
 use crate::fault::RunFault;
 use crate::message::add_message;
-use crate::output::send_rest;
 use crate::position::Position;
 use crate::service::{Run, Service};
 use capn_canon::Refusal;
@@ -220,26 +219,4 @@ pub(crate) fn serve_bytes<S: Service, W: Write, A: Allocator + Copy>(
         }
     }
     Ok(())
-}
-
-/// Serves all messages that these bytes make whole, until the service is done, and writes their texts. The text is room
-/// for them.
-pub(crate) fn serve_chunk<S: Service, W: Write, A: Allocator + Copy>(
-    alloc: A,
-    most: u32,
-    run: &mut Run<S>,
-    framer: &mut Framer<A>,
-    bytes: &[u8],
-    text: &mut Vec<u8, A>,
-    writer: &mut Watched<W>,
-) -> Result<(), RunFault>
-    requires ready { IsReady (fold_until S.serves S.refuses S.done most) run.old framer.old (length bytes.now)
-        (has_failed writer.old) }
-    ensures { HasServed (fold_until S.serves S.refuses S.done most) run.old framer.old bytes.now
-        (sent (W.contents (inner_of writer.old))) (sent (W.contents (inner_of writer.new)))
-        (has_failed writer.new) result framer.new run.new }
-{
-    text.clear();
-    let served = serve_bytes(alloc, most, run, framer, bytes, text, writer);
-    send_rest(served, text, writer)
 }

@@ -8,11 +8,12 @@ ghost use Rattle.capn_serve.specs.Fold.{fold_until};
 ghost use Rattle.capn_serve.specs.StreamRun.{EndsInput, Runs, start, taken_of};
 ghost use Rattle.capn_serve.specs.WhatCame.{IsOwnRefusal, TellsStream};
 
-use crate::chunk::CHUNK;
 use crate::fault::RunFault;
+use crate::intake::{Intake, serve_pieces};
+use crate::output::send_rest;
 use crate::position::Position;
 use crate::service::{Run, Service};
-use crate::stream::serve_chunk;
+use crate::stream::serve_bytes;
 use capn_canon::Refusal;
 use capn_stream::{FrameFault, Framer};
 use capn_words::Watched;
@@ -31,6 +32,33 @@ pub(crate) fn end_of_input<A: Allocator + Copy>(
         return Ok(());
     }
     Err(RunFault::Refused(at, Refusal::Frame(FrameFault::Cut)))
+}
+
+/// Frames are taken as they come, and their messages are served before more of them.
+impl<A: Allocator + Copy> Intake<A> for Framer<A> {
+    ghost use Rattle.capn_serve.specs.inner.Intakes.{GivesStream, TakesStream};
+
+    ghost takes = { λ X f first x now y bytes c d. TakesStream f x now y bytes c d };
+
+    ghost gives = { λ X f first x now y bytes longer c d r. GivesStream f x now y bytes longer c d r };
+
+    fn serve<S: Service, W: Write>(
+        &mut self,
+        alloc: A,
+        most: u32,
+        run: &mut Run<S>,
+        piece: &[u8],
+        text: &mut Vec<u8, A>,
+        writer: &mut Watched<W>,
+    ) -> Result<(), RunFault> {
+        text.clear();
+        let served = serve_bytes(alloc, most, run, self, piece, text, writer);
+        send_rest(served, text, writer)
+    }
+
+    fn finish<S: Service>(&mut self, run: &Run<S>) -> Result<(), RunFault> {
+        end_of_input(run.at, self)
+    }
 }
 
 /// Reads and serves a stream as [`run_stream`] says. The framer, which has to be new, holds what came of the last
@@ -58,39 +86,7 @@ pub(crate) fn stream_into<S: Service, R: Read, W: Write, A: Allocator + Copy>(
         ⊎ TellsStream (fold_until S.serves S.refuses S.done most) run.old (taken_of limit input) e framer.new.rest
         run.new)) }
 {
-    if run.is_done() {
-        return Ok(());
-    }
-    let mut text = Vec::new(alloc);
-    let mut buffer = [0; CHUNK as usize];
-    let mut taken = 0;
-    'chunks: loop {
-        let left = limit - taken;
-        let room = left.min(CHUNK - 1) + 1;
-        match reader.read(&mut buffer[..room as usize]) {
-            Err(_) => return Err(RunFault::Io),
-            Ok(0) => return end_of_input(run.at, framer),
-            Ok(count) => {
-                let within = left.min(count as u64);
-                serve_chunk(
-                    alloc,
-                    most,
-                    run,
-                    framer,
-                    &buffer[..within as usize],
-                    &mut text,
-                    writer,
-                )?;
-                if run.is_done() {
-                    return Ok(());
-                }
-                if within < count as u64 {
-                    return Err(RunFault::InputTooLong);
-                }
-                taken += within;
-            }
-        }
-    }
+    serve_pieces(alloc, most, limit, run, framer, reader, writer)
 }
 
 /// Reads a stream, in chunks of at most 65,536 bytes, and has each message served that is whole before it reads again.
