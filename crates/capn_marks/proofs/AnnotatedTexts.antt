@@ -16,11 +16,11 @@ use Rattle.capn_show.specs.Emitted as by
 use Rattle.capn_show.specs.Quoting.{is_text, quoted_line}
 use Rattle.capn_marks.specs.declared.marks.Marks.{Marks}
 use Rattle.capn_marks.specs.Annotation.{rule_of, stepped}
-use Rattle.capn_marks.specs.Marked.{mark, offset_mark, way_mark, below, byte_at, marked_lines}
+use Rattle.capn_marks.specs.Marked.{mark, offset_mark, path_mark, below, byte_at, marked_lines}
 use Rattle.capn_marks.specs.Marked.{marked_digits, marked_numbers, digit_lines, text_or_digits, word_line, number_line}
 use Rattle.capn_marks.specs.Marked.{unmarked, marked_slots, marked_rows}
 
--- two ways with one mark: the same, unless no ways are asked for
+-- two paths with one mark: the same, unless no ways are asked for
 abbrev pub Agree : Bool → List ℕ → List ℕ → Type 0
 Agree true v w = v ≡ w
 Agree false v w = ⊤
@@ -29,8 +29,8 @@ agree-below : (ways : Bool) (v w : List ℕ) (i : ℕ) → Agree ways v w → Ag
 agree-below true v w i a = ap (λ (x : List ℕ). below x i) a
 agree-below false v w i a = tt
 
-agree-mark : (ways : Bool) (v w : List ℕ) → Agree ways v w → way_mark ways v ≡ way_mark ways w
-agree-mark true v w a = ap (way_mark true) a
+agree-mark : (ways : Bool) (v w : List ℕ) → Agree ways v w → path_mark ways v ≡ path_mark ways w
+agree-mark true v w a = ap (path_mark true) a
 agree-mark false v w a = refl
 
 pub agree : (ways : Bool) (v : List ℕ) → Agree ways v v

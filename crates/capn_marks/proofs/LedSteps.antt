@@ -1,4 +1,4 @@
--- A step of a way: where it leads in a message. (For `lead` and `mark_part`.)
+-- A step of a path: where it leads in a message. (For `lead` and `mark_part`.)
 use Rattle.std.proofs.Common.{◌≡◌, ℕ, suc, ◌+◌, ◌<◌, ◌≤◌, List, [], ◌∷◌, length, drop, get_or, Some, None, Option}
 use Rattle.std.proofs.Common.{refl, subst, sym, ap, ap₂, ◌∙◌, arith}
 use Rattle.std.specs.Prelude.{IfSome}
@@ -17,7 +17,7 @@ use Rattle.capn_marks.specs.MarkedPlaces.{IsLed, IsLedMarked}
 
 -- something, by its parts
 abbrev pub somewhere : Tree → Place → Target → List ℕ → There
-somewhere v a f w = record { at = a; found = f; value = v; way = w }
+somewhere v a f w = record { at = a; found = f; value = v; path = w }
 
 -- it is the same where these are
 pub there-is : (v : Tree) (a b : Place) (f g : Target) (x y : List ℕ) → a ≡ b → f ≡ g → x ≡ y
@@ -43,13 +43,13 @@ module _ (m : List (List ℕ)) where
   pub led-end : (numbers : List ℕ) (i : ℕ) (p : There) → length numbers ≤ i → led m (drop i numbers) (Some p) ≡ Some p
   led-end numbers i p past = ap (λ (l : List ℕ). led m l (Some p)) (drop_of_length-le numbers past)
 
-  module _ (numbers : List ℕ) (v : Tree) (way : List ℕ) where
-    pub led-marked : (marks : Marks) (Says : List ℕ → Type 0) (found : Option Part) → IsLed m numbers v way found
-        → IsLedMarked m marks way found Says → Says (marked_at m marks numbers v)
+  module _ (numbers : List ℕ) (v : Tree) (path : List ℕ) where
+    pub led-marked : (marks : Marks) (Says : List ℕ → Type 0) (found : Option Part) → IsLed m numbers v path found
+        → IsLedMarked m marks path found Says → Says (marked_at m marks numbers v)
     led-marked marks Says (Some p) (u, e, shows, low) k = subst Says (sym (ap (there_text m marks) e)) (k u shows)
     led-marked marks Says None e k = subst Says (sym (ap (there_text m marks) e)) k
 
-    pub led-ready : (depth : ℕ) (found : Option Part) → IsLed m numbers v way found → height v ≤ depth
+    pub led-ready : (depth : ℕ) (found : Option Part) → IsLed m numbers v path found → height v ≤ depth
         → IfSome found (λ p. IsFound m p.found depth)
     led-ready depth (Some p) (u, e, shows, low) high = record { value = u; is = shows; low = omega arith }
     led-ready depth None e high = tt

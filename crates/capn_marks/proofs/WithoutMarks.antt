@@ -7,7 +7,7 @@ use Rattle.capn_target.specs.declared.target.Target.{Target}
 use Rattle.capn_show.specs.Quoting.{shown_by}
 use Rattle.capn_marks.specs.declared.marks.Marks.{Marks}
 use Rattle.capn_marks.specs.Annotation.{rule_of}
-use Rattle.capn_marks.specs.Marked.{mark, offset_mark, way_mark, byte_at, unmarked}
+use Rattle.capn_marks.specs.Marked.{mark, offset_mark, path_mark, byte_at, unmarked}
 use Rattle.capn_show.specs.Part.{follow, step_down}
 use Rattle.capn_marks.specs.MarkedPart.{There, at_root, led, lines_style, marked_at, stepped, there_text}
 use Rattle.capn_show.specs.Styled.{part_in, styled}
@@ -17,17 +17,17 @@ use Rattle.capn_show.proofs.shared.PlainTexts.{plain-shown}
 use Rattle.capn_marks.proofs.AnnotatedTexts.{agree, same}
 
 module _ (marks : Marks) (no_offsets : marks.offsets ≡ false) (no_ways : marks.ways ≡ false) where
-  no-mark : (n : ℕ) (way : List ℕ) → mark marks n way ≡ []
-  no-mark n way = ap₂ (λ (a b : Bool). offset_mark a n ++ way_mark b way) no_offsets no_ways
+  no-mark : (n : ℕ) (path : List ℕ) → mark marks n path ≡ []
+  no-mark n path = ap₂ (λ (a b : Bool). offset_mark a n ++ path_mark b path) no_offsets no_ways
 
   module _ (m : List (List ℕ)) where
-    bare : (level : ℕ) (way : List ℕ) (found : Target) (t : Tree)
-        → unmarked m marks level way found t ≡ shown_by (bytes_of marks.quoted) level t
-    bare level way found t =
-        sym (same marks m way way (agree marks.ways way) level found t)
-        ∙ texts.bare (rule_of marks) no-mark m level way found t
+    bare : (level : ℕ) (path : List ℕ) (found : Target) (t : Tree)
+        → unmarked m marks level path found t ≡ shown_by (bytes_of marks.quoted) level t
+    bare level path found t =
+        sym (same marks m path path (agree marks.ways path) level found t)
+        ∙ texts.bare (rule_of marks) no-mark m level path found t
 
-    -- ---- what is at a way
+    -- ---- what is at a path
 
     -- by the value, in the style
     bare-chosen-style : (quoted : Bool) (t : Tree)
@@ -54,8 +54,8 @@ module _ (marks : Marks) (no_offsets : marks.offsets ≡ false) (no_ways : marks
         no_offsets no_ways
         ∙ bare-nothing marks.quoted
     bare-there (Some there) =
-        ap₂ (λ (x y : List ℕ). x ++ y) (no-mark (byte_at m marks there.at) there.way)
-        (bare 0 there.way there.found there.value)
+        ap₂ (λ (x y : List ℕ). x ++ y) (no-mark (byte_at m marks there.at) there.path)
+        (bare 0 there.path there.found there.value)
         ∙ bare-chosen-style marks.quoted there.value
 
     bare-led : (path : List ℕ) (there : Option There)

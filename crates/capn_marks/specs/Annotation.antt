@@ -4,9 +4,9 @@ use Rattle.capn_show.specs.Emitted.{Rule}
 use Rattle.capn_marks.specs.declared.marks.Marks.{Marks}
 use Rattle.capn_marks.specs.Marked.{below, byte_at, mark}
 
--- the way to the value of a number, if ways are asked for: else it stays, and nothing reads it
+-- the path to the value of a number, if ways are asked for: else it stays, and nothing reads it
 abbrev pub stepped : Bool → List ℕ → ℕ → List ℕ
-stepped ways way i = if ways then below way i else way
+stepped ways path i = if ways then below path i else path
 
 -- the rule of lines with these marks
 abbrev pub rule_of : Marks → Rule

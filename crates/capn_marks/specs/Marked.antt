@@ -1,4 +1,4 @@
--- The text of a message with marks: before each line stand the byte of its subject, and the way to it. (Own.)
+-- The text of a message with marks: before each line stand the byte of its subject, and the path to it. (Own.)
 use Rattle.std.specs.Prelude.{◌≡◌, ℕ, zero, suc, ◌+◌, ◌*◌, ◌/◌, Bool, true, false, List, [], ◌∷◌, ◌++◌}
 use Rattle.std.specs.Prelude.{length, take, map, codes, if◌then◌else◌, refl}
 use Rattle.std.specs.Fmt.{decimal, digits}
@@ -18,17 +18,17 @@ use Rattle.capn_show.specs.Descent.{begin, named_by}
 use Rattle.capn_show.specs.Quoting.{is_text, quoted_line}
 use Rattle.capn_marks.specs.declared.marks.Marks.{Marks}
 
--- ---- ways and places
+-- ---- paths and places
 
--- the text of a way, by that of the way above it and the last number
+-- the text of a path, by that of the path above it and the last number
 abbrev pub below : List ℕ → ℕ → List ℕ
 below [] i = decimal i
-below (c ∷ way) i = (c ∷ way) ++ 46 ∷ decimal i
+below (c ∷ path) i = (c ∷ path) ++ 46 ∷ decimal i
 
--- the name of a way
-abbrev pub way_name : List ℕ → List ℕ
-way_name [] = codes "root"
-way_name (c ∷ way) = c ∷ way
+-- the name of a path
+abbrev pub path_name : List ℕ → List ℕ
+path_name [] = codes "root"
+path_name (c ∷ path) = c ∷ path
 
 -- the byte of the first word of a message: its table lies between that and the bytes before the message
 abbrev pub first_byte : Marks → ℕ
@@ -44,13 +44,13 @@ byte_of start m at = start + 8 * (total (take at.segment m) + at.word)
 abbrev pub offset_mark : Bool → ℕ → List ℕ
 offset_mark offsets lies = if offsets then decimal lies ++ 9 ∷ [] else []
 
--- the way to it
-abbrev pub way_mark : Bool → List ℕ → List ℕ
-way_mark ways way = if ways then way_name way ++ 9 ∷ [] else []
+-- the path to it
+abbrev pub path_mark : Bool → List ℕ → List ℕ
+path_mark ways path = if ways then path_name path ++ 9 ∷ [] else []
 
--- the marks of a line whose subject lies at a byte, at a way
+-- the marks of a line whose subject lies at a byte, at a path
 abbrev pub mark : Marks → ℕ → List ℕ → List ℕ
-mark marks lies way = offset_mark marks.offsets lies ++ way_mark marks.ways way
+mark marks lies path = offset_mark marks.offsets lies ++ path_mark marks.ways path
 
 -- ---- lines with marks
 
@@ -65,36 +65,36 @@ number_line level n = line level (decimal n)
 module _ (marks : Marks) where
   -- a line for each number, of which the first lies at a byte, and each takes this many bytes
   abbrev pub marked_lines : ℕ → (ℕ → List ℕ) → List ℕ → ℕ → List ℕ → List ℕ
-  marked_lines size line_of way first [] = []
-  marked_lines size line_of way first (x ∷ xs) =
-      mark marks first way ++ (line_of x ++ marked_lines size line_of way (first + size) xs)
+  marked_lines size line_of path first [] = []
+  marked_lines size line_of path first (x ∷ xs) =
+      mark marks first path ++ (line_of x ++ marked_lines size line_of path (first + size) xs)
 
   -- the digits of a list whose first element lies at a byte: one line, unless the list is empty
   abbrev pub marked_digits : ℕ → List ℕ → ℕ → ℕ → List ℕ → List ℕ
-  marked_digits level way first zero digits = []
-  marked_digits level way first (suc n) digits = mark marks first way ++ line level digits
+  marked_digits level path first zero digits = []
+  marked_digits level path first (suc n) digits = mark marks first path ++ line level digits
 
   -- the lines of a list of bytes in digits: of the first one, the part behind the mark
   abbrev pub digit_lines : ℕ → List ℕ → ℕ → List ℕ → List ℕ
-  digit_lines level way first xs =
+  digit_lines level path first xs =
       line level (named (codes "bytes") (length xs))
-      ++ marked_digits (level + 1) way first (length xs) (encode_lower xs)
+      ++ marked_digits (level + 1) path first (length xs) (encode_lower xs)
 
   -- a text on one line, or the digits of bytes that are none
   abbrev pub text_or_digits : ℕ → List ℕ → ℕ → List ℕ → List ℕ
-  text_or_digits level way first xs =
-      if is_text xs then quoted_line level xs else digit_lines level way first xs
+  text_or_digits level path first xs =
+      if is_text xs then quoted_line level xs else digit_lines level path first xs
 
   -- the lines of a list of numbers: of the first one, the part behind the mark
   abbrev pub marked_numbers : NumberWidth → ℕ → List ℕ → ℕ → List ℕ → List ℕ
-  marked_numbers bit level way first xs =
+  marked_numbers bit level path first xs =
       line level (named (codes "bits") (length xs))
-      ++ marked_digits (level + 1) way first (length xs) (digits_of (map is_set xs))
-  marked_numbers byte level way first xs =
-      if marks.quoted then text_or_digits level way first xs else digit_lines level way first xs
-  marked_numbers a level way first xs =
+      ++ marked_digits (level + 1) path first (length xs) (digits_of (map is_set xs))
+  marked_numbers byte level path first xs =
+      if marks.quoted then text_or_digits level path first xs else digit_lines level path first xs
+  marked_numbers a level path first xs =
       line level (named (numbers_name a) (length xs))
-      ++ marked_lines (bits_in a / 8) (number_line (level + 1)) way first xs
+      ++ marked_lines (bits_in a / 8) (number_line (level + 1)) path first xs
 
 -- ---- the text
 
@@ -104,44 +104,44 @@ module _ (m : List (List ℕ)) (marks : Marks) where
   byte_at at = byte_of (first_byte marks) m at
 
   abbrev mutual
-    -- the text of the target of a pointer, at a level and a way: of its first line the part behind the mark, and all
+    -- the text of the target of a pointer, at a level and a path: of its first line the part behind the mark, and all
     -- lines below
     pub unmarked : ℕ → List ℕ → Target → Tree → List ℕ
-    unmarked level way found nil = line level (codes "null")
-    unmarked level way found (node ws ss) =
+    unmarked level path found nil = line level (codes "null")
+    unmarked level path found (node ws ss) =
         body_line level (length ws) (count ss)
-        ++ (marked_lines marks 8 (word_line (level + 1)) way (byte_at (begin found)) ws
-        ++ marked_slots (level + 1) way (step_place found) 0 ss)
-    unmarked level way found (voids n) = line level (named (codes "void") n)
-    unmarked level way found (numbers a xs) = marked_numbers marks a level way (byte_at (begin found)) xs
-    unmarked level way found (links ts) =
-        line level (named (codes "pointers") (count ts)) ++ marked_slots (level + 1) way (step_place found) 0 ts
-    unmarked level way found (rows bs) =
-        line level (named (codes "rows") (count_rows bs)) ++ marked_rows (level + 1) way (row_of found) 0 bs
-    unmarked level way found (cap k) = line level (named (codes "capability") k)
+        ++ (marked_lines marks 8 (word_line (level + 1)) path (byte_at (begin found)) ws
+        ++ marked_slots (level + 1) path (step_place found) 0 ss)
+    unmarked level path found (voids n) = line level (named (codes "void") n)
+    unmarked level path found (numbers a xs) = marked_numbers marks a level path (byte_at (begin found)) xs
+    unmarked level path found (links ts) =
+        line level (named (codes "pointers") (count ts)) ++ marked_slots (level + 1) path (step_place found) 0 ts
+    unmarked level path found (rows bs) =
+        line level (named (codes "rows") (count_rows bs)) ++ marked_rows (level + 1) path (row_of found) 0 bs
+    unmarked level path found (cap k) = line level (named (codes "capability") k)
 
     -- slots at these places, from one number on: the mark is that of the slot
     pub marked_slots : ℕ → List ℕ → (ℕ → Place) → ℕ → Trees → List ℕ
-    marked_slots level way place i no_trees = []
-    marked_slots level way place i (tree t ts) =
-        (mark marks (byte_at (place i)) (below way i)
-        ++ unmarked level (below way i) (named_by (target m (place i))) t)
-        ++ marked_slots level way place (suc i) ts
+    marked_slots level path place i no_trees = []
+    marked_slots level path place i (tree t ts) =
+        (mark marks (byte_at (place i)) (below path i)
+        ++ unmarked level (below path i) (named_by (target m (place i))) t)
+        ++ marked_slots level path place (suc i) ts
 
     -- these rows, from one number on: the mark says where the row begins
     pub marked_rows : ℕ → List ℕ → (ℕ → Target) → ℕ → Bodies → List ℕ
-    marked_rows level way row i no_bodies = []
-    marked_rows level way row i (body ws ss bs) =
-        (mark marks (byte_at (begin (row i))) (below way i)
+    marked_rows level path row i no_bodies = []
+    marked_rows level path row i (body ws ss bs) =
+        (mark marks (byte_at (begin (row i))) (below path i)
         ++ (body_line level (length ws) (count ss)
-        ++ (marked_lines marks 8 (word_line (level + 1)) (below way i) (byte_at (begin (row i))) ws
-        ++ marked_slots (level + 1) (below way i) (step_place (row i)) 0 ss)))
-        ++ marked_rows level way row (suc i) bs
+        ++ (marked_lines marks 8 (word_line (level + 1)) (below path i) (byte_at (begin (row i))) ws
+        ++ marked_slots (level + 1) (below path i) (step_place (row i)) 0 ss)))
+        ++ marked_rows level path row (suc i) bs
 
   -- the value in a slot
   abbrev pub marked_slot : ℕ → List ℕ → Place → Tree → List ℕ
-  marked_slot level way at t =
-      mark marks (byte_at at) way ++ unmarked level way (named_by (target m at)) t
+  marked_slot level path at t =
+      mark marks (byte_at at) path ++ unmarked level path (named_by (target m at)) t
 
   -- the value at the root
   abbrev pub marked_text : Tree → List ℕ
@@ -155,7 +155,7 @@ both_marks : mark (record { offsets = true; ways = true; quoted = false; offset 
 unfolding digits
 both_marks = refl
 
-the_root : way_mark true [] ≡ codes "root\t"
+the_root : path_mark true [] ≡ codes "root\t"
 the_root = refl
 
 no_marks : mark (record { offsets = false; ways = false; quoted = false; offset = 0; table = 0 }) 40 (codes "0") ≡ []

@@ -1,4 +1,4 @@
--- The text with marks of the part at a way of numbers from a value of a message. (Own.)
+-- The text with marks of the part at a path of numbers from a value of a message. (Own.)
 use Rattle.std.specs.Prelude.{◌≡◌, ℕ, List, [], ◌∷◌, ◌++◌, Option, Some, None, codes, if◌then◌else◌, Bool, true}
 use Rattle.std.specs.Prelude.{false, refl}
 use Rattle.capn_words.specs.declared.space.Place.{Place}
@@ -15,14 +15,14 @@ use Rattle.capn_show.specs.declared.style.Style.{Style}
 use Rattle.capn_show.specs.declared.style.Style.TheVariants as styles
 
 -- a part of a message: the slot that names it, or of a row the place at which it begins; the target of its pointer; its
--- value; its way
+-- value; its path
 pub record There : Type 0 where
   pub at : Place
   pub found : Target
   pub value : Tree
-  pub way : List ℕ
+  pub path : List ℕ
 
--- the line for no part: no digits and no way stand before it
+-- the line for no part: no digits and no path stand before it
 abbrev pub none_line : Marks → List ℕ
 none_line marks =
     (if marks.offsets then 9 ∷ [] else []) ++ ((if marks.ways then 9 ∷ [] else []) ++ line 0 (codes "none"))
@@ -35,7 +35,7 @@ module _ (m : List (List ℕ)) where
     at = step_at there.found i;
     found = step_to m there.found i;
     value = t;
-    way = below there.way i;
+    path = below there.path i;
   })
 
   -- step by step, as long as something is there
@@ -46,16 +46,16 @@ module _ (m : List (List ℕ)) where
 
   -- the part at the root
   abbrev pub at_root : Tree → There
-  at_root t = record { at = root; found = named_by (target m root); value = t; way = [] }
+  at_root t = record { at = root; found = named_by (target m root); value = t; path = [] }
 
   module _ (marks : Marks) where
     -- the text of the part there
     abbrev pub there_text : Option There → List ℕ
     there_text None = none_line marks
     there_text (Some there) =
-        mark marks (byte_at m marks there.at) there.way ++ unmarked m marks 0 there.way there.found there.value
+        mark marks (byte_at m marks there.at) there.path ++ unmarked m marks 0 there.path there.found there.value
 
-    -- the text of the part at a way of numbers from the root
+    -- the text of the part at a path of numbers from the root
     abbrev pub marked_at : List ℕ → Tree → List ℕ
     marked_at numbers t = there_text (led numbers (Some (at_root t)))
 

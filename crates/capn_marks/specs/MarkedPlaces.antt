@@ -19,24 +19,24 @@ pub record CountsBefore (m : List (List ℕ)) (before : List ℕ) : Type 0 where
   pub each : (s : ℕ) → s < length m → slice_index before s ≡ total (take s m)
 
 module _ (m : List (List ℕ)) where
-  -- of the text of a part, at a way
+  -- of the text of a part, at a path
   abbrev pub IsThereMarked : Marks → List ℕ → Place → Target → (List ℕ → Type 0) → Type 0
-  IsThereMarked marks way at found Says = (v : Tree) → Shows m found v
-      → Says (mark marks (byte_at m marks at) way ++ unmarked m marks 0 way found v)
+  IsThereMarked marks path at found Says = (v : Tree) → Shows m found v
+      → Says (mark marks (byte_at m marks at) path ++ unmarked m marks 0 path found v)
 
-  -- of that of the part at a way of numbers from the root
+  -- of that of the part at a path of numbers from the root
   abbrev pub IsPartMarked : Marks → List ℕ → (List ℕ → Type 0) → Type 0
   IsPartMarked marks numbers Says = (v : Tree) → IsAt m root v → Says (marked_at m marks numbers v)
 
-  -- numbers lead from the root to the part there, with a value that is no higher and a way; or nothing is there
+  -- numbers lead from the root to the part there, with a value that is no higher and a path; or nothing is there
   abbrev pub IsLed : List ℕ → Tree → List ℕ → Option Part → Type 0
-  IsLed numbers v way (Some p) = (u : Tree)
-      × (led m numbers (Some (at_root m v)) ≡ Some (record { at = p.at; found = p.found; value = u; way = way }))
+  IsLed numbers v path (Some p) = (u : Tree)
+      × (led m numbers (Some (at_root m v)) ≡ Some (record { at = p.at; found = p.found; value = u; path = path }))
       × Shows m p.found u
       × (height u ≤ height v)
-  IsLed numbers v way None = led m numbers (Some (at_root m v)) ≡ None
+  IsLed numbers v path None = led m numbers (Some (at_root m v)) ≡ None
 
-  -- of the text of a part at a way, or of the line for no part
+  -- of the text of a part at a path, or of the line for no part
   abbrev pub IsLedMarked : Marks → List ℕ → Option Part → (List ℕ → Type 0) → Type 0
-  IsLedMarked marks way (Some p) Says = IsThereMarked marks way p.at p.found Says
-  IsLedMarked marks way None Says = Says (none_line marks)
+  IsLedMarked marks path (Some p) Says = IsThereMarked marks path p.at p.found Says
+  IsLedMarked marks path None Says = Says (none_line marks)

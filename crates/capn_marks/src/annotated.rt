@@ -4,7 +4,7 @@ ghost use Rattle.std.specs.Prelude.{IfErr};
 ghost use Rattle.capn_marks.specs.Annotation.{rule_of};
 ghost use Rattle.capn_marks.specs.MarkedPlaces.{CountsBefore};
 
-use crate::marks::{Marks, put_mark, step_below, way_length};
+use crate::marks::{Marks, path_length, put_mark, step_below};
 use crate::starts::byte_of;
 use capn_show::{Broken, Emitter};
 use capn_words::{Place, Space, Watched};
@@ -18,14 +18,14 @@ pub struct Annotated<'a, A: Allocator> {
     pub marks: Marks,
     /// The words of the message before each of its segments.
     pub before: &'a [u32],
-    /// The way to the value whose lines are written.
-    pub way: Vec<u8, A>,
+    /// The path to the value whose lines are written.
+    pub path: Vec<u8, A>,
 }
 
 impl<'a, A: Allocator> Emitter for Annotated<'a, A> {
     ghost rule = { λ e. rule_of e.marks };
 
-    ghost way = { λ e. e.way.items };
+    ghost path = { λ e. e.path.items };
 
     ghost is_of = { λ e m. CountsBefore m e.before.now };
 
@@ -46,21 +46,21 @@ impl<'a, A: Allocator> Emitter for Annotated<'a, A> {
         writer: &mut Watched<W>,
         byte: u128,
     ) -> Result<(), Broken> {
-        put_mark(text, writer, &self.marks, self.way.as_slice(), byte)
+        put_mark(text, writer, &self.marks, self.path.as_slice(), byte)
     }
 
     #[inline(always)]
-    fn way_length(&self) -> usize {
-        way_length(&self.way)
+    fn path_length(&self) -> usize {
+        path_length(&self.path)
     }
 
     #[inline(always)]
     fn step_below(&mut self, number: u32) -> Result<(), Broken> {
-        step_below(&mut self.way, self.marks.ways, number as u64)
+        step_below(&mut self.path, self.marks.ways, number as u64)
     }
 
     #[inline(always)]
     fn step_back(&mut self, length: usize) {
-        self.way.truncate(length);
+        self.path.truncate(length);
     }
 }

@@ -1,4 +1,4 @@
-//! The text with marks of a message's part, at a way.
+//! The text with marks of a message's part, at a path.
 
 ghost use Rattle.std.specs.Prelude.{◌≡◌, [], ◌∷◌, ◌+◌, ◌*◌, ◌<◌, ◌^◌, IfErr, IfOk, IfSome, OnOk, if◌then◌else◌};
 ghost use Rattle.capn_words.specs.Message.{IsMessage, IsPlace};
@@ -25,11 +25,11 @@ use capn_words::{Place, Space, Watched};
 use std::alloc::Allocator;
 use std::io::Write;
 
-/// Appends the text of the value at a `way` of numbers from the root of `message` to `text`, with `marks` before each
+/// Appends the text of the value at a `path` of numbers from the root of `message` to `text`, with `marks` before each
 /// line.
 ///
 /// The text without its marks is that of `capn_show::show_part`, as lines, and the message is surveyed within `limits`,
-/// and the text added, kept and written as there. Beside that it takes memory of `alloc` for the way to where it is,
+/// and the text added, kept and written as there. Beside that it takes memory of `alloc` for the path to where it is,
 /// and, for a message of several segments alone, 4 bytes for each.
 pub fn show_marked<S: Space, W: Write, A: Allocator + Copy>(
     alloc: A,
@@ -38,27 +38,27 @@ pub fn show_marked<S: Space, W: Write, A: Allocator + Copy>(
     message: &S,
     limits: Limits,
     marks: Marks,
-    way: &[u64],
+    path: &[u64],
 ) -> Result<(), ShowFault>
     // An answer: the message is accepted, and the text of the value there is added.
     ensures shown { OnOk result (IsWritten (S.message message.now) limits
-        (marked_at (S.message message.now) marks way.now)
+        (marked_at (S.message message.now) marks path.now)
         (outgoing W.contents writer.old text.old.items) (outgoing W.contents writer.new text.new.items)) }
     // A refusal is as that of `capn_show::show_message`.
     ensures refused { IfErr result (λ fault. IsUnwritten (S.message message.now) limits
-        (marked_at (S.message message.now) marks way.now) fault
+        (marked_at (S.message message.now) marks path.now) fault
         (outgoing W.contents writer.old text.old.items) (outgoing W.contents writer.new text.new.items)) }
 {
     values();
     let _bounds = message.segments();
     survey(alloc, message, limits)?;
-    match mark_part(alloc, text, writer, message, &marks, way, limits.depth()) {
+    match mark_part(alloc, text, writer, message, &marks, path, limits.depth()) {
         Ok(()) => Ok(()),
         Err(broken) => Err(fault_of(broken)),
     }
 }
 
-/// Appends the text of the value at the way of `numbers` from the root to `text`.
+/// Appends the text of the value at the path of `numbers` from the root to `text`.
 fn mark_part<S: Space, W: Write, A: Allocator + Copy>(
     alloc: A,
     text: &mut Vec<u8, A>,
@@ -86,7 +86,8 @@ fn mark_part<S: Space, W: Write, A: Allocator + Copy>(
     mark_counted(alloc, text, writer, space, &before, marks, numbers, depth)
 }
 
-/// Appends the text of the value at the way of `numbers` from the root to `text`, with the words `before` each segment.
+/// Appends the text of the value at the path of `numbers` from the root to `text`, with the words `before` each
+/// segment.
 fn mark_counted<S: Space, W: Write, A: Allocator>(
     alloc: A,
     text: &mut Vec<u8, A>,
@@ -107,18 +108,22 @@ fn mark_counted<S: Space, W: Write, A: Allocator>(
     ensures cut { IfErr result (λ e. IsPartMarked (S.message space.now) marks.now numbers.now (BreaksOff
         (outgoing W.contents writer.old text.old.items) (outgoing W.contents writer.new text.new.items) e)) }
 {
-    let mut way = Vec::new(alloc);
-    match lead(&mut way, space, numbers) {
+    let mut path = Vec::new(alloc);
+    match lead(&mut path, space, numbers) {
         Ok(found) => {
             let marks = *marks;
-            let mut annotated = Annotated { marks, before, way };
+            let mut annotated = Annotated {
+                marks,
+                before,
+                path,
+            };
             mark_led(text, writer, &mut annotated, space, found, depth)
         }
         Err(broken) => Err(broken),
     }
 }
 
-/// Appends the text of `found`, to which the way of `annotated` leads, to `text`; or the line for no value.
+/// Appends the text of `found`, to which the path of `annotated` leads, to `text`; or the line for no value.
 fn mark_led<S: Space, W: Write, A: Allocator>(
     text: &mut Vec<u8, A>,
     writer: &mut Watched<W>,
@@ -134,10 +139,10 @@ fn mark_led<S: Space, W: Write, A: Allocator>(
     requires ready { IfSome found (λ p. IsFound (S.message space.now) p.found depth) }
     requires room { 2 * depth < 2 ^ 32 }
     ensures shown { OnOk result
-        (IsLedMarked (S.message space.now) annotated.old.marks annotated.old.way.items found (Adds
+        (IsLedMarked (S.message space.now) annotated.old.marks annotated.old.path.items found (Adds
         (outgoing W.contents writer.old text.old.items) (outgoing W.contents writer.new text.new.items))) }
     ensures cut { IfErr result (λ e.
-        IsLedMarked (S.message space.now) annotated.old.marks annotated.old.way.items found (BreaksOff
+        IsLedMarked (S.message space.now) annotated.old.marks annotated.old.path.items found (BreaksOff
         (outgoing W.contents writer.old text.old.items) (outgoing W.contents writer.new text.new.items) e)) }
 {
     match found {
@@ -146,20 +151,20 @@ fn mark_led<S: Space, W: Write, A: Allocator>(
     }
 }
 
-/// Follows `numbers` from the root, and adds the way to `way`, which is empty; `None`, if nothing is there.
+/// Follows `numbers` from the root, and adds the path to `path`, which is empty; `None`, if nothing is there.
 fn lead<S: Space, A: Allocator>(
-    way: &mut Vec<u8, A>,
+    path: &mut Vec<u8, A>,
     space: &S,
     numbers: &[u64],
 ) -> Result<Option<Part>, Broken>
     requires message { IsMessage (S.message space.now) }
     requires place { IsPlace (S.message space.now) root }
     requires value { Holds (S.message space.now) root }
-    requires empty { way.old.items ≡ [] }
+    requires empty { path.old.items ≡ [] }
     ensures inside { IfOk result (λ found. IfSome found (λ p. IsInMessage (S.message space.now) p.found)) }
     ensures counts { IfOk result (λ found. IfSome found (λ p. IsContent (S.message space.now) p.at 0)) }
     ensures there { IfOk result (λ found. (v : Tree) → IsAt (S.message space.now) root v
-        → IsLed (S.message space.now) numbers.now v way.new.items found) }
+        → IsLed (S.message space.now) numbers.now v path.new.items found) }
     ensures memory { IfErr result (λ e. e ≡ broken.Memory) }
 {
     let found = named(space, Place::ROOT);
@@ -172,12 +177,12 @@ fn lead<S: Space, A: Allocator>(
             Some(next) => part = next,
             None => return Ok(None),
         }
-        push_number(way, numbers[i])?;
+        push_number(path, numbers[i])?;
     }
     Ok(Some(part))
 }
 
-/// Appends the text of `part`, to which the way of `annotated` leads, to `text`.
+/// Appends the text of `part`, to which the path of `annotated` leads, to `text`.
 fn mark_there<S: Space, W: Write, A: Allocator>(
     text: &mut Vec<u8, A>,
     writer: &mut Watched<W>,
@@ -193,10 +198,10 @@ fn mark_there<S: Space, W: Write, A: Allocator>(
     requires ready { IsFound (S.message space.now) part.found depth }
     requires room { 2 * depth < 2 ^ 32 }
     ensures shown { OnOk result
-        (IsThereMarked (S.message space.now) annotated.old.marks annotated.old.way.items part.at part.found (Adds
+        (IsThereMarked (S.message space.now) annotated.old.marks annotated.old.path.items part.at part.found (Adds
         (outgoing W.contents writer.old text.old.items) (outgoing W.contents writer.new text.new.items))) }
     ensures cut { IfErr result (λ e.
-        IsThereMarked (S.message space.now) annotated.old.marks annotated.old.way.items part.at part.found
+        IsThereMarked (S.message space.now) annotated.old.marks annotated.old.path.items part.at part.found
         (BreaksOff
         (outgoing W.contents writer.old text.old.items) (outgoing W.contents writer.new text.new.items) e)) }
 {

@@ -18,7 +18,7 @@ use std::io::Write;
 pub struct Marks {
     /// Before each line stands the byte of its subject, in decimal digits, and a tab.
     pub offsets: bool,
-    /// Before each line, after its offset, stands the way to its subject, and a tab.
+    /// Before each line, after its offset, stands the path to its subject, and a tab.
     pub ways: bool,
     /// A list of bytes that is a text is written between quotes, as in `capn_show::Style::Quoted`.
     pub quoted: bool,
@@ -102,12 +102,12 @@ fn put_offset<W: Write, A: Allocator>(
     }
 }
 
-/// Returns the name of `way`: that of the root, which has no numbers, is `root`.
+/// Returns the name of `path`: that of the root, which has no numbers, is `root`.
 #[inline(always)]
-fn way_name(way: &[u8]) -> &[u8]
-    ensures { result.now ≡ spec.way_name way.now }
+fn path_name(path: &[u8]) -> &[u8]
+    ensures { result.now ≡ spec.path_name path.now }
 {
-    if way.is_empty() { b"root" } else { way }
+    if path.is_empty() { b"root" } else { path }
 }
 
 /// The most bytes of a name that has room in a block.
@@ -199,78 +199,83 @@ fn put_both<W: Write, A: Allocator>(
     }
 }
 
-/// Appends the `marks` of a line to `text`, whose subject lies at `byte` and has this `way`.
+/// Appends the `marks` of a line to `text`, whose subject lies at `byte` and has this `path`.
 #[inline(always)]
 pub fn put_mark<W: Write, A: Allocator>(
     text: &mut Vec<u8, A>,
     writer: &mut Watched<W>,
     marks: &Marks,
-    way: &[u8],
+    path: &[u8],
     byte: u128,
 ) -> Result<(), Broken>
     ensures shown { OnOk result (Adds (outgoing W.contents writer.old text.old.items)
-        (outgoing W.contents writer.new text.new.items) (spec.mark marks.now byte way.now)) }
+        (outgoing W.contents writer.new text.new.items) (spec.mark marks.now byte path.now)) }
     ensures cut { IfErr result (λ e. BreaksOff (outgoing W.contents writer.old text.old.items)
-        (outgoing W.contents writer.new text.new.items) e (spec.mark marks.now byte way.now)) }
+        (outgoing W.contents writer.new text.new.items) e (spec.mark marks.now byte path.now)) }
 {
     if !marks.ways {
         put_offset(text, writer, marks.offsets, byte)
     } else if marks.offsets {
-        put_both(text, writer, way_name(way), byte)
+        put_both(text, writer, path_name(path), byte)
     } else {
-        put_named(text, writer, way_name(way))
+        put_named(text, writer, path_name(path))
     }
 }
 
-/// Returns the number of bytes of `way`.
+/// Returns the number of bytes of `path`.
 #[inline(always)]
-pub fn way_length<A: Allocator>(way: &Vec<u8, A>) -> usize
-    ensures { result ≡ length way.now.items }
+pub fn path_length<A: Allocator>(path: &Vec<u8, A>) -> usize
+    ensures { result ≡ length path.now.items }
 {
-    way.len()
+    path.len()
 }
 
-/// Appends the digits of `number` to `way`.
+/// Appends the digits of `number` to `path`.
 #[tactic(auto, using(std::proofs::lemmas::Fmt::decimal_digit))]
-fn push_digits<A: Allocator>(way: &mut Vec<u8, A>, number: u64) -> Result<(), Broken>
-    ensures digits { OnOk result (way.new.items ≡ way.old.items ++ decimal number) }
+fn push_digits<A: Allocator>(path: &mut Vec<u8, A>, number: u64) -> Result<(), Broken>
+    ensures digits { OnOk result (path.new.items ≡ path.old.items ++ decimal number) }
     ensures memory { IfErr result (λ e. e ≡ broken.Memory) }
 {
     if number < 10 {
-        return match way.push(b'0' + number as u8) {
+        return match path.push(b'0' + number as u8) {
             Ok(()) => Ok(()),
             Err(_) => Err(Broken::Memory),
         };
     }
     let mut digits = [0; 20];
     let start = itoa::write_digits(number, &mut digits, 20);
-    match way.extend_from_slice(&digits[start..]) {
+    match path.extend_from_slice(&digits[start..]) {
         Ok(()) => Ok(()),
         Err(_) => Err(Broken::Memory),
     }
 }
 
-/// Appends `number` to `way`, which then leads to the value of this number below.
-pub fn push_number<A: Allocator>(way: &mut Vec<u8, A>, number: u64) -> Result<(), Broken>
-    ensures below { OnOk result (way.new.items ≡ spec.below way.old.items number) }
+/// Appends `number` to `path`, which then leads to the value of this number below.
+pub fn push_number<A: Allocator>(path: &mut Vec<u8, A>, number: u64) -> Result<(), Broken>
+    ensures below { OnOk result (path.new.items ≡ spec.below path.old.items number) }
     ensures memory { IfErr result (λ e. e ≡ broken.Memory) }
 {
-    if !way.is_empty() {
-        let Ok(()) = way.push(b'.') else {
+    if !path.is_empty() {
+        let Ok(()) = path.push(b'.') else {
             return Err(Broken::Memory);
         };
     }
-    push_digits(way, number)
+    push_digits(path, number)
 }
 
-/// Appends `number` to `way`, if `ways` are asked for; else it stays, and nothing reads it.
+/// Appends `number` to `path`, if `ways` are asked for; else it stays, and nothing reads it.
 #[inline(always)]
-pub fn step_below<A: Allocator>(way: &mut Vec<u8, A>, ways: bool, number: u64) -> Result<(), Broken>
-    ensures below { OnOk result (way.new.items ≡ (if ways then spec.below way.old.items number else way.old.items)) }
+pub fn step_below<A: Allocator>(
+    path: &mut Vec<u8, A>,
+    ways: bool,
+    number: u64,
+) -> Result<(), Broken>
+    ensures below { OnOk result
+        (path.new.items ≡ (if ways then spec.below path.old.items number else path.old.items)) }
     ensures memory { IfErr result (λ e. e ≡ broken.Memory) }
 {
     if ways {
-        push_number(way, number)
+        push_number(path, number)
     } else {
         Ok(())
     }

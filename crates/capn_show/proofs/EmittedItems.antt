@@ -14,22 +14,22 @@ use Rattle.capn_show.proofs.ItemTexts.{texts}
 
 -- ---- lines
 
-module _ (rule : Rule) (size : ℕ) (line_of : ℕ → List ℕ) (way : List ℕ) (first : ℕ) where
+module _ (rule : Rule) (size : ℕ) (line_of : ℕ → List ℕ) (path : List ℕ) (first : ℕ) where
   -- the line of a number, by how many come before it
   abbrev pub line_item : ℕ → ℕ → List ℕ
-  line_item i x = rule.mark (first + i * size) way ++ line_of x
+  line_item i x = rule.mark (first + i * size) path ++ line_of x
 
   lines-from : (k at : ℕ) (xs : List ℕ) → at ≡ first + k * size
-      → texts line_item k xs ≡ emitted_lines rule size line_of way at xs
+      → texts line_item k xs ≡ emitted_lines rule size line_of path at xs
   lines-from k at [] e = refl
   lines-from k at (x ∷ xs) e =
       let next : suc k * size ≡ size + k * size = omega arith in
       let rest = texts line_item (suc k) xs in
-      ap (λ (n : ℕ). (rule.mark n way ++ line_of x) ++ rest) (sym e)
-      ∙ append_assoc (rule.mark at way) (line_of x) rest
-      ∙ ap (λ (l : List ℕ). rule.mark at way ++ (line_of x ++ l)) (lines-from (suc k) (at + size) xs (omega arith))
+      ap (λ (n : ℕ). (rule.mark n path ++ line_of x) ++ rest) (sym e)
+      ∙ append_assoc (rule.mark at path) (line_of x) rest
+      ∙ ap (λ (l : List ℕ). rule.mark at path ++ (line_of x ++ l)) (lines-from (suc k) (at + size) xs (omega arith))
 
-  pub lines-items : (xs : List ℕ) → texts line_item 0 xs ≡ emitted_lines rule size line_of way first xs
+  pub lines-items : (xs : List ℕ) → texts line_item 0 xs ≡ emitted_lines rule size line_of path first xs
   lines-items xs = lines-from 0 first xs (omega arith)
 
 -- ---- slots
@@ -76,24 +76,24 @@ slots-listed no_bodies i = refl
 slots-listed (body ws ss bs) zero = refl
 slots-listed (body ws ss bs) (suc i) = slots-listed bs i
 
-module _ (m : List (List ℕ)) (rule : Rule) (level : ℕ) (way : List ℕ) where
+module _ (m : List (List ℕ)) (rule : Rule) (level : ℕ) (path : List ℕ) where
   -- the text in the slot of a number
   abbrev pub slot_item : (ℕ → Place) → ℕ → Tree → List ℕ
-  slot_item place i t = emitted_slot m rule level (rule.below way i) (place i) t
+  slot_item place i t = emitted_slot m rule level (rule.below path i) (place i) t
 
   pub slots-items : (place : ℕ → Place) (k : ℕ) (ts : Trees)
-      → texts (slot_item place) k (listed ts) ≡ emitted_slots m rule level way place k ts
+      → texts (slot_item place) k (listed ts) ≡ emitted_slots m rule level path place k ts
   slots-items place k no_trees = refl
   slots-items place k (tree t ts) =
       ap (λ (l : List ℕ). slot_item place k t ++ l) (slots-items place (suc k) ts)
 
   -- the text of the row of a number
   abbrev pub row_item : (ℕ → Target) → ℕ → Row → List ℕ
-  row_item row i r = rule.mark (rule.lies m (begin (row i))) (rule.below way i)
-      ++ emitted_body m rule level (rule.below way i) (row i) r.words r.slots
+  row_item row i r = rule.mark (rule.lies m (begin (row i))) (rule.below path i)
+      ++ emitted_body m rule level (rule.below path i) (row i) r.words r.slots
 
   pub rows-items : (row : ℕ → Target) (k : ℕ) (bs : Bodies)
-      → texts (row_item row) k (rows_listed bs) ≡ emitted_rows m rule level way row k bs
+      → texts (row_item row) k (rows_listed bs) ≡ emitted_rows m rule level path row k bs
   rows-items row k no_bodies = refl
   rows-items row k (body ws ss bs) =
       let here = row_item row k (record { words = ws; slots = ss }) in
@@ -106,28 +106,28 @@ nth first k = record { segment = first.segment; word = first.word + k }
 abbrev pub nth_row : Place → ℕ → ℕ → ℕ → Target
 nth_row first a b k = struct_at first.segment (first.word + k * (a + b)) a b
 
--- the text of one of these, written by the rule and at the way as they are
-module _ (m : List (List ℕ)) (rule : Rule) (level : ℕ) (way : List ℕ) (r : Rule) (here : List ℕ) (e : r ≡ rule)
-    (f : here ≡ way) where
+-- the text of one of these, written by the rule and at the path as they are
+module _ (m : List (List ℕ)) (rule : Rule) (level : ℕ) (path : List ℕ) (r : Rule) (here : List ℕ) (e : r ≡ rule)
+    (f : here ≡ path) where
   pub item-is : (place : ℕ → Place) (ts : Trees) (i : ℕ)
       → emitted_slot m r level (r.below here i) (place i) (tree_at ts i)
-      ≡ slot_item m rule level way place i (get_or (listed ts) i nil)
+      ≡ slot_item m rule level path place i (get_or (listed ts) i nil)
   item-is place ts i =
       ap₂ (λ (x : Rule) (w : List ℕ). emitted_slot m x level (x.below w i) (place i) (tree_at ts i)) e f
-      ∙ ap (slot_item m rule level way place i) (sym (listed-at ts i))
+      ∙ ap (slot_item m rule level path place i) (sym (listed-at ts i))
 
   pub row-is : (first : Place) (a b next : ℕ) (bs : Bodies) (i : ℕ) → next ≡ first.word + i * (a + b)
       → r.mark (r.lies m (begin (struct_at first.segment next a b))) (r.below here i)
       ++ emitted_body m r level (r.below here i) (struct_at first.segment next a b) (words_of_row bs i)
       (slots_of_row bs i)
-      ≡ row_item m rule level way (nth_row first a b) i (get_or (rows_listed bs) i no_row)
+      ≡ row_item m rule level path (nth_row first a b) i (get_or (rows_listed bs) i no_row)
   row-is first a b next bs i n =
       ap₂ (λ (x : Rule) (w : List ℕ). x.mark (x.lies m (begin (struct_at first.segment next a b))) (x.below w i)
       ++ emitted_body m x level (x.below w i) (struct_at first.segment next a b) (words_of_row bs i)
       (slots_of_row bs i)) e f
-      ∙ ap (λ (k : ℕ). rule.mark (rule.lies m (begin (struct_at first.segment k a b))) (rule.below way i)
-      ++ emitted_body m rule level (rule.below way i) (struct_at first.segment k a b) (words_of_row bs i)
+      ∙ ap (λ (k : ℕ). rule.mark (rule.lies m (begin (struct_at first.segment k a b))) (rule.below path i)
+      ++ emitted_body m rule level (rule.below path i) (struct_at first.segment k a b) (words_of_row bs i)
       (slots_of_row bs i)) n
-      ∙ ap₂ (λ (ws : List ℕ) (ss : Trees). rule.mark (rule.lies m (begin (nth_row first a b i))) (rule.below way i)
-      ++ emitted_body m rule level (rule.below way i) (nth_row first a b i) ws ss)
+      ∙ ap₂ (λ (ws : List ℕ) (ss : Trees). rule.mark (rule.lies m (begin (nth_row first a b i))) (rule.below path i)
+      ++ emitted_body m rule level (rule.below path i) (nth_row first a b i) ws ss)
       (sym (words-listed bs i)) (sym (slots-listed bs i))

@@ -29,94 +29,94 @@ use Rattle.capn_show.proofs.shared.FoundKinds.{as-nil, as-cap, as-node, as-links
 use Rattle.capn_show.proofs.shared.FoundKinds.{as-voids, as-bits, as-numbers}
 
 -- the digits of a list that isn't empty, with their mark
-pub digits-emitted : (rule : Rule) (level : ℕ) (way : List ℕ) (first n : ℕ) (digits : List ℕ) → 0 < n
-    → rule.mark first way ++ one_line level n digits ≡ emitted_digits rule level way first n digits
-digits-emitted rule level way first zero digits some = absurd (omega arith)
-digits-emitted rule level way first (suc n) digits some = refl
+pub digits-emitted : (rule : Rule) (level : ℕ) (path : List ℕ) (first n : ℕ) (digits : List ℕ) → 0 < n
+    → rule.mark first path ++ one_line level n digits ≡ emitted_digits rule level path first n digits
+digits-emitted rule level path first zero digits some = absurd (omega arith)
+digits-emitted rule level path first (suc n) digits some = refl
 
-module _ (m : List (List ℕ)) (rule : Rule) (level : ℕ) (way : List ℕ) where
+module _ (m : List (List ℕ)) (rule : Rule) (level : ℕ) (path : List ℕ) where
   -- ---- a slot
 
   pub slot-emitted : (laws : (message : List (List ℕ)) (at : Place) (t : Target) (v : Tree) → ViewsShow message at t v)
       (at : Place) (t : Target) → target m at ≡ Ok t → (Says Below : List ℕ → Type 0)
-      → ((y : List ℕ) → Below y → Says (rule.mark (rule.lies m at) way ++ y))
-      → IsFoundEmitted m rule level way t Below → IsEmitted m rule level way at Says
+      → ((y : List ℕ) → Below y → Says (rule.mark (rule.lies m at) path ++ y))
+      → IsFoundEmitted m rule level path t Below → IsEmitted m rule level path at Says
   slot-emitted laws at t e Says Below step h v i =
-      let front = rule.mark (rule.lies m at) way in
-      subst (λ (f : Target). Says (front ++ emitted m rule level way f v)) (sym (ap named_by e))
-      (step (emitted m rule level way t v) (h v (laws m at t v e i)))
+      let front = rule.mark (rule.lies m at) path in
+      subst (λ (f : Target). Says (front ++ emitted m rule level path f v)) (sym (ap named_by e))
+      (step (emitted m rule level path t v) (h v (laws m at t v e i)))
 
   -- ---- a struct, by its three parts
 
   pub body-emitted : (s w a b : ℕ) (Says Words Below : List ℕ → Type 0)
       → ((x y : List ℕ) → Words x → Below y → Says (body_line level a b ++ (x ++ y)))
       → WordsEmitted m s w a
-      (emitted_lines rule 8 (word_line (level + 1)) way (rule.lies m (record { segment = s; word = w }))) Words
-      → AreEmitted m rule (level + 1) way s (w + a) b Below
-      → IsBodyEmitted m rule level way s w a b Says
+      (emitted_lines rule 8 (word_line (level + 1)) path (rule.lies m (record { segment = s; word = w }))) Words
+      → AreEmitted m rule (level + 1) path s (w + a) b Below
+      → IsBodyEmitted m rule level path s w a b Says
   body-emitted s w a b Says Words Below step words slots ws ss h =
-      let own = emitted_lines rule 8 (word_line (level + 1)) way (rule.lies m (record { segment = s; word = w })) ws in
-      let rest = emitted_slots m rule (level + 1) way (step_place (struct_at s w a b)) 0 ss in
+      let own = emitted_lines rule 8 (word_line (level + 1)) path (rule.lies m (record { segment = s; word = w })) ws in
+      let rest = emitted_slots m rule (level + 1) path (step_place (struct_at s w a b)) 0 ss in
       subst Says (ap₂ (λ (x y : ℕ). body_line level x y ++ (own ++ rest)) h.words h.slots)
       (step own rest (words ws h.word (sym h.words)) (slots ss h.slot (sym h.slots)))
 
   module _ (Says : List ℕ → Type 0) where
-    on : {found other : Target} → found ≡ other → IsFoundEmitted m rule level way other Says
-        → IsFoundEmitted m rule level way found Says
-    on e = subst (λ (t : Target). IsFoundEmitted m rule level way t Says) (sym e)
+    on : {found other : Target} → found ≡ other → IsFoundEmitted m rule level path other Says
+        → IsFoundEmitted m rule level path found Says
+    on e = subst (λ (t : Target). IsFoundEmitted m rule level path t Says) (sym e)
 
     module _ (found : Target) where
       pub nil-emitted : found ≡ targets.Nil → Says (line level (codes "null"))
-          → IsFoundEmitted m rule level way found Says
+          → IsFoundEmitted m rule level path found Says
       nil-emitted e h =
-          on e (λ v i. subst Says (sym (ap (emitted m rule level way targets.Nil) (as-nil m v i))) h)
+          on e (λ v i. subst Says (sym (ap (emitted m rule level path targets.Nil) (as-nil m v i))) h)
 
       pub cap-emitted : (k : ℕ) → found ≡ targets.Cap k → Says (line level (named (codes "capability") k))
-          → IsFoundEmitted m rule level way found Says
+          → IsFoundEmitted m rule level path found Says
       cap-emitted k e h =
-          on e (λ v i. subst Says (sym (ap (emitted m rule level way (targets.Cap k)) (as-cap m k v i))) h)
+          on e (λ v i. subst Says (sym (ap (emitted m rule level path (targets.Cap k)) (as-cap m k v i))) h)
 
       module _ (s w pads : ℕ) (shape : Shape) (e : found ≡ targets.Content s w shape pads) where
         there : (other : Shape) → shape ≡ other → found ≡ targets.Content s w other pads
         there other f = e ∙ ap (λ (x : Shape). targets.Content s w x pads) f
 
-        pub node-emitted : (a b : ℕ) → shape ≡ shapes.Node a b → IsBodyEmitted m rule level way s w a b Says
-            → IsFoundEmitted m rule level way found Says
+        pub node-emitted : (a b : ℕ) → shape ≡ shapes.Node a b → IsBodyEmitted m rule level path s w a b Says
+            → IsFoundEmitted m rule level path found Says
         node-emitted a b f h =
             let t = targets.Content s w (shapes.Node a b) pads in
             on (there (shapes.Node a b) f) (λ v i. let x = as-node m s w pads a b v i in
-            subst Says (sym (ap (emitted m rule level way t) x.is)) (h x.words x.slots x.are))
+            subst Says (sym (ap (emitted m rule level path t) x.is)) (h x.words x.slots x.are))
 
         pub list-emitted : (width : Width) (n : ℕ) → shape ≡ shapes.Many width n
-            → ((any : ℕ) → IsFoundEmitted m rule level way (targets.Content s w (shapes.Many width n) any) Says)
-            → IsFoundEmitted m rule level way found Says
+            → ((any : ℕ) → IsFoundEmitted m rule level path (targets.Content s w (shapes.Many width n) any) Says)
+            → IsFoundEmitted m rule level path found Says
         list-emitted width n f h = on (there (shapes.Many width n) f) (h pads)
 
         module _ (Below : List ℕ → Type 0) where
           pub links-emitted : (width : Width) (n : ℕ) → shape ≡ shapes.Many width n → width ≡ Link
               → ((y : List ℕ) → Below y → Says (line level (named (codes "pointers") n) ++ y))
-              → AreEmitted m rule (level + 1) way s w n Below → IsFoundEmitted m rule level way found Says
+              → AreEmitted m rule (level + 1) path s w n Below → IsFoundEmitted m rule level path found Says
           links-emitted width n f g step k =
               let t = targets.Content s w (shapes.Many Link n) pads in
               on (there (shapes.Many Link n) (f ∙ ap (λ (y : Width). shapes.Many y n) g))
               (λ v i. let x = as-links m s w pads n v i in
-              let rest = emitted_slots m rule (level + 1) way (step_place t) 0 x.slots in
+              let rest = emitted_slots m rule (level + 1) path (step_place t) 0 x.slots in
               subst Says
               (ap (λ (j : ℕ). line level (named (codes "pointers") j) ++ rest) (sym x.number)
-              ∙ sym (ap (emitted m rule level way t) x.is))
+              ∙ sym (ap (emitted m rule level path t) x.is))
               (step rest (k x.slots x.are x.number)))
 
           pub rows-emitted : (n a b span : ℕ) → shape ≡ shapes.Rows n a b span
               → ((y : List ℕ) → Below y → Says (line level (named (codes "rows") n) ++ y))
-              → RowsEmitted m rule (level + 1) way s (w + 1) n a b Below → IsFoundEmitted m rule level way found Says
+              → RowsEmitted m rule (level + 1) path s (w + 1) n a b Below → IsFoundEmitted m rule level path found Says
           rows-emitted n a b span f step k =
               let t = targets.Content s w (shapes.Rows n a b span) pads in
               on (there (shapes.Rows n a b span) f)
               (λ v i. let x = as-rows m s w pads n a b span v i in
-              let rest = emitted_rows m rule (level + 1) way (seen.row_of t) 0 x.bodies in
+              let rest = emitted_rows m rule (level + 1) path (seen.row_of t) 0 x.bodies in
               subst Says
               (ap (λ (j : ℕ). line level (named (codes "rows") j) ++ rest) (sym x.number)
-              ∙ sym (ap (emitted m rule level way t) x.is))
+              ∙ sym (ap (emitted m rule level path t) x.is))
               (step rest (k x.bodies x.are x.number)))
 
   -- ---- a list of elements without pointers
@@ -125,73 +125,73 @@ module _ (m : List (List ℕ)) (rule : Rule) (level : ℕ) (way : List ℕ) wher
     -- whatever pads led to the list, this is said of its text
     abbrev IsListEmitted : Type 0
     IsListEmitted = (pads : ℕ)
-        → IsFoundEmitted m rule level way (targets.Content s w (shapes.Many width n) pads) Says
+        → IsFoundEmitted m rule level path (targets.Content s w (shapes.Many width n) pads) Says
 
     as-width : (other : Width) → width ≡ other
-        → ((pads : ℕ) → IsFoundEmitted m rule level way (targets.Content s w (shapes.Many other n) pads) Says)
+        → ((pads : ℕ) → IsFoundEmitted m rule level path (targets.Content s w (shapes.Many other n) pads) Says)
         → IsListEmitted
     as-width other e h pads =
-        subst (λ (x : Width). IsFoundEmitted m rule level way (targets.Content s w (shapes.Many x n) pads) Says) (sym e)
-        (h pads)
+        subst (λ (x : Width). IsFoundEmitted m rule level path (targets.Content s w (shapes.Many x n) pads) Says)
+        (sym e) (h pads)
 
     pub voids-emitted : width ≡ W0 → Says (line level (named (codes "void") n)) → IsListEmitted
     voids-emitted e h =
         as-width W0 e (λ pads v i.
-        subst Says (sym (ap (emitted m rule level way (targets.Content s w (shapes.Many W0 n) pads))
+        subst Says (sym (ap (emitted m rule level path (targets.Content s w (shapes.Many W0 n) pads))
         (as-voids m s w pads n v i))) h)
 
     -- the byte at which it lies
     abbrev first : ℕ
     first = rule.lies m (record { segment = s; word = w })
 
-    pub bytes-emitted : width ≡ W8 → NumbersShown m s w W8 n (emitted_numbers rule byte level way first) Says
+    pub bytes-emitted : width ≡ W8 → NumbersShown m s w W8 n (emitted_numbers rule byte level path first) Says
         → IsListEmitted
     bytes-emitted e k =
         as-width W8 e (λ pads v i.
         let x = as-numbers m byte s w pads n v i in
-        subst Says (sym (ap (emitted m rule level way (targets.Content s w (shapes.Many W8 n) pads)) x.is))
+        subst Says (sym (ap (emitted m rule level path (targets.Content s w (shapes.Many W8 n) pads)) x.is))
         (k x.items x.are x.count))
 
     module _ (Below : List ℕ → Type 0) where
       pub numbers-emitted : (a : NumberWidth)
-          → ((f : ℕ) (xs : List ℕ) → emitted_numbers rule a level way f xs
+          → ((f : ℕ) (xs : List ℕ) → emitted_numbers rule a level path f xs
           ≡ line level (named (numbers_name a) (length xs))
-          ++ emitted_lines rule (8 / seen.per_word (list_width a)) (number_line (level + 1)) way f xs)
+          ++ emitted_lines rule (8 / seen.per_word (list_width a)) (number_line (level + 1)) path f xs)
           → width ≡ list_width a → ((y : List ℕ) → Below y → Says (line level (named (numbers_name a) n) ++ y))
           → NumbersShown m s w width n
-          (emitted_lines rule (8 / seen.per_word width) (number_line (level + 1)) way first) Below
+          (emitted_lines rule (8 / seen.per_word width) (number_line (level + 1)) path first) Below
           → IsListEmitted
       numbers-emitted a each e step k pads v i =
           let x = as-numbers m a s w pads n v (subst (λ (y : Width). Shows m
           (targets.Content s w (shapes.Many y n) pads) v) e i) in
           let t = targets.Content s w (shapes.Many width n) pads in
-          let rest = emitted_lines rule (8 / seen.per_word width) (number_line (level + 1)) way first x.items in
+          let rest = emitted_lines rule (8 / seen.per_word width) (number_line (level + 1)) path first x.items in
           let are = subst (λ (y : Width). AreNumbers m s w y x.items) (sym e) x.are in
           subst Says
           (ap (λ (j : ℕ). line level (named (numbers_name a) j) ++ rest) (sym x.count)
           ∙ ap (λ (y : Width). line level (named (numbers_name a) (length x.items))
-          ++ emitted_lines rule (8 / seen.per_word y) (number_line (level + 1)) way first x.items) e
+          ++ emitted_lines rule (8 / seen.per_word y) (number_line (level + 1)) path first x.items) e
           ∙ sym (each first x.items)
-          ∙ sym (ap (emitted m rule level way t) x.is))
+          ∙ sym (ap (emitted m rule level path t) x.is))
           (step rest (k x.items are x.count))
 
       pub bits-emitted : width ≡ W1 → ((y : List ℕ) → Below y → Says (line level (named (codes "bits") n) ++ y))
-          → BitsShown m s w n (λ xs. emitted_digits rule (level + 1) way first (length xs) (digits_of xs)) Below
+          → BitsShown m s w n (λ xs. emitted_digits rule (level + 1) path first (length xs) (digits_of xs)) Below
           → IsListEmitted
       bits-emitted e step k =
           as-width W1 e (λ pads v i.
           let x = as-bits m s w pads n v i in
           let t = targets.Content s w (shapes.Many W1 n) pads in
-          let rest = emitted_digits rule (level + 1) way first (length x.digits) (digits_of x.digits) in
+          let rest = emitted_digits rule (level + 1) path first (length x.digits) (digits_of x.digits) in
           subst Says
           (ap (λ (j : ℕ). line level (named (codes "bits") j) ++ rest) (sym x.count)
           ∙ ap₂ (λ (j : ℕ) (ys : List Bool). line level (named (codes "bits") j)
-          ++ emitted_digits rule (level + 1) way first j (digits_of ys))
+          ++ emitted_digits rule (level + 1) path first j (digits_of ys))
           (sym (length-bits x.digits)) (sym (bits_again x.digits))
-          ∙ sym (ap (emitted m rule level way t) x.is))
+          ∙ sym (ap (emitted m rule level path t) x.is))
           (step rest (k x.digits x.are x.count)))
 
--- ---- the same by another rule and at another way, where they are the same
+-- ---- the same by another rule and at another path, where they are the same
 
 module _ (m : List (List ℕ)) (level : ℕ) (r s : Rule) (e : r ≡ s) (v w : List ℕ) (f : v ≡ w)
     (Says : List ℕ → Type 0) where

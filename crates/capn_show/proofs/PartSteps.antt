@@ -1,4 +1,4 @@
--- A step of a way: from what a pointer names to what is below it. (For `follow`, `named` and `step_down`.)
+-- A step of a path: from what a pointer names to what is below it. (For `follow`, `named` and `step_down`.)
 use Rattle.std.proofs.Common.{◌≡◌, ℕ, zero, suc, ◌+◌, ◌*◌, ◌<◌, ◌≤◌, List, [], ◌∷◌, length, drop, get_or, Some, None}
 use Rattle.std.proofs.Common.{refl, subst, sym, ap, ◌∙◌, arith, Err}
 use Rattle.std.proofs.Math.Seq.{drop-cons}
@@ -52,28 +52,28 @@ row-none no_bodies i h = refl
 row-none (body ws ss bs) zero h = absurd (omega arith)
 row-none (body ws ss bs) (suc i) h = row-none bs i (omega arith)
 
-follow-none : (way : List ℕ) → follow way None ≡ None
+follow-none : (path : List ℕ) → follow path None ≡ None
 follow-none [] = refl
-follow-none (i ∷ way) = refl
+follow-none (i ∷ path) = refl
 
--- the step of a number in a way
-pub follow-one : (way : List ℕ) (i n : ℕ) (t : Tree) → i < length way → n ≡ get_or way i 0
-    → follow (drop i way) (Some t) ≡ follow (drop (i + 1) way) (step_down t n)
-follow-one way i n t below e =
+-- the step of a number in a path
+pub follow-one : (path : List ℕ) (i n : ℕ) (t : Tree) → i < length path → n ≡ get_or path i 0
+    → follow (drop i path) (Some t) ≡ follow (drop (i + 1) path) (step_down t n)
+follow-one path i n t below e =
     let next : suc i ≡ i + 1 = omega arith in
-    ap (λ (l : List ℕ). follow l (Some t)) (drop-cons way i 0 below)
-    ∙ ap (λ (k : ℕ). follow (drop (suc i) way) (step_down t k)) (sym e)
-    ∙ ap (λ (k : ℕ). follow (drop k way) (step_down t n)) next
+    ap (λ (l : List ℕ). follow l (Some t)) (drop-cons path i 0 below)
+    ∙ ap (λ (k : ℕ). follow (drop (suc i) path) (step_down t k)) (sym e)
+    ∙ ap (λ (k : ℕ). follow (drop k path) (step_down t n)) next
 
--- a way that ends there
-pub follow-stop : (way : List ℕ) (i n : ℕ) (t : Tree) → i < length way → n ≡ get_or way i 0 → step_down t n ≡ None
-    → follow (drop i way) (Some t) ≡ None
-follow-stop way i n t below e none =
-    follow-one way i n t below e ∙ ap (follow (drop (i + 1) way)) none ∙ follow-none (drop (i + 1) way)
+-- a path that ends there
+pub follow-stop : (path : List ℕ) (i n : ℕ) (t : Tree) → i < length path → n ≡ get_or path i 0 → step_down t n ≡ None
+    → follow (drop i path) (Some t) ≡ None
+follow-stop path i n t below e none =
+    follow-one path i n t below e ∙ ap (follow (drop (i + 1) path)) none ∙ follow-none (drop (i + 1) path)
 
--- the end of a way
-pub follow-end : (way : List ℕ) (i : ℕ) (t : Tree) → length way ≤ i → follow (drop i way) (Some t) ≡ Some t
-follow-end way i t past = ap (λ (l : List ℕ). follow l (Some t)) (drop_of_length-le way past)
+-- the end of a path
+pub follow-end : (path : List ℕ) (i : ℕ) (t : Tree) → length path ≤ i → follow (drop i path) (Some t) ≡ Some t
+follow-end path i t past = ap (λ (l : List ℕ). follow l (Some t)) (drop_of_length-le path past)
 
 module _ (m : List (List ℕ)) where
   -- no fault is answered where a value is

@@ -1,4 +1,4 @@
--- The target of a step of a way. (Own.)
+-- The target of a step of a path. (Own.)
 use Rattle.std.specs.Prelude.{ℕ, List, Result, Ok, Err}
 use Rattle.capn_words.specs.declared.space.Place.{Place}
 use Rattle.capn_target.specs.declared.target.Target.{Target}

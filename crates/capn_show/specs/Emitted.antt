@@ -13,8 +13,9 @@ use Rattle.capn_walk.specs.View.{step_place, row_of}
 use Rattle.capn_show.specs.Descent.{begin, named_by}
 use Rattle.capn_show.specs.Quoting.{is_text, quoted_line}
 
--- whether lists of bytes that are texts are written between quotes; the byte at which a word of a message lies; the way
--- to the value of a number below another; and the mark before a line, by the byte of its subject and the way to it
+-- whether lists of bytes that are texts are written between quotes; the byte at which a word of a message lies; the
+-- path to the value of a number below another; and the mark before a line, by the byte of its subject and the path to
+-- it
 pub record Rule : Type 0 where
   pub quoted : Bool
   pub lies : List (List ℕ) → Place → ℕ
@@ -23,7 +24,7 @@ pub record Rule : Type 0 where
 
 -- of lines without marks, by whether texts are written between quotes
 abbrev pub plain_rule : Bool → Rule
-plain_rule quoted = record { quoted = quoted; lies = λ m at. 0; below = λ way i. way; mark = λ byte way. [] }
+plain_rule quoted = record { quoted = quoted; lies = λ m at. 0; below = λ path i. path; mark = λ byte path. [] }
 
 -- ---- lines with marks
 
@@ -38,80 +39,80 @@ number_line level n = line level (decimal n)
 module _ (rule : Rule) where
   -- a line for each number, of which the first lies at a byte, and each takes this many bytes
   abbrev pub emitted_lines : ℕ → (ℕ → List ℕ) → List ℕ → ℕ → List ℕ → List ℕ
-  emitted_lines size line_of way first [] = []
-  emitted_lines size line_of way first (x ∷ xs) =
-      rule.mark first way ++ (line_of x ++ emitted_lines size line_of way (first + size) xs)
+  emitted_lines size line_of path first [] = []
+  emitted_lines size line_of path first (x ∷ xs) =
+      rule.mark first path ++ (line_of x ++ emitted_lines size line_of path (first + size) xs)
 
   -- the digits of a list whose first element lies at a byte: one line, unless the list is empty
   abbrev pub emitted_digits : ℕ → List ℕ → ℕ → ℕ → List ℕ → List ℕ
-  emitted_digits level way first zero digits = []
-  emitted_digits level way first (suc n) digits = rule.mark first way ++ line level digits
+  emitted_digits level path first zero digits = []
+  emitted_digits level path first (suc n) digits = rule.mark first path ++ line level digits
 
   -- the lines of a list of bytes in digits: of the first one, the part behind its mark
   abbrev pub digit_lines : ℕ → List ℕ → ℕ → List ℕ → List ℕ
-  digit_lines level way first xs =
+  digit_lines level path first xs =
       line level (named (codes "bytes") (length xs))
-      ++ emitted_digits (level + 1) way first (length xs) (encode_lower xs)
+      ++ emitted_digits (level + 1) path first (length xs) (encode_lower xs)
 
   -- a text on one line, or the digits of bytes that are none
   abbrev pub text_or_digits : ℕ → List ℕ → ℕ → List ℕ → List ℕ
-  text_or_digits level way first xs =
-      if is_text xs then quoted_line level xs else digit_lines level way first xs
+  text_or_digits level path first xs =
+      if is_text xs then quoted_line level xs else digit_lines level path first xs
 
   -- the lines of a list of numbers: of the first one, the part behind the mark
   abbrev pub emitted_numbers : NumberWidth → ℕ → List ℕ → ℕ → List ℕ → List ℕ
-  emitted_numbers bit level way first xs =
+  emitted_numbers bit level path first xs =
       line level (named (codes "bits") (length xs))
-      ++ emitted_digits (level + 1) way first (length xs) (digits_of (map is_set xs))
-  emitted_numbers byte level way first xs =
-      if rule.quoted then text_or_digits level way first xs else digit_lines level way first xs
-  emitted_numbers a level way first xs =
+      ++ emitted_digits (level + 1) path first (length xs) (digits_of (map is_set xs))
+  emitted_numbers byte level path first xs =
+      if rule.quoted then text_or_digits level path first xs else digit_lines level path first xs
+  emitted_numbers a level path first xs =
       line level (named (numbers_name a) (length xs))
-      ++ emitted_lines (bits_in a / 8) (number_line (level + 1)) way first xs
+      ++ emitted_lines (bits_in a / 8) (number_line (level + 1)) path first xs
 
 -- ---- the text
 
 module _ (m : List (List ℕ)) (rule : Rule) where
   abbrev mutual
-    -- the text of the target of a pointer, at a level and a way: of its first line the part behind the mark, and all
+    -- the text of the target of a pointer, at a level and a path: of its first line the part behind the mark, and all
     -- lines below
     pub emitted : ℕ → List ℕ → Target → Tree → List ℕ
-    emitted level way found nil = line level (codes "null")
-    emitted level way found (node ws ss) =
+    emitted level path found nil = line level (codes "null")
+    emitted level path found (node ws ss) =
         body_line level (length ws) (count ss)
-        ++ (emitted_lines rule 8 (word_line (level + 1)) way (rule.lies m (begin found)) ws
-        ++ emitted_slots (level + 1) way (step_place found) 0 ss)
-    emitted level way found (voids n) = line level (named (codes "void") n)
-    emitted level way found (numbers a xs) = emitted_numbers rule a level way (rule.lies m (begin found)) xs
-    emitted level way found (links ts) =
-        line level (named (codes "pointers") (count ts)) ++ emitted_slots (level + 1) way (step_place found) 0 ts
-    emitted level way found (rows bs) =
-        line level (named (codes "rows") (count_rows bs)) ++ emitted_rows (level + 1) way (row_of found) 0 bs
-    emitted level way found (cap k) = line level (named (codes "capability") k)
+        ++ (emitted_lines rule 8 (word_line (level + 1)) path (rule.lies m (begin found)) ws
+        ++ emitted_slots (level + 1) path (step_place found) 0 ss)
+    emitted level path found (voids n) = line level (named (codes "void") n)
+    emitted level path found (numbers a xs) = emitted_numbers rule a level path (rule.lies m (begin found)) xs
+    emitted level path found (links ts) =
+        line level (named (codes "pointers") (count ts)) ++ emitted_slots (level + 1) path (step_place found) 0 ts
+    emitted level path found (rows bs) =
+        line level (named (codes "rows") (count_rows bs)) ++ emitted_rows (level + 1) path (row_of found) 0 bs
+    emitted level path found (cap k) = line level (named (codes "capability") k)
 
     -- slots at these places, from one number on: the mark is that of the slot
     pub emitted_slots : ℕ → List ℕ → (ℕ → Place) → ℕ → Trees → List ℕ
-    emitted_slots level way place i no_trees = []
-    emitted_slots level way place i (tree t ts) =
-        (rule.mark (rule.lies m (place i)) (rule.below way i)
-        ++ emitted level (rule.below way i) (named_by (target m (place i))) t)
-        ++ emitted_slots level way place (suc i) ts
+    emitted_slots level path place i no_trees = []
+    emitted_slots level path place i (tree t ts) =
+        (rule.mark (rule.lies m (place i)) (rule.below path i)
+        ++ emitted level (rule.below path i) (named_by (target m (place i))) t)
+        ++ emitted_slots level path place (suc i) ts
 
     -- these rows, from one number on: the mark says where the row begins
     pub emitted_rows : ℕ → List ℕ → (ℕ → Target) → ℕ → Bodies → List ℕ
-    emitted_rows level way row i no_bodies = []
-    emitted_rows level way row i (body ws ss bs) =
-        (rule.mark (rule.lies m (begin (row i))) (rule.below way i)
+    emitted_rows level path row i no_bodies = []
+    emitted_rows level path row i (body ws ss bs) =
+        (rule.mark (rule.lies m (begin (row i))) (rule.below path i)
         ++ (body_line level (length ws) (count ss)
-        ++ (emitted_lines rule 8 (word_line (level + 1)) (rule.below way i) (rule.lies m (begin (row i))) ws
-        ++ emitted_slots (level + 1) (rule.below way i) (step_place (row i)) 0 ss)))
-        ++ emitted_rows level way row (suc i) bs
+        ++ (emitted_lines rule 8 (word_line (level + 1)) (rule.below path i) (rule.lies m (begin (row i))) ws
+        ++ emitted_slots (level + 1) (rule.below path i) (step_place (row i)) 0 ss)))
+        ++ emitted_rows level path row (suc i) bs
 
   -- a struct, behind its mark
   abbrev pub emitted_body : ℕ → List ℕ → Target → List ℕ → Trees → List ℕ
-  emitted_body level way found ws ss = emitted level way found (node ws ss)
+  emitted_body level path found ws ss = emitted level path found (node ws ss)
 
   -- the value in a slot
   abbrev pub emitted_slot : ℕ → List ℕ → Place → Tree → List ℕ
-  emitted_slot level way at t =
-      rule.mark (rule.lies m at) way ++ emitted level way (named_by (target m at)) t
+  emitted_slot level path at t =
+      rule.mark (rule.lies m at) path ++ emitted level path (named_by (target m at)) t

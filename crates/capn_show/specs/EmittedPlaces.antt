@@ -9,11 +9,11 @@ use Rattle.capn_show.specs.Descent.{begin}
 use Rattle.capn_show.specs.Emitted.{Rule, emitted, emitted_body, emitted_rows, emitted_slot, emitted_slots}
 use Rattle.capn_show.specs.ReadyPlaces.{struct_at, AreDataWords, AreSlots, AreRowsAt}
 
--- an emitter has the rule, the way and the messages of another
-module _ {E : Type 0} (rule_of : E → Rule) (way_of : E → List ℕ) (is_of : E → List (List ℕ) → Type 0) where
+-- an emitter has the rule, the path and the messages of another
+module _ {E : Type 0} (rule_of : E → Rule) (path_of : E → List ℕ) (is_of : E → List (List ℕ) → Type 0) where
   pub record Keeps (old new : E) : Type 0 where
     pub rule : rule_of new ≡ rule_of old
-    pub way : way_of new ≡ way_of old
+    pub path : path_of new ≡ path_of old
     pub of : (m : List (List ℕ)) → is_of old m → is_of new m
 
 module _ (m : List (List ℕ)) where
@@ -21,32 +21,32 @@ module _ (m : List (List ℕ)) where
   abbrev pub WordsEmitted : ℕ → ℕ → ℕ → (List ℕ → List ℕ) → (List ℕ → Type 0) → Type 0
   WordsEmitted s w number text Says = (ws : List ℕ) → AreDataWords m s w ws → length ws ≡ number → Says (text ws)
 
-  module _ (rule : Rule) (level : ℕ) (way : List ℕ) where
+  module _ (rule : Rule) (level : ℕ) (path : List ℕ) where
     -- of the text of the value at a place
     abbrev pub IsEmitted : Place → (List ℕ → Type 0) → Type 0
-    IsEmitted at Says = (v : Tree) → IsAt m at v → Says (emitted_slot m rule level way at v)
+    IsEmitted at Says = (v : Tree) → IsAt m at v → Says (emitted_slot m rule level path at v)
 
     -- of that of the value which a pointer names, behind its first mark
     abbrev pub IsFoundEmitted : Target → (List ℕ → Type 0) → Type 0
-    IsFoundEmitted found Says = (v : Tree) → Shows m found v → Says (emitted m rule level way found v)
+    IsFoundEmitted found Says = (v : Tree) → Shows m found v → Says (emitted m rule level path found v)
 
     -- of that of a struct, behind its first mark
     abbrev pub IsBodyEmitted : ℕ → ℕ → ℕ → ℕ → (List ℕ → Type 0) → Type 0
     IsBodyEmitted s w a b Says = (ws : List ℕ) (ss : Trees) → ShowsStruct m (struct_at s w a b) ws ss
-        → Says (emitted_body m rule level way (struct_at s w a b) ws ss)
+        → Says (emitted_body m rule level path (struct_at s w a b) ws ss)
 
     -- of that of a row
     abbrev pub IsRowEmitted : ℕ → ℕ → ℕ → ℕ → (List ℕ → Type 0) → Type 0
     IsRowEmitted s w a b Says = (ws : List ℕ) (ss : Trees) → ShowsStruct m (struct_at s w a b) ws ss
-        → Says (rule.mark (rule.lies m (begin (struct_at s w a b))) way
-        ++ emitted_body m rule level way (struct_at s w a b) ws ss)
+        → Says (rule.mark (rule.lies m (begin (struct_at s w a b))) path
+        ++ emitted_body m rule level path (struct_at s w a b) ws ss)
 
     -- of those of slots
     abbrev pub AreEmitted : ℕ → ℕ → ℕ → (List ℕ → Type 0) → Type 0
     AreEmitted s w number Says = (ts : Trees) → AreSlots m s w ts → count ts ≡ number
-        → Says (emitted_slots m rule level way (λ i. record { segment = s; word = w + i }) 0 ts)
+        → Says (emitted_slots m rule level path (λ i. record { segment = s; word = w + i }) 0 ts)
 
     -- of those of rows
     abbrev pub RowsEmitted : ℕ → ℕ → ℕ → ℕ → ℕ → (List ℕ → Type 0) → Type 0
     RowsEmitted s w number a b Says = (bs : Bodies) → AreRowsAt m s w a b bs → count_rows bs ≡ number
-        → Says (emitted_rows m rule level way (λ i. struct_at s (w + i * (a + b)) a b) 0 bs)
+        → Says (emitted_rows m rule level path (λ i. struct_at s (w + i * (a + b)) a b) 0 bs)

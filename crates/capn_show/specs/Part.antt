@@ -1,4 +1,4 @@
--- The part at a way of numbers from a value, and its text. (Own.)
+-- The part at a path of numbers from a value, and its text. (Own.)
 use Rattle.std.specs.Prelude.{◌≡◌, ℕ, zero, suc, List, [], ◌∷◌, Option, Some, None, codes, refl}
 use Rattle.capn_value.specs.NumberWidth.{oct}
 use Rattle.capn_value.specs.Tree.{Tree, nil, node, numbers, links, rows, cap, Trees, no_trees, tree, Bodies, no_bodies}
@@ -27,37 +27,37 @@ step_down _ i = None
 -- step by step, as long as something is there
 abbrev pub follow : List ℕ → Option Tree → Option Tree
 follow [] found = found
-follow (i ∷ way) None = None
-follow (i ∷ way) (Some t) = follow way (step_down t i)
+follow (i ∷ path) None = None
+follow (i ∷ path) (Some t) = follow path (step_down t i)
 
--- the part at a way from a value, if anything is there
-abbrev pub at_way : Tree → List ℕ → Option Tree
-at_way t way = follow way (Some t)
+-- the part at a path from a value, if anything is there
+abbrev pub at_path : Tree → List ℕ → Option Tree
+at_path t path = follow path (Some t)
 
 -- the text of the part there: one line if nothing is
 abbrev pub part_text : Option Tree → List ℕ
 part_text None = line 0 (codes "none")
 part_text (Some t) = show_text t
 
--- the text of the part at a way from a value
+-- the text of the part at a path from a value
 abbrev pub text_at : List ℕ → Tree → List ℕ
-text_at way t = part_text (at_way t way)
+text_at path t = part_text (at_path t path)
 
 -- a list of two rows, each with a slot
 abbrev two_rows : Tree
 two_rows = rows (body [] (tree (cap 4) no_trees) (body (7 ∷ []) (tree (numbers oct (8 ∷ [])) no_trees) no_bodies))
 
-first_row : at_way two_rows (0 ∷ []) ≡ Some (node [] (tree (cap 4) no_trees))
+first_row : at_path two_rows (0 ∷ []) ≡ Some (node [] (tree (cap 4) no_trees))
 first_row = refl
 
-slot_of_a_row : at_way (node [] (tree nil (tree two_rows no_trees))) (1 ∷ 1 ∷ 0 ∷ []) ≡ Some (numbers oct (8 ∷ []))
+slot_of_a_row : at_path (node [] (tree nil (tree two_rows no_trees))) (1 ∷ 1 ∷ 0 ∷ []) ≡ Some (numbers oct (8 ∷ []))
 slot_of_a_row = refl
 
-null_is_there : at_way (node [] (tree nil no_trees)) (0 ∷ []) ≡ Some nil
+null_is_there : at_path (node [] (tree nil no_trees)) (0 ∷ []) ≡ Some nil
 null_is_there = refl
 
-nothing_below_null : at_way (node [] (tree nil no_trees)) (0 ∷ 0 ∷ []) ≡ None
+nothing_below_null : at_path (node [] (tree nil no_trees)) (0 ∷ 0 ∷ []) ≡ None
 nothing_below_null = refl
 
-no_third_row : at_way two_rows (2 ∷ 0 ∷ []) ≡ None
+no_third_row : at_path two_rows (2 ∷ 0 ∷ []) ≡ None
 no_third_row = refl

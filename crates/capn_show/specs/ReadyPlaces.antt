@@ -155,6 +155,6 @@ module _ (m : List (List ℕ)) where
   abbrev pub IsThereShown : Style → Target → (List ℕ → Type 0) → Type 0
   IsThereShown style found Says = (v : Tree) → Shows m found v → Says (part_in style (Some v))
 
-  -- of that of the part at a way from the root
+  -- of that of the part at a path from the root
   abbrev pub IsPartShown : Style → List ℕ → (List ℕ → Type 0) → Type 0
-  IsPartShown style way Says = (v : Tree) → IsAt m root v → Says (styled style way v)
+  IsPartShown style path Says = (v : Tree) → IsAt m root v → Says (styled style path v)

@@ -1,10 +1,10 @@
--- The text of the part at a way of numbers from a value, in a style. (Own.)
+-- The text of the part at a path of numbers from a value, in a style. (Own.)
 use Rattle.std.specs.Prelude.{◌≡◌, ℕ, List, [], ◌∷◌, ◌++◌, Option, Some, None, codes, refl}
 use Rattle.std.specs.Str.{chars, is_utf8}
 use Rattle.capn_value.specs.NumberWidth.{byte}
 use Rattle.capn_value.specs.Tree.{Tree, nil, node, numbers, no_trees, tree}
 use Rattle.capn_value.specs.Text.{line, named, shown}
-use Rattle.capn_show.specs.Part.{at_way, part_text, text_at}
+use Rattle.capn_show.specs.Part.{at_path, part_text, text_at}
 use Rattle.capn_show.specs.Quoting.{quoted_bytes, shown_by}
 use Rattle.capn_show.specs.Json.{json_line, json_line_by}
 use Rattle.capn_show.specs.JsonTexts.{text_or_digits}
@@ -21,16 +21,16 @@ part_in styles.Json (Some t) = json_line t
 part_in styles.JsonText None = 10 ∷ []
 part_in styles.JsonText (Some t) = json_line_by text_or_digits t
 
--- the text of the part at a way from a value, in a style
+-- the text of the part at a path from a value, in a style
 abbrev pub styled : Style → List ℕ → Tree → List ℕ
-styled style way t = part_in style (at_way t way)
+styled style path t = part_in style (at_path t path)
 
 -- a slot with the bytes of a text
 abbrev with_text : Tree
 with_text = node [] (tree (numbers byte (104 ∷ 34 ∷ 0 ∷ [])) no_trees)
 
-in_lines : (way : List ℕ) (t : Tree) → styled styles.Lines way t ≡ text_at way t
-in_lines way t = refl
+in_lines : (path : List ℕ) (t : Tree) → styled styles.Lines path t ≡ text_at path t
+in_lines path t = refl
 
 between_quotes : styled styles.Quoted (0 ∷ []) with_text
     ≡ line 0 (named (codes "bytes") 3 ++ codes " \"h\\\"\\0\"")

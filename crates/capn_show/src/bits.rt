@@ -34,11 +34,11 @@ pub fn show_bits<S: Space, W: Write, A: Allocator, E: Emitter>(
     requires of { E.is_of emitter.now (S.message space.now) }
     requires content { IsContent (S.message space.now) start (content_words widths.W1 count) }
     ensures shown { OnOk result (BitsShown (S.message space.now) start.segment start.word count
-        (λ xs. spec.emitted_digits (E.rule emitter.now) level (E.way emitter.now)
+        (λ xs. spec.emitted_digits (E.rule emitter.now) level (E.path emitter.now)
         ((E.rule emitter.now).lies (S.message space.now) start) (length xs) (form.digits_of xs))
         (Adds (outgoing W.contents writer.old text.old.items) (outgoing W.contents writer.new text.new.items))) }
     ensures cut { IfErr result (λ e. BitsShown (S.message space.now) start.segment start.word count
-        (λ xs. spec.emitted_digits (E.rule emitter.now) level (E.way emitter.now)
+        (λ xs. spec.emitted_digits (E.rule emitter.now) level (E.path emitter.now)
         ((E.rule emitter.now).lies (S.message space.now) start) (length xs) (form.digits_of xs))
         (BreaksOff (outgoing W.contents writer.old text.old.items) (outgoing W.contents writer.new text.new.items) e)) }
 {

@@ -35,11 +35,11 @@ pub fn show_bytes<S: Space, W: Write, A: Allocator, E: Emitter>(
     requires of { E.is_of emitter.now (S.message space.now) }
     requires content { IsContent (S.message space.now) start (content_words widths.W8 count) }
     ensures shown { OnOk result (NumbersShown (S.message space.now) start.segment start.word widths.W8 count
-        (λ xs. spec.emitted_digits (E.rule emitter.now) level (E.way emitter.now)
+        (λ xs. spec.emitted_digits (E.rule emitter.now) level (E.path emitter.now)
         ((E.rule emitter.now).lies (S.message space.now) start) (length xs) (encode_lower xs))
         (Adds (outgoing W.contents writer.old text.old.items) (outgoing W.contents writer.new text.new.items))) }
     ensures cut { IfErr result (λ e. NumbersShown (S.message space.now) start.segment start.word widths.W8 count
-        (λ xs. spec.emitted_digits (E.rule emitter.now) level (E.way emitter.now)
+        (λ xs. spec.emitted_digits (E.rule emitter.now) level (E.path emitter.now)
         ((E.rule emitter.now).lies (S.message space.now) start) (length xs) (encode_lower xs))
         (BreaksOff (outgoing W.contents writer.old text.old.items) (outgoing W.contents writer.new text.new.items) e)) }
 {

@@ -104,11 +104,11 @@ fn show_digits<S: Space, W: Write, A: Allocator, E: Emitter>(
     requires content { IsContent (S.message space.now) start (content_words widths.W8 count) }
     requires room { level + 1 < 2 ^ 32 }
     ensures shown { OnOk result (NumbersShown (S.message space.now) start.segment start.word widths.W8 count
-        (spec.digit_lines (E.rule emitter.now) level (E.way emitter.now)
+        (spec.digit_lines (E.rule emitter.now) level (E.path emitter.now)
         ((E.rule emitter.now).lies (S.message space.now) start))
         (Adds (outgoing W.contents writer.old text.old.items) (outgoing W.contents writer.new text.new.items))) }
     ensures cut { IfErr result (λ e. NumbersShown (S.message space.now) start.segment start.word widths.W8 count
-        (spec.digit_lines (E.rule emitter.now) level (E.way emitter.now)
+        (spec.digit_lines (E.rule emitter.now) level (E.path emitter.now)
         ((E.rule emitter.now).lies (S.message space.now) start))
         (BreaksOff (outgoing W.contents writer.old text.old.items) (outgoing W.contents writer.new text.new.items) e)) }
 {
@@ -132,11 +132,11 @@ fn show_text_or_digits<S: Space, W: Write, A: Allocator, E: Emitter>(
     requires content { IsContent (S.message space.now) start (content_words widths.W8 count) }
     requires room { level + 1 < 2 ^ 32 }
     ensures shown { OnOk result (NumbersShown (S.message space.now) start.segment start.word widths.W8 count
-        (spec.text_or_digits (E.rule emitter.now) level (E.way emitter.now)
+        (spec.text_or_digits (E.rule emitter.now) level (E.path emitter.now)
         ((E.rule emitter.now).lies (S.message space.now) start))
         (Adds (outgoing W.contents writer.old text.old.items) (outgoing W.contents writer.new text.new.items))) }
     ensures cut { IfErr result (λ e. NumbersShown (S.message space.now) start.segment start.word widths.W8 count
-        (spec.text_or_digits (E.rule emitter.now) level (E.way emitter.now)
+        (spec.text_or_digits (E.rule emitter.now) level (E.path emitter.now)
         ((E.rule emitter.now).lies (S.message space.now) start))
         (BreaksOff (outgoing W.contents writer.old text.old.items) (outgoing W.contents writer.new text.new.items) e)) }
 {
@@ -164,11 +164,11 @@ pub fn show_byte_list<S: Space, W: Write, A: Allocator, E: Emitter>(
     requires content { IsContent (S.message space.now) start (content_words widths.W8 count) }
     requires room { level + 1 < 2 ^ 32 }
     ensures shown { OnOk result (NumbersShown (S.message space.now) start.segment start.word widths.W8 count
-        (spec.emitted_numbers (E.rule emitter.now) kinds.byte level (E.way emitter.now)
+        (spec.emitted_numbers (E.rule emitter.now) kinds.byte level (E.path emitter.now)
         ((E.rule emitter.now).lies (S.message space.now) start))
         (Adds (outgoing W.contents writer.old text.old.items) (outgoing W.contents writer.new text.new.items))) }
     ensures cut { IfErr result (λ e. NumbersShown (S.message space.now) start.segment start.word widths.W8 count
-        (spec.emitted_numbers (E.rule emitter.now) kinds.byte level (E.way emitter.now)
+        (spec.emitted_numbers (E.rule emitter.now) kinds.byte level (E.path emitter.now)
         ((E.rule emitter.now).lies (S.message space.now) start))
         (BreaksOff (outgoing W.contents writer.old text.old.items) (outgoing W.contents writer.new text.new.items) e)) }
 {

@@ -1,4 +1,4 @@
-//! A step of a way: from the target of a pointer to a value below it.
+//! A step of a path: from the target of a pointer to a value below it.
 
 ghost use Rattle.std.specs.Prelude.{◌≡◌, ℕ, IfNone, IfSome, None, Ok};
 ghost use Rattle.capn_words.specs.Message.{IsMessage, IsPlace};

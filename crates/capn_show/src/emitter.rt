@@ -11,14 +11,14 @@ use capn_words::{Place, Space, Watched};
 use std::alloc::Allocator;
 use std::io::Write;
 
-/// An emitter of the lines of a text: it puts a mark, or nothing, before each, and keeps the way to the value whose
+/// An emitter of the lines of a text: it puts a mark, or nothing, before each, and keeps the path to the value whose
 /// lines are written.
 pub trait Emitter {
     /// The rule of the text.
     ghost rule: { Self → Rule };
 
-    /// The way to the value whose lines are written.
-    ghost way: { Self → List ℕ };
+    /// The path to the value whose lines are written.
+    ghost path: { Self → List ℕ };
 
     /// The emitter is one for a message.
     ghost is_of: { Self → List (List ℕ) → Type 0 };
@@ -36,7 +36,7 @@ pub trait Emitter {
         ensures is { result ≡ (rule self.now).lies (S.message space.now) at }
         ensures small { result < 2 ^ 66 };
 
-    /// Appends the mark of a line whose subject lies at `byte`, at the way that is kept, to `text`.
+    /// Appends the mark of a line whose subject lies at `byte`, at the path that is kept, to `text`.
     fn put_mark<W: Write, A: Allocator>(
         &self,
         text: &mut Vec<u8, A>,
@@ -44,25 +44,25 @@ pub trait Emitter {
         byte: u128,
     ) -> Result<(), Broken>
         ensures shown { OnOk result (Adds (outgoing W.contents writer.old text.old.items)
-            (outgoing W.contents writer.new text.new.items) ((rule self.now).mark byte (way self.now))) }
+            (outgoing W.contents writer.new text.new.items) ((rule self.now).mark byte (path self.now))) }
         ensures cut { IfErr result (λ e. BreaksOff (outgoing W.contents writer.old text.old.items)
-            (outgoing W.contents writer.new text.new.items) e ((rule self.now).mark byte (way self.now))) };
+            (outgoing W.contents writer.new text.new.items) e ((rule self.now).mark byte (path self.now))) };
 
-    /// Returns the length of the way that is kept.
-    fn way_length(&self) -> usize
-        ensures { result ≡ length (way self.now) };
+    /// Returns the length of the path that is kept.
+    fn path_length(&self) -> usize
+        ensures { result ≡ length (path self.now) };
 
-    /// Appends `number` to the way that is kept.
+    /// Appends `number` to the path that is kept.
     fn step_below(&mut self, number: u32) -> Result<(), Broken>
-        ensures below { OnOk result (way self.new ≡ (rule self.old).below (way self.old) number) }
-        ensures back { OnOk result (take (length (way self.old)) (way self.new) ≡ way self.old) }
+        ensures below { OnOk result (path self.new ≡ (rule self.old).below (path self.old) number) }
+        ensures back { OnOk result (take (length (path self.old)) (path self.new) ≡ path self.old) }
         ensures rule { OnOk result (rule self.new ≡ rule self.old) }
         ensures of { OnOk result ((m : List (List ℕ)) → is_of self.old m → is_of self.new m) }
         ensures memory { IfErr result (λ e. e ≡ broken.Memory) };
 
-    /// Cuts the way that is kept to this `length`.
+    /// Cuts the path that is kept to this `length`.
     fn step_back(&mut self, length: usize)
-        ensures way { way self.new ≡ take length (way self.old) }
+        ensures path { path self.new ≡ take length (path self.old) }
         ensures rule { rule self.new ≡ rule self.old }
         ensures of { (m : List (List ℕ)) → is_of self.old m → is_of self.new m };
 }
@@ -75,7 +75,7 @@ pub struct Lines<const QUOTED: bool>;
 impl<const QUOTED: bool> Emitter for Lines<QUOTED> {
     ghost rule = { λ e. plain_rule QUOTED };
 
-    ghost way = { λ e. [] };
+    ghost path = { λ e. [] };
 
     ghost is_of = { λ e m. ⊤ };
 
@@ -100,7 +100,7 @@ impl<const QUOTED: bool> Emitter for Lines<QUOTED> {
     }
 
     #[inline(always)]
-    fn way_length(&self) -> usize {
+    fn path_length(&self) -> usize {
         0
     }
 

@@ -4,7 +4,7 @@
 //! it writes what `capn_value::show` writes of the value that `capn_walk::walk` answers: it goes from slot to slot as
 //! the walk did, and adds each line to a text that the caller keeps. So small texts of many messages make one write. A
 //! text of 65,536 bytes or more is written and emptied, so that it takes the same memory for every message.
-//! [`show_part`] does so for the value at a way of numbers from the root, in one of four styles.
+//! [`show_part`] does so for the value at a path of numbers from the root, in one of four styles.
 //!
 //! ```text
 //! let mut text = Vec::new(alloc);
@@ -44,7 +44,7 @@ pub use message::show_message;
 pub use part::show_part;
 pub use style::Style;
 
-// The parts of texts of other forms: a text on its way, lines and lists in it, and the steps of a way.
+// The parts of texts of other forms: a text on its way, lines and lists in it, and the steps of a path.
 pub use descent::{Part, named, step_down};
 pub use emitter::Emitter;
 pub use fault::{Broken, fault_of};

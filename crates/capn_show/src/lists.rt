@@ -37,11 +37,11 @@ pub fn show_list<S: Space, W: Write, A: Allocator, E: Emitter>(
     requires plain { IsPlain width }
     requires room { level + 1 < 2 ^ 32 }
     ensures shown { OnOk result ((pads : ℕ)
-        → IsFoundEmitted (S.message space.now) (E.rule emitter.now) level (E.way emitter.now)
+        → IsFoundEmitted (S.message space.now) (E.rule emitter.now) level (E.path emitter.now)
         (targets.Content start.segment start.word (shapes.Many width count) pads)
         (Adds (outgoing W.contents writer.old text.old.items) (outgoing W.contents writer.new text.new.items))) }
     ensures cut { IfErr result (λ e. (pads : ℕ)
-        → IsFoundEmitted (S.message space.now) (E.rule emitter.now) level (E.way emitter.now)
+        → IsFoundEmitted (S.message space.now) (E.rule emitter.now) level (E.path emitter.now)
         (targets.Content start.segment start.word (shapes.Many width count) pads)
         (BreaksOff (outgoing W.contents writer.old text.old.items) (outgoing W.contents writer.new text.new.items) e)) }
 {

@@ -48,10 +48,10 @@ fn show_word<W: Write, A: Allocator, E: Emitter>(
 ) -> Result<(), Broken>
     ensures shown { OnOk result (Adds (outgoing W.contents writer.old text.old.items)
         (outgoing W.contents writer.new text.new.items)
-        ((E.rule emitter.now).mark byte (E.way emitter.now) ++ spec.word_line level word)) }
+        ((E.rule emitter.now).mark byte (E.path emitter.now) ++ spec.word_line level word)) }
     ensures cut { IfErr result (λ e. BreaksOff (outgoing W.contents writer.old text.old.items)
         (outgoing W.contents writer.new text.new.items) e
-        ((E.rule emitter.now).mark byte (E.way emitter.now) ++ spec.word_line level word)) }
+        ((E.rule emitter.now).mark byte (E.path emitter.now) ++ spec.word_line level word)) }
 {
     emitter.put_mark(text, writer, byte)?;
     word_line(text, writer, level, word)
@@ -69,10 +69,10 @@ fn show_number<W: Write, A: Allocator, E: Emitter>(
 ) -> Result<(), Broken>
     ensures shown { OnOk result (Adds (outgoing W.contents writer.old text.old.items)
         (outgoing W.contents writer.new text.new.items)
-        ((E.rule emitter.now).mark byte (E.way emitter.now) ++ spec.number_line level n)) }
+        ((E.rule emitter.now).mark byte (E.path emitter.now) ++ spec.number_line level n)) }
     ensures cut { IfErr result (λ e. BreaksOff (outgoing W.contents writer.old text.old.items)
         (outgoing W.contents writer.new text.new.items) e
-        ((E.rule emitter.now).mark byte (E.way emitter.now) ++ spec.number_line level n)) }
+        ((E.rule emitter.now).mark byte (E.path emitter.now) ++ spec.number_line level n)) }
 {
     emitter.put_mark(text, writer, byte)?;
     number_line(text, writer, level, n)
@@ -92,11 +92,11 @@ pub fn show_words<S: Space, W: Write, A: Allocator, E: Emitter>(
     requires of { E.is_of emitter.now (S.message space.now) }
     requires content { IsContent (S.message space.now) start count }
     ensures shown { OnOk result (WordsEmitted (S.message space.now) start.segment start.word count
-        (spec.emitted_lines (E.rule emitter.now) 8 (spec.word_line level) (E.way emitter.now)
+        (spec.emitted_lines (E.rule emitter.now) 8 (spec.word_line level) (E.path emitter.now)
         ((E.rule emitter.now).lies (S.message space.now) start))
         (Adds (outgoing W.contents writer.old text.old.items) (outgoing W.contents writer.new text.new.items))) }
     ensures cut { IfErr result (λ e. WordsEmitted (S.message space.now) start.segment start.word count
-        (spec.emitted_lines (E.rule emitter.now) 8 (spec.word_line level) (E.way emitter.now)
+        (spec.emitted_lines (E.rule emitter.now) 8 (spec.word_line level) (E.path emitter.now)
         ((E.rule emitter.now).lies (S.message space.now) start))
         (BreaksOff (outgoing W.contents writer.old text.old.items) (outgoing W.contents writer.new text.new.items) e)) }
 {
@@ -135,11 +135,11 @@ pub fn show_numbers<S: Space, W: Write, A: Allocator, E: Emitter>(
     requires content { IsContent (S.message space.now) start (content_words width count) }
     requires plain { HasNumbers width }
     ensures shown { OnOk result (NumbersShown (S.message space.now) start.segment start.word width count
-        (spec.emitted_lines (E.rule emitter.now) (8 / seen.per_word width) (spec.number_line level) (E.way emitter.now)
+        (spec.emitted_lines (E.rule emitter.now) (8 / seen.per_word width) (spec.number_line level) (E.path emitter.now)
         ((E.rule emitter.now).lies (S.message space.now) start))
         (Adds (outgoing W.contents writer.old text.old.items) (outgoing W.contents writer.new text.new.items))) }
     ensures cut { IfErr result (λ e. NumbersShown (S.message space.now) start.segment start.word width count
-        (spec.emitted_lines (E.rule emitter.now) (8 / seen.per_word width) (spec.number_line level) (E.way emitter.now)
+        (spec.emitted_lines (E.rule emitter.now) (8 / seen.per_word width) (spec.number_line level) (E.path emitter.now)
         ((E.rule emitter.now).lies (S.message space.now) start))
         (BreaksOff (outgoing W.contents writer.old text.old.items) (outgoing W.contents writer.new text.new.items) e)) }
 {

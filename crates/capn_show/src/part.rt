@@ -1,4 +1,4 @@
-//! The text of a message's part, at a way.
+//! The text of a message's part, at a path.
 
 ghost use Rattle.std.specs.Prelude.{◌≡◌, ℕ, ◌+◌, ◌*◌, ◌<◌, ◌^◌, IfErr, IfNone, IfSome, None, OnOk};
 ghost use Rattle.capn_words.specs.Message.{IsMessage, IsPlace};
@@ -22,7 +22,8 @@ use capn_words::{Place, Space, Watched};
 use std::alloc::Allocator;
 use std::io::Write;
 
-/// Appends the text of the value at a `way` of numbers from the root of the message `space` to `text`, in this `style`.
+/// Appends the text of the value at a `path` of numbers from the root of the message `space` to `text`, in this
+/// `style`.
 ///
 /// If nothing is there, it is the line `none`, or in JSON an empty line.
 ///
@@ -36,62 +37,62 @@ pub fn show_part<S: Space, W: Write, A: Allocator, B: Allocator + Copy>(
     space: &S,
     limits: Limits,
     style: Style,
-    way: &[u64],
+    path: &[u64],
 ) -> Result<(), ShowFault>
     // An answer: the message is accepted, and the text of the value there is added.
-    ensures shown { OnOk result (IsWritten (S.message space.now) limits (styled style way.now)
+    ensures shown { OnOk result (IsWritten (S.message space.now) limits (styled style path.now)
         (outgoing W.contents writer.old text.old.items) (outgoing W.contents writer.new text.new.items)) }
     // A refusal is as that of `show_message`.
-    ensures refused { IfErr result (λ fault. IsUnwritten (S.message space.now) limits (styled style way.now) fault
+    ensures refused { IfErr result (λ fault. IsUnwritten (S.message space.now) limits (styled style path.now) fault
         (outgoing W.contents writer.old text.old.items) (outgoing W.contents writer.new text.new.items)) }
 {
     values();
     let _bounds = space.segments();
     survey(alloc, space, limits)?;
-    match write_part(text, writer, space, style, way, limits.depth()) {
+    match write_part(text, writer, space, style, path, limits.depth()) {
         Ok(()) => Ok(()),
         Err(broken) => Err(fault_of(broken)),
     }
 }
 
-/// Appends the text of the value at this `way` from the root to `text`.
+/// Appends the text of the value at this `path` from the root to `text`.
 fn write_part<S: Space, W: Write, A: Allocator>(
     text: &mut Vec<u8, A>,
     writer: &mut Watched<W>,
     space: &S,
     style: Style,
-    way: &[u64],
+    path: &[u64],
     depth: u32,
 ) -> Result<(), Broken>
     requires message { IsMessage (S.message space.now) }
     requires place { IsPlace (S.message space.now) root }
     requires ready { IsReady (S.message space.now) root depth }
     requires room { 2 * depth < 2 ^ 32 }
-    ensures shown { OnOk result (IsPartShown (S.message space.now) style way.now (Adds
+    ensures shown { OnOk result (IsPartShown (S.message space.now) style path.now (Adds
         (outgoing W.contents writer.old text.old.items) (outgoing W.contents writer.new text.new.items))) }
-    ensures cut { IfErr result (λ e. IsPartShown (S.message space.now) style way.now (BreaksOff
+    ensures cut { IfErr result (λ e. IsPartShown (S.message space.now) style path.now (BreaksOff
         (outgoing W.contents writer.old text.old.items) (outgoing W.contents writer.new text.new.items) e)) }
 {
     let found = named(space, Place::ROOT);
-    match follow(space, found, way) {
+    match follow(space, found, path) {
         Some(part) => show_there(text, writer, space, style, part, depth),
         None => show_nothing(text, writer, style),
     }
 }
 
-/// Follows `way` from the target `found`; `None`, if nothing is there.
-fn follow<S: Space>(space: &S, found: Target, way: &[u64]) -> Option<Target>
+/// Follows `path` from the target `found`; `None`, if nothing is there.
+fn follow<S: Space>(space: &S, found: Target, path: &[u64]) -> Option<Target>
     requires message { IsMessage (S.message space.now) }
     requires inside { IsInMessage (S.message space.now) found }
     requires value { HasValue (S.message space.now) found }
     ensures inside { IfSome result (λ t. IsInMessage (S.message space.now) t) }
     ensures there { IfSome result (λ t. (v : Tree) → Shows (S.message space.now) found v
-        → LeadsTo (S.message space.now) v (parts.at_way v way.now) t) }
-    ensures none { IfNone result ((v : Tree) → Shows (S.message space.now) found v → parts.at_way v way.now ≡ None) }
+        → LeadsTo (S.message space.now) v (parts.at_path v path.now) t) }
+    ensures none { IfNone result ((v : Tree) → Shows (S.message space.now) found v → parts.at_path v path.now ≡ None) }
 {
     let mut here = found;
-    for i in 0..way.len() {
-        match step_down(space, here, way[i]) {
+    for i in 0..path.len() {
+        match step_down(space, here, path[i]) {
             Some(next) => here = next.found,
             None => return None,
         }

@@ -41,13 +41,13 @@ pub fn show_slots<S: Space, W: Write, A: Allocator, E: Emitter>(
     requires content { IsContent (S.message space.now) first count }
     requires ready { AreReady (S.message space.now) first.segment first.word count depth }
     requires room { level + 2 * depth < 2 ^ 32 }
-    ensures shown { OnOk result (AreEmitted (S.message space.now) (E.rule emitter.old) level (E.way emitter.old)
+    ensures shown { OnOk result (AreEmitted (S.message space.now) (E.rule emitter.old) level (E.path emitter.old)
         first.segment first.word count
         (Adds (outgoing W.contents writer.old text.old.items) (outgoing W.contents writer.new text.new.items))) }
-    ensures cut { IfErr result (λ e. AreEmitted (S.message space.now) (E.rule emitter.old) level (E.way emitter.old)
+    ensures cut { IfErr result (λ e. AreEmitted (S.message space.now) (E.rule emitter.old) level (E.path emitter.old)
         first.segment first.word count
         (BreaksOff (outgoing W.contents writer.old text.old.items) (outgoing W.contents writer.new text.new.items) e)) }
-    ensures kept { OnOk result (Keeps E.rule E.way E.is_of emitter.old emitter.new) }
+    ensures kept { OnOk result (Keeps E.rule E.path E.is_of emitter.old emitter.new) }
 {
     for i in 0..count {
         let at = Place {
@@ -77,14 +77,14 @@ fn show_below<S: Space, W: Write, A: Allocator, E: Emitter>(
     requires ready { IsReady (S.message space.now) at depth }
     requires room { level + 2 * depth < 2 ^ 32 }
     ensures shown { OnOk result (IsEmitted (S.message space.now) (E.rule emitter.old) level
-        ((E.rule emitter.old).below (E.way emitter.old) number) at
+        ((E.rule emitter.old).below (E.path emitter.old) number) at
         (Adds (outgoing W.contents writer.old text.old.items) (outgoing W.contents writer.new text.new.items))) }
     ensures cut { IfErr result (λ e. IsEmitted (S.message space.now) (E.rule emitter.old) level
-        ((E.rule emitter.old).below (E.way emitter.old) number) at
+        ((E.rule emitter.old).below (E.path emitter.old) number) at
         (BreaksOff (outgoing W.contents writer.old text.old.items) (outgoing W.contents writer.new text.new.items) e)) }
-    ensures kept { OnOk result (Keeps E.rule E.way E.is_of emitter.old emitter.new) }
+    ensures kept { OnOk result (Keeps E.rule E.path E.is_of emitter.old emitter.new) }
 {
-    let above = emitter.way_length();
+    let above = emitter.path_length();
     emitter.step_below(number)?;
     show_slot(text, writer, emitter, space, at, level, depth)?;
     emitter.step_back(above);
@@ -109,13 +109,13 @@ pub fn show_rows<S: Space, W: Write, A: Allocator, E: Emitter>(
     requires content { IsContent (S.message space.now) first (count * (size.words + size.slots)) }
     requires ready { AreRows (S.message space.now) first.segment first.word count size.words size.slots depth }
     requires room { level + 1 + 2 * depth < 2 ^ 32 }
-    ensures shown { OnOk result (RowsEmitted (S.message space.now) (E.rule emitter.old) level (E.way emitter.old)
+    ensures shown { OnOk result (RowsEmitted (S.message space.now) (E.rule emitter.old) level (E.path emitter.old)
         first.segment first.word count size.words size.slots
         (Adds (outgoing W.contents writer.old text.old.items) (outgoing W.contents writer.new text.new.items))) }
-    ensures cut { IfErr result (λ e. RowsEmitted (S.message space.now) (E.rule emitter.old) level (E.way emitter.old)
+    ensures cut { IfErr result (λ e. RowsEmitted (S.message space.now) (E.rule emitter.old) level (E.path emitter.old)
         first.segment first.word count size.words size.slots
         (BreaksOff (outgoing W.contents writer.old text.old.items) (outgoing W.contents writer.new text.new.items) e)) }
-    ensures kept { OnOk result (Keeps E.rule E.way E.is_of emitter.old emitter.new) }
+    ensures kept { OnOk result (Keeps E.rule E.path E.is_of emitter.old emitter.new) }
 {
     let mut next = first.word;
     for row in 0..count {
@@ -149,14 +149,14 @@ fn show_row<S: Space, W: Write, A: Allocator, E: Emitter>(
     requires ready { IsBody (S.message space.now) start.segment start.word size.words size.slots depth }
     requires room { level + 1 + 2 * depth < 2 ^ 32 }
     ensures shown { OnOk result (IsRowEmitted (S.message space.now) (E.rule emitter.old) level
-        ((E.rule emitter.old).below (E.way emitter.old) number) start.segment start.word size.words size.slots
+        ((E.rule emitter.old).below (E.path emitter.old) number) start.segment start.word size.words size.slots
         (Adds (outgoing W.contents writer.old text.old.items) (outgoing W.contents writer.new text.new.items))) }
     ensures cut { IfErr result (λ e. IsRowEmitted (S.message space.now) (E.rule emitter.old) level
-        ((E.rule emitter.old).below (E.way emitter.old) number) start.segment start.word size.words size.slots
+        ((E.rule emitter.old).below (E.path emitter.old) number) start.segment start.word size.words size.slots
         (BreaksOff (outgoing W.contents writer.old text.old.items) (outgoing W.contents writer.new text.new.items) e)) }
-    ensures kept { OnOk result (Keeps E.rule E.way E.is_of emitter.old emitter.new) }
+    ensures kept { OnOk result (Keeps E.rule E.path E.is_of emitter.old emitter.new) }
 {
-    let above = emitter.way_length();
+    let above = emitter.path_length();
     emitter.step_below(number)?;
     let byte = emitter.byte_of(space, start);
     emitter.put_mark(text, writer, byte)?;

@@ -19,7 +19,7 @@ use capn_words::{Place, Space, Watched, Width};
 use std::alloc::Allocator;
 use std::io::Write;
 
-/// Appends the text of the value at `at` to `text`, at this `level`; the way of `emitter` leads to it.
+/// Appends the text of the value at `at` to `text`, at this `level`; the path of `emitter` leads to it.
 #[cycle(slots)]
 #[inline(always)]
 pub fn show_slot<S: Space, W: Write, A: Allocator, E: Emitter>(
@@ -36,11 +36,11 @@ pub fn show_slot<S: Space, W: Write, A: Allocator, E: Emitter>(
     requires place { IsPlace (S.message space.now) at }
     requires ready { IsReady (S.message space.now) at depth }
     requires room { level + 2 * depth < 2 ^ 32 }
-    ensures shown { OnOk result (IsEmitted (S.message space.now) (E.rule emitter.old) level (E.way emitter.old) at
+    ensures shown { OnOk result (IsEmitted (S.message space.now) (E.rule emitter.old) level (E.path emitter.old) at
         (Adds (outgoing W.contents writer.old text.old.items) (outgoing W.contents writer.new text.new.items))) }
-    ensures cut { IfErr result (λ e. IsEmitted (S.message space.now) (E.rule emitter.old) level (E.way emitter.old) at
+    ensures cut { IfErr result (λ e. IsEmitted (S.message space.now) (E.rule emitter.old) level (E.path emitter.old) at
         (BreaksOff (outgoing W.contents writer.old text.old.items) (outgoing W.contents writer.new text.new.items) e)) }
-    ensures kept { OnOk result (Keeps E.rule E.way E.is_of emitter.old emitter.new) }
+    ensures kept { OnOk result (Keeps E.rule E.path E.is_of emitter.old emitter.new) }
 {
     let byte = emitter.byte_of(space, at);
     emitter.put_mark(text, writer, byte)?;
@@ -52,7 +52,7 @@ pub fn show_slot<S: Space, W: Write, A: Allocator, E: Emitter>(
     }
 }
 
-/// Appends the text of the value with the target `found`, to which the way of `emitter` leads, to `text`, behind its
+/// Appends the text of the value with the target `found`, to which the path of `emitter` leads, to `text`, behind its
 /// first mark.
 #[cycle(slots)]
 #[inline(always)]
@@ -71,12 +71,12 @@ pub fn show_found<S: Space, W: Write, A: Allocator, E: Emitter>(
     requires ready { IsFound (S.message space.now) found depth }
     requires room { level + 2 * depth < 2 ^ 32 }
     ensures shown { OnOk result
-        (IsFoundEmitted (S.message space.now) (E.rule emitter.old) level (E.way emitter.old) found
+        (IsFoundEmitted (S.message space.now) (E.rule emitter.old) level (E.path emitter.old) found
         (Adds (outgoing W.contents writer.old text.old.items) (outgoing W.contents writer.new text.new.items))) }
     ensures cut { IfErr result (λ e.
-        IsFoundEmitted (S.message space.now) (E.rule emitter.old) level (E.way emitter.old) found
+        IsFoundEmitted (S.message space.now) (E.rule emitter.old) level (E.path emitter.old) found
         (BreaksOff (outgoing W.contents writer.old text.old.items) (outgoing W.contents writer.new text.new.items) e)) }
-    ensures kept { OnOk result (Keeps E.rule E.way E.is_of emitter.old emitter.new) }
+    ensures kept { OnOk result (Keeps E.rule E.path E.is_of emitter.old emitter.new) }
 {
     match found {
         Target::Nil => plain_line(text, writer, level, "null"),
@@ -164,14 +164,14 @@ pub fn show_body<S: Space, W: Write, A: Allocator, E: Emitter>(
     requires content { IsContent (S.message space.now) start (size.words + size.slots) }
     requires ready { IsBody (S.message space.now) start.segment start.word size.words size.slots depth }
     requires room { level + 1 + 2 * depth < 2 ^ 32 }
-    ensures shown { OnOk result (IsBodyEmitted (S.message space.now) (E.rule emitter.old) level (E.way emitter.old)
+    ensures shown { OnOk result (IsBodyEmitted (S.message space.now) (E.rule emitter.old) level (E.path emitter.old)
         start.segment start.word size.words size.slots
         (Adds (outgoing W.contents writer.old text.old.items) (outgoing W.contents writer.new text.new.items))) }
     ensures cut { IfErr result (λ e.
-        IsBodyEmitted (S.message space.now) (E.rule emitter.old) level (E.way emitter.old)
+        IsBodyEmitted (S.message space.now) (E.rule emitter.old) level (E.path emitter.old)
         start.segment start.word size.words size.slots
         (BreaksOff (outgoing W.contents writer.old text.old.items) (outgoing W.contents writer.new text.new.items) e)) }
-    ensures kept { OnOk result (Keeps E.rule E.way E.is_of emitter.old emitter.new) }
+    ensures kept { OnOk result (Keeps E.rule E.path E.is_of emitter.old emitter.new) }
 {
     body_line(text, writer, level, size.words, size.slots)?;
     show_words(text, writer, emitter, space, start, size.words, level + 1)?;

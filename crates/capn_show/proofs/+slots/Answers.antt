@@ -275,9 +275,9 @@ slots::show_found-overflow_add-first g t c =
 pub slots::show_found-returns-in-Nil-clause-shown : goal.slots::show_found-returns-in-Nil-clause-shown
 slots::show_found-returns-in-Nil-clause-shown g t c =
     let rule = g.E.Emitter.rule c.args.emitter.now in
-    let way = g.E.Emitter.way c.args.emitter.now in
+    let path = g.E.Emitter.path c.args.emitter.now in
     on_ok_weaker c.plain_line.result
-    (nil-emitted (g.S.Space.message c.args.space.now) rule c.args.level way (Adds
+    (nil-emitted (g.S.Space.message c.args.space.now) rule c.args.level path (Adds
     (outgoing g.W.Write.contents c.args.writer.now c.args.text.now.items)
     (outgoing g.W.Write.contents c.plain_line.new.writer c.plain_line.new.text.items)) c.args.found c.in-Nil.is)
     c.plain_line.ensures.shown
@@ -285,9 +285,9 @@ slots::show_found-returns-in-Nil-clause-shown g t c =
 pub slots::show_found-returns-in-Nil-clause-cut : goal.slots::show_found-returns-in-Nil-clause-cut
 slots::show_found-returns-in-Nil-clause-cut g t c =
     let rule = g.E.Emitter.rule c.args.emitter.now in
-    let way = g.E.Emitter.way c.args.emitter.now in
+    let path = g.E.Emitter.path c.args.emitter.now in
     IfErr-weaker c.plain_line.result _ _
-    (λ e. nil-emitted (g.S.Space.message c.args.space.now) rule c.args.level way (BreaksOff
+    (λ e. nil-emitted (g.S.Space.message c.args.space.now) rule c.args.level path (BreaksOff
     (outgoing g.W.Write.contents c.args.writer.now c.args.text.now.items)
     (outgoing g.W.Write.contents c.plain_line.new.writer c.plain_line.new.text.items) e) c.args.found c.in-Nil.is)
     c.plain_line.ensures.cut
@@ -295,9 +295,9 @@ slots::show_found-returns-in-Nil-clause-cut g t c =
 pub slots::show_found-returns-in-Cap-clause-shown : goal.slots::show_found-returns-in-Cap-clause-shown
 slots::show_found-returns-in-Cap-clause-shown g t c =
     let rule = g.E.Emitter.rule c.args.emitter.now in
-    let way = g.E.Emitter.way c.args.emitter.now in
+    let path = g.E.Emitter.path c.args.emitter.now in
     on_ok_weaker c.named_line.result
-    (cap-emitted (g.S.Space.message c.args.space.now) rule c.args.level way (Adds
+    (cap-emitted (g.S.Space.message c.args.space.now) rule c.args.level path (Adds
     (outgoing g.W.Write.contents c.args.writer.now c.args.text.now.items)
     (outgoing g.W.Write.contents c.named_line.new.writer c.named_line.new.text.items)) c.args.found c.in-Cap.index
     c.in-Cap.is)
@@ -306,9 +306,9 @@ slots::show_found-returns-in-Cap-clause-shown g t c =
 pub slots::show_found-returns-in-Cap-clause-cut : goal.slots::show_found-returns-in-Cap-clause-cut
 slots::show_found-returns-in-Cap-clause-cut g t c =
     let rule = g.E.Emitter.rule c.args.emitter.now in
-    let way = g.E.Emitter.way c.args.emitter.now in
+    let path = g.E.Emitter.path c.args.emitter.now in
     IfErr-weaker c.named_line.result _ _
-    (λ e. cap-emitted (g.S.Space.message c.args.space.now) rule c.args.level way (BreaksOff
+    (λ e. cap-emitted (g.S.Space.message c.args.space.now) rule c.args.level path (BreaksOff
     (outgoing g.W.Write.contents c.args.writer.now c.args.text.now.items)
     (outgoing g.W.Write.contents c.named_line.new.writer c.named_line.new.text.items) e) c.args.found c.in-Cap.index
     c.in-Cap.is)
@@ -317,9 +317,9 @@ slots::show_found-returns-in-Cap-clause-cut g t c =
 pub slots::show_found-returns-in-Node-clause-shown : goal.slots::show_found-returns-in-Node-clause-shown
 slots::show_found-returns-in-Node-clause-shown g t c =
     let rule = g.E.Emitter.rule c.args.emitter.now in
-    let way = g.E.Emitter.way c.args.emitter.now in
+    let path = g.E.Emitter.path c.args.emitter.now in
     on_ok_weaker c.show_body.result
-    (node-emitted (g.S.Space.message c.args.space.now) rule c.args.level way (Adds
+    (node-emitted (g.S.Space.message c.args.space.now) rule c.args.level path (Adds
     (outgoing g.W.Write.contents c.args.writer.now c.args.text.now.items)
     (outgoing g.W.Write.contents c.show_body.new.writer c.show_body.new.text.items)) c.args.found c.in-Content.segment
     c.in-Content.start c.in-Content.pads
@@ -330,9 +330,9 @@ slots::show_found-returns-in-Node-clause-shown g t c =
 pub slots::show_found-returns-in-Node-clause-cut : goal.slots::show_found-returns-in-Node-clause-cut
 slots::show_found-returns-in-Node-clause-cut g t c =
     let rule = g.E.Emitter.rule c.args.emitter.now in
-    let way = g.E.Emitter.way c.args.emitter.now in
+    let path = g.E.Emitter.path c.args.emitter.now in
     IfErr-weaker c.show_body.result _ _
-    (λ e. node-emitted (g.S.Space.message c.args.space.now) rule c.args.level way (BreaksOff
+    (λ e. node-emitted (g.S.Space.message c.args.space.now) rule c.args.level path (BreaksOff
     (outgoing g.W.Write.contents c.args.writer.now c.args.text.now.items)
     (outgoing g.W.Write.contents c.show_body.new.writer c.show_body.new.text.items) e) c.args.found c.in-Content.segment
     c.in-Content.start c.in-Content.pads
@@ -343,9 +343,9 @@ slots::show_found-returns-in-Node-clause-cut g t c =
 pub slots::show_found-returns-in_default-clause-shown : goal.slots::show_found-returns-in_default-clause-shown
 slots::show_found-returns-in_default-clause-shown g t c =
     let rule = g.E.Emitter.rule c.args.emitter.now in
-    let way = g.E.Emitter.way c.args.emitter.now in
+    let path = g.E.Emitter.path c.args.emitter.now in
     on_ok_weaker c.show_list.result
-    (list-emitted (g.S.Space.message c.args.space.now) rule c.args.level way (Adds
+    (list-emitted (g.S.Space.message c.args.space.now) rule c.args.level path (Adds
     (outgoing g.W.Write.contents c.args.writer.now c.args.text.now.items)
     (outgoing g.W.Write.contents c.show_list.new.writer c.show_list.new.text.items)) c.args.found c.in-Content.segment
     c.in-Content.start c.in-Content.pads
@@ -356,9 +356,9 @@ slots::show_found-returns-in_default-clause-shown g t c =
 pub slots::show_found-returns-in_default-clause-cut : goal.slots::show_found-returns-in_default-clause-cut
 slots::show_found-returns-in_default-clause-cut g t c =
     let rule = g.E.Emitter.rule c.args.emitter.now in
-    let way = g.E.Emitter.way c.args.emitter.now in
+    let path = g.E.Emitter.path c.args.emitter.now in
     IfErr-weaker c.show_list.result _ _
-    (λ e. list-emitted (g.S.Space.message c.args.space.now) rule c.args.level way (BreaksOff
+    (λ e. list-emitted (g.S.Space.message c.args.space.now) rule c.args.level path (BreaksOff
     (outgoing g.W.Write.contents c.args.writer.now c.args.text.now.items)
     (outgoing g.W.Write.contents c.show_list.new.writer c.show_list.new.text.items) e) c.args.found c.in-Content.segment
     c.in-Content.start c.in-Content.pads
@@ -370,9 +370,9 @@ pub slots::show_found-returns-in_ok-named_line-in-Link-clause-shown :
     goal.slots::show_found-returns-in_ok-named_line-in-Link-clause-shown
 slots::show_found-returns-in_ok-named_line-in-Link-clause-shown g t c =
     let rule = g.E.Emitter.rule c.args.emitter.now in
-    let way = g.E.Emitter.way c.args.emitter.now in
+    let path = g.E.Emitter.path c.args.emitter.now in
     on_ok_weaker c.show_slots.result
-    (links-emitted (g.S.Space.message c.args.space.now) rule c.args.level way (Adds
+    (links-emitted (g.S.Space.message c.args.space.now) rule c.args.level path (Adds
     (outgoing g.W.Write.contents c.args.writer.now c.args.text.now.items)
     (outgoing g.W.Write.contents c.show_slots.new.writer c.show_slots.new.text.items)) c.args.found c.in-Content.segment
     c.in-Content.start c.in-Content.pads
@@ -390,9 +390,9 @@ pub slots::show_found-returns-in_ok-named_line-in-Link-clause-cut :
     goal.slots::show_found-returns-in_ok-named_line-in-Link-clause-cut
 slots::show_found-returns-in_ok-named_line-in-Link-clause-cut g t c =
     let rule = g.E.Emitter.rule c.args.emitter.now in
-    let way = g.E.Emitter.way c.args.emitter.now in
+    let path = g.E.Emitter.path c.args.emitter.now in
     IfErr-weaker c.show_slots.result _ _
-    (λ e. links-emitted (g.S.Space.message c.args.space.now) rule c.args.level way
+    (λ e. links-emitted (g.S.Space.message c.args.space.now) rule c.args.level path
     (BreaksOff
     (outgoing g.W.Write.contents c.args.writer.now c.args.text.now.items)
     (outgoing g.W.Write.contents c.show_slots.new.writer c.show_slots.new.text.items) e) c.args.found
@@ -413,9 +413,9 @@ pub slots::show_found-returns-in_err-named_line-in-Link-clause-cut :
     goal.slots::show_found-returns-in_err-named_line-in-Link-clause-cut
 slots::show_found-returns-in_err-named_line-in-Link-clause-cut g t c =
     let rule = g.E.Emitter.rule c.args.emitter.now in
-    let way = g.E.Emitter.way c.args.emitter.now in
+    let path = g.E.Emitter.path c.args.emitter.now in
     passed c.from_residual.result c.in_err-named_line-in-Link.field-0.0 _ c.from_residual.ensures.1
-    (links-emitted (g.S.Space.message c.args.space.now) rule c.args.level way (BreaksOff
+    (links-emitted (g.S.Space.message c.args.space.now) rule c.args.level path (BreaksOff
     (outgoing g.W.Write.contents c.args.writer.now c.args.text.now.items)
     (outgoing g.W.Write.contents c.named_line-in-Link.new.writer c.named_line-in-Link.new.text.items) _) c.args.found
     c.in-Content.segment c.in-Content.start c.in-Content.pads
@@ -430,9 +430,9 @@ pub slots::show_found-returns-in_ok-named_line-in-Rows-clause-shown :
     goal.slots::show_found-returns-in_ok-named_line-in-Rows-clause-shown
 slots::show_found-returns-in_ok-named_line-in-Rows-clause-shown g t c =
     let rule = g.E.Emitter.rule c.args.emitter.now in
-    let way = g.E.Emitter.way c.args.emitter.now in
+    let path = g.E.Emitter.path c.args.emitter.now in
     on_ok_weaker c.show_rows.result
-    (rows-emitted (g.S.Space.message c.args.space.now) rule c.args.level way (Adds
+    (rows-emitted (g.S.Space.message c.args.space.now) rule c.args.level path (Adds
     (outgoing g.W.Write.contents c.args.writer.now c.args.text.now.items)
     (outgoing g.W.Write.contents c.show_rows.new.writer c.show_rows.new.text.items)) c.args.found c.in-Content.segment
     c.in-Content.start c.in-Content.pads
@@ -451,9 +451,9 @@ pub slots::show_found-returns-in_ok-named_line-in-Rows-clause-cut :
     goal.slots::show_found-returns-in_ok-named_line-in-Rows-clause-cut
 slots::show_found-returns-in_ok-named_line-in-Rows-clause-cut g t c =
     let rule = g.E.Emitter.rule c.args.emitter.now in
-    let way = g.E.Emitter.way c.args.emitter.now in
+    let path = g.E.Emitter.path c.args.emitter.now in
     IfErr-weaker c.show_rows.result _ _
-    (λ e. rows-emitted (g.S.Space.message c.args.space.now) rule c.args.level way (BreaksOff
+    (λ e. rows-emitted (g.S.Space.message c.args.space.now) rule c.args.level path (BreaksOff
     (outgoing g.W.Write.contents c.args.writer.now c.args.text.now.items)
     (outgoing g.W.Write.contents c.show_rows.new.writer c.show_rows.new.text.items) e) c.args.found c.in-Content.segment
     c.in-Content.start c.in-Content.pads
@@ -472,10 +472,10 @@ pub slots::show_found-returns-in_err-named_line-in-Rows-clause-cut :
     goal.slots::show_found-returns-in_err-named_line-in-Rows-clause-cut
 slots::show_found-returns-in_err-named_line-in-Rows-clause-cut g t c =
     let rule = g.E.Emitter.rule c.args.emitter.now in
-    let way = g.E.Emitter.way c.args.emitter.now in
+    let path = g.E.Emitter.path c.args.emitter.now in
     passed c.from_residual-in_err-named_line-in-Rows.result c.in_err-named_line-in-Rows.field-0.0 _
     c.from_residual-in_err-named_line-in-Rows.ensures.1
-    (rows-emitted (g.S.Space.message c.args.space.now) rule c.args.level way (BreaksOff
+    (rows-emitted (g.S.Space.message c.args.space.now) rule c.args.level path (BreaksOff
     (outgoing g.W.Write.contents c.args.writer.now c.args.text.now.items)
     (outgoing g.W.Write.contents c.named_line-in-Rows.new.writer c.named_line-in-Rows.new.text.items) _) c.args.found
     c.in-Content.segment c.in-Content.start c.in-Content.pads
@@ -489,9 +489,9 @@ slots::show_found-returns-in_err-named_line-in-Rows-clause-cut g t c =
 pub slots::show_body-returns-clause-shown : goal.slots::show_body-returns-clause-shown
 slots::show_body-returns-clause-shown g t c =
     let rule = g.E.Emitter.rule c.args.emitter.now in
-    let way = g.E.Emitter.way c.args.emitter.now in
+    let path = g.E.Emitter.path c.args.emitter.now in
     on_ok_weaker c.show_slots.result
-    (body-emitted (g.S.Space.message c.args.space.now) rule c.args.level way
+    (body-emitted (g.S.Space.message c.args.space.now) rule c.args.level path
     c.args.start.segment c.args.start.word c.args.size.words c.args.size.slots (Adds
     (outgoing g.W.Write.contents c.args.writer.now c.args.text.now.items)
     (outgoing g.W.Write.contents c.show_slots.new.writer c.show_slots.new.text.items)) (Adds
@@ -512,9 +512,9 @@ slots::show_body-returns-clause-shown g t c =
 pub slots::show_body-returns-clause-cut : goal.slots::show_body-returns-clause-cut
 slots::show_body-returns-clause-cut g t c =
     let rule = g.E.Emitter.rule c.args.emitter.now in
-    let way = g.E.Emitter.way c.args.emitter.now in
+    let path = g.E.Emitter.path c.args.emitter.now in
     IfErr-weaker c.show_slots.result _ _
-    (λ e. body-emitted (g.S.Space.message c.args.space.now) rule c.args.level way
+    (λ e. body-emitted (g.S.Space.message c.args.space.now) rule c.args.level path
     c.args.start.segment c.args.start.word c.args.size.words c.args.size.slots (BreaksOff
     (outgoing g.W.Write.contents c.args.writer.now c.args.text.now.items)
     (outgoing g.W.Write.contents c.show_slots.new.writer c.show_slots.new.text.items) e) (Adds
@@ -535,10 +535,10 @@ slots::show_body-returns-clause-cut g t c =
 pub slots::show_body-returns-in_err-show_words-clause-cut : goal.slots::show_body-returns-in_err-show_words-clause-cut
 slots::show_body-returns-in_err-show_words-clause-cut g t c =
     let rule = g.E.Emitter.rule c.args.emitter.now in
-    let way = g.E.Emitter.way c.args.emitter.now in
+    let path = g.E.Emitter.path c.args.emitter.now in
     passed c.from_residual-in_err-show_words.result c.in_err-show_words.field-0.0 _
     c.from_residual-in_err-show_words.ensures.1
-    (body-emitted (g.S.Space.message c.args.space.now) rule c.args.level way
+    (body-emitted (g.S.Space.message c.args.space.now) rule c.args.level path
     c.args.start.segment c.args.start.word c.args.size.words c.args.size.slots (BreaksOff
     (outgoing g.W.Write.contents c.args.writer.now c.args.text.now.items)
     (outgoing g.W.Write.contents c.show_words.new.writer c.show_words.new.text.items) _) (BreaksOff
@@ -556,9 +556,9 @@ slots::show_body-returns-in_err-show_words-clause-cut g t c =
 pub slots::show_body-returns-in_err-body_line-clause-cut : goal.slots::show_body-returns-in_err-body_line-clause-cut
 slots::show_body-returns-in_err-body_line-clause-cut g t c =
     let rule = g.E.Emitter.rule c.args.emitter.now in
-    let way = g.E.Emitter.way c.args.emitter.now in
+    let path = g.E.Emitter.path c.args.emitter.now in
     passed c.from_residual.result c.in_err-body_line.field-0.0 _ c.from_residual.ensures.1
-    (body-emitted (g.S.Space.message c.args.space.now) rule c.args.level way
+    (body-emitted (g.S.Space.message c.args.space.now) rule c.args.level path
     c.args.start.segment c.args.start.word c.args.size.words c.args.size.slots (BreaksOff
     (outgoing g.W.Write.contents c.args.writer.now c.args.text.now.items)
     (outgoing g.W.Write.contents c.body_line.new.writer c.body_line.new.text.items) _) (λ y. ⊤) (λ y. ⊤)
@@ -635,63 +635,65 @@ rows::show_rows-show_row-requires g t c κs live =
 
 pub slots::show_found-returns-in-Nil-clause-kept : goal.slots::show_found-returns-in-Nil-clause-kept
 slots::show_found-returns-in-Nil-clause-kept g t c =
-    on_ok_weaker c.plain_line.result (λ h. record { rule = refl; way = refl; of = λ m k. k }) c.plain_line.ensures.shown
+    on_ok_weaker c.plain_line.result (λ h. record { rule = refl; path = refl; of = λ m k. k })
+    c.plain_line.ensures.shown
 
 pub slots::show_found-returns-in-Cap-clause-kept : goal.slots::show_found-returns-in-Cap-clause-kept
 slots::show_found-returns-in-Cap-clause-kept g t c =
-    on_ok_weaker c.named_line.result (λ h. record { rule = refl; way = refl; of = λ m k. k }) c.named_line.ensures.shown
+    on_ok_weaker c.named_line.result (λ h. record { rule = refl; path = refl; of = λ m k. k })
+    c.named_line.ensures.shown
 
 pub slots::show_found-returns-in_default-clause-kept : goal.slots::show_found-returns-in_default-clause-kept
 slots::show_found-returns-in_default-clause-kept g t c =
-    on_ok_weaker c.show_list.result (λ h. record { rule = refl; way = refl; of = λ m k. k }) c.show_list.ensures.shown
+    on_ok_weaker c.show_list.result (λ h. record { rule = refl; path = refl; of = λ m k. k }) c.show_list.ensures.shown
 
 -- ---- the text of a slot
 
 pub slots::show_slot-returns-clause-shown : goal.slots::show_slot-returns-clause-shown
 slots::show_slot-returns-clause-shown g t c =
     let rule = g.E.Emitter.rule c.args.emitter.now in
-    let way = g.E.Emitter.way c.args.emitter.now in
+    let path = g.E.Emitter.path c.args.emitter.now in
     let m = (g.S.Space.message c.args.space.now) in
     let p = (outgoing g.W.Write.contents c.args.writer.now c.args.text.now.items) in
     let q = (outgoing g.W.Write.contents c.put_mark.new.writer c.put_mark.new.text.items) in
     let r = (outgoing g.W.Write.contents c.show_found.new.writer c.show_found.new.text.items) in
     on_ok_weaker c.show_found.result
-    (slot-emitted m rule c.args.level way c.views_show_values.ensures c.args.at
+    (slot-emitted m rule c.args.level path c.views_show_values.ensures c.args.at
     c.in-Ok.found
     (sym c.resolve.ensures.exact ∙ c.in-Ok.is) (Adds p r) (Adds q r)
-    (λ y. both p q r (rule.mark (rule.lies m c.args.at) way) y
-    (otherwise p q _ _ (ap (λ (n : ℕ). rule.mark n way) c.byte_of-byte.ensures.is)
+    (λ y. both p q r (rule.mark (rule.lies m c.args.at) path) y
+    (otherwise p q _ _ (ap (λ (n : ℕ). rule.mark n path) c.byte_of-byte.ensures.is)
     c.in_ok-put_mark.ensures.shown)))
     c.show_found.ensures.shown
 
 pub slots::show_slot-returns-clause-cut : goal.slots::show_slot-returns-clause-cut
 slots::show_slot-returns-clause-cut g t c =
     let rule = g.E.Emitter.rule c.args.emitter.now in
-    let way = g.E.Emitter.way c.args.emitter.now in
+    let path = g.E.Emitter.path c.args.emitter.now in
     let m = (g.S.Space.message c.args.space.now) in
     let p = (outgoing g.W.Write.contents c.args.writer.now c.args.text.now.items) in
     let q = (outgoing g.W.Write.contents c.put_mark.new.writer c.put_mark.new.text.items) in
     let r = (outgoing g.W.Write.contents c.show_found.new.writer c.show_found.new.text.items) in
     IfErr-weaker c.show_found.result _ _
-    (λ e. slot-emitted m rule c.args.level way c.views_show_values.ensures c.args.at
+    (λ e. slot-emitted m rule c.args.level path c.views_show_values.ensures c.args.at
     c.in-Ok.found
     (sym c.resolve.ensures.exact ∙ c.in-Ok.is) (BreaksOff p r e) (BreaksOff q r e)
-    (λ y. then-broken p q r e (rule.mark (rule.lies m c.args.at) way) y
-    (otherwise p q _ _ (ap (λ (n : ℕ). rule.mark n way) c.byte_of-byte.ensures.is)
+    (λ y. then-broken p q r e (rule.mark (rule.lies m c.args.at) path) y
+    (otherwise p q _ _ (ap (λ (n : ℕ). rule.mark n path) c.byte_of-byte.ensures.is)
     c.in_ok-put_mark.ensures.shown)))
     c.show_found.ensures.cut
 
 pub slots::show_slot-returns-in_err-put_mark-clause-cut : goal.slots::show_slot-returns-in_err-put_mark-clause-cut
 slots::show_slot-returns-in_err-put_mark-clause-cut g t c =
     let rule = g.E.Emitter.rule c.args.emitter.now in
-    let way = g.E.Emitter.way c.args.emitter.now in
+    let path = g.E.Emitter.path c.args.emitter.now in
     let m = (g.S.Space.message c.args.space.now) in
     let p = (outgoing g.W.Write.contents c.args.writer.now c.args.text.now.items) in
     let q = (outgoing g.W.Write.contents c.put_mark.new.writer c.put_mark.new.text.items) in
     passed c.from_residual.result c.in_err-put_mark.field-0.0 _ c.from_residual.ensures.1
-    (λ v i. broken-before p q _ (rule.mark (rule.lies m c.args.at) way)
-    (emitted m rule c.args.level way (named_by (target m c.args.at)) v)
-    (otherwise-broken p q _ _ _ (ap (λ (n : ℕ). rule.mark n way) c.byte_of-byte.ensures.is)
+    (λ v i. broken-before p q _ (rule.mark (rule.lies m c.args.at) path)
+    (emitted m rule c.args.level path (named_by (target m c.args.at)) v)
+    (otherwise-broken p q _ _ _ (ap (λ (n : ℕ). rule.mark n path) c.byte_of-byte.ensures.is)
     c.in_err-put_mark.ensures.cut))
 
 -- ---- the text of the slot of a number
@@ -725,7 +727,7 @@ rows::show_below-returns-clause-kept g t c =
     let k = c.in_ok-show_slot.ensures.kept in
     record {
       rule = c.step_back.ensures.rule ∙ k.rule ∙ c.in_ok-step_below.ensures.rule;
-      way = c.step_back.ensures.way ∙ ap₂ take c.way_length-above.ensures k.way ∙ c.in_ok-step_below.ensures.back;
+      path = c.step_back.ensures.path ∙ ap₂ take c.path_length-above.ensures k.path ∙ c.in_ok-step_below.ensures.back;
       of = λ m h. c.step_back.ensures.of m (k.of m (c.in_ok-step_below.ensures.of m h));
     }
 
@@ -771,13 +773,13 @@ rows::show_row-returns-clause-shown g t c =
     let q = (outgoing g.W.Write.contents c.put_mark.new.writer c.put_mark.new.text.items) in
     let r = (outgoing g.W.Write.contents c.show_body.new.writer c.show_body.new.text.items) in
     let rule = g.E.Emitter.rule c.step_below.new.self in
-    let way = g.E.Emitter.way c.step_below.new.self in
+    let path = g.E.Emitter.path c.step_below.new.self in
     let row = struct_at c.args.start.segment c.args.start.word c.args.size.words c.args.size.slots in
     row-moved m c.args.level _ _ c.in_ok-step_below.ensures.rule _ _ c.in_ok-step_below.ensures.below (Adds p r)
     c.args.start.segment c.args.start.word c.args.size.words c.args.size.slots
-    (λ ws ss h. both p q r (rule.mark (rule.lies m (begin row)) way)
-    (emitted_body m rule c.args.level way row ws ss)
-    (otherwise p q _ _ (ap (λ (n : ℕ). rule.mark n way) c.byte_of-byte.ensures.is) c.in_ok-put_mark.ensures.shown)
+    (λ ws ss h. both p q r (rule.mark (rule.lies m (begin row)) path)
+    (emitted_body m rule c.args.level path row ws ss)
+    (otherwise p q _ _ (ap (λ (n : ℕ). rule.mark n path) c.byte_of-byte.ensures.is) c.in_ok-put_mark.ensures.shown)
     (c.in_ok-show_body.ensures.shown ws ss h))
 
 pub rows::show_row-returns-clause-kept : goal.rows::show_row-returns-clause-kept
@@ -785,7 +787,7 @@ rows::show_row-returns-clause-kept g t c =
     let k = c.in_ok-show_body.ensures.kept in
     record {
       rule = c.step_back.ensures.rule ∙ k.rule ∙ c.in_ok-step_below.ensures.rule;
-      way = c.step_back.ensures.way ∙ ap₂ take c.way_length-above.ensures k.way ∙ c.in_ok-step_below.ensures.back;
+      path = c.step_back.ensures.path ∙ ap₂ take c.path_length-above.ensures k.path ∙ c.in_ok-step_below.ensures.back;
       of = λ m h. c.step_back.ensures.of m (k.of m (c.in_ok-step_below.ensures.of m h));
     }
 
@@ -801,16 +803,16 @@ rows::show_row-returns-in_err-put_mark-clause-cut g t c =
     let p = (outgoing g.W.Write.contents c.args.writer.now c.args.text.now.items) in
     let q = (outgoing g.W.Write.contents c.put_mark.new.writer c.put_mark.new.text.items) in
     let rule = g.E.Emitter.rule c.step_below.new.self in
-    let way = g.E.Emitter.way c.step_below.new.self in
+    let path = g.E.Emitter.path c.step_below.new.self in
     let row = struct_at c.args.start.segment c.args.start.word c.args.size.words c.args.size.slots in
     passed c.from_residual-in_err-put_mark.result c.in_err-put_mark.field-0.0 _
     c.from_residual-in_err-put_mark.ensures.1
     (row-moved m c.args.level _ _ c.in_ok-step_below.ensures.rule _ _ c.in_ok-step_below.ensures.below (BreaksOff p q
     c.in_err-put_mark.field-0.0)
     c.args.start.segment c.args.start.word c.args.size.words c.args.size.slots
-    (λ ws ss h. broken-before p q _ (rule.mark (rule.lies m (begin row)) way)
-    (emitted_body m rule c.args.level way row ws ss)
-    (otherwise-broken p q _ _ _ (ap (λ (n : ℕ). rule.mark n way) c.byte_of-byte.ensures.is)
+    (λ ws ss h. broken-before p q _ (rule.mark (rule.lies m (begin row)) path)
+    (emitted_body m rule c.args.level path row ws ss)
+    (otherwise-broken p q _ _ _ (ap (λ (n : ℕ). rule.mark n path) c.byte_of-byte.ensures.is)
     c.in_err-put_mark.ensures.cut)))
 
 pub rows::show_row-returns-in_err-show_body-clause-cut : goal.rows::show_row-returns-in_err-show_body-clause-cut
@@ -820,23 +822,23 @@ rows::show_row-returns-in_err-show_body-clause-cut g t c =
     let q = (outgoing g.W.Write.contents c.put_mark.new.writer c.put_mark.new.text.items) in
     let r = (outgoing g.W.Write.contents c.show_body.new.writer c.show_body.new.text.items) in
     let rule = g.E.Emitter.rule c.step_below.new.self in
-    let way = g.E.Emitter.way c.step_below.new.self in
+    let path = g.E.Emitter.path c.step_below.new.self in
     let row = struct_at c.args.start.segment c.args.start.word c.args.size.words c.args.size.slots in
     passed c.from_residual-in_err-show_body.result c.in_err-show_body.field-0.0 _
     c.from_residual-in_err-show_body.ensures.1
     (row-moved m c.args.level _ _ c.in_ok-step_below.ensures.rule _ _ c.in_ok-step_below.ensures.below (BreaksOff p r
     c.in_err-show_body.field-0.0)
     c.args.start.segment c.args.start.word c.args.size.words c.args.size.slots
-    (λ ws ss h. then-broken p q r _ (rule.mark (rule.lies m (begin row)) way)
-    (emitted_body m rule c.args.level way row ws ss)
-    (otherwise p q _ _ (ap (λ (n : ℕ). rule.mark n way) c.byte_of-byte.ensures.is) c.in_ok-put_mark.ensures.shown)
+    (λ ws ss h. then-broken p q r _ (rule.mark (rule.lies m (begin row)) path)
+    (emitted_body m rule c.args.level path row ws ss)
+    (otherwise p q _ _ (ap (λ (n : ℕ). rule.mark n path) c.byte_of-byte.ensures.is) c.in_ok-put_mark.ensures.shown)
     (c.in_err-show_body.ensures.cut ws ss h)))
 
 -- ---- slots, one after the other
 
 pub rows::show_slots-loop-i-init : goal.rows::show_slots-loop-i-init
 rows::show_slots-loop-i-init g t c = record {
-  kept = record { rule = refl; way = refl; of = λ m h. h };
+  kept = record { rule = refl; path = refl; of = λ m h. h };
   rest = λ ts h n. same
       (outgoing g.W.Write.contents c.args.writer.now c.args.text.now.items);
 }
@@ -844,7 +846,7 @@ rows::show_slots-loop-i-init g t c = record {
 pub rows::show_slots-loop-i-preserved : goal.rows::show_slots-loop-i-preserved
 rows::show_slots-loop-i-preserved g t c =
     let rule = g.E.Emitter.rule c.args.emitter.now in
-    let way = g.E.Emitter.way c.args.emitter.now in
+    let path = g.E.Emitter.path c.args.emitter.now in
     let m = (g.S.Space.message c.args.space.now) in
     let i = c.loop-i.i in
     let lt = c.loop-i-test.true in
@@ -854,28 +856,28 @@ rows::show_slots-loop-i-preserved g t c =
     record {
       kept = let k = c.loop-i.invariant.kept in
           let n = c.in_ok-show_below.ensures.kept in
-          record { rule = n.rule ∙ k.rule; way = n.way ∙ k.way; of = λ m h. n.of m (k.of m h) };
+          record { rule = n.rule ∙ k.rule; path = n.path ∙ k.path; of = λ m h. n.of m (k.of m h) };
       rest = λ ts h n. let below : i < count ts = omega arith in
           let long = length-listed ts in
-          item-more (slot_item m rule c.args.level way (nth c.args.first)) nil p q
+          item-more (slot_item m rule c.args.level path (nth c.args.first)) nil p q
           (listed ts) i r
           (omega arith) (c.loop-i.invariant.rest ts h n)
-          (otherwise q r _ _ (item-is m rule c.args.level way _ _ c.loop-i.invariant.kept.rule
-          c.loop-i.invariant.kept.way (nth c.args.first) ts i) (c.in_ok-show_below.ensures.shown (tree_at ts i)
+          (otherwise q r _ _ (item-is m rule c.args.level path _ _ c.loop-i.invariant.kept.rule
+          c.loop-i.invariant.kept.path (nth c.args.first) ts i) (c.in_ok-show_below.ensures.shown (tree_at ts i)
           (h i below)));
     }
 
 pub rows::show_slots-returns-clause-shown : goal.rows::show_slots-returns-clause-shown
 rows::show_slots-returns-clause-shown g t c ts h n =
     let rule = g.E.Emitter.rule c.args.emitter.now in
-    let way = g.E.Emitter.way c.args.emitter.now in
+    let path = g.E.Emitter.path c.args.emitter.now in
     let m = (g.S.Space.message c.args.space.now) in
     let p = (outgoing g.W.Write.contents c.args.writer.now c.args.text.now.items) in
     let q = (outgoing g.W.Write.contents c.loop-i.writer c.loop-i.text.items) in
     let long = length-listed ts in
     let past = c.loop-i-test.false in
-    otherwise p q _ _ (slots-items m rule c.args.level way (nth c.args.first) 0 ts)
-    (items-all (slot_item m rule c.args.level way (nth c.args.first)) nil p q
+    otherwise p q _ _ (slots-items m rule c.args.level path (nth c.args.first) 0 ts)
+    (items-all (slot_item m rule c.args.level path (nth c.args.first)) nil p q
     (listed ts) c.loop-i.i
     (omega arith) (c.loop-i.invariant.rest ts h n))
 
@@ -883,7 +885,7 @@ pub rows::show_slots-returns-in_err-show_below-clause-cut :
     goal.rows::show_slots-returns-in_err-show_below-clause-cut
 rows::show_slots-returns-in_err-show_below-clause-cut g t c =
     let rule = g.E.Emitter.rule c.args.emitter.now in
-    let way = g.E.Emitter.way c.args.emitter.now in
+    let path = g.E.Emitter.path c.args.emitter.now in
     passed c.from_residual.result c.in_err-show_below.field-0.0 _ c.from_residual.ensures.1
     (λ ts h n. let m = (g.S.Space.message c.args.space.now) in
     let i = c.loop-i.i in
@@ -893,13 +895,13 @@ rows::show_slots-returns-in_err-show_below-clause-cut g t c =
     let r = (outgoing g.W.Write.contents c.show_below.new.writer c.show_below.new.text.items) in
     let below : i < count ts = omega arith in
     let long = length-listed ts in
-    otherwise-broken p r _ _ _ (slots-items m rule c.args.level way (nth c.args.first) 0
+    otherwise-broken p r _ _ _ (slots-items m rule c.args.level path (nth c.args.first) 0
     ts)
-    (item-cut (slot_item m rule c.args.level way (nth c.args.first)) nil p q (listed ts) i
+    (item-cut (slot_item m rule c.args.level path (nth c.args.first)) nil p q (listed ts) i
     r _
     (omega arith) (c.loop-i.invariant.rest ts h n)
-    (otherwise-broken q r _ _ _ (item-is m rule c.args.level way _ _ c.loop-i.invariant.kept.rule
-    c.loop-i.invariant.kept.way (nth c.args.first) ts i) (c.in_err-show_below.ensures.cut (tree_at ts i)
+    (otherwise-broken q r _ _ _ (item-is m rule c.args.level path _ _ c.loop-i.invariant.kept.rule
+    c.loop-i.invariant.kept.path (nth c.args.first) ts i) (c.in_err-show_below.ensures.cut (tree_at ts i)
     (h i below)))))
 
 -- ---- rows, one after the other
@@ -907,14 +909,14 @@ rows::show_slots-returns-in_err-show_below-clause-cut g t c =
 pub rows::show_rows-loop-row-init : goal.rows::show_rows-loop-row-init
 rows::show_rows-loop-row-init g t c = record {
   next = omega arith;
-  kept = record { rule = refl; way = refl; of = λ m h. h };
+  kept = record { rule = refl; path = refl; of = λ m h. h };
   rest = λ bs h n. same (outgoing g.W.Write.contents c.args.writer.now c.args.text.now.items);
 }
 
 pub rows::show_rows-loop-row-preserved : goal.rows::show_rows-loop-row-preserved
 rows::show_rows-loop-row-preserved g t c =
     let rule = g.E.Emitter.rule c.args.emitter.now in
-    let way = g.E.Emitter.way c.args.emitter.now in
+    let path = g.E.Emitter.path c.args.emitter.now in
     let m = (g.S.Space.message c.args.space.now) in
     let s = c.args.first.segment in
     let a = c.args.size.words in
@@ -929,14 +931,14 @@ rows::show_rows-loop-row-preserved g t c =
       next = let d : (i + 1) * (a + b) ≡ i * (a + b) + (a + b) = omega arith in omega arith;
       kept = let k = c.loop-row.invariant.kept in
           let n = c.in_ok-show_row.ensures.kept in
-          record { rule = n.rule ∙ k.rule; way = n.way ∙ k.way; of = λ m h. n.of m (k.of m h) };
+          record { rule = n.rule ∙ k.rule; path = n.path ∙ k.path; of = λ m h. n.of m (k.of m h) };
       rest = λ bs h n. let below : i < count_rows bs = omega arith in
           let long = length-rows_listed bs in
-          item-more (row_item m rule c.args.level way (nth_row c.args.first a b)) no_row p
+          item-more (row_item m rule c.args.level path (nth_row c.args.first a b)) no_row p
           q
           (rows_listed bs) i r (omega arith) (c.loop-row.invariant.rest bs h n)
-          (otherwise q r _ _ (row-is m rule c.args.level way _ _ c.loop-row.invariant.kept.rule
-          c.loop-row.invariant.kept.way c.args.first a b c.loop-row.next bs i next)
+          (otherwise q r _ _ (row-is m rule c.args.level path _ _ c.loop-row.invariant.kept.rule
+          c.loop-row.invariant.kept.path c.args.first a b c.loop-row.next bs i next)
           (c.in_ok-show_row.ensures.shown (words_of_row bs i) (slots_of_row bs i)
           (subst (λ (w : ℕ). ShowsStruct m (struct_at s w a b) (words_of_row bs i) (slots_of_row bs i)) (sym next)
           (h i below))));
@@ -945,15 +947,15 @@ rows::show_rows-loop-row-preserved g t c =
 pub rows::show_rows-returns-clause-shown : goal.rows::show_rows-returns-clause-shown
 rows::show_rows-returns-clause-shown g t c bs h n =
     let rule = g.E.Emitter.rule c.args.emitter.now in
-    let way = g.E.Emitter.way c.args.emitter.now in
+    let path = g.E.Emitter.path c.args.emitter.now in
     let m = (g.S.Space.message c.args.space.now) in
     let p = (outgoing g.W.Write.contents c.args.writer.now c.args.text.now.items) in
     let q = (outgoing g.W.Write.contents c.loop-row.writer c.loop-row.text.items) in
     let long = length-rows_listed bs in
     let past = c.loop-row-test.false in
     let row = nth_row c.args.first c.args.size.words c.args.size.slots in
-    otherwise p q _ _ (rows-items m rule c.args.level way row 0 bs)
-    (items-all (row_item m rule c.args.level way row) no_row p q
+    otherwise p q _ _ (rows-items m rule c.args.level path row 0 bs)
+    (items-all (row_item m rule c.args.level path row) no_row p q
     (rows_listed bs) c.loop-row.row
     (omega arith) (c.loop-row.invariant.rest bs h n))
 
@@ -961,7 +963,7 @@ pub rows::show_rows-returns-in_err-show_row-clause-cut :
     goal.rows::show_rows-returns-in_err-show_row-clause-cut
 rows::show_rows-returns-in_err-show_row-clause-cut g t c =
     let rule = g.E.Emitter.rule c.args.emitter.now in
-    let way = g.E.Emitter.way c.args.emitter.now in
+    let path = g.E.Emitter.path c.args.emitter.now in
     passed c.from_residual.result c.in_err-show_row.field-0.0 _ c.from_residual.ensures.1
     (λ bs h n. let m = (g.S.Space.message c.args.space.now) in
     let s = c.args.first.segment in
@@ -975,13 +977,13 @@ rows::show_rows-returns-in_err-show_row-clause-cut g t c =
     let r = (outgoing g.W.Write.contents c.show_row.new.writer c.show_row.new.text.items) in
     let below : i < count_rows bs = omega arith in
     let long = length-rows_listed bs in
-    otherwise-broken p r _ _ _ (rows-items m rule c.args.level way
+    otherwise-broken p r _ _ _ (rows-items m rule c.args.level path
     (nth_row c.args.first a b) 0 bs)
-    (item-cut (row_item m rule c.args.level way (nth_row c.args.first a b)) no_row p q
+    (item-cut (row_item m rule c.args.level path (nth_row c.args.first a b)) no_row p q
     (rows_listed bs) i r _
     (omega arith) (c.loop-row.invariant.rest bs h n)
-    (otherwise-broken q r _ _ _ (row-is m rule c.args.level way _ _ c.loop-row.invariant.kept.rule
-    c.loop-row.invariant.kept.way c.args.first a b c.loop-row.next bs i next)
+    (otherwise-broken q r _ _ _ (row-is m rule c.args.level path _ _ c.loop-row.invariant.kept.rule
+    c.loop-row.invariant.kept.path c.args.first a b c.loop-row.next bs i next)
     (c.in_err-show_row.ensures.cut (words_of_row bs i) (slots_of_row bs i)
     (subst (λ (w : ℕ). ShowsStruct m (struct_at s w a b) (words_of_row bs i) (slots_of_row bs i)) (sym next)
     (h i below))))))

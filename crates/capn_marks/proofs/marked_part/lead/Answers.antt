@@ -20,7 +20,7 @@ loop-i-init g c =
           at = root;
           found = f;
           value = v;
-          way = w;
+          path = w;
         }))) (ap named_by c.named-found.ensures.is) (sym c.requires.empty),
         c.named-found.ensures.shown v h,
         omega arith,
@@ -46,8 +46,8 @@ loop-i-preserved g c =
             at = c.loop-i.part.at;
             found = c.loop-i.part.found;
             value = x.0;
-            way =
-                c.loop-i.way.items;
+            path =
+                c.loop-i.path.items;
           }) in
           let y = c.in-Some.ensures.there x.0 x.2 in
           let past : i < length numbers = omega arith in
@@ -74,8 +74,8 @@ returns-in-None-clause-there g c v h =
       at = c.loop-i.part.at;
       found = c.loop-i.part.found;
       value = x.0;
-      way =
-          c.loop-i.way.items;
+      path =
+          c.loop-i.path.items;
     }) in
     let past : i < length numbers = omega arith in
     x.1 ∙ led-one m numbers i n p past refl
@@ -92,8 +92,8 @@ returns-clause-there g c v h =
       at = c.loop-i.part.at;
       found = c.loop-i.part.found;
       value = x.0;
-      way =
-          c.loop-i.way.items;
+      path =
+          c.loop-i.path.items;
     }) in
     let past : length numbers ≤ i = omega arith in
     (x.0, x.1 ∙ led-end m numbers i p past, x.2, x.3)

@@ -18,7 +18,7 @@ invariant-loop-i g l = record {
         at = l.part.at;
         found = l.part.found;
         value = u;
-        way = l.way.items;
+        path = l.path.items;
       })))
       × Shows (g.S.Space.message l.space) l.part.found u
       × (height u ≤ height v);

@@ -14,15 +14,15 @@ lead-requires-clause-value g c = (c.requires.ready.value, c.requires.ready.is)
 
 pub mark_led-requires-clause-ready : goal.mark_led-requires-clause-ready
 mark_led-requires-clause-ready g c =
-    led-ready (g.S.Space.message c.args.space.now) c.args.numbers.now c.requires.ready.value c.lead.new.way.items
+    led-ready (g.S.Space.message c.args.space.now) c.args.numbers.now c.requires.ready.value c.lead.new.path.items
     c.args.depth c.in-Ok.found
     (c.in-Ok.ensures.there c.requires.ready.value c.requires.ready.is) c.requires.ready.low
 
 pub returns-in-Ok-clause-shown : goal.returns-in-Ok-clause-shown
 returns-in-Ok-clause-shown g c =
     on_ok_weaker c.mark_led.result
-    (λ k v i. led-marked (g.S.Space.message c.args.space.now) c.args.numbers.now v c.lead.new.way.items c.args.marks.now
-    (Adds (outgoing g.W.Write.contents c.args.writer.now c.args.text.now.items)
+    (λ k v i. led-marked (g.S.Space.message c.args.space.now) c.args.numbers.now v c.lead.new.path.items
+    c.args.marks.now (Adds (outgoing g.W.Write.contents c.args.writer.now c.args.text.now.items)
     (outgoing g.W.Write.contents c.mark_led.new.writer c.mark_led.new.text.items)) c.in-Ok.found
     (c.in-Ok.ensures.there v i) k)
     c.mark_led.ensures.shown
@@ -30,7 +30,7 @@ returns-in-Ok-clause-shown g c =
 pub returns-in-Ok-clause-cut : goal.returns-in-Ok-clause-cut
 returns-in-Ok-clause-cut g c =
     IfErr-weaker c.mark_led.result _ _
-    (λ e k v i. led-marked (g.S.Space.message c.args.space.now) c.args.numbers.now v c.lead.new.way.items
+    (λ e k v i. led-marked (g.S.Space.message c.args.space.now) c.args.numbers.now v c.lead.new.path.items
     c.args.marks.now
     (BreaksOff (outgoing g.W.Write.contents c.args.writer.now c.args.text.now.items)
     (outgoing g.W.Write.contents c.mark_led.new.writer c.mark_led.new.text.items) e)

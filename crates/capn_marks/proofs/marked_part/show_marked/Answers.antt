@@ -21,7 +21,7 @@ pub returns-in-Err-clause-refused : goal.returns-in-Err-clause-refused
 returns-in-Err-clause-refused g c =
     let f = c.in_ok-survey.ensures.found in
     unwritten (g.S.Space.message c.args.message.now) c.args.limits (marked_at
-    (g.S.Space.message c.args.message.now) c.args.marks c.args.way.now)
+    (g.S.Space.message c.args.message.now) c.args.marks c.args.path.now)
     (outgoing g.W.Write.contents c.args.writer.now c.args.text.now.items)
     (outgoing g.W.Write.contents c.mark_part.new.writer c.mark_part.new.text.items) c.in-Err.broken
     c.fault_of.result c.fault_of.ensures

@@ -10,7 +10,7 @@ use Rattle.capn_show.proofs.bytes.show_digits.Goals as goal
 pub returns-clause-shown : goal.returns-clause-shown
 returns-clause-shown g c =
     let rule = g.E.Emitter.rule c.args.emitter.now in
-    let way = g.E.Emitter.way c.args.emitter.now in
+    let path = g.E.Emitter.path c.args.emitter.now in
     let lies = rule.lies (g.S.Space.message c.args.space.now) c.args.start in
     let p = (outgoing g.W.Write.contents c.args.writer.now c.args.text.now.items) in
     let q = (outgoing g.W.Write.contents c.named_line.new.writer c.named_line.new.text.items) in
@@ -18,16 +18,16 @@ returns-clause-shown g c =
     on_ok_weaker c.show_bytes.result
     (λ k xs h n. otherwise p r _ _
     (ap (λ (j : ℕ). line c.args.level (named (codes "bytes") j) ++ emitted_digits rule
-    (c.args.level + 1) way lies (length xs) (encode_lower xs)) (sym n))
+    (c.args.level + 1) path lies (length xs) (encode_lower xs)) (sym n))
     (both p q r (line c.args.level (named (codes "bytes") c.args.count))
-    (emitted_digits rule (c.args.level + 1) way lies (length xs) (encode_lower xs))
+    (emitted_digits rule (c.args.level + 1) path lies (length xs) (encode_lower xs))
     c.in_ok-named_line.ensures.shown (k xs h n)))
     c.show_bytes.ensures.shown
 
 pub returns-clause-cut : goal.returns-clause-cut
 returns-clause-cut g c =
     let rule = g.E.Emitter.rule c.args.emitter.now in
-    let way = g.E.Emitter.way c.args.emitter.now in
+    let path = g.E.Emitter.path c.args.emitter.now in
     let lies = rule.lies (g.S.Space.message c.args.space.now) c.args.start in
     let p = (outgoing g.W.Write.contents c.args.writer.now c.args.text.now.items) in
     let q = (outgoing g.W.Write.contents c.named_line.new.writer c.named_line.new.text.items) in
@@ -35,23 +35,23 @@ returns-clause-cut g c =
     IfErr-weaker c.show_bytes.result _ _
     (λ e k xs h n. otherwise-broken p r e _ _
     (ap (λ (j : ℕ). line c.args.level (named (codes "bytes") j) ++ emitted_digits rule
-    (c.args.level + 1) way lies (length xs) (encode_lower xs)) (sym n))
+    (c.args.level + 1) path lies (length xs) (encode_lower xs)) (sym n))
     (then-broken p q r e (line c.args.level (named (codes "bytes") c.args.count))
-    (emitted_digits rule (c.args.level + 1) way lies (length xs) (encode_lower xs))
+    (emitted_digits rule (c.args.level + 1) path lies (length xs) (encode_lower xs))
     c.in_ok-named_line.ensures.shown (k xs h n)))
     c.show_bytes.ensures.cut
 
 pub returns-in_err-named_line-clause-cut : goal.returns-in_err-named_line-clause-cut
 returns-in_err-named_line-clause-cut g c =
     let rule = g.E.Emitter.rule c.args.emitter.now in
-    let way = g.E.Emitter.way c.args.emitter.now in
+    let path = g.E.Emitter.path c.args.emitter.now in
     let lies = rule.lies (g.S.Space.message c.args.space.now) c.args.start in
     passed c.from_residual.result c.in_err-named_line.field-0.0 _ c.from_residual.ensures.1
     (λ xs h n. let p = (outgoing g.W.Write.contents c.args.writer.now c.args.text.now.items) in
     let q = (outgoing g.W.Write.contents c.named_line.new.writer c.named_line.new.text.items) in
     otherwise-broken p q _ _ _
     (ap (λ (j : ℕ). line c.args.level (named (codes "bytes") j) ++ emitted_digits rule
-    (c.args.level + 1) way lies (length xs) (encode_lower xs)) (sym n))
+    (c.args.level + 1) path lies (length xs) (encode_lower xs)) (sym n))
     (broken-before p q _ (line c.args.level (named (codes "bytes") c.args.count))
-    (emitted_digits rule (c.args.level + 1) way lies (length xs) (encode_lower xs))
+    (emitted_digits rule (c.args.level + 1) path lies (length xs) (encode_lower xs))
     c.in_err-named_line.ensures.cut))

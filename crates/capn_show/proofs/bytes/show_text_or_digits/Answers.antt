@@ -7,22 +7,22 @@ use Rattle.capn_show.proofs.shared.ReadBytes.{read-bytes}
 use Rattle.capn_show.proofs.shared.Appended.{otherwise, otherwise-broken}
 use Rattle.capn_show.proofs.bytes.show_text_or_digits.Goals as goal
 
-module _ (rule : Rule) (level : ℕ) (way : List ℕ) (first : ℕ) (bs xs : List ℕ) (e : bs ≡ xs) where
+module _ (rule : Rule) (level : ℕ) (path : List ℕ) (first : ℕ) (bs xs : List ℕ) (e : bs ≡ xs) where
   -- the lines of a list, by the answer whether the bytes that were read are a text
-  text-lines : is_text bs ≡ true → quoted_line level bs ≡ text_or_digits rule level way first xs
+  text-lines : is_text bs ≡ true → quoted_line level bs ≡ text_or_digits rule level path first xs
   text-lines t =
-      ap (λ (b : Bool). if b then quoted_line level bs else digit_lines rule level way first bs) (sym t)
-      ∙ ap (text_or_digits rule level way first) e
+      ap (λ (b : Bool). if b then quoted_line level bs else digit_lines rule level path first bs) (sym t)
+      ∙ ap (text_or_digits rule level path first) e
 
-  digit-lines : is_text bs ≡ false → digit_lines rule level way first xs ≡ text_or_digits rule level way first xs
+  digit-lines : is_text bs ≡ false → digit_lines rule level path first xs ≡ text_or_digits rule level path first xs
   digit-lines t =
-      ap (λ (b : Bool). if b then quoted_line level xs else digit_lines rule level way first xs)
+      ap (λ (b : Bool). if b then quoted_line level xs else digit_lines rule level path first xs)
       (sym t ∙ ap is_text e)
 
 pub returns-then-is_text-clause-shown : goal.returns-then-is_text-clause-shown
 returns-then-is_text-clause-shown g c =
     let rule = g.E.Emitter.rule c.args.emitter.now in
-    let way = g.E.Emitter.way c.args.emitter.now in
+    let path = g.E.Emitter.path c.args.emitter.now in
     let lies = rule.lies (g.S.Space.message c.args.space.now) c.args.start in
     let m = g.S.Space.message c.args.space.now in
     let bs = c.bytes-bytes.result.now in
@@ -31,14 +31,14 @@ returns-then-is_text-clause-shown g c =
     let within = c.requires.content.within in
     on_ok_weaker c.show_quoted.result
     (λ k xs h n. let same = read-bytes m c.args.start c.args.count bs xs c.bytes-bytes.ensures (omega arith) h n in
-    otherwise p q _ _ (text-lines rule c.args.level way lies bs xs same
+    otherwise p q _ _ (text-lines rule c.args.level path lies bs xs same
     (sym c.is_text.ensures ∙ c.if-is_text.true)) k)
     c.show_quoted.ensures.shown
 
 pub returns-then-is_text-clause-cut : goal.returns-then-is_text-clause-cut
 returns-then-is_text-clause-cut g c =
     let rule = g.E.Emitter.rule c.args.emitter.now in
-    let way = g.E.Emitter.way c.args.emitter.now in
+    let path = g.E.Emitter.path c.args.emitter.now in
     let lies = rule.lies (g.S.Space.message c.args.space.now) c.args.start in
     let m = g.S.Space.message c.args.space.now in
     let bs = c.bytes-bytes.result.now in
@@ -47,14 +47,14 @@ returns-then-is_text-clause-cut g c =
     let within = c.requires.content.within in
     IfErr-weaker c.show_quoted.result _ _
     (λ e k xs h n. let same = read-bytes m c.args.start c.args.count bs xs c.bytes-bytes.ensures (omega arith) h n in
-    otherwise-broken p q e _ _ (text-lines rule c.args.level way lies bs xs same
+    otherwise-broken p q e _ _ (text-lines rule c.args.level path lies bs xs same
     (sym c.is_text.ensures ∙ c.if-is_text.true)) k)
     c.show_quoted.ensures.cut
 
 pub returns-else-is_text-clause-shown : goal.returns-else-is_text-clause-shown
 returns-else-is_text-clause-shown g c =
     let rule = g.E.Emitter.rule c.args.emitter.now in
-    let way = g.E.Emitter.way c.args.emitter.now in
+    let path = g.E.Emitter.path c.args.emitter.now in
     let lies = rule.lies (g.S.Space.message c.args.space.now) c.args.start in
     let m = g.S.Space.message c.args.space.now in
     let bs = c.bytes-bytes.result.now in
@@ -63,14 +63,14 @@ returns-else-is_text-clause-shown g c =
     let within = c.requires.content.within in
     on_ok_weaker c.show_digits.result
     (λ k xs h n. let same = read-bytes m c.args.start c.args.count bs xs c.bytes-bytes.ensures (omega arith) h n in
-    otherwise p q _ _ (digit-lines rule c.args.level way lies bs xs same
+    otherwise p q _ _ (digit-lines rule c.args.level path lies bs xs same
     (sym c.is_text.ensures ∙ c.if-is_text.false)) (k xs h n))
     c.show_digits.ensures.shown
 
 pub returns-else-is_text-clause-cut : goal.returns-else-is_text-clause-cut
 returns-else-is_text-clause-cut g c =
     let rule = g.E.Emitter.rule c.args.emitter.now in
-    let way = g.E.Emitter.way c.args.emitter.now in
+    let path = g.E.Emitter.path c.args.emitter.now in
     let lies = rule.lies (g.S.Space.message c.args.space.now) c.args.start in
     let m = g.S.Space.message c.args.space.now in
     let bs = c.bytes-bytes.result.now in
@@ -79,7 +79,7 @@ returns-else-is_text-clause-cut g c =
     let within = c.requires.content.within in
     IfErr-weaker c.show_digits.result _ _
     (λ e k xs h n. let same = read-bytes m c.args.start c.args.count bs xs c.bytes-bytes.ensures (omega arith) h n in
-    otherwise-broken p q e _ _ (digit-lines rule c.args.level way lies bs xs same
+    otherwise-broken p q e _ _ (digit-lines rule c.args.level path lies bs xs same
     (sym c.is_text.ensures ∙ c.if-is_text.false))
     (k xs h n))
     c.show_digits.ensures.cut

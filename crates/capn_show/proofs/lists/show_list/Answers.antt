@@ -10,9 +10,9 @@ use Rattle.capn_show.proofs.lists.show_list.Goals as goal
 pub returns-in-W0-clause-shown : goal.returns-in-W0-clause-shown
 returns-in-W0-clause-shown g c =
     let rule = g.E.Emitter.rule c.args.emitter.now in
-    let way = g.E.Emitter.way c.args.emitter.now in
+    let path = g.E.Emitter.path c.args.emitter.now in
     on_ok_weaker c.named_line.result
-    (voids-emitted (g.S.Space.message c.args.space.now) rule c.args.level way c.args.start.segment
+    (voids-emitted (g.S.Space.message c.args.space.now) rule c.args.level path c.args.start.segment
     c.args.start.word c.args.count c.args.width (Adds (outgoing g.W.Write.contents c.args.writer.now
     c.args.text.now.items)
     (outgoing g.W.Write.contents c.named_line.new.writer c.named_line.new.text.items)) c.in-W0.is)
@@ -21,9 +21,9 @@ returns-in-W0-clause-shown g c =
 pub returns-in-W0-clause-cut : goal.returns-in-W0-clause-cut
 returns-in-W0-clause-cut g c =
     let rule = g.E.Emitter.rule c.args.emitter.now in
-    let way = g.E.Emitter.way c.args.emitter.now in
+    let path = g.E.Emitter.path c.args.emitter.now in
     IfErr-weaker c.named_line.result _ _
-    (λ e. voids-emitted (g.S.Space.message c.args.space.now) rule c.args.level way
+    (λ e. voids-emitted (g.S.Space.message c.args.space.now) rule c.args.level path
     c.args.start.segment c.args.start.word c.args.count c.args.width (BreaksOff
     (outgoing g.W.Write.contents c.args.writer.now c.args.text.now.items)
     (outgoing g.W.Write.contents c.named_line.new.writer c.named_line.new.text.items) e) c.in-W0.is)
@@ -32,9 +32,9 @@ returns-in-W0-clause-cut g c =
 pub returns-in_ok-named_line-in-W1-clause-shown : goal.returns-in_ok-named_line-in-W1-clause-shown
 returns-in_ok-named_line-in-W1-clause-shown g c =
     let rule = g.E.Emitter.rule c.args.emitter.now in
-    let way = g.E.Emitter.way c.args.emitter.now in
+    let path = g.E.Emitter.path c.args.emitter.now in
     on_ok_weaker c.show_bits.result
-    (bits-emitted (g.S.Space.message c.args.space.now) rule c.args.level way c.args.start.segment
+    (bits-emitted (g.S.Space.message c.args.space.now) rule c.args.level path c.args.start.segment
     c.args.start.word c.args.count c.args.width (Adds (outgoing g.W.Write.contents c.args.writer.now
     c.args.text.now.items)
     (outgoing g.W.Write.contents c.show_bits.new.writer c.show_bits.new.text.items)) (Adds
@@ -50,9 +50,9 @@ returns-in_ok-named_line-in-W1-clause-shown g c =
 pub returns-in_ok-named_line-in-W1-clause-cut : goal.returns-in_ok-named_line-in-W1-clause-cut
 returns-in_ok-named_line-in-W1-clause-cut g c =
     let rule = g.E.Emitter.rule c.args.emitter.now in
-    let way = g.E.Emitter.way c.args.emitter.now in
+    let path = g.E.Emitter.path c.args.emitter.now in
     IfErr-weaker c.show_bits.result _ _
-    (λ e. bits-emitted (g.S.Space.message c.args.space.now) rule c.args.level way
+    (λ e. bits-emitted (g.S.Space.message c.args.space.now) rule c.args.level path
     c.args.start.segment c.args.start.word c.args.count c.args.width (BreaksOff
     (outgoing g.W.Write.contents c.args.writer.now c.args.text.now.items)
     (outgoing g.W.Write.contents c.show_bits.new.writer c.show_bits.new.text.items) e) (BreaksOff
@@ -67,9 +67,9 @@ returns-in_ok-named_line-in-W1-clause-cut g c =
 pub returns-in_err-named_line-in-W1-clause-cut : goal.returns-in_err-named_line-in-W1-clause-cut
 returns-in_err-named_line-in-W1-clause-cut g c =
     let rule = g.E.Emitter.rule c.args.emitter.now in
-    let way = g.E.Emitter.way c.args.emitter.now in
+    let path = g.E.Emitter.path c.args.emitter.now in
     passed c.from_residual.result c.in_err-named_line-in-W1.field-0.0 _ c.from_residual.ensures.1
-    (bits-emitted (g.S.Space.message c.args.space.now) rule c.args.level way c.args.start.segment
+    (bits-emitted (g.S.Space.message c.args.space.now) rule c.args.level path c.args.start.segment
     c.args.start.word c.args.count c.args.width (BreaksOff (outgoing g.W.Write.contents c.args.writer.now
     c.args.text.now.items)
     (outgoing g.W.Write.contents c.named_line-in-W1.new.writer c.named_line-in-W1.new.text.items) _) (λ y. ⊤) c.in-W1.is
@@ -80,9 +80,9 @@ returns-in_err-named_line-in-W1-clause-cut g c =
 pub returns-in-W8-clause-shown : goal.returns-in-W8-clause-shown
 returns-in-W8-clause-shown g c =
     let rule = g.E.Emitter.rule c.args.emitter.now in
-    let way = g.E.Emitter.way c.args.emitter.now in
+    let path = g.E.Emitter.path c.args.emitter.now in
     on_ok_weaker c.show_byte_list.result
-    (bytes-emitted (g.S.Space.message c.args.space.now) rule c.args.level way c.args.start.segment
+    (bytes-emitted (g.S.Space.message c.args.space.now) rule c.args.level path c.args.start.segment
     c.args.start.word c.args.count c.args.width (Adds (outgoing g.W.Write.contents c.args.writer.now
     c.args.text.now.items)
     (outgoing g.W.Write.contents c.show_byte_list.new.writer c.show_byte_list.new.text.items)) c.in-W8.is)
@@ -91,9 +91,9 @@ returns-in-W8-clause-shown g c =
 pub returns-in-W8-clause-cut : goal.returns-in-W8-clause-cut
 returns-in-W8-clause-cut g c =
     let rule = g.E.Emitter.rule c.args.emitter.now in
-    let way = g.E.Emitter.way c.args.emitter.now in
+    let path = g.E.Emitter.path c.args.emitter.now in
     IfErr-weaker c.show_byte_list.result _ _
-    (λ e. bytes-emitted (g.S.Space.message c.args.space.now) rule c.args.level way
+    (λ e. bytes-emitted (g.S.Space.message c.args.space.now) rule c.args.level path
     c.args.start.segment c.args.start.word c.args.count c.args.width (BreaksOff
     (outgoing g.W.Write.contents c.args.writer.now c.args.text.now.items)
     (outgoing g.W.Write.contents c.show_byte_list.new.writer c.show_byte_list.new.text.items) e) c.in-W8.is)
@@ -102,9 +102,9 @@ returns-in-W8-clause-cut g c =
 pub returns-in_ok-named_line-in-W16-clause-shown : goal.returns-in_ok-named_line-in-W16-clause-shown
 returns-in_ok-named_line-in-W16-clause-shown g c =
     let rule = g.E.Emitter.rule c.args.emitter.now in
-    let way = g.E.Emitter.way c.args.emitter.now in
+    let path = g.E.Emitter.path c.args.emitter.now in
     on_ok_weaker c.show_numbers.result
-    (numbers-emitted (g.S.Space.message c.args.space.now) rule c.args.level way
+    (numbers-emitted (g.S.Space.message c.args.space.now) rule c.args.level path
     c.args.start.segment
     c.args.start.word c.args.count c.args.width (Adds (outgoing g.W.Write.contents c.args.writer.now
     c.args.text.now.items)
@@ -121,9 +121,9 @@ returns-in_ok-named_line-in-W16-clause-shown g c =
 pub returns-in_ok-named_line-in-W16-clause-cut : goal.returns-in_ok-named_line-in-W16-clause-cut
 returns-in_ok-named_line-in-W16-clause-cut g c =
     let rule = g.E.Emitter.rule c.args.emitter.now in
-    let way = g.E.Emitter.way c.args.emitter.now in
+    let path = g.E.Emitter.path c.args.emitter.now in
     IfErr-weaker c.show_numbers.result _ _
-    (λ e. numbers-emitted (g.S.Space.message c.args.space.now) rule c.args.level way
+    (λ e. numbers-emitted (g.S.Space.message c.args.space.now) rule c.args.level path
     c.args.start.segment c.args.start.word c.args.count c.args.width (BreaksOff
     (outgoing g.W.Write.contents c.args.writer.now c.args.text.now.items)
     (outgoing g.W.Write.contents c.show_numbers.new.writer c.show_numbers.new.text.items) e) (BreaksOff
@@ -139,10 +139,10 @@ returns-in_ok-named_line-in-W16-clause-cut g c =
 pub returns-in_err-named_line-in-W16-clause-cut : goal.returns-in_err-named_line-in-W16-clause-cut
 returns-in_err-named_line-in-W16-clause-cut g c =
     let rule = g.E.Emitter.rule c.args.emitter.now in
-    let way = g.E.Emitter.way c.args.emitter.now in
+    let path = g.E.Emitter.path c.args.emitter.now in
     passed c.from_residual-in_err-named_line-in-W16.result c.in_err-named_line-in-W16.field-0.0 _
     c.from_residual-in_err-named_line-in-W16.ensures.1
-    (numbers-emitted (g.S.Space.message c.args.space.now) rule c.args.level way
+    (numbers-emitted (g.S.Space.message c.args.space.now) rule c.args.level path
     c.args.start.segment
     c.args.start.word c.args.count c.args.width (BreaksOff (outgoing g.W.Write.contents c.args.writer.now
     c.args.text.now.items)
@@ -157,9 +157,9 @@ returns-in_err-named_line-in-W16-clause-cut g c =
 pub returns-in_ok-named_line-in-W32-clause-shown : goal.returns-in_ok-named_line-in-W32-clause-shown
 returns-in_ok-named_line-in-W32-clause-shown g c =
     let rule = g.E.Emitter.rule c.args.emitter.now in
-    let way = g.E.Emitter.way c.args.emitter.now in
+    let path = g.E.Emitter.path c.args.emitter.now in
     on_ok_weaker c.show_numbers-in-W32.result
-    (numbers-emitted (g.S.Space.message c.args.space.now) rule c.args.level way
+    (numbers-emitted (g.S.Space.message c.args.space.now) rule c.args.level path
     c.args.start.segment
     c.args.start.word c.args.count c.args.width (Adds (outgoing g.W.Write.contents c.args.writer.now
     c.args.text.now.items)
@@ -176,9 +176,9 @@ returns-in_ok-named_line-in-W32-clause-shown g c =
 pub returns-in_ok-named_line-in-W32-clause-cut : goal.returns-in_ok-named_line-in-W32-clause-cut
 returns-in_ok-named_line-in-W32-clause-cut g c =
     let rule = g.E.Emitter.rule c.args.emitter.now in
-    let way = g.E.Emitter.way c.args.emitter.now in
+    let path = g.E.Emitter.path c.args.emitter.now in
     IfErr-weaker c.show_numbers-in-W32.result _ _
-    (λ e. numbers-emitted (g.S.Space.message c.args.space.now) rule c.args.level way
+    (λ e. numbers-emitted (g.S.Space.message c.args.space.now) rule c.args.level path
     c.args.start.segment c.args.start.word c.args.count c.args.width (BreaksOff
     (outgoing g.W.Write.contents c.args.writer.now c.args.text.now.items)
     (outgoing g.W.Write.contents c.show_numbers-in-W32.new.writer c.show_numbers-in-W32.new.text.items) e) (BreaksOff
@@ -194,10 +194,10 @@ returns-in_ok-named_line-in-W32-clause-cut g c =
 pub returns-in_err-named_line-in-W32-clause-cut : goal.returns-in_err-named_line-in-W32-clause-cut
 returns-in_err-named_line-in-W32-clause-cut g c =
     let rule = g.E.Emitter.rule c.args.emitter.now in
-    let way = g.E.Emitter.way c.args.emitter.now in
+    let path = g.E.Emitter.path c.args.emitter.now in
     passed c.from_residual-in_err-named_line-in-W32.result c.in_err-named_line-in-W32.field-0.0 _
     c.from_residual-in_err-named_line-in-W32.ensures.1
-    (numbers-emitted (g.S.Space.message c.args.space.now) rule c.args.level way
+    (numbers-emitted (g.S.Space.message c.args.space.now) rule c.args.level path
     c.args.start.segment
     c.args.start.word c.args.count c.args.width (BreaksOff (outgoing g.W.Write.contents c.args.writer.now
     c.args.text.now.items)
@@ -212,9 +212,9 @@ returns-in_err-named_line-in-W32-clause-cut g c =
 pub returns-in_ok-named_line-in-W64-clause-shown : goal.returns-in_ok-named_line-in-W64-clause-shown
 returns-in_ok-named_line-in-W64-clause-shown g c =
     let rule = g.E.Emitter.rule c.args.emitter.now in
-    let way = g.E.Emitter.way c.args.emitter.now in
+    let path = g.E.Emitter.path c.args.emitter.now in
     on_ok_weaker c.show_numbers-in-W64.result
-    (numbers-emitted (g.S.Space.message c.args.space.now) rule c.args.level way
+    (numbers-emitted (g.S.Space.message c.args.space.now) rule c.args.level path
     c.args.start.segment
     c.args.start.word c.args.count c.args.width (Adds (outgoing g.W.Write.contents c.args.writer.now
     c.args.text.now.items)
@@ -231,9 +231,9 @@ returns-in_ok-named_line-in-W64-clause-shown g c =
 pub returns-in_ok-named_line-in-W64-clause-cut : goal.returns-in_ok-named_line-in-W64-clause-cut
 returns-in_ok-named_line-in-W64-clause-cut g c =
     let rule = g.E.Emitter.rule c.args.emitter.now in
-    let way = g.E.Emitter.way c.args.emitter.now in
+    let path = g.E.Emitter.path c.args.emitter.now in
     IfErr-weaker c.show_numbers-in-W64.result _ _
-    (λ e. numbers-emitted (g.S.Space.message c.args.space.now) rule c.args.level way
+    (λ e. numbers-emitted (g.S.Space.message c.args.space.now) rule c.args.level path
     c.args.start.segment c.args.start.word c.args.count c.args.width (BreaksOff
     (outgoing g.W.Write.contents c.args.writer.now c.args.text.now.items)
     (outgoing g.W.Write.contents c.show_numbers-in-W64.new.writer c.show_numbers-in-W64.new.text.items) e) (BreaksOff
@@ -249,10 +249,10 @@ returns-in_ok-named_line-in-W64-clause-cut g c =
 pub returns-in_err-named_line-in-W64-clause-cut : goal.returns-in_err-named_line-in-W64-clause-cut
 returns-in_err-named_line-in-W64-clause-cut g c =
     let rule = g.E.Emitter.rule c.args.emitter.now in
-    let way = g.E.Emitter.way c.args.emitter.now in
+    let path = g.E.Emitter.path c.args.emitter.now in
     passed c.from_residual-in_err-named_line-in-W64.result c.in_err-named_line-in-W64.field-0.0 _
     c.from_residual-in_err-named_line-in-W64.ensures.1
-    (numbers-emitted (g.S.Space.message c.args.space.now) rule c.args.level way
+    (numbers-emitted (g.S.Space.message c.args.space.now) rule c.args.level path
     c.args.start.segment
     c.args.start.word c.args.count c.args.width (BreaksOff (outgoing g.W.Write.contents c.args.writer.now
     c.args.text.now.items)

@@ -14,7 +14,7 @@ loop-i-init g c xs h n = same (outgoing g.W.Write.contents c.args.writer.now c.a
 pub loop-i-preserved : goal.loop-i-preserved
 loop-i-preserved g c xs h n =
     let rule = g.E.Emitter.rule c.args.emitter.now in
-    let way = g.E.Emitter.way c.args.emitter.now in
+    let path = g.E.Emitter.path c.args.emitter.now in
     let lies = rule.lies (g.S.Space.message c.args.space.now) c.args.start in
     let i = c.loop-i.i in
     let below : i < length xs = omega arith in
@@ -22,9 +22,9 @@ loop-i-preserved g c xs h n =
     let q = (outgoing g.W.Write.contents c.loop-i.writer c.loop-i.text.items) in
     let r = (outgoing g.W.Write.contents c.show_number.new.writer c.show_number.new.text.items) in
     item-more (line_item rule (8 / seen.per_word c.args.width)
-    (number_line c.args.level) way lies) 0 p q xs i r below
+    (number_line c.args.level) path lies) 0 p q xs i r below
     (c.loop-i.invariant xs h n)
-    (otherwise q r _ _ (ap₂ (λ (k x : ℕ). rule.mark k way ++ number_line c.args.level x)
+    (otherwise q r _ _ (ap₂ (λ (k x : ℕ). rule.mark k path ++ number_line c.args.level x)
     (ap₂ (λ (f k : ℕ). f + i * k) c.byte_of-first.ensures.is c.element_bytes-size.ensures.is)
     (c.number_at-number.ensures
     ∙ h i below)) c.in_ok-show_number.ensures.shown)
@@ -32,21 +32,21 @@ loop-i-preserved g c xs h n =
 pub returns-clause-shown : goal.returns-clause-shown
 returns-clause-shown g c xs h n =
     let rule = g.E.Emitter.rule c.args.emitter.now in
-    let way = g.E.Emitter.way c.args.emitter.now in
+    let path = g.E.Emitter.path c.args.emitter.now in
     let lies = rule.lies (g.S.Space.message c.args.space.now) c.args.start in
     let p = (outgoing g.W.Write.contents c.args.writer.now c.args.text.now.items) in
     let q = (outgoing g.W.Write.contents c.loop-i.writer c.loop-i.text.items) in
     otherwise p q _ _
     (lines-items rule (8 / seen.per_word c.args.width)
-    (number_line c.args.level) way lies xs)
+    (number_line c.args.level) path lies xs)
     (items-all (line_item rule (8 / seen.per_word c.args.width)
-    (number_line c.args.level) way lies) 0 p q xs c.loop-i.i (omega arith)
+    (number_line c.args.level) path lies) 0 p q xs c.loop-i.i (omega arith)
     (c.loop-i.invariant xs h n))
 
 pub returns-in_err-show_number-clause-cut : goal.returns-in_err-show_number-clause-cut
 returns-in_err-show_number-clause-cut g c =
     let rule = g.E.Emitter.rule c.args.emitter.now in
-    let way = g.E.Emitter.way c.args.emitter.now in
+    let path = g.E.Emitter.path c.args.emitter.now in
     let lies = rule.lies (g.S.Space.message c.args.space.now) c.args.start in
     passed c.from_residual.result c.in_err-show_number.field-0.0 _ c.from_residual.ensures.1
     (λ xs h n. let i = c.loop-i.i in
@@ -56,10 +56,10 @@ returns-in_err-show_number-clause-cut g c =
     let r = (outgoing g.W.Write.contents c.show_number.new.writer c.show_number.new.text.items) in
     otherwise-broken p r _ _ _
     (lines-items rule (8 / seen.per_word c.args.width)
-    (number_line c.args.level) way lies xs)
+    (number_line c.args.level) path lies xs)
     (item-cut (line_item rule (8 / seen.per_word c.args.width)
-    (number_line c.args.level) way lies) 0 p q xs i r _ below (c.loop-i.invariant xs h n)
-    (otherwise-broken q r _ _ _ (ap₂ (λ (k x : ℕ). rule.mark k way ++ number_line c.args.level x)
+    (number_line c.args.level) path lies) 0 p q xs i r _ below (c.loop-i.invariant xs h n)
+    (otherwise-broken q r _ _ _ (ap₂ (λ (k x : ℕ). rule.mark k path ++ number_line c.args.level x)
     (ap₂ (λ (f k : ℕ). f + i * k) c.byte_of-first.ensures.is c.element_bytes-size.ensures.is)
     (c.number_at-number.ensures
     ∙ h i below)) c.in_err-show_number.ensures.cut)))

@@ -7,32 +7,32 @@ use Rattle.capn_show.proofs.numbers.show_word.Goals as goal
 pub returns-clause-shown : goal.returns-clause-shown
 returns-clause-shown g c =
     let rule = g.E.Emitter.rule c.args.emitter.now in
-    let way = g.E.Emitter.way c.args.emitter.now in
+    let path = g.E.Emitter.path c.args.emitter.now in
     ok-then (outgoing g.W.Write.contents c.args.writer.now c.args.text.now.items)
     (outgoing g.W.Write.contents c.put_mark.new.writer c.put_mark.new.text.items)
     (outgoing g.W.Write.contents c.word_line.new.writer c.word_line.new.text.items)
-    (rule.mark c.args.byte way)
+    (rule.mark c.args.byte path)
     (word_line c.args.level c.args.word)
     c.in_ok-put_mark.ensures.shown c.word_line.result c.word_line.ensures.shown
 
 pub returns-clause-cut : goal.returns-clause-cut
 returns-clause-cut g c =
     let rule = g.E.Emitter.rule c.args.emitter.now in
-    let way = g.E.Emitter.way c.args.emitter.now in
+    let path = g.E.Emitter.path c.args.emitter.now in
     err-then (outgoing g.W.Write.contents c.args.writer.now c.args.text.now.items)
     (outgoing g.W.Write.contents c.put_mark.new.writer c.put_mark.new.text.items)
     (outgoing g.W.Write.contents c.word_line.new.writer c.word_line.new.text.items)
-    (rule.mark c.args.byte way)
+    (rule.mark c.args.byte path)
     (word_line c.args.level c.args.word)
     c.in_ok-put_mark.ensures.shown c.word_line.result c.word_line.ensures.cut
 
 pub returns-in_err-put_mark-clause-cut : goal.returns-in_err-put_mark-clause-cut
 returns-in_err-put_mark-clause-cut g c =
     let rule = g.E.Emitter.rule c.args.emitter.now in
-    let way = g.E.Emitter.way c.args.emitter.now in
+    let path = g.E.Emitter.path c.args.emitter.now in
     passed c.from_residual.result c.in_err-put_mark.field-0.0 _ c.from_residual.ensures.1
     (broken-before (outgoing g.W.Write.contents c.args.writer.now c.args.text.now.items)
     (outgoing g.W.Write.contents c.put_mark.new.writer c.put_mark.new.text.items) _
-    (rule.mark c.args.byte way)
+    (rule.mark c.args.byte path)
     (word_line c.args.level c.args.word)
     c.in_err-put_mark.ensures.cut)

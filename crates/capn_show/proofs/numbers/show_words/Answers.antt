@@ -14,7 +14,7 @@ loop-i-init g c xs h n = same (outgoing g.W.Write.contents c.args.writer.now c.a
 pub loop-i-preserved : goal.loop-i-preserved
 loop-i-preserved g c xs h n =
     let rule = g.E.Emitter.rule c.args.emitter.now in
-    let way = g.E.Emitter.way c.args.emitter.now in
+    let path = g.E.Emitter.path c.args.emitter.now in
     let lies = rule.lies (g.S.Space.message c.args.space.now) c.args.start in
     let byte = c.byte_of-first.ensures.is in
     let i = c.loop-i.i in
@@ -22,9 +22,9 @@ loop-i-preserved g c xs h n =
     let p = (outgoing g.W.Write.contents c.args.writer.now c.args.text.now.items) in
     let q = (outgoing g.W.Write.contents c.loop-i.writer c.loop-i.text.items) in
     let r = (outgoing g.W.Write.contents c.show_word.new.writer c.show_word.new.text.items) in
-    item-more (line_item rule 8 (word_line c.args.level) way lies) 0 p q xs i r below
+    item-more (line_item rule 8 (word_line c.args.level) path lies) 0 p q xs i r below
     (c.loop-i.invariant xs h n)
-    (otherwise q r _ _ (ap₂ (λ (k x : ℕ). rule.mark k way ++ word_line c.args.level x)
+    (otherwise q r _ _ (ap₂ (λ (k x : ℕ). rule.mark k path ++ word_line c.args.level x)
     (omega arith) (c.word-word.ensures
     ∙ sym (get_or-drop c.args.start.word (segment_at (g.S.Space.message c.args.space.now) c.args.start.segment) i 0)
     ∙ h i below)) c.in_ok-show_word.ensures.shown)
@@ -32,19 +32,19 @@ loop-i-preserved g c xs h n =
 pub returns-clause-shown : goal.returns-clause-shown
 returns-clause-shown g c xs h n =
     let rule = g.E.Emitter.rule c.args.emitter.now in
-    let way = g.E.Emitter.way c.args.emitter.now in
+    let path = g.E.Emitter.path c.args.emitter.now in
     let lies = rule.lies (g.S.Space.message c.args.space.now) c.args.start in
     let p = (outgoing g.W.Write.contents c.args.writer.now c.args.text.now.items) in
     let q = (outgoing g.W.Write.contents c.loop-i.writer c.loop-i.text.items) in
     otherwise p q _ _
-    (lines-items rule 8 (word_line c.args.level) way lies xs)
-    (items-all (line_item rule 8 (word_line c.args.level) way lies) 0 p q xs c.loop-i.i
+    (lines-items rule 8 (word_line c.args.level) path lies xs)
+    (items-all (line_item rule 8 (word_line c.args.level) path lies) 0 p q xs c.loop-i.i
     (omega arith) (c.loop-i.invariant xs h n))
 
 pub returns-in_err-show_word-clause-cut : goal.returns-in_err-show_word-clause-cut
 returns-in_err-show_word-clause-cut g c =
     let rule = g.E.Emitter.rule c.args.emitter.now in
-    let way = g.E.Emitter.way c.args.emitter.now in
+    let path = g.E.Emitter.path c.args.emitter.now in
     let lies = rule.lies (g.S.Space.message c.args.space.now) c.args.start in
     passed c.from_residual.result c.in_err-show_word.field-0.0 _ c.from_residual.ensures.1
     (λ xs h n. let byte = c.byte_of-first.ensures.is in
@@ -54,10 +54,10 @@ returns-in_err-show_word-clause-cut g c =
     let q = (outgoing g.W.Write.contents c.loop-i.writer c.loop-i.text.items) in
     let r = (outgoing g.W.Write.contents c.show_word.new.writer c.show_word.new.text.items) in
     otherwise-broken p r _ _ _
-    (lines-items rule 8 (word_line c.args.level) way lies xs)
-    (item-cut (line_item rule 8 (word_line c.args.level) way lies) 0 p q xs i r _ below
+    (lines-items rule 8 (word_line c.args.level) path lies xs)
+    (item-cut (line_item rule 8 (word_line c.args.level) path lies) 0 p q xs i r _ below
     (c.loop-i.invariant xs h n)
-    (otherwise-broken q r _ _ _ (ap₂ (λ (k x : ℕ). rule.mark k way ++ word_line c.args.level x)
+    (otherwise-broken q r _ _ _ (ap₂ (λ (k x : ℕ). rule.mark k path ++ word_line c.args.level x)
     (omega arith) (c.word-word.ensures
     ∙ sym (get_or-drop c.args.start.word (segment_at (g.S.Space.message c.args.space.now) c.args.start.segment) i 0)
     ∙ h i below)) c.in_err-show_word.ensures.cut)))

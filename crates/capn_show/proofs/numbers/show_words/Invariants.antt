@@ -11,5 +11,5 @@ invariant-loop-i g l = (ws : List ℕ)
     → AreDataWords (g.S.Space.message l.space) l.start.segment l.start.word ws → length ws ≡ l.count
     → Adds (outgoing g.W.Write.contents l.initial.writer l.initial.text.items)
     (outgoing g.W.Write.contents l.writer l.text.items)
-    (texts (line_item (g.E.Emitter.rule l.emitter) 8 (word_line l.level) (g.E.Emitter.way l.emitter)
+    (texts (line_item (g.E.Emitter.rule l.emitter) 8 (word_line l.level) (g.E.Emitter.path l.emitter)
     ((g.E.Emitter.rule l.emitter).lies (g.S.Space.message l.space) l.start)) 0 (take l.i ws))

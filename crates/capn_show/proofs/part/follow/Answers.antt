@@ -14,17 +14,17 @@ step_down-requires-clause-value g c =
 
 pub loop-i-preserved : goal.loop-i-preserved
 loop-i-preserved g c =
-    let way = c.args.way.now in
+    let path = c.args.path.now in
     let i = c.loop-i.i in
     record {
       inside = c.in-Some.ensures.inside;
       leads = λ v h. let x = c.loop-i.invariant.leads v h in
           let y = c.in-Some.ensures.there x.0 x.2 in
-          let below : i < length way = omega arith in
+          let below : i < length path = omega arith in
           let low = x.3 in
           let lower = y.low in (
             y.value,
-            x.1 ∙ follow-one way i (slice_index way i) x.0 below refl ∙ ap (follow (drop (i + 1) way)) y.is,
+            x.1 ∙ follow-one path i (slice_index path i) x.0 below refl ∙ ap (follow (drop (i + 1) path)) y.is,
             y.shown,
             omega arith,
           );
@@ -32,16 +32,16 @@ loop-i-preserved g c =
 
 pub returns-in-None-clause-none : goal.returns-in-None-clause-none
 returns-in-None-clause-none g c v h =
-    let way = c.args.way.now in
+    let path = c.args.path.now in
     let i = c.loop-i.i in
     let x = c.loop-i.invariant.leads v h in
-    let below : i < length way = omega arith in
-    x.1 ∙ follow-stop way i (slice_index way i) x.0 below refl (c.in-None.ensures.none x.0 x.2)
+    let below : i < length path = omega arith in
+    x.1 ∙ follow-stop path i (slice_index path i) x.0 below refl (c.in-None.ensures.none x.0 x.2)
 
 pub returns-clause-there : goal.returns-clause-there
 returns-clause-there g c v h =
-    let way = c.args.way.now in
+    let path = c.args.path.now in
     let i = c.loop-i.i in
     let x = c.loop-i.invariant.leads v h in
-    let past : length way ≤ i = omega arith in
-    record { value = x.0; is = x.1 ∙ follow-end way i x.0 past; shown = x.2; low = x.3 }
+    let past : length path ≤ i = omega arith in
+    record { value = x.0; is = x.1 ∙ follow-end path i x.0 past; shown = x.2; low = x.3 }

@@ -20,7 +20,7 @@ returns-in-Ok-clause-shown g c =
 pub returns-in-Err-clause-refused : goal.returns-in-Err-clause-refused
 returns-in-Err-clause-refused g c =
     let f = c.in_ok-survey.ensures.found in
-    unwritten (g.S.Space.message c.args.space.now) c.args.limits (styled c.args.style c.args.way.now)
+    unwritten (g.S.Space.message c.args.space.now) c.args.limits (styled c.args.style c.args.path.now)
     (outgoing g.W.Write.contents c.args.writer.now c.args.text.now.items)
     (outgoing g.W.Write.contents c.write_part.new.writer c.write_part.new.text.items) c.in-Err.broken
     c.fault_of.result c.fault_of.ensures

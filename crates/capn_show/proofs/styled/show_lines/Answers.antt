@@ -13,7 +13,7 @@ returns-clause-shown g c =
     let q = outgoing g.W.Write.contents c.show_found.new.writer c.show_found.new.text.items in
     let rule = plain_rule (not (eqb g.row.QUOTED 0)) in
     on_ok_weaker c.show_found.result
-    (λ k v h. otherwise p q _ _ (bare rule (λ n way. refl) m 0 [] c.args.found v) (k v h))
+    (λ k v h. otherwise p q _ _ (bare rule (λ n path. refl) m 0 [] c.args.found v) (k v h))
     c.show_found.ensures.shown
 
 pub returns-clause-cut : goal.returns-clause-cut
@@ -23,5 +23,5 @@ returns-clause-cut g c =
     let q = outgoing g.W.Write.contents c.show_found.new.writer c.show_found.new.text.items in
     let rule = plain_rule (not (eqb g.row.QUOTED 0)) in
     IfErr-weaker c.show_found.result _ _
-    (λ e k v h. otherwise-broken p q e _ _ (bare rule (λ n way. refl) m 0 [] c.args.found v) (k v h))
+    (λ e k v h. otherwise-broken p q e _ _ (bare rule (λ n path. refl) m 0 [] c.args.found v) (k v h))
     c.show_found.ensures.cut
