@@ -1,10 +1,10 @@
 -- The text by the rule of marks is that with these marks. (For `mark_there` and `without_marks`.)
-use Rattle.std.proofs.Common.{◌≡◌, ℕ, zero, suc, ◌+◌, ◌/◌, List, [], ◌∷◌, ◌++◌, Bool, true, false, length, codes, map}
-use Rattle.std.proofs.Common.{refl, ap, ap₂, if◌then◌else◌}
+use Rattle.std.proofs.Common.{◌≡◌, ℕ, zero, suc, ◌+◌, List, [], ◌∷◌, ◌++◌, Bool, true, false, length, codes, map}
+use Rattle.std.proofs.Common.{refl, sym, ap, ap₂, if◌then◌else◌}
 use Rattle.std.specs.Prelude.{⊤}
 use Rattle.hex.specs.Hex.{encode_lower}
 use Rattle.capn_words.specs.declared.space.Place.{Place}
-use Rattle.capn_value.specs.NumberWidth.{NumberWidth, bit, byte, pair, quad, oct, is_set, bits_in}
+use Rattle.capn_value.specs.NumberWidth.{NumberWidth, bit, byte, pair, quad, oct, is_set}
 use Rattle.capn_value.specs.Tree.{Tree, nil, node, voids, numbers, links, rows, cap, Trees}
 use Rattle.capn_value.specs.Tree.{no_trees, tree, Bodies, no_bodies, body, count, count_rows}
 use Rattle.capn_value.specs.Text.{line, named, digits_of, body_line}
@@ -14,6 +14,7 @@ use Rattle.capn_walk.specs.View.{step_place, row_of}
 use Rattle.capn_show.specs.Descent.{begin, named_by}
 use Rattle.capn_show.specs.Emitted as by
 use Rattle.capn_show.specs.Quoting.{is_text, quoted_line}
+use Rattle.capn_show.proofs.shared.BareTexts.{line-is}
 use Rattle.capn_marks.specs.declared.marks.Marks.{Marks}
 use Rattle.capn_marks.specs.Annotation.{rule_of, stepped}
 use Rattle.capn_marks.specs.Marked.{mark, offset_mark, path_mark, below, byte_at, marked_lines}
@@ -43,17 +44,19 @@ module _ (marks : Marks) where
 
   -- ---- lines
 
-  same-lines : (v w : List ℕ) (a : Agree marks.ways v w) (size : ℕ) (line_of : ℕ → List ℕ) (first : ℕ) (xs : List ℕ)
-      → by.emitted_lines (rule_of marks) size line_of v first xs ≡ marked_lines marks size line_of w first xs
-  same-lines v w a size line_of first [] = refl
-  same-lines v w a size line_of first (x ∷ xs) =
+  same-lines : (v w : List ℕ) (a : Agree marks.ways v w) (size : ℕ) (line_of : ℕ → List ℕ) (i first : ℕ)
+      (xs : List ℕ)
+      → by.emitted_items (rule_of marks) size line_of [] v i first xs ≡ marked_lines marks size line_of w first xs
+  same-lines v w a size line_of i first [] = refl
+  same-lines v w a size line_of i first (x ∷ xs) =
       ap₂ (λ (y z : List ℕ). y ++ (line_of x ++ z)) (same-mark v w a first)
-      (same-lines v w a size line_of (first + size) xs)
+      (same-lines v w a size line_of (suc i) (first + size) xs)
 
   same-digits : (v w : List ℕ) (a : Agree marks.ways v w) (level first n : ℕ) (digits : List ℕ)
       → by.emitted_digits (rule_of marks) level v first n digits ≡ marked_digits marks level w first n digits
   same-digits v w a level first zero digits = refl
-  same-digits v w a level first (suc n) digits = ap (λ (x : List ℕ). x ++ line level digits) (same-mark v w a first)
+  same-digits v w a level first (suc n) digits =
+      ap₂ (λ (x y : List ℕ). x ++ y) (same-mark v w a first) (sym (line-is level digits))
 
   same-bytes : (v w : List ℕ) (a : Agree marks.ways v w) (level first : ℕ) (xs : List ℕ)
       → by.digit_lines (rule_of marks) level v first xs ≡ digit_lines marks level w first xs
@@ -62,8 +65,7 @@ module _ (marks : Marks) where
       (same-digits v w a (level + 1) first (length xs) (encode_lower xs))
 
   same-chosen : (quoted : Bool) (v w : List ℕ) (a : Agree marks.ways v w) (level first : ℕ) (xs : List ℕ)
-      → (if quoted then by.text_or_digits (rule_of marks) level v first xs else by.digit_lines
-      (rule_of marks) level v first xs)
+      → (if by.is_quoted quoted xs then quoted_line level xs else by.digit_lines (rule_of marks) level v first xs)
       ≡ (if quoted then text_or_digits marks level w first xs else digit_lines marks level w first xs)
   same-chosen true v w a level first xs =
       ap (λ (l : List ℕ). if is_text xs then quoted_line level xs else l) (same-bytes v w a level first xs)
@@ -77,13 +79,13 @@ module _ (marks : Marks) where
   same-list byte v w a level first xs = same-chosen marks.quoted v w a level first xs
   same-list pair v w a level first xs =
       ap (λ (l : List ℕ). line level (named (codes "u16") (length xs)) ++ l)
-      (same-lines v w a (bits_in pair / 8) (number_line (level + 1)) first xs)
+      (same-lines v w a 2 (number_line (level + 1)) 0 first xs)
   same-list quad v w a level first xs =
       ap (λ (l : List ℕ). line level (named (codes "u32") (length xs)) ++ l)
-      (same-lines v w a (bits_in quad / 8) (number_line (level + 1)) first xs)
+      (same-lines v w a 4 (number_line (level + 1)) 0 first xs)
   same-list oct v w a level first xs =
       ap (λ (l : List ℕ). line level (named (codes "u64") (length xs)) ++ l)
-      (same-lines v w a (bits_in oct / 8) (number_line (level + 1)) first xs)
+      (same-lines v w a 8 (number_line (level + 1)) 0 first xs)
 
   -- ---- values
 
@@ -94,7 +96,7 @@ module _ (marks : Marks) where
       same v w a level found nil = refl
       same v w a level found (node ws ss) =
           ap₂ (λ (x y : List ℕ). body_line level (length ws) (count ss) ++ (x ++ y))
-          (same-lines v w a 8 (word_line (level + 1)) (byte_at m marks (begin found)) ws)
+          (same-lines v w a 8 (word_line (level + 1)) 0 (byte_at m marks (begin found)) ws)
           (same-each v w a (level + 1) (step_place found) 0 ss)
       same v w a level found (voids n) = refl
       same v w a level found (numbers k xs) = same-list k v w a level (byte_at m marks (begin found)) xs
@@ -125,7 +127,7 @@ module _ (marks : Marks) where
           (ap₂ (λ (x y : List ℕ). x ++ y) (same-mark (stepped marks.ways v i) (below w i)
           (agree-below marks.ways v w i a) (byte_at m marks (begin (row i))))
           (ap₂ (λ (x y : List ℕ). body_line level (length ws) (count ss) ++ (x ++ y))
-          (same-lines (stepped marks.ways v i) (below w i) (agree-below marks.ways v w i a) 8 (word_line (level + 1))
+          (same-lines (stepped marks.ways v i) (below w i) (agree-below marks.ways v w i a) 8 (word_line (level + 1)) 0
           (byte_at m marks (begin (row i))) ws)
           (same-each (stepped marks.ways v i) (below w i) (agree-below marks.ways v w i a) (level + 1) (step_place
           (row i)) 0 ss)))

@@ -6,7 +6,7 @@ use Rattle.capn_value.specs.Text.{line}
 use Rattle.capn_target.specs.declared.target.Target.{Target}
 use Rattle.capn_show.specs.Quoting.{shown_by}
 use Rattle.capn_marks.specs.declared.marks.Marks.{Marks}
-use Rattle.capn_marks.specs.Annotation.{rule_of}
+use Rattle.capn_marks.specs.Annotation as annotation
 use Rattle.capn_marks.specs.Marked.{mark, offset_mark, path_mark, byte_at, unmarked}
 use Rattle.capn_show.specs.Part.{follow, step_down}
 use Rattle.capn_marks.specs.MarkedPart.{There, at_root, led, lines_style, marked_at, stepped, there_text}
@@ -25,7 +25,8 @@ module _ (marks : Marks) (no_offsets : marks.offsets ≡ false) (no_ways : marks
         → unmarked m marks level path found t ≡ shown_by (bytes_of marks.quoted) level t
     bare level path found t =
         sym (same marks m path path (agree marks.ways path) level found t)
-        ∙ texts.bare (rule_of marks) no-mark m level path found t
+        ∙ texts.bare marks.quoted (λ m at. byte_at m marks at) (annotation.stepped marks.ways) (mark marks) no-mark m
+        level path found t
 
     -- ---- what is at a path
 

@@ -1,6 +1,6 @@
 -- Marks as the rule of an emitter.
 use Rattle.std.specs.Prelude.{ℕ, Bool, List, if◌then◌else◌}
-use Rattle.capn_show.specs.Emitted.{Rule}
+use Rattle.capn_show.specs.Emitted.{Rule, line_rule}
 use Rattle.capn_marks.specs.declared.marks.Marks.{Marks}
 use Rattle.capn_marks.specs.Marked.{below, byte_at, mark}
 
@@ -10,9 +10,4 @@ stepped ways path i = if ways then below path i else path
 
 -- the rule of lines with these marks
 abbrev pub rule_of : Marks → Rule
-rule_of marks = record {
-  quoted = marks.quoted;
-  lies = λ m at. byte_at m marks at;
-  below = stepped marks.ways;
-  mark = mark marks;
-}
+rule_of marks = line_rule marks.quoted (λ m at. byte_at m marks at) (stepped marks.ways) (mark marks)

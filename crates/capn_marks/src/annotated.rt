@@ -6,7 +6,7 @@ ghost use Rattle.capn_marks.specs.MarkedPlaces.{CountsBefore};
 
 use crate::marks::{Marks, path_length, put_mark, step_below};
 use crate::starts::byte_of;
-use capn_show::{Broken, Emitter};
+use capn_show::{Broken, Emitter, Piece, is_text, put_line_piece, show_quoted};
 use capn_words::{Place, Space, Watched};
 use std::alloc::Allocator;
 use std::io::Write;
@@ -30,8 +30,30 @@ impl<'a, A: Allocator> Emitter for Annotated<'a, A> {
     ghost is_of = { λ e m. CountsBefore m e.before.now };
 
     #[inline(always)]
-    fn is_quoted(&self) -> bool {
-        self.marks.quoted
+    fn is_text(&self, bytes: &[u8]) -> bool {
+        self.marks.quoted && is_text(bytes)
+    }
+
+    #[inline(always)]
+    fn put_text<W: Write, B: Allocator>(
+        &self,
+        text: &mut Vec<u8, B>,
+        writer: &mut Watched<W>,
+        level: u32,
+        bytes: &[u8],
+    ) -> Result<(), Broken> {
+        show_quoted(text, writer, bytes, level)
+    }
+
+    #[inline(always)]
+    fn put_piece<W: Write, B: Allocator>(
+        &self,
+        text: &mut Vec<u8, B>,
+        writer: &mut Watched<W>,
+        level: u32,
+        piece: Piece,
+    ) -> Result<(), Broken> {
+        put_line_piece(text, writer, level, piece)
     }
 
     #[inline(always)]
@@ -44,6 +66,7 @@ impl<'a, A: Allocator> Emitter for Annotated<'a, A> {
         &self,
         text: &mut Vec<u8, B>,
         writer: &mut Watched<W>,
+        _number: u32,
         byte: u128,
     ) -> Result<(), Broken> {
         put_mark(text, writer, &self.marks, self.path.as_slice(), byte)

@@ -206,7 +206,7 @@ fn mark_there<S: Space, W: Write, A: Allocator>(
         (outgoing W.contents writer.old text.old.items) (outgoing W.contents writer.new text.new.items) e)) }
 {
     let byte = annotated.byte_of(space, part.at);
-    annotated.put_mark(text, writer, byte)?;
+    annotated.put_mark(text, writer, 0, byte)?;
     show_found(text, writer, annotated, space, part.found, 0, depth)
 }
 

@@ -1,12 +1,12 @@
 -- A loop that appends a text for each element of a list: one more, and all of them. (For `bits.rt`, `byte_digits.rt`
 -- and `escapes.rt`.)
-use Rattle.std.proofs.Common.{◌≡◌, ℕ, zero, suc, ◌+◌, ◌*◌, ◌<◌, List, [], ◌∷◌, ◌++◌, Bool}
+use Rattle.std.proofs.Common.{◌≡◌, ℕ, ◌+◌, ◌<◌, List, [], ◌∷◌, ◌++◌, Bool}
 use Rattle.std.proofs.Common.{length, take, drop}
-use Rattle.std.proofs.Common.{get_or, replicate, refl, sym, ap, ◌∙◌, arith, append_assoc}
+use Rattle.std.proofs.Common.{get_or, refl, sym, ap, ◌∙◌, arith, append_assoc}
 use Rattle.std.proofs.Math.Seq.{take-add}
 use Rattle.std.proofs.lemmas.List.{append-nil, take_all, take_more, take-append-drop}
 use Rattle.hex.specs.Hex.{encode_lower}
-use Rattle.capn_value.specs.Text.{line, one_line, digit, digits_of}
+use Rattle.capn_value.specs.Text.{digit, digits_of}
 use Rattle.capn_show.specs.Quoting.{escapes_by}
 use Rattle.capn_show.specs.declared.fault.Broken.{Broken}
 use Rattle.capn_show.specs.Outgoing.{Outgoing, Adds, BreaksOff}
@@ -143,36 +143,3 @@ module _ (p q : Outgoing) where
 
     pub bits-all : (n : ℕ) → n ≡ length xs → Adds p q (digits_of (take n xs)) → Adds p q (digits_of xs)
     bits-all n e h = otherwise p q _ _ (ap digits_of (take_all n xs (omega arith))) h
-
--- a line between its indentation and its end
-lined-is : (level n : ℕ) (x : List ℕ) → 0 < n → replicate (2 * level) 32 ++ (x ++ 10 ∷ []) ≡ one_line level n x
-unfolding line
-lined-is level zero x some = absurd (omega arith)
-lined-is level (suc n) x some = refl
-
-module _ (level n : ℕ) (x : List ℕ) (some : 0 < n) (p q : Outgoing) where
-  pub lined : (r s : Outgoing) → Adds p q (replicate (2 * level) 32) → Adds q r x → Adds r s (10 ∷ [])
-      → Adds p s (one_line level n x)
-  lined r s h k l =
-      otherwise p s (replicate (2 * level) 32 ++ (x ++ 10 ∷ [])) (one_line level n x) (lined-is level n x some)
-      (both p q s (replicate (2 * level) 32) (x ++ 10 ∷ []) h (both q r s x (10 ∷ []) k l))
-
-  -- it breaks off in its indentation, in what it has, or in its end
-  pub cut-first : (e : Broken) → BreaksOff p q e (replicate (2 * level) 32) → BreaksOff p q e (one_line level n x)
-  cut-first e h =
-      otherwise-broken p q e (replicate (2 * level) 32 ++ (x ++ 10 ∷ [])) (one_line level n x)
-      (lined-is level n x some) (broken-before p q e (replicate (2 * level) 32) (x ++ 10 ∷ []) h)
-
-  pub cut-inside : (r : Outgoing) (e : Broken) → Adds p q (replicate (2 * level) 32) → BreaksOff q r e x
-      → BreaksOff p r e (one_line level n x)
-  cut-inside r e h k =
-      otherwise-broken p r e (replicate (2 * level) 32 ++ (x ++ 10 ∷ [])) (one_line level n x)
-      (lined-is level n x some)
-      (then-broken p q r e (replicate (2 * level) 32) (x ++ 10 ∷ []) h (broken-before q r e x (10 ∷ []) k))
-
-  pub cut-last : (r s : Outgoing) (e : Broken) → Adds p q (replicate (2 * level) 32) → Adds q r x
-      → BreaksOff r s e (10 ∷ []) → BreaksOff p s e (one_line level n x)
-  cut-last r s e h k l =
-      otherwise-broken p s e (replicate (2 * level) 32 ++ (x ++ 10 ∷ [])) (one_line level n x)
-      (lined-is level n x some)
-      (then-broken p q s e (replicate (2 * level) 32) (x ++ 10 ∷ []) h (then-broken q r s e x (10 ∷ []) k l))

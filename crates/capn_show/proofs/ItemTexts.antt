@@ -61,17 +61,27 @@ module _ {A : Type 0} (item : ℕ → A → List ℕ) where
         (both p q r front (item i here) h k)
 
     -- a text that breaks off in it
-    pub item-cut : (r : Outgoing) (e : Broken) → i < length xs → Adds p q (texts 0 (take i xs))
-        → BreaksOff q r e (item i (get_or xs i d)) → BreaksOff p r e (texts 0 xs)
-    item-cut r e below h k =
+    pub item-cut : (r : Outgoing) (e : Broken) (end : List ℕ) → i < length xs → Adds p q (texts 0 (take i xs))
+        → BreaksOff q r e (item i (get_or xs i d)) → BreaksOff p r e (texts 0 xs ++ end)
+    item-cut r e end below h k =
         let x = texts-split d 0 i xs below in
         let number : i ≡ 0 + i = omega arith in
         let front = texts 0 (take i xs) in
         let here = get_or xs i d in
-        otherwise-broken p r e ((front ++ item i here) ++ x.0) (texts 0 xs)
+        broken-before p r e (texts 0 xs) end
+        (otherwise-broken p r e ((front ++ item i here) ++ x.0) (texts 0 xs)
         (ap (λ (n : ℕ). (front ++ item n here) ++ x.0) number ∙ x.1)
-        (broken-before p r e (front ++ item i here) x.0 (then-broken p q r e front (item i here) h k))
+        (broken-before p r e (front ++ item i here) x.0 (then-broken p q r e front (item i here) h k)))
 
     -- all of them
-    pub items-all : i ≡ length xs → Adds p q (texts 0 (take i xs)) → Adds p q (texts 0 xs)
+    items-all : i ≡ length xs → Adds p q (texts 0 (take i xs)) → Adds p q (texts 0 xs)
     items-all e h = otherwise p q (texts 0 (take i xs)) (texts 0 xs) (ap (texts 0) (take_all i xs (omega arith))) h
+
+    -- and what closes them, whole or broken off
+    pub items-end : (r : Outgoing) (end : List ℕ) → i ≡ length xs → Adds p q (texts 0 (take i xs)) → Adds q r end
+        → Adds p r (texts 0 xs ++ end)
+    items-end r end e h k = both p q r (texts 0 xs) end (items-all e h) k
+
+    pub end-cut : (r : Outgoing) (e : Broken) (end : List ℕ) → i ≡ length xs → Adds p q (texts 0 (take i xs))
+        → BreaksOff q r e end → BreaksOff p r e (texts 0 xs ++ end)
+    end-cut r b end e h k = then-broken p q r b (texts 0 xs) end (items-all e h) k

@@ -4,7 +4,6 @@ mod LineTexts
 mod TextBytes
 mod ClearTexts
 mod Grown
-mod Chosen
 mod SlotTexts
 mod ItemTexts
 mod EmittedItems
@@ -12,7 +11,6 @@ mod EmittedTexts
 mod PartSteps
 mod BlockDigits
 mod BitDigits
-mod JsonItems
-mod JsonTexts
-mod JsonValues
+mod JsonEmitted
+mod JsonDigits
 mod OneJson

@@ -1,110 +1,159 @@
--- The text of a message's values by a rule: marks before its lines, and how lists of bytes are written. (Own.)
-use Rattle.std.specs.Prelude.{ℕ, zero, suc, ◌+◌, ◌/◌, Bool, List, [], ◌∷◌, ◌++◌, length, map, codes, if◌then◌else◌}
+-- The text of a message's values by a rule: what stands before each item, and its pieces. (Own.)
+use Rattle.std.specs.Prelude.{ℕ, zero, suc, ◌+◌, ◌*◌, Bool, false, List, [], ◌∷◌, ◌++◌, length, map, codes}
+use Rattle.std.specs.Prelude.{replicate, if◌then◌else◌}
 use Rattle.std.specs.Fmt.{decimal}
 use Rattle.hex.specs.Hex.{encode_lower}
 use Rattle.capn_words.specs.declared.space.Place.{Place}
-use Rattle.capn_value.specs.NumberWidth.{NumberWidth, bit, byte, is_set, bits_in}
+use Rattle.capn_words.specs.declared.pointer.Width.{Width}
+use Rattle.capn_words.specs.declared.pointer.Width.TheVariants as widths
+use Rattle.capn_value.specs.NumberWidth.{NumberWidth, bit, byte, pair, quad, oct, is_set}
 use Rattle.capn_value.specs.Tree.{Tree, nil, node, voids, numbers, links, rows, cap, Trees}
 use Rattle.capn_value.specs.Tree.{no_trees, tree, Bodies, no_bodies, body, count, count_rows}
-use Rattle.capn_value.specs.Text.{line, named, hex16, digits_of, body_line, numbers_name}
+use Rattle.capn_value.specs.Text.{line, named, hex16, digits_of, body_line}
 use Rattle.capn_target.specs.declared.target.Target.{Target}
 use Rattle.capn_target.specs.Target.{target}
 use Rattle.capn_walk.specs.View.{step_place, row_of}
 use Rattle.capn_show.specs.Descent.{begin, named_by}
 use Rattle.capn_show.specs.Quoting.{is_text, quoted_line}
+use Rattle.capn_show.specs.declared.piece.Piece.{Piece}
+use Rattle.capn_show.specs.declared.piece.Piece.TheVariants as pieces
 
--- whether lists of bytes that are texts are written between quotes; the byte at which a word of a message lies; the
--- path to the value of a number below another; and the mark before a line, by the byte of its subject and the path to
--- it
+-- true if a list of bytes is written as a text, and that text at a level; the byte at which a word of a message lies;
+-- the path to the value of a number below another; what stands before an item, by how many come before it, the byte of
+-- its subject and the path to it; and each other piece, at a level
 pub record Rule : Type 0 where
-  pub quoted : Bool
+  pub is_text : List ℕ → Bool
+  pub text : ℕ → List ℕ → List ℕ
   pub lies : List (List ℕ) → Place → ℕ
   pub below : List ℕ → ℕ → List ℕ
-  pub mark : ℕ → List ℕ → List ℕ
+  pub mark : ℕ → ℕ → List ℕ → List ℕ
+  pub piece : ℕ → Piece → List ℕ
 
--- of lines without marks, by whether texts are written between quotes
+-- ---- lines
+
+-- the pieces of lines: nothing stands between them
+abbrev pub line_piece : ℕ → Piece → List ℕ
+line_piece level pieces.Nil = line level (codes "null")
+line_piece level (pieces.Cap k) = line level (named (codes "capability") k)
+line_piece level (pieces.Body a b) = body_line level a b
+line_piece level (pieces.Word w) = line level (codes "word " ++ hex16 w)
+line_piece level (pieces.Links n) = line level (named (codes "pointers") n)
+line_piece level (pieces.Rows n) = line level (named (codes "rows") n)
+line_piece level (pieces.Voids n) = line level (named (codes "void") n)
+line_piece level (pieces.Bits n) = line level (named (codes "bits") n)
+line_piece level (pieces.Bytes n) = line level (named (codes "bytes") n)
+line_piece level (pieces.Pairs n) = line level (named (codes "u16") n)
+line_piece level (pieces.Quads n) = line level (named (codes "u32") n)
+line_piece level (pieces.Octs n) = line level (named (codes "u64") n)
+line_piece level (pieces.Number width n) = line level (decimal n)
+line_piece level pieces.Digits = replicate (2 * level) 32
+line_piece level pieces.EndDigits = 10 ∷ []
+line_piece level _ = []
+
+-- true if a list of bytes is a text that is written between quotes, if that is asked for
+abbrev pub is_quoted : Bool → List ℕ → Bool
+is_quoted quoted xs = if quoted then is_text xs else false
+
+-- of lines, by whether texts are written between quotes, where words lie, the paths, and the marks
+abbrev pub line_rule : Bool → (List (List ℕ) → Place → ℕ) → (List ℕ → ℕ → List ℕ) → (ℕ → List ℕ → List ℕ) → Rule
+line_rule quoted lies below mark = record {
+  is_text = is_quoted quoted;
+  text = quoted_line;
+  lies = lies;
+  below = below;
+  mark = λ i. mark;
+  piece = line_piece;
+}
+
+-- of lines without marks
 abbrev pub plain_rule : Bool → Rule
-plain_rule quoted = record { quoted = quoted; lies = λ m at. 0; below = λ path i. path; mark = λ byte path. [] }
+plain_rule quoted = line_rule quoted (λ m at. 0) (λ path i. path) (λ byte path. [])
 
--- ---- lines with marks
-
--- the line of a data word
-abbrev pub word_line : ℕ → ℕ → List ℕ
-word_line level w = line level (codes "word " ++ hex16 w)
-
--- the line of an element
-abbrev pub number_line : ℕ → ℕ → List ℕ
-number_line level n = line level (decimal n)
+-- ---- lists without pointers
 
 module _ (rule : Rule) where
-  -- a line for each number, of which the first lies at a byte, and each takes this many bytes
-  abbrev pub emitted_lines : ℕ → (ℕ → List ℕ) → List ℕ → ℕ → List ℕ → List ℕ
-  emitted_lines size line_of path first [] = []
-  emitted_lines size line_of path first (x ∷ xs) =
-      rule.mark first path ++ (line_of x ++ emitted_lines size line_of path (first + size) xs)
+  -- each item by its piece, from one number on: the first of them lies at a byte, and each takes this many bytes;
+  -- and what closes them
+  abbrev pub emitted_items : ℕ → (ℕ → List ℕ) → List ℕ → List ℕ → ℕ → ℕ → List ℕ → List ℕ
+  emitted_items size piece_of end path i first [] = end
+  emitted_items size piece_of end path i first (x ∷ xs) =
+      rule.mark i first path ++ (piece_of x ++ emitted_items size piece_of end path (suc i) (first + size) xs)
 
-  -- the digits of a list whose first element lies at a byte: one line, unless the list is empty
+  -- data words, of which the first lies at a byte
+  abbrev pub emitted_words : ℕ → List ℕ → ℕ → List ℕ → List ℕ
+  emitted_words level path first =
+      emitted_items 8 (λ w. rule.piece level (pieces.Word w)) (rule.piece level pieces.EndWords) path 0 first
+
+  -- numbers of a width, each of which takes this many bytes
+  abbrev pub emitted_each : Width → ℕ → ℕ → List ℕ → ℕ → List ℕ → List ℕ
+  emitted_each width size level path first =
+      emitted_items size (λ n. rule.piece level (pieces.Number width n)) (rule.piece level pieces.EndItems) path 0 first
+
+  -- the digits of a list whose first element lies at a byte
   abbrev pub emitted_digits : ℕ → List ℕ → ℕ → ℕ → List ℕ → List ℕ
-  emitted_digits level path first zero digits = []
-  emitted_digits level path first (suc n) digits = rule.mark first path ++ line level digits
+  emitted_digits level path first zero digits = rule.piece level pieces.NoDigits
+  emitted_digits level path first (suc n) digits =
+      rule.mark 0 first path
+      ++ (rule.piece level pieces.Digits ++ (digits ++ rule.piece level pieces.EndDigits))
 
-  -- the lines of a list of bytes in digits: of the first one, the part behind its mark
+  -- a list of bytes in digits
   abbrev pub digit_lines : ℕ → List ℕ → ℕ → List ℕ → List ℕ
   digit_lines level path first xs =
-      line level (named (codes "bytes") (length xs))
+      rule.piece level (pieces.Bytes (length xs))
       ++ emitted_digits (level + 1) path first (length xs) (encode_lower xs)
 
-  -- a text on one line, or the digits of bytes that are none
+  -- a text, or the digits of bytes that are none
   abbrev pub text_or_digits : ℕ → List ℕ → ℕ → List ℕ → List ℕ
   text_or_digits level path first xs =
-      if is_text xs then quoted_line level xs else digit_lines level path first xs
+      if rule.is_text xs then rule.text level xs else digit_lines level path first xs
 
-  -- the lines of a list of numbers: of the first one, the part behind the mark
+  -- a list of numbers, behind its mark
   abbrev pub emitted_numbers : NumberWidth → ℕ → List ℕ → ℕ → List ℕ → List ℕ
   emitted_numbers bit level path first xs =
-      line level (named (codes "bits") (length xs))
+      rule.piece level (pieces.Bits (length xs))
       ++ emitted_digits (level + 1) path first (length xs) (digits_of (map is_set xs))
-  emitted_numbers byte level path first xs =
-      if rule.quoted then text_or_digits level path first xs else digit_lines level path first xs
-  emitted_numbers a level path first xs =
-      line level (named (numbers_name a) (length xs))
-      ++ emitted_lines (bits_in a / 8) (number_line (level + 1)) path first xs
+  emitted_numbers byte level path first xs = text_or_digits level path first xs
+  emitted_numbers pair level path first xs =
+      rule.piece level (pieces.Pairs (length xs)) ++ emitted_each widths.W16 2 (level + 1) path first xs
+  emitted_numbers quad level path first xs =
+      rule.piece level (pieces.Quads (length xs)) ++ emitted_each widths.W32 4 (level + 1) path first xs
+  emitted_numbers oct level path first xs =
+      rule.piece level (pieces.Octs (length xs)) ++ emitted_each widths.W64 8 (level + 1) path first xs
 
 -- ---- the text
 
 module _ (m : List (List ℕ)) (rule : Rule) where
   abbrev mutual
-    -- the text of the target of a pointer, at a level and a path: of its first line the part behind the mark, and all
-    -- lines below
+    -- the text of the target of a pointer, at a level and a path, behind its mark, with all below
     pub emitted : ℕ → List ℕ → Target → Tree → List ℕ
-    emitted level path found nil = line level (codes "null")
+    emitted level path found nil = rule.piece level pieces.Nil
     emitted level path found (node ws ss) =
-        body_line level (length ws) (count ss)
-        ++ (emitted_lines rule 8 (word_line (level + 1)) path (rule.lies m (begin found)) ws
+        rule.piece level (pieces.Body (length ws) (count ss))
+        ++ (emitted_words rule (level + 1) path (rule.lies m (begin found)) ws
         ++ emitted_slots (level + 1) path (step_place found) 0 ss)
-    emitted level path found (voids n) = line level (named (codes "void") n)
+    emitted level path found (voids n) = rule.piece level (pieces.Voids n)
     emitted level path found (numbers a xs) = emitted_numbers rule a level path (rule.lies m (begin found)) xs
     emitted level path found (links ts) =
-        line level (named (codes "pointers") (count ts)) ++ emitted_slots (level + 1) path (step_place found) 0 ts
+        rule.piece level (pieces.Links (count ts)) ++ emitted_slots (level + 1) path (step_place found) 0 ts
     emitted level path found (rows bs) =
-        line level (named (codes "rows") (count_rows bs)) ++ emitted_rows (level + 1) path (row_of found) 0 bs
-    emitted level path found (cap k) = line level (named (codes "capability") k)
+        rule.piece level (pieces.Rows (count_rows bs)) ++ emitted_rows (level + 1) path (row_of found) 0 bs
+    emitted level path found (cap k) = rule.piece level (pieces.Cap k)
 
-    -- slots at these places, from one number on: the mark is that of the slot
+    -- slots at these places, from one number on, and what closes them: the mark is that of the slot
     pub emitted_slots : ℕ → List ℕ → (ℕ → Place) → ℕ → Trees → List ℕ
-    emitted_slots level path place i no_trees = []
+    emitted_slots level path place i no_trees = rule.piece level pieces.EndItems
     emitted_slots level path place i (tree t ts) =
-        (rule.mark (rule.lies m (place i)) (rule.below path i)
+        (rule.mark i (rule.lies m (place i)) (rule.below path i)
         ++ emitted level (rule.below path i) (named_by (target m (place i))) t)
         ++ emitted_slots level path place (suc i) ts
 
-    -- these rows, from one number on: the mark says where the row begins
+    -- these rows, from one number on, and what closes them: the mark says where the row begins
     pub emitted_rows : ℕ → List ℕ → (ℕ → Target) → ℕ → Bodies → List ℕ
-    emitted_rows level path row i no_bodies = []
+    emitted_rows level path row i no_bodies = rule.piece level pieces.EndItems
     emitted_rows level path row i (body ws ss bs) =
-        (rule.mark (rule.lies m (begin (row i))) (rule.below path i)
-        ++ (body_line level (length ws) (count ss)
-        ++ (emitted_lines rule 8 (word_line (level + 1)) (rule.below path i) (rule.lies m (begin (row i))) ws
+        (rule.mark i (rule.lies m (begin (row i))) (rule.below path i)
+        ++ (rule.piece level (pieces.Body (length ws) (count ss))
+        ++ (emitted_words rule (level + 1) (rule.below path i) (rule.lies m (begin (row i))) ws
         ++ emitted_slots (level + 1) (rule.below path i) (step_place (row i)) 0 ss)))
         ++ emitted_rows level path row (suc i) bs
 
@@ -112,7 +161,7 @@ module _ (m : List (List ℕ)) (rule : Rule) where
   abbrev pub emitted_body : ℕ → List ℕ → Target → List ℕ → Trees → List ℕ
   emitted_body level path found ws ss = emitted level path found (node ws ss)
 
-  -- the value in a slot
-  abbrev pub emitted_slot : ℕ → List ℕ → Place → Tree → List ℕ
-  emitted_slot level path at t =
-      rule.mark (rule.lies m at) path ++ emitted level path (named_by (target m at)) t
+  -- the value in the slot of a number
+  abbrev pub emitted_slot : ℕ → ℕ → List ℕ → Place → Tree → List ℕ
+  emitted_slot level i path at t =
+      rule.mark i (rule.lies m at) path ++ emitted level path (named_by (target m at)) t

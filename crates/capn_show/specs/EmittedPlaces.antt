@@ -21,25 +21,26 @@ module _ (m : List (List ℕ)) where
   abbrev pub WordsEmitted : ℕ → ℕ → ℕ → (List ℕ → List ℕ) → (List ℕ → Type 0) → Type 0
   WordsEmitted s w number text Says = (ws : List ℕ) → AreDataWords m s w ws → length ws ≡ number → Says (text ws)
 
-  module _ (rule : Rule) (level : ℕ) (path : List ℕ) where
-    -- of the text of the value at a place
-    abbrev pub IsEmitted : Place → (List ℕ → Type 0) → Type 0
-    IsEmitted at Says = (v : Tree) → IsAt m at v → Says (emitted_slot m rule level path at v)
+  -- of the text of the value at a place, the item of a number
+  abbrev pub IsEmitted : Rule → ℕ → ℕ → List ℕ → Place → (List ℕ → Type 0) → Type 0
+  IsEmitted rule level i path at Says = (v : Tree) → IsAt m at v → Says (emitted_slot m rule level i path at v)
 
-    -- of that of the value which a pointer names, behind its first mark
+  -- of that of a row, the item of a number
+  abbrev pub IsRowEmitted : Rule → ℕ → ℕ → List ℕ → ℕ → ℕ → ℕ → ℕ → (List ℕ → Type 0) → Type 0
+  IsRowEmitted rule level i path s w a b Says =
+      (ws : List ℕ) (ss : Trees) → ShowsStruct m (struct_at s w a b) ws ss
+      → Says (rule.mark i (rule.lies m (begin (struct_at s w a b))) path
+      ++ emitted_body m rule level path (struct_at s w a b) ws ss)
+
+  module _ (rule : Rule) (level : ℕ) (path : List ℕ) where
+    -- of the text of the value which a pointer names, behind its mark
     abbrev pub IsFoundEmitted : Target → (List ℕ → Type 0) → Type 0
     IsFoundEmitted found Says = (v : Tree) → Shows m found v → Says (emitted m rule level path found v)
 
-    -- of that of a struct, behind its first mark
+    -- of that of a struct, behind its mark
     abbrev pub IsBodyEmitted : ℕ → ℕ → ℕ → ℕ → (List ℕ → Type 0) → Type 0
     IsBodyEmitted s w a b Says = (ws : List ℕ) (ss : Trees) → ShowsStruct m (struct_at s w a b) ws ss
         → Says (emitted_body m rule level path (struct_at s w a b) ws ss)
-
-    -- of that of a row
-    abbrev pub IsRowEmitted : ℕ → ℕ → ℕ → ℕ → (List ℕ → Type 0) → Type 0
-    IsRowEmitted s w a b Says = (ws : List ℕ) (ss : Trees) → ShowsStruct m (struct_at s w a b) ws ss
-        → Says (rule.mark (rule.lies m (begin (struct_at s w a b))) path
-        ++ emitted_body m rule level path (struct_at s w a b) ws ss)
 
     -- of those of slots
     abbrev pub AreEmitted : ℕ → ℕ → ℕ → (List ℕ → Type 0) → Type 0

@@ -1,2 +1,2 @@
 -- Definitions that no public clause cites.
-pub mod JsonPlaces
+pub mod JsonRule

@@ -13,15 +13,16 @@ ghost use Rattle.capn_show.specs.Outgoing.{Adds, BreaksOff, outgoing};
 
 use crate::emitter::Emitter;
 use crate::fault::Broken;
-use crate::lines::{end_line, indent, word_digits};
-use crate::numbers::number_at;
+use crate::lines::word_digits;
+use crate::numbers::{begin_digits, number_at};
 use crate::output::put;
+use crate::piece::Piece;
 use capn_words::{Place, Space, Watched, Width};
 use std::alloc::Allocator;
 use std::io::Write;
 
-/// Appends one line of the digits of the list of `count` bytes at `start` to `text`, at this `level`, with its mark;
-/// nothing, if it is empty.
+/// Appends the digits of the list of `count` bytes at `start` to `text`, at this `level`, with their mark, and what
+/// stands before and behind them.
 pub fn show_bytes<S: Space, W: Write, A: Allocator, E: Emitter>(
     text: &mut Vec<u8, A>,
     writer: &mut Watched<W>,
@@ -44,38 +45,12 @@ pub fn show_bytes<S: Space, W: Write, A: Allocator, E: Emitter>(
         (BreaksOff (outgoing W.contents writer.old text.old.items) (outgoing W.contents writer.new text.new.items) e)) }
 {
     if count == 0 {
-        return Ok(());
+        return emitter.put_piece(text, writer, level, Piece::NoDigits);
     }
     let first = emitter.byte_of(space, start);
-    emitter.put_mark(text, writer, first)?;
-    bytes_line(text, writer, space, start, count, level)
-}
-
-/// Appends one line of the digits of the list of `count` bytes at `start` to `text`, at this `level`; nothing, if it is
-/// empty.
-fn bytes_line<S: Space, W: Write, A: Allocator>(
-    text: &mut Vec<u8, A>,
-    writer: &mut Watched<W>,
-    space: &S,
-    start: Place,
-    count: u32,
-    level: u32,
-) -> Result<(), Broken>
-    requires message { IsMessage (S.message space.now) }
-    requires content { IsContent (S.message space.now) start (content_words widths.W8 count) }
-    ensures shown { OnOk result (NumbersShown (S.message space.now) start.segment start.word widths.W8
-        count (λ xs. form.one_line level (length xs) (encode_lower xs))
-        (Adds (outgoing W.contents writer.old text.old.items) (outgoing W.contents writer.new text.new.items))) }
-    ensures cut { IfErr result (λ e. NumbersShown (S.message space.now) start.segment start.word widths.W8
-        count (λ xs. form.one_line level (length xs) (encode_lower xs))
-        (BreaksOff (outgoing W.contents writer.old text.old.items) (outgoing W.contents writer.new text.new.items) e)) }
-{
-    if count == 0 {
-        return Ok(());
-    }
-    indent(text, writer, level)?;
+    begin_digits(text, writer, emitter, first, level)?;
     push_bytes(text, writer, space, start, count)?;
-    end_line(text, writer)
+    emitter.put_piece(text, writer, level, Piece::EndDigits)
 }
 
 /// Appends the digits of the list of `count` bytes at `start` to `text`, those of a word at a time.

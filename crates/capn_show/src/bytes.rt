@@ -16,8 +16,9 @@ use crate::byte_digits::show_bytes;
 use crate::emitter::Emitter;
 use crate::escapes::put_escapes;
 use crate::fault::Broken;
-use crate::lines::{indent, named_line, put_number};
+use crate::lines::{indent, put_number};
 use crate::output::put;
+use crate::piece::Piece;
 use capn_words::{Place, Space, Watched};
 use std::alloc::Allocator;
 use std::io::Write;
@@ -88,8 +89,7 @@ pub fn show_quoted<W: Write, A: Allocator>(
     put(text, writer, b"\"\n")
 }
 
-/// Appends the lines of the list of `count` bytes at `start` to `text`, at this `level`, in digits, behind the first
-/// mark.
+/// Appends the list of `count` bytes at `start` to `text`, at this `level`, in digits, behind the first mark.
 fn show_digits<S: Space, W: Write, A: Allocator, E: Emitter>(
     text: &mut Vec<u8, A>,
     writer: &mut Watched<W>,
@@ -112,44 +112,12 @@ fn show_digits<S: Space, W: Write, A: Allocator, E: Emitter>(
         ((E.rule emitter.now).lies (S.message space.now) start))
         (BreaksOff (outgoing W.contents writer.old text.old.items) (outgoing W.contents writer.new text.new.items) e)) }
 {
-    named_line(text, writer, level, "bytes", count)?;
+    emitter.put_piece(text, writer, level, Piece::Bytes(count))?;
     show_bytes(text, writer, emitter, space, start, count, level + 1)
 }
 
-/// Appends the list of `count` bytes at `start` to `text`, at this `level`, behind the first mark: the one line of a
-/// text, or the digits of one that is none.
-fn show_text_or_digits<S: Space, W: Write, A: Allocator, E: Emitter>(
-    text: &mut Vec<u8, A>,
-    writer: &mut Watched<W>,
-    emitter: &E,
-    space: &S,
-    start: Place,
-    count: u32,
-    level: u32,
-) -> Result<(), Broken>
-    requires message { IsMessage (S.message space.now) }
-    requires of { E.is_of emitter.now (S.message space.now) }
-    requires content { IsContent (S.message space.now) start (content_words widths.W8 count) }
-    requires room { level + 1 < 2 ^ 32 }
-    ensures shown { OnOk result (NumbersShown (S.message space.now) start.segment start.word widths.W8 count
-        (spec.text_or_digits (E.rule emitter.now) level (E.path emitter.now)
-        ((E.rule emitter.now).lies (S.message space.now) start))
-        (Adds (outgoing W.contents writer.old text.old.items) (outgoing W.contents writer.new text.new.items))) }
-    ensures cut { IfErr result (λ e. NumbersShown (S.message space.now) start.segment start.word widths.W8 count
-        (spec.text_or_digits (E.rule emitter.now) level (E.path emitter.now)
-        ((E.rule emitter.now).lies (S.message space.now) start))
-        (BreaksOff (outgoing W.contents writer.old text.old.items) (outgoing W.contents writer.new text.new.items) e)) }
-{
-    let bytes = space.bytes(start, count as usize);
-    if is_text(bytes) {
-        show_quoted(text, writer, bytes, level)
-    } else {
-        show_digits(text, writer, emitter, space, start, count, level)
-    }
-}
-
-/// Appends the lines of the list of `count` bytes at `start` to `text`, at this `level`, behind the first mark: between
-/// quotes, if it is a text and `emitter` asks for quotes, else in digits.
+/// Appends the list of `count` bytes at `start` to `text`, at this `level`, behind the first mark: as a text, if
+/// `emitter` writes it so, else in digits.
 pub fn show_byte_list<S: Space, W: Write, A: Allocator, E: Emitter>(
     text: &mut Vec<u8, A>,
     writer: &mut Watched<W>,
@@ -172,8 +140,9 @@ pub fn show_byte_list<S: Space, W: Write, A: Allocator, E: Emitter>(
         ((E.rule emitter.now).lies (S.message space.now) start))
         (BreaksOff (outgoing W.contents writer.old text.old.items) (outgoing W.contents writer.new text.new.items) e)) }
 {
-    if emitter.is_quoted() {
-        show_text_or_digits(text, writer, emitter, space, start, count, level)
+    let bytes = space.bytes(start, count as usize);
+    if emitter.is_text(bytes) {
+        emitter.put_text(text, writer, level, bytes)
     } else {
         show_digits(text, writer, emitter, space, start, count, level)
     }

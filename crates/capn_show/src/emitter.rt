@@ -1,4 +1,4 @@
-//! Emitters of the lines of a text, with what stands before each.
+//! Emitters: what is written of each thing in a message.
 
 ghost use Rattle.std.specs.Prelude.{◌≡◌, ℕ, ◌<◌, ◌≤◌, ◌^◌, List, [], length, take, ⊤, IfErr, OnOk};
 ghost use Rattle.capn_words.specs.Message.{IsMessage, segment_at};
@@ -6,26 +6,55 @@ ghost use Rattle.capn_show.specs.declared.fault.Broken.TheVariants as broken;
 ghost use Rattle.capn_show.specs.Emitted.{Rule, plain_rule};
 ghost use Rattle.capn_show.specs.Outgoing.{Adds, BreaksOff, outgoing};
 
+use crate::bytes::{is_text, show_quoted};
 use crate::fault::Broken;
+use crate::line_pieces::put_line_piece;
+use crate::piece::Piece;
 use capn_words::{Place, Space, Watched};
 use std::alloc::Allocator;
 use std::io::Write;
 
-/// An emitter of the lines of a text: it puts a mark, or nothing, before each, and keeps the path to the value whose
-/// lines are written.
+/// An emitter of a text: it puts a mark, or nothing, before each item, writes the pieces, and keeps the path to the
+/// value whose text is written.
 pub trait Emitter {
     /// The rule of the text.
     ghost rule: { Self → Rule };
 
-    /// The path to the value whose lines are written.
+    /// The path to the value whose text is written.
     ghost path: { Self → List ℕ };
 
     /// The emitter is one for a message.
     ghost is_of: { Self → List (List ℕ) → Type 0 };
 
-    /// Returns `true` if a list of bytes that is a text is written between quotes.
-    fn is_quoted(&self) -> bool
-        ensures { result ≡ (rule self.now).quoted };
+    /// Returns `true` if the list `bytes` is written as a text.
+    fn is_text(&self, bytes: &[u8]) -> bool
+        ensures { result ≡ (rule self.now).is_text bytes.now };
+
+    /// Appends the list `bytes` to `text` as a text, at this `level`.
+    fn put_text<W: Write, A: Allocator>(
+        &self,
+        text: &mut Vec<u8, A>,
+        writer: &mut Watched<W>,
+        level: u32,
+        bytes: &[u8],
+    ) -> Result<(), Broken>
+        ensures shown { OnOk result (Adds (outgoing W.contents writer.old text.old.items)
+            (outgoing W.contents writer.new text.new.items) ((rule self.now).text level bytes.now)) }
+        ensures cut { IfErr result (λ e. BreaksOff (outgoing W.contents writer.old text.old.items)
+            (outgoing W.contents writer.new text.new.items) e ((rule self.now).text level bytes.now)) };
+
+    /// Appends a `piece` to `text`, at this `level`.
+    fn put_piece<W: Write, A: Allocator>(
+        &self,
+        text: &mut Vec<u8, A>,
+        writer: &mut Watched<W>,
+        level: u32,
+        piece: Piece,
+    ) -> Result<(), Broken>
+        ensures shown { OnOk result (Adds (outgoing W.contents writer.old text.old.items)
+            (outgoing W.contents writer.new text.new.items) ((rule self.now).piece level piece)) }
+        ensures cut { IfErr result (λ e. BreaksOff (outgoing W.contents writer.old text.old.items)
+            (outgoing W.contents writer.new text.new.items) e ((rule self.now).piece level piece)) };
 
     /// Returns the byte at which the word at `at`, or a segment's end, lies.
     fn byte_of<S: Space>(&self, space: &S, at: Place) -> u128
@@ -36,17 +65,19 @@ pub trait Emitter {
         ensures is { result ≡ (rule self.now).lies (S.message space.now) at }
         ensures small { result < 2 ^ 66 };
 
-    /// Appends the mark of a line whose subject lies at `byte`, at the path that is kept, to `text`.
+    /// Appends what stands before the item of this `number`, whose subject lies at `byte`, at the path that is kept, to
+    /// `text`.
     fn put_mark<W: Write, A: Allocator>(
         &self,
         text: &mut Vec<u8, A>,
         writer: &mut Watched<W>,
+        number: u32,
         byte: u128,
     ) -> Result<(), Broken>
         ensures shown { OnOk result (Adds (outgoing W.contents writer.old text.old.items)
-            (outgoing W.contents writer.new text.new.items) ((rule self.now).mark byte (path self.now))) }
+            (outgoing W.contents writer.new text.new.items) ((rule self.now).mark number byte (path self.now))) }
         ensures cut { IfErr result (λ e. BreaksOff (outgoing W.contents writer.old text.old.items)
-            (outgoing W.contents writer.new text.new.items) e ((rule self.now).mark byte (path self.now))) };
+            (outgoing W.contents writer.new text.new.items) e ((rule self.now).mark number byte (path self.now))) };
 
     /// Returns the length of the path that is kept.
     fn path_length(&self) -> usize
@@ -80,8 +111,30 @@ impl<const QUOTED: bool> Emitter for Lines<QUOTED> {
     ghost is_of = { λ e m. ⊤ };
 
     #[inline(always)]
-    fn is_quoted(&self) -> bool {
-        QUOTED
+    fn is_text(&self, bytes: &[u8]) -> bool {
+        QUOTED && is_text(bytes)
+    }
+
+    #[inline(always)]
+    fn put_text<W: Write, A: Allocator>(
+        &self,
+        text: &mut Vec<u8, A>,
+        writer: &mut Watched<W>,
+        level: u32,
+        bytes: &[u8],
+    ) -> Result<(), Broken> {
+        show_quoted(text, writer, bytes, level)
+    }
+
+    #[inline(always)]
+    fn put_piece<W: Write, A: Allocator>(
+        &self,
+        text: &mut Vec<u8, A>,
+        writer: &mut Watched<W>,
+        level: u32,
+        piece: Piece,
+    ) -> Result<(), Broken> {
+        put_line_piece(text, writer, level, piece)
     }
 
     #[inline(always)]
@@ -94,6 +147,7 @@ impl<const QUOTED: bool> Emitter for Lines<QUOTED> {
         &self,
         _text: &mut Vec<u8, A>,
         _writer: &mut Watched<W>,
+        _number: u32,
         _byte: u128,
     ) -> Result<(), Broken> {
         Ok(())

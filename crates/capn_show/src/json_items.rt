@@ -1,13 +1,14 @@
-//! The items of a JSON array, and their commas.
+//! The members and items of JSON, and their commas.
 
-ghost use Rattle.std.specs.Prelude.{◌≡◌, IfErr, OnOk};
+ghost use Rattle.std.specs.Prelude.{◌≡◌, [], ◌∷◌, ◌++◌, IfErr, OnOk};
 ghost use Rattle.std.specs.Fmt.{decimal};
 ghost use Rattle.capn_show.specs.Json.{number_text, word_text};
-ghost use Rattle.capn_show.specs.inner.JsonPlaces as places;
-ghost use Rattle.capn_show.specs.inner.JsonPlaces.{comma, number_item};
+ghost use Rattle.capn_show.specs.inner.JsonRule as places;
+ghost use Rattle.capn_show.specs.inner.JsonRule.{comma, number_item};
 ghost use Rattle.capn_show.specs.Outgoing.{Adds, BreaksOff, outgoing};
 
 use crate::fault::Broken;
+use crate::lines::put_number;
 use crate::output::put;
 use capn_words::{Watched, Width};
 use std::alloc::Allocator;
@@ -113,4 +114,20 @@ pub fn put_word<W: Write, A: Allocator>(
         (outgoing W.contents writer.new text.new.items) e (word_text word)) }
 {
     put(text, writer, &word_bytes(word))
+}
+
+/// Appends the JSON of an object of the one number `n` to `text`, after its beginning `head`.
+pub fn put_member<W: Write, A: Allocator>(
+    text: &mut Vec<u8, A>,
+    writer: &mut Watched<W>,
+    head: &[u8],
+    n: u32,
+) -> Result<(), Broken>
+    ensures shown { OnOk result (Adds (outgoing W.contents writer.old text.old.items)
+        (outgoing W.contents writer.new text.new.items) (head.now ++ (decimal n ++ 125 ∷ []))) }
+    ensures cut { IfErr result (λ e. BreaksOff (outgoing W.contents writer.old text.old.items)
+        (outgoing W.contents writer.new text.new.items) e (head.now ++ (decimal n ++ 125 ∷ []))) }
+{
+    put(text, writer, head)?;
+    put_number(text, writer, n as u64, b'}')
 }

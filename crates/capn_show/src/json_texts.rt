@@ -1,23 +1,15 @@
-//! Lists of bytes in JSON: digits, or plain text.
+//! Lists of bytes that are texts in JSON.
 
 ghost use Rattle.std.specs.Prelude.{◌≡◌, IfErr, OnOk};
 ghost use Rattle.std.specs.Str.{is_utf8};
-ghost use Rattle.capn_words.specs.Message.{IsMessage};
-ghost use Rattle.capn_words.specs.declared.pointer.Width.TheVariants as widths;
-ghost use Rattle.capn_target.specs.Shapes.{IsContent};
-ghost use Rattle.capn_target.specs.Target.{content_words};
-ghost use Rattle.capn_show.specs.Json.{digits_json};
 ghost use Rattle.capn_show.specs.JsonTexts as texts;
-ghost use Rattle.capn_show.specs.JsonTexts.{text_json, text_or_digits};
-ghost use Rattle.capn_show.specs.inner.JsonPlaces.{bytes_json_of};
-ghost use Rattle.capn_show.specs.ReadyPlaces.{NumbersShown};
+ghost use Rattle.capn_show.specs.JsonTexts.{text_json};
 ghost use Rattle.capn_show.specs.Outgoing.{Adds, BreaksOff, outgoing};
 
-use crate::byte_digits::push_bytes;
 use crate::escapes::put_escapes;
 use crate::fault::Broken;
 use crate::output::put;
-use capn_words::{Place, Space, Watched};
+use capn_words::Watched;
 use std::alloc::Allocator;
 use std::io::Write;
 
@@ -63,7 +55,7 @@ fn is_well_formed(bytes: &[u8]) -> bool
 
 /// Returns `true` if `bytes` are a text: the last is zero, and those before it are well-formed UTF-8 without control
 /// characters.
-fn is_json_text(bytes: &[u8]) -> bool
+pub fn is_json_text(bytes: &[u8]) -> bool
     ensures { result ≡ texts.is_json_text bytes.now }
 {
     if bytes.is_empty() {
@@ -78,7 +70,7 @@ fn is_json_text(bytes: &[u8]) -> bool
 }
 
 /// Appends the JSON of the list `bytes` to `text` as a text, without its last byte.
-fn json_text<W: Write, A: Allocator>(
+pub fn json_text<W: Write, A: Allocator>(
     text: &mut Vec<u8, A>,
     writer: &mut Watched<W>,
     bytes: &[u8],
@@ -91,76 +83,4 @@ fn json_text<W: Write, A: Allocator>(
     put(text, writer, b"{\"text\":\"")?;
     put_escapes(text, writer, true, &bytes[..bytes.len().saturating_sub(1)])?;
     put(text, writer, b"\"}")
-}
-
-/// Appends the JSON of the list of `count` bytes at `start` to `text`: two digits for each.
-fn json_digits<S: Space, W: Write, A: Allocator>(
-    text: &mut Vec<u8, A>,
-    writer: &mut Watched<W>,
-    space: &S,
-    start: Place,
-    count: u32,
-) -> Result<(), Broken>
-    requires message { IsMessage (S.message space.now) }
-    requires content { IsContent (S.message space.now) start (content_words widths.W8 count) }
-    ensures shown { OnOk result (NumbersShown (S.message space.now) start.segment start.word widths.W8
-        count digits_json
-        (Adds (outgoing W.contents writer.old text.old.items) (outgoing W.contents writer.new text.new.items))) }
-    ensures cut { IfErr result (λ e. NumbersShown (S.message space.now) start.segment start.word widths.W8
-        count digits_json
-        (BreaksOff (outgoing W.contents writer.old text.old.items) (outgoing W.contents writer.new text.new.items) e)) }
-{
-    put(text, writer, b"{\"bytes\":\"")?;
-    push_bytes(text, writer, space, start, count)?;
-    put(text, writer, b"\"}")
-}
-
-/// Appends the JSON of the list of `count` bytes at `start` to `text`: as a text, or in digits if it is none.
-fn json_text_or_digits<S: Space, W: Write, A: Allocator>(
-    text: &mut Vec<u8, A>,
-    writer: &mut Watched<W>,
-    space: &S,
-    start: Place,
-    count: u32,
-) -> Result<(), Broken>
-    requires message { IsMessage (S.message space.now) }
-    requires content { IsContent (S.message space.now) start (content_words widths.W8 count) }
-    ensures shown { OnOk result (NumbersShown (S.message space.now) start.segment start.word widths.W8
-        count text_or_digits
-        (Adds (outgoing W.contents writer.old text.old.items) (outgoing W.contents writer.new text.new.items))) }
-    ensures cut { IfErr result (λ e. NumbersShown (S.message space.now) start.segment start.word widths.W8
-        count text_or_digits
-        (BreaksOff (outgoing W.contents writer.old text.old.items) (outgoing W.contents writer.new text.new.items) e)) }
-{
-    let bytes = space.bytes(start, count as usize);
-    if is_json_text(bytes) {
-        json_text(text, writer, bytes)
-    } else {
-        json_digits(text, writer, space, start, count)
-    }
-}
-
-/// Appends the JSON of the list of `count` bytes at `start` to `text`: as a text, if it is one and texts are asked for
-/// (`QUOTED`), else in digits.
-pub fn json_byte_list<S: Space, W: Write, A: Allocator, const QUOTED: bool>(
-    text: &mut Vec<u8, A>,
-    writer: &mut Watched<W>,
-    space: &S,
-    start: Place,
-    count: u32,
-) -> Result<(), Broken>
-    requires message { IsMessage (S.message space.now) }
-    requires content { IsContent (S.message space.now) start (content_words widths.W8 count) }
-    ensures shown { OnOk result (NumbersShown (S.message space.now) start.segment start.word widths.W8
-        count (bytes_json_of QUOTED)
-        (Adds (outgoing W.contents writer.old text.old.items) (outgoing W.contents writer.new text.new.items))) }
-    ensures cut { IfErr result (λ e. NumbersShown (S.message space.now) start.segment start.word widths.W8
-        count (bytes_json_of QUOTED)
-        (BreaksOff (outgoing W.contents writer.old text.old.items) (outgoing W.contents writer.new text.new.items) e)) }
-{
-    if QUOTED {
-        json_text_or_digits(text, writer, space, start, count)
-    } else {
-        json_digits(text, writer, space, start, count)
-    }
 }

@@ -13,8 +13,8 @@ use crate::bits::show_bits;
 use crate::bytes::show_byte_list;
 use crate::emitter::Emitter;
 use crate::fault::Broken;
-use crate::lines::named_line;
 use crate::numbers::show_numbers;
+use crate::piece::Piece;
 use capn_words::{Place, Space, Watched, Width};
 use std::alloc::Allocator;
 use std::io::Write;
@@ -47,22 +47,22 @@ pub fn show_list<S: Space, W: Write, A: Allocator, E: Emitter>(
 {
     let below = level + 1;
     match width {
-        Width::W0 => named_line(text, writer, level, "void", count),
+        Width::W0 => emitter.put_piece(text, writer, level, Piece::Voids(count)),
         Width::W1 => {
-            named_line(text, writer, level, "bits", count)?;
+            emitter.put_piece(text, writer, level, Piece::Bits(count))?;
             show_bits(text, writer, emitter, space, start, count, below)
         }
         Width::W8 => show_byte_list(text, writer, emitter, space, start, count, level),
         Width::W16 => {
-            named_line(text, writer, level, "u16", count)?;
+            emitter.put_piece(text, writer, level, Piece::Pairs(count))?;
             show_numbers(text, writer, emitter, space, start, width, count, below)
         }
         Width::W32 => {
-            named_line(text, writer, level, "u32", count)?;
+            emitter.put_piece(text, writer, level, Piece::Quads(count))?;
             show_numbers(text, writer, emitter, space, start, width, count, below)
         }
         Width::W64 => {
-            named_line(text, writer, level, "u64", count)?;
+            emitter.put_piece(text, writer, level, Piece::Octs(count))?;
             show_numbers(text, writer, emitter, space, start, width, count, below)
         }
         Width::Link | Width::Rows => unreachable!(),

@@ -43,6 +43,7 @@ pub fn show_message<S: Space, W: Write, A: Allocator, B: Allocator + Copy>(
         writer,
         &mut Lines::<false>,
         space,
+        0,
         Place::ROOT,
         0,
         depth,

@@ -1,4 +1,4 @@
-//! Lists of numbers, and data words: a line for each.
+//! Lists of numbers, and data words: a piece for each.
 //! They are read from the words of the message.
 
 ghost use Rattle.std.specs.Prelude.{◌≡◌, ◌+◌, ◌/◌, ◌++◌, IfErr, OnOk};
@@ -8,13 +8,14 @@ ghost use Rattle.capn_target.specs.Shapes.{IsContent};
 ghost use Rattle.capn_target.specs.Target.{content_words};
 ghost use Rattle.capn_walk.specs.View as seen;
 ghost use Rattle.capn_show.specs.Emitted as spec;
+ghost use Rattle.capn_show.specs.declared.piece.Piece.TheVariants as pieces;
 ghost use Rattle.capn_show.specs.EmittedPlaces.{WordsEmitted};
 ghost use Rattle.capn_show.specs.ReadyPlaces.{HasNumbers, NumbersShown};
 ghost use Rattle.capn_show.specs.Outgoing.{Adds, BreaksOff, outgoing};
 
 use crate::emitter::Emitter;
 use crate::fault::Broken;
-use crate::lines::{number_line, word_line};
+use crate::piece::Piece;
 use capn_walk::{digit, per_word};
 use capn_words::{Place, Space, Watched, Width};
 use std::alloc::Allocator;
@@ -36,49 +37,50 @@ pub fn number_at<S: Space>(space: &S, start: Place, width: Width, i: u32) -> u64
     digit(width, word, i % many)
 }
 
-/// Appends the line of a data `word`, which lies at `byte`, to `text`, with its mark.
+/// Appends `piece` to `text`, at this `level`: that of the item of this `number`, which lies at `byte`, with what
+/// stands before it.
 #[inline(always)]
-fn show_word<W: Write, A: Allocator, E: Emitter>(
+fn put_item<W: Write, A: Allocator, E: Emitter>(
+    text: &mut Vec<u8, A>,
+    writer: &mut Watched<W>,
+    emitter: &E,
+    number: u32,
+    byte: u128,
+    level: u32,
+    piece: Piece,
+) -> Result<(), Broken>
+    ensures shown { OnOk result (Adds (outgoing W.contents writer.old text.old.items)
+        (outgoing W.contents writer.new text.new.items)
+        ((E.rule emitter.now).mark number byte (E.path emitter.now) ++ (E.rule emitter.now).piece level piece)) }
+    ensures cut { IfErr result (λ e. BreaksOff (outgoing W.contents writer.old text.old.items)
+        (outgoing W.contents writer.new text.new.items) e
+        ((E.rule emitter.now).mark number byte (E.path emitter.now) ++ (E.rule emitter.now).piece level piece)) }
+{
+    emitter.put_mark(text, writer, number, byte)?;
+    emitter.put_piece(text, writer, level, piece)
+}
+
+/// Appends what stands before the digits of a list, whose first element lies at `byte`, to `text`, at this `level`.
+#[inline(always)]
+pub fn begin_digits<W: Write, A: Allocator, E: Emitter>(
     text: &mut Vec<u8, A>,
     writer: &mut Watched<W>,
     emitter: &E,
     byte: u128,
     level: u32,
-    word: u64,
 ) -> Result<(), Broken>
     ensures shown { OnOk result (Adds (outgoing W.contents writer.old text.old.items)
         (outgoing W.contents writer.new text.new.items)
-        ((E.rule emitter.now).mark byte (E.path emitter.now) ++ spec.word_line level word)) }
+        ((E.rule emitter.now).mark 0 byte (E.path emitter.now) ++ (E.rule emitter.now).piece level pieces.Digits)) }
     ensures cut { IfErr result (λ e. BreaksOff (outgoing W.contents writer.old text.old.items)
         (outgoing W.contents writer.new text.new.items) e
-        ((E.rule emitter.now).mark byte (E.path emitter.now) ++ spec.word_line level word)) }
+        ((E.rule emitter.now).mark 0 byte (E.path emitter.now) ++ (E.rule emitter.now).piece level pieces.Digits)) }
 {
-    emitter.put_mark(text, writer, byte)?;
-    word_line(text, writer, level, word)
+    put_item(text, writer, emitter, 0, byte, level, Piece::Digits)
 }
 
-/// Appends the line of the element `n`, which lies at `byte`, to `text`, with its mark.
-#[inline(always)]
-fn show_number<W: Write, A: Allocator, E: Emitter>(
-    text: &mut Vec<u8, A>,
-    writer: &mut Watched<W>,
-    emitter: &E,
-    byte: u128,
-    level: u32,
-    n: u64,
-) -> Result<(), Broken>
-    ensures shown { OnOk result (Adds (outgoing W.contents writer.old text.old.items)
-        (outgoing W.contents writer.new text.new.items)
-        ((E.rule emitter.now).mark byte (E.path emitter.now) ++ spec.number_line level n)) }
-    ensures cut { IfErr result (λ e. BreaksOff (outgoing W.contents writer.old text.old.items)
-        (outgoing W.contents writer.new text.new.items) e
-        ((E.rule emitter.now).mark byte (E.path emitter.now) ++ spec.number_line level n)) }
-{
-    emitter.put_mark(text, writer, byte)?;
-    number_line(text, writer, level, n)
-}
-
-/// Appends a line for each of the `count` data words at `start` to `text`, at this `level`, with its mark.
+/// Appends a piece for each of the `count` data words at `start` to `text`, at this `level`, with its mark, and what
+/// follows them.
 pub fn show_words<S: Space, W: Write, A: Allocator, E: Emitter>(
     text: &mut Vec<u8, A>,
     writer: &mut Watched<W>,
@@ -92,11 +94,11 @@ pub fn show_words<S: Space, W: Write, A: Allocator, E: Emitter>(
     requires of { E.is_of emitter.now (S.message space.now) }
     requires content { IsContent (S.message space.now) start count }
     ensures shown { OnOk result (WordsEmitted (S.message space.now) start.segment start.word count
-        (spec.emitted_lines (E.rule emitter.now) 8 (spec.word_line level) (E.path emitter.now)
+        (spec.emitted_words (E.rule emitter.now) level (E.path emitter.now)
         ((E.rule emitter.now).lies (S.message space.now) start))
         (Adds (outgoing W.contents writer.old text.old.items) (outgoing W.contents writer.new text.new.items))) }
     ensures cut { IfErr result (λ e. WordsEmitted (S.message space.now) start.segment start.word count
-        (spec.emitted_lines (E.rule emitter.now) 8 (spec.word_line level) (E.path emitter.now)
+        (spec.emitted_words (E.rule emitter.now) level (E.path emitter.now)
         ((E.rule emitter.now).lies (S.message space.now) start))
         (BreaksOff (outgoing W.contents writer.old text.old.items) (outgoing W.contents writer.new text.new.items) e)) }
 {
@@ -107,9 +109,10 @@ pub fn show_words<S: Space, W: Write, A: Allocator, E: Emitter>(
             word: start.word + i,
         };
         let word = space.word(at);
-        show_word(text, writer, emitter, first + 8 * i as u128, level, word)?;
+        let byte = first + 8 * i as u128;
+        put_item(text, writer, emitter, i, byte, level, Piece::Word(word))?;
     }
-    Ok(())
+    emitter.put_piece(text, writer, level, Piece::EndWords)
 }
 
 /// Returns the bytes of an element of this `width`, if no word holds more than eight of them.
@@ -119,7 +122,8 @@ fn element_bytes(width: Width) -> u128
     8 / per_word(width) as u128
 }
 
-/// Appends a line for each of the `count` numbers of this `width` at `start` to `text`, at this `level`, with its mark.
+/// Appends a piece for each of the `count` numbers of this `width` at `start` to `text`, at this `level`, with its
+/// mark, and what closes them.
 pub fn show_numbers<S: Space, W: Write, A: Allocator, E: Emitter>(
     text: &mut Vec<u8, A>,
     writer: &mut Watched<W>,
@@ -135,11 +139,11 @@ pub fn show_numbers<S: Space, W: Write, A: Allocator, E: Emitter>(
     requires content { IsContent (S.message space.now) start (content_words width count) }
     requires plain { HasNumbers width }
     ensures shown { OnOk result (NumbersShown (S.message space.now) start.segment start.word width count
-        (spec.emitted_lines (E.rule emitter.now) (8 / seen.per_word width) (spec.number_line level) (E.path emitter.now)
+        (spec.emitted_each (E.rule emitter.now) width (8 / seen.per_word width) level (E.path emitter.now)
         ((E.rule emitter.now).lies (S.message space.now) start))
         (Adds (outgoing W.contents writer.old text.old.items) (outgoing W.contents writer.new text.new.items))) }
     ensures cut { IfErr result (λ e. NumbersShown (S.message space.now) start.segment start.word width count
-        (spec.emitted_lines (E.rule emitter.now) (8 / seen.per_word width) (spec.number_line level) (E.path emitter.now)
+        (spec.emitted_each (E.rule emitter.now) width (8 / seen.per_word width) level (E.path emitter.now)
         ((E.rule emitter.now).lies (S.message space.now) start))
         (BreaksOff (outgoing W.contents writer.old text.old.items) (outgoing W.contents writer.new text.new.items) e)) }
 {
@@ -147,14 +151,9 @@ pub fn show_numbers<S: Space, W: Write, A: Allocator, E: Emitter>(
     let size = element_bytes(width);
     for i in 0..count {
         let number = number_at(space, start, width, i);
-        show_number(
-            text,
-            writer,
-            emitter,
-            first + i as u128 * size,
-            level,
-            number,
-        )?;
+        let byte = first + i as u128 * size;
+        let piece = Piece::Number(width, number);
+        put_item(text, writer, emitter, i, byte, level, piece)?;
     }
-    Ok(())
+    emitter.put_piece(text, writer, level, Piece::EndItems)
 }

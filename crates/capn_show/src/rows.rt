@@ -9,6 +9,7 @@ ghost use Rattle.capn_show.specs.ReadyPlaces.{AreReady, AreRows, IsBody, IsReady
 
 use crate::emitter::Emitter;
 use crate::fault::Broken;
+use crate::piece::Piece;
 use crate::slots::{show_body, show_slot};
 use capn_words::{Place, Space, Watched};
 use std::alloc::Allocator;
@@ -23,7 +24,8 @@ pub struct Size {
     pub slots: u16,
 }
 
-/// Appends the text of the values of `count` slots from `first` on, one after the other, to `text`.
+/// Appends the text of the values of `count` slots from `first` on, one after the other, and what closes them, to
+/// `text`.
 #[cycle(slots)]
 #[inline(always)]
 pub fn show_slots<S: Space, W: Write, A: Allocator, E: Emitter>(
@@ -56,7 +58,7 @@ pub fn show_slots<S: Space, W: Write, A: Allocator, E: Emitter>(
         };
         show_below(text, writer, emitter, space, i, at, level, depth)?;
     }
-    Ok(())
+    emitter.put_piece(text, writer, level, Piece::EndItems)
 }
 
 /// Appends the text of the value of the slot of this `number`, which is at `at`, to `text`.
@@ -76,22 +78,23 @@ fn show_below<S: Space, W: Write, A: Allocator, E: Emitter>(
     requires place { IsPlace (S.message space.now) at }
     requires ready { IsReady (S.message space.now) at depth }
     requires room { level + 2 * depth < 2 ^ 32 }
-    ensures shown { OnOk result (IsEmitted (S.message space.now) (E.rule emitter.old) level
+    ensures shown { OnOk result (IsEmitted (S.message space.now) (E.rule emitter.old) level number
         ((E.rule emitter.old).below (E.path emitter.old) number) at
         (Adds (outgoing W.contents writer.old text.old.items) (outgoing W.contents writer.new text.new.items))) }
-    ensures cut { IfErr result (λ e. IsEmitted (S.message space.now) (E.rule emitter.old) level
+    ensures cut { IfErr result (λ e. IsEmitted (S.message space.now) (E.rule emitter.old) level number
         ((E.rule emitter.old).below (E.path emitter.old) number) at
         (BreaksOff (outgoing W.contents writer.old text.old.items) (outgoing W.contents writer.new text.new.items) e)) }
     ensures kept { OnOk result (Keeps E.rule E.path E.is_of emitter.old emitter.new) }
 {
     let above = emitter.path_length();
     emitter.step_below(number)?;
-    show_slot(text, writer, emitter, space, at, level, depth)?;
+    show_slot(text, writer, emitter, space, number, at, level, depth)?;
     emitter.step_back(above);
     Ok(())
 }
 
-/// Appends the text of `count` rows of this `size` each, from `first` on, one after the other, to `text`.
+/// Appends the text of `count` rows of this `size` each, from `first` on, one after the other, and what closes them, to
+/// `text`.
 #[cycle(slots)]
 pub fn show_rows<S: Space, W: Write, A: Allocator, E: Emitter>(
     text: &mut Vec<u8, A>,
@@ -126,7 +129,7 @@ pub fn show_rows<S: Space, W: Write, A: Allocator, E: Emitter>(
         show_row(text, writer, emitter, space, row, start, size, level, depth)?;
         next += size.words as u32 + size.slots as u32;
     }
-    Ok(())
+    emitter.put_piece(text, writer, level, Piece::EndItems)
 }
 
 /// Appends the text of the row of this `number`, which starts at `start`, to `text`.
@@ -148,10 +151,10 @@ fn show_row<S: Space, W: Write, A: Allocator, E: Emitter>(
     requires content { IsContent (S.message space.now) start (size.words + size.slots) }
     requires ready { IsBody (S.message space.now) start.segment start.word size.words size.slots depth }
     requires room { level + 1 + 2 * depth < 2 ^ 32 }
-    ensures shown { OnOk result (IsRowEmitted (S.message space.now) (E.rule emitter.old) level
+    ensures shown { OnOk result (IsRowEmitted (S.message space.now) (E.rule emitter.old) level number
         ((E.rule emitter.old).below (E.path emitter.old) number) start.segment start.word size.words size.slots
         (Adds (outgoing W.contents writer.old text.old.items) (outgoing W.contents writer.new text.new.items))) }
-    ensures cut { IfErr result (λ e. IsRowEmitted (S.message space.now) (E.rule emitter.old) level
+    ensures cut { IfErr result (λ e. IsRowEmitted (S.message space.now) (E.rule emitter.old) level number
         ((E.rule emitter.old).below (E.path emitter.old) number) start.segment start.word size.words size.slots
         (BreaksOff (outgoing W.contents writer.old text.old.items) (outgoing W.contents writer.new text.new.items) e)) }
     ensures kept { OnOk result (Keeps E.rule E.path E.is_of emitter.old emitter.new) }
@@ -159,7 +162,7 @@ fn show_row<S: Space, W: Write, A: Allocator, E: Emitter>(
     let above = emitter.path_length();
     emitter.step_below(number)?;
     let byte = emitter.byte_of(space, start);
-    emitter.put_mark(text, writer, byte)?;
+    emitter.put_mark(text, writer, number, byte)?;
     show_body(text, writer, emitter, space, start, size, level, depth)?;
     emitter.step_back(above);
     Ok(())

@@ -9,9 +9,9 @@ ghost use Rattle.capn_show.specs.ReadyPlaces.{IsBody, IsFound, IsReady};
 
 use crate::emitter::Emitter;
 use crate::fault::Broken;
-use crate::lines::{body_line, named_line, plain_line};
 use crate::lists::show_list;
 use crate::numbers::show_words;
+use crate::piece::Piece;
 use crate::rows::{Size, show_rows, show_slots};
 use capn_walk::laws::views_show_values;
 use capn_walk::{Shape, Target, resolve};
@@ -19,7 +19,8 @@ use capn_words::{Place, Space, Watched, Width};
 use std::alloc::Allocator;
 use std::io::Write;
 
-/// Appends the text of the value at `at` to `text`, at this `level`; the path of `emitter` leads to it.
+/// Appends the text of the value at `at` to `text`, at this `level`, as the item of this `number`; the path of
+/// `emitter` leads to it.
 #[cycle(slots)]
 #[inline(always)]
 pub fn show_slot<S: Space, W: Write, A: Allocator, E: Emitter>(
@@ -27,6 +28,7 @@ pub fn show_slot<S: Space, W: Write, A: Allocator, E: Emitter>(
     writer: &mut Watched<W>,
     emitter: &mut E,
     space: &S,
+    number: u32,
     at: Place,
     level: u32,
     depth: u32,
@@ -36,14 +38,16 @@ pub fn show_slot<S: Space, W: Write, A: Allocator, E: Emitter>(
     requires place { IsPlace (S.message space.now) at }
     requires ready { IsReady (S.message space.now) at depth }
     requires room { level + 2 * depth < 2 ^ 32 }
-    ensures shown { OnOk result (IsEmitted (S.message space.now) (E.rule emitter.old) level (E.path emitter.old) at
+    ensures shown { OnOk result
+        (IsEmitted (S.message space.now) (E.rule emitter.old) level number (E.path emitter.old) at
         (Adds (outgoing W.contents writer.old text.old.items) (outgoing W.contents writer.new text.new.items))) }
-    ensures cut { IfErr result (λ e. IsEmitted (S.message space.now) (E.rule emitter.old) level (E.path emitter.old) at
+    ensures cut { IfErr result (λ e.
+        IsEmitted (S.message space.now) (E.rule emitter.old) level number (E.path emitter.old) at
         (BreaksOff (outgoing W.contents writer.old text.old.items) (outgoing W.contents writer.new text.new.items) e)) }
     ensures kept { OnOk result (Keeps E.rule E.path E.is_of emitter.old emitter.new) }
 {
     let byte = emitter.byte_of(space, at);
-    emitter.put_mark(text, writer, byte)?;
+    emitter.put_mark(text, writer, number, byte)?;
     views_show_values();
     match resolve(space, at) {
         Ok(found) => show_found(text, writer, emitter, space, found, level, depth),
@@ -79,8 +83,8 @@ pub fn show_found<S: Space, W: Write, A: Allocator, E: Emitter>(
     ensures kept { OnOk result (Keeps E.rule E.path E.is_of emitter.old emitter.new) }
 {
     match found {
-        Target::Nil => plain_line(text, writer, level, "null"),
-        Target::Cap(index) => named_line(text, writer, level, "capability", index),
+        Target::Nil => emitter.put_piece(text, writer, level, Piece::Nil),
+        Target::Cap(index) => emitter.put_piece(text, writer, level, Piece::Cap(index)),
         Target::Content {
             segment,
             start,
@@ -104,7 +108,7 @@ pub fn show_found<S: Space, W: Write, A: Allocator, E: Emitter>(
                 ),
                 Shape::Many { width, count } => match width {
                     Width::Link => {
-                        named_line(text, writer, level, "pointers", count)?;
+                        emitter.put_piece(text, writer, level, Piece::Links(count))?;
                         show_slots(
                             text,
                             writer,
@@ -124,7 +128,7 @@ pub fn show_found<S: Space, W: Write, A: Allocator, E: Emitter>(
                     slots,
                     span: _,
                 } => {
-                    named_line(text, writer, level, "rows", count)?;
+                    emitter.put_piece(text, writer, level, Piece::Rows(count))?;
                     let first = Place {
                         segment,
                         word: start.word + 1,
@@ -173,7 +177,8 @@ pub fn show_body<S: Space, W: Write, A: Allocator, E: Emitter>(
         (BreaksOff (outgoing W.contents writer.old text.old.items) (outgoing W.contents writer.new text.new.items) e)) }
     ensures kept { OnOk result (Keeps E.rule E.path E.is_of emitter.old emitter.new) }
 {
-    body_line(text, writer, level, size.words, size.slots)?;
+    let head = Piece::Body(size.words, size.slots);
+    emitter.put_piece(text, writer, level, head)?;
     show_words(text, writer, emitter, space, start, size.words, level + 1)?;
     let first = Place {
         segment: start.segment,

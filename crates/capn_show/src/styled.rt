@@ -9,7 +9,7 @@ ghost use Rattle.capn_show.specs.ReadyPlaces.{IsFound, IsFoundShown, IsThereShow
 
 use crate::emitter::Lines;
 use crate::fault::Broken;
-use crate::json::json_found;
+use crate::json::Json;
 use crate::lines::{end_line, plain_line};
 use crate::slots::show_found;
 use crate::style::Style;
@@ -76,12 +76,13 @@ fn show_json<S: Space, W: Write, A: Allocator, const QUOTED: bool>(
     requires message { IsMessage (S.message space.now) }
     requires inside { IsInMessage (S.message space.now) found }
     requires ready { IsFound (S.message space.now) found depth }
+    requires room { 2 * depth < 2 ^ 32 }
     ensures shown { OnOk result (IsThereShown (S.message space.now) (json_style QUOTED) found (Adds
         (outgoing W.contents writer.old text.old.items) (outgoing W.contents writer.new text.new.items))) }
     ensures cut { IfErr result (λ e. IsThereShown (S.message space.now) (json_style QUOTED) found (BreaksOff
         (outgoing W.contents writer.old text.old.items) (outgoing W.contents writer.new text.new.items) e)) }
 {
-    json_found::<_, _, _, QUOTED>(text, writer, space, found, depth)?;
+    show_found(text, writer, &mut Json::<QUOTED>, space, found, 0, depth)?;
     end_line(text, writer)
 }
 

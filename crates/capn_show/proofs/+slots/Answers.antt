@@ -20,9 +20,10 @@ use Rattle.capn_show.proofs.shared.Appended.{passed, same, both, then-broken, br
 use Rattle.capn_show.proofs.shared.Appended.{otherwise-broken}
 use Rattle.capn_show.proofs.shared.Sequels.{unbegun}
 use Rattle.capn_show.proofs.shared.Steps.{no-fault, found-ready, slot-ready, row-ready, slots-ready}
-use Rattle.capn_show.proofs.ItemTexts.{item-more, item-cut, items-all}
+use Rattle.capn_show.proofs.ItemTexts.{item-more, item-cut, items-end, end-cut}
 use Rattle.capn_show.proofs.EmittedItems.{listed, length-listed, rows_listed, length-rows_listed, no_row, slot_item}
 use Rattle.capn_show.proofs.EmittedItems.{slots-items, row_item, rows-items, nth, nth_row, item-is, row-is}
+use Rattle.capn_show.proofs.EmittedItems.{end, closing}
 use Rattle.capn_show.proofs.shared.FoundTexts.{inside, deep, node-ready, links-ready, rows-ready}
 use Rattle.capn_show.proofs.EmittedTexts.{slot-emitted, body-emitted, nil-emitted, cap-emitted, node-emitted}
 use Rattle.capn_show.proofs.EmittedTexts.{list-emitted, links-emitted, rows-emitted, slot-moved, row-moved}
@@ -276,43 +277,43 @@ pub slots::show_found-returns-in-Nil-clause-shown : goal.slots::show_found-retur
 slots::show_found-returns-in-Nil-clause-shown g t c =
     let rule = g.E.Emitter.rule c.args.emitter.now in
     let path = g.E.Emitter.path c.args.emitter.now in
-    on_ok_weaker c.plain_line.result
+    on_ok_weaker c.put_piece.result
     (nil-emitted (g.S.Space.message c.args.space.now) rule c.args.level path (Adds
     (outgoing g.W.Write.contents c.args.writer.now c.args.text.now.items)
-    (outgoing g.W.Write.contents c.plain_line.new.writer c.plain_line.new.text.items)) c.args.found c.in-Nil.is)
-    c.plain_line.ensures.shown
+    (outgoing g.W.Write.contents c.put_piece.new.writer c.put_piece.new.text.items)) c.args.found c.in-Nil.is)
+    c.put_piece.ensures.shown
 
 pub slots::show_found-returns-in-Nil-clause-cut : goal.slots::show_found-returns-in-Nil-clause-cut
 slots::show_found-returns-in-Nil-clause-cut g t c =
     let rule = g.E.Emitter.rule c.args.emitter.now in
     let path = g.E.Emitter.path c.args.emitter.now in
-    IfErr-weaker c.plain_line.result _ _
+    IfErr-weaker c.put_piece.result _ _
     (λ e. nil-emitted (g.S.Space.message c.args.space.now) rule c.args.level path (BreaksOff
     (outgoing g.W.Write.contents c.args.writer.now c.args.text.now.items)
-    (outgoing g.W.Write.contents c.plain_line.new.writer c.plain_line.new.text.items) e) c.args.found c.in-Nil.is)
-    c.plain_line.ensures.cut
+    (outgoing g.W.Write.contents c.put_piece.new.writer c.put_piece.new.text.items) e) c.args.found c.in-Nil.is)
+    c.put_piece.ensures.cut
 
 pub slots::show_found-returns-in-Cap-clause-shown : goal.slots::show_found-returns-in-Cap-clause-shown
 slots::show_found-returns-in-Cap-clause-shown g t c =
     let rule = g.E.Emitter.rule c.args.emitter.now in
     let path = g.E.Emitter.path c.args.emitter.now in
-    on_ok_weaker c.named_line.result
+    on_ok_weaker c.put_piece-in-Cap.result
     (cap-emitted (g.S.Space.message c.args.space.now) rule c.args.level path (Adds
     (outgoing g.W.Write.contents c.args.writer.now c.args.text.now.items)
-    (outgoing g.W.Write.contents c.named_line.new.writer c.named_line.new.text.items)) c.args.found c.in-Cap.index
-    c.in-Cap.is)
-    c.named_line.ensures.shown
+    (outgoing g.W.Write.contents c.put_piece-in-Cap.new.writer c.put_piece-in-Cap.new.text.items)) c.args.found
+    c.in-Cap.index c.in-Cap.is)
+    c.put_piece-in-Cap.ensures.shown
 
 pub slots::show_found-returns-in-Cap-clause-cut : goal.slots::show_found-returns-in-Cap-clause-cut
 slots::show_found-returns-in-Cap-clause-cut g t c =
     let rule = g.E.Emitter.rule c.args.emitter.now in
     let path = g.E.Emitter.path c.args.emitter.now in
-    IfErr-weaker c.named_line.result _ _
+    IfErr-weaker c.put_piece-in-Cap.result _ _
     (λ e. cap-emitted (g.S.Space.message c.args.space.now) rule c.args.level path (BreaksOff
     (outgoing g.W.Write.contents c.args.writer.now c.args.text.now.items)
-    (outgoing g.W.Write.contents c.named_line.new.writer c.named_line.new.text.items) e) c.args.found c.in-Cap.index
-    c.in-Cap.is)
-    c.named_line.ensures.cut
+    (outgoing g.W.Write.contents c.put_piece-in-Cap.new.writer c.put_piece-in-Cap.new.text.items) e) c.args.found
+    c.in-Cap.index c.in-Cap.is)
+    c.put_piece-in-Cap.ensures.cut
 
 pub slots::show_found-returns-in-Node-clause-shown : goal.slots::show_found-returns-in-Node-clause-shown
 slots::show_found-returns-in-Node-clause-shown g t c =
@@ -366,9 +367,9 @@ slots::show_found-returns-in_default-clause-cut g t c =
     c.in-Many.width c.in-Many.count c.in-Many.is)
     c.show_list.ensures.cut
 
-pub slots::show_found-returns-in_ok-named_line-in-Link-clause-shown :
-    goal.slots::show_found-returns-in_ok-named_line-in-Link-clause-shown
-slots::show_found-returns-in_ok-named_line-in-Link-clause-shown g t c =
+pub slots::show_found-returns-in_ok-put_piece-in-Link-clause-shown :
+    goal.slots::show_found-returns-in_ok-put_piece-in-Link-clause-shown
+slots::show_found-returns-in_ok-put_piece-in-Link-clause-shown g t c =
     let rule = g.E.Emitter.rule c.args.emitter.now in
     let path = g.E.Emitter.path c.args.emitter.now in
     on_ok_weaker c.show_slots.result
@@ -377,18 +378,18 @@ slots::show_found-returns-in_ok-named_line-in-Link-clause-shown g t c =
     (outgoing g.W.Write.contents c.show_slots.new.writer c.show_slots.new.text.items)) c.args.found c.in-Content.segment
     c.in-Content.start c.in-Content.pads
     c.in-Content.shape c.in-Content.is
-    (Adds (outgoing g.W.Write.contents c.named_line-in-Link.new.writer c.named_line-in-Link.new.text.items)
+    (Adds (outgoing g.W.Write.contents c.put_piece-in-Link.new.writer c.put_piece-in-Link.new.text.items)
     (outgoing g.W.Write.contents c.show_slots.new.writer c.show_slots.new.text.items)) c.in-Many.width c.in-Many.count
     c.in-Many.is c.in-Link.is
     (λ y. both (outgoing g.W.Write.contents c.args.writer.now c.args.text.now.items)
-    (outgoing g.W.Write.contents c.named_line-in-Link.new.writer c.named_line-in-Link.new.text.items)
+    (outgoing g.W.Write.contents c.put_piece-in-Link.new.writer c.put_piece-in-Link.new.text.items)
     (outgoing g.W.Write.contents c.show_slots.new.writer c.show_slots.new.text.items) _ y
-    c.in_ok-named_line-in-Link.ensures.shown))
+    c.in_ok-put_piece-in-Link.ensures.shown))
     c.show_slots.ensures.shown
 
-pub slots::show_found-returns-in_ok-named_line-in-Link-clause-cut :
-    goal.slots::show_found-returns-in_ok-named_line-in-Link-clause-cut
-slots::show_found-returns-in_ok-named_line-in-Link-clause-cut g t c =
+pub slots::show_found-returns-in_ok-put_piece-in-Link-clause-cut :
+    goal.slots::show_found-returns-in_ok-put_piece-in-Link-clause-cut
+slots::show_found-returns-in_ok-put_piece-in-Link-clause-cut g t c =
     let rule = g.E.Emitter.rule c.args.emitter.now in
     let path = g.E.Emitter.path c.args.emitter.now in
     IfErr-weaker c.show_slots.result _ _
@@ -399,36 +400,36 @@ slots::show_found-returns-in_ok-named_line-in-Link-clause-cut g t c =
     c.in-Content.segment
     c.in-Content.start c.in-Content.pads
     c.in-Content.shape c.in-Content.is
-    (BreaksOff (outgoing g.W.Write.contents c.named_line-in-Link.new.writer c.named_line-in-Link.new.text.items)
+    (BreaksOff (outgoing g.W.Write.contents c.put_piece-in-Link.new.writer c.put_piece-in-Link.new.text.items)
     (outgoing g.W.Write.contents c.show_slots.new.writer c.show_slots.new.text.items) e) c.in-Many.width
     c.in-Many.count c.in-Many.is
     c.in-Link.is
     (λ y. then-broken (outgoing g.W.Write.contents c.args.writer.now c.args.text.now.items)
-    (outgoing g.W.Write.contents c.named_line-in-Link.new.writer c.named_line-in-Link.new.text.items)
+    (outgoing g.W.Write.contents c.put_piece-in-Link.new.writer c.put_piece-in-Link.new.text.items)
     (outgoing g.W.Write.contents c.show_slots.new.writer c.show_slots.new.text.items) e _ y
-    c.in_ok-named_line-in-Link.ensures.shown))
+    c.in_ok-put_piece-in-Link.ensures.shown))
     c.show_slots.ensures.cut
 
-pub slots::show_found-returns-in_err-named_line-in-Link-clause-cut :
-    goal.slots::show_found-returns-in_err-named_line-in-Link-clause-cut
-slots::show_found-returns-in_err-named_line-in-Link-clause-cut g t c =
+pub slots::show_found-returns-in_err-put_piece-in-Link-clause-cut :
+    goal.slots::show_found-returns-in_err-put_piece-in-Link-clause-cut
+slots::show_found-returns-in_err-put_piece-in-Link-clause-cut g t c =
     let rule = g.E.Emitter.rule c.args.emitter.now in
     let path = g.E.Emitter.path c.args.emitter.now in
-    passed c.from_residual.result c.in_err-named_line-in-Link.field-0.0 _ c.from_residual.ensures.1
+    passed c.from_residual.result c.in_err-put_piece-in-Link.field-0.0 _ c.from_residual.ensures.1
     (links-emitted (g.S.Space.message c.args.space.now) rule c.args.level path (BreaksOff
     (outgoing g.W.Write.contents c.args.writer.now c.args.text.now.items)
-    (outgoing g.W.Write.contents c.named_line-in-Link.new.writer c.named_line-in-Link.new.text.items) _) c.args.found
+    (outgoing g.W.Write.contents c.put_piece-in-Link.new.writer c.put_piece-in-Link.new.text.items) _) c.args.found
     c.in-Content.segment c.in-Content.start c.in-Content.pads
     c.in-Content.shape c.in-Content.is
     (λ y. ⊤) c.in-Many.width c.in-Many.count c.in-Many.is c.in-Link.is
     (λ y u. broken-before (outgoing g.W.Write.contents c.args.writer.now c.args.text.now.items)
-    (outgoing g.W.Write.contents c.named_line-in-Link.new.writer c.named_line-in-Link.new.text.items) _ _ y
-    c.in_err-named_line-in-Link.ensures.cut) (λ ts h
+    (outgoing g.W.Write.contents c.put_piece-in-Link.new.writer c.put_piece-in-Link.new.text.items) _ _ y
+    c.in_err-put_piece-in-Link.ensures.cut) (λ ts h
     n. tt))
 
-pub slots::show_found-returns-in_ok-named_line-in-Rows-clause-shown :
-    goal.slots::show_found-returns-in_ok-named_line-in-Rows-clause-shown
-slots::show_found-returns-in_ok-named_line-in-Rows-clause-shown g t c =
+pub slots::show_found-returns-in_ok-put_piece-in-Rows-clause-shown :
+    goal.slots::show_found-returns-in_ok-put_piece-in-Rows-clause-shown
+slots::show_found-returns-in_ok-put_piece-in-Rows-clause-shown g t c =
     let rule = g.E.Emitter.rule c.args.emitter.now in
     let path = g.E.Emitter.path c.args.emitter.now in
     on_ok_weaker c.show_rows.result
@@ -437,19 +438,19 @@ slots::show_found-returns-in_ok-named_line-in-Rows-clause-shown g t c =
     (outgoing g.W.Write.contents c.show_rows.new.writer c.show_rows.new.text.items)) c.args.found c.in-Content.segment
     c.in-Content.start c.in-Content.pads
     c.in-Content.shape c.in-Content.is
-    (Adds (outgoing g.W.Write.contents c.named_line-in-Rows.new.writer c.named_line-in-Rows.new.text.items)
+    (Adds (outgoing g.W.Write.contents c.put_piece-in-Rows.new.writer c.put_piece-in-Rows.new.text.items)
     (outgoing g.W.Write.contents c.show_rows.new.writer c.show_rows.new.text.items)) c.in-Rows.count c.in-Rows.words
     c.in-Rows.slots
     c.in-Rows.span c.in-Rows.is
     (λ y. both (outgoing g.W.Write.contents c.args.writer.now c.args.text.now.items)
-    (outgoing g.W.Write.contents c.named_line-in-Rows.new.writer c.named_line-in-Rows.new.text.items)
+    (outgoing g.W.Write.contents c.put_piece-in-Rows.new.writer c.put_piece-in-Rows.new.text.items)
     (outgoing g.W.Write.contents c.show_rows.new.writer c.show_rows.new.text.items) _ y
-    c.in_ok-named_line-in-Rows.ensures.shown))
+    c.in_ok-put_piece-in-Rows.ensures.shown))
     c.show_rows.ensures.shown
 
-pub slots::show_found-returns-in_ok-named_line-in-Rows-clause-cut :
-    goal.slots::show_found-returns-in_ok-named_line-in-Rows-clause-cut
-slots::show_found-returns-in_ok-named_line-in-Rows-clause-cut g t c =
+pub slots::show_found-returns-in_ok-put_piece-in-Rows-clause-cut :
+    goal.slots::show_found-returns-in_ok-put_piece-in-Rows-clause-cut
+slots::show_found-returns-in_ok-put_piece-in-Rows-clause-cut g t c =
     let rule = g.E.Emitter.rule c.args.emitter.now in
     let path = g.E.Emitter.path c.args.emitter.now in
     IfErr-weaker c.show_rows.result _ _
@@ -458,32 +459,32 @@ slots::show_found-returns-in_ok-named_line-in-Rows-clause-cut g t c =
     (outgoing g.W.Write.contents c.show_rows.new.writer c.show_rows.new.text.items) e) c.args.found c.in-Content.segment
     c.in-Content.start c.in-Content.pads
     c.in-Content.shape c.in-Content.is
-    (BreaksOff (outgoing g.W.Write.contents c.named_line-in-Rows.new.writer c.named_line-in-Rows.new.text.items)
+    (BreaksOff (outgoing g.W.Write.contents c.put_piece-in-Rows.new.writer c.put_piece-in-Rows.new.text.items)
     (outgoing g.W.Write.contents c.show_rows.new.writer c.show_rows.new.text.items) e) c.in-Rows.count c.in-Rows.words
     c.in-Rows.slots
     c.in-Rows.span c.in-Rows.is
     (λ y. then-broken (outgoing g.W.Write.contents c.args.writer.now c.args.text.now.items)
-    (outgoing g.W.Write.contents c.named_line-in-Rows.new.writer c.named_line-in-Rows.new.text.items)
+    (outgoing g.W.Write.contents c.put_piece-in-Rows.new.writer c.put_piece-in-Rows.new.text.items)
     (outgoing g.W.Write.contents c.show_rows.new.writer c.show_rows.new.text.items) e _ y
-    c.in_ok-named_line-in-Rows.ensures.shown))
+    c.in_ok-put_piece-in-Rows.ensures.shown))
     c.show_rows.ensures.cut
 
-pub slots::show_found-returns-in_err-named_line-in-Rows-clause-cut :
-    goal.slots::show_found-returns-in_err-named_line-in-Rows-clause-cut
-slots::show_found-returns-in_err-named_line-in-Rows-clause-cut g t c =
+pub slots::show_found-returns-in_err-put_piece-in-Rows-clause-cut :
+    goal.slots::show_found-returns-in_err-put_piece-in-Rows-clause-cut
+slots::show_found-returns-in_err-put_piece-in-Rows-clause-cut g t c =
     let rule = g.E.Emitter.rule c.args.emitter.now in
     let path = g.E.Emitter.path c.args.emitter.now in
-    passed c.from_residual-in_err-named_line-in-Rows.result c.in_err-named_line-in-Rows.field-0.0 _
-    c.from_residual-in_err-named_line-in-Rows.ensures.1
+    passed c.from_residual-in_err-put_piece-in-Rows.result c.in_err-put_piece-in-Rows.field-0.0 _
+    c.from_residual-in_err-put_piece-in-Rows.ensures.1
     (rows-emitted (g.S.Space.message c.args.space.now) rule c.args.level path (BreaksOff
     (outgoing g.W.Write.contents c.args.writer.now c.args.text.now.items)
-    (outgoing g.W.Write.contents c.named_line-in-Rows.new.writer c.named_line-in-Rows.new.text.items) _) c.args.found
+    (outgoing g.W.Write.contents c.put_piece-in-Rows.new.writer c.put_piece-in-Rows.new.text.items) _) c.args.found
     c.in-Content.segment c.in-Content.start c.in-Content.pads
     c.in-Content.shape c.in-Content.is
     (λ y. ⊤) c.in-Rows.count c.in-Rows.words c.in-Rows.slots c.in-Rows.span c.in-Rows.is
     (λ y u. broken-before (outgoing g.W.Write.contents c.args.writer.now c.args.text.now.items)
-    (outgoing g.W.Write.contents c.named_line-in-Rows.new.writer c.named_line-in-Rows.new.text.items) _ _ y
-    c.in_err-named_line-in-Rows.ensures.cut) (λ bs h
+    (outgoing g.W.Write.contents c.put_piece-in-Rows.new.writer c.put_piece-in-Rows.new.text.items) _ _ y
+    c.in_err-put_piece-in-Rows.ensures.cut) (λ bs h
     n. tt))
 
 pub slots::show_body-returns-clause-shown : goal.slots::show_body-returns-clause-shown
@@ -495,15 +496,15 @@ slots::show_body-returns-clause-shown g t c =
     c.args.start.segment c.args.start.word c.args.size.words c.args.size.slots (Adds
     (outgoing g.W.Write.contents c.args.writer.now c.args.text.now.items)
     (outgoing g.W.Write.contents c.show_slots.new.writer c.show_slots.new.text.items)) (Adds
-    (outgoing g.W.Write.contents c.body_line.new.writer c.body_line.new.text.items)
+    (outgoing g.W.Write.contents c.put_piece.new.writer c.put_piece.new.text.items)
     (outgoing g.W.Write.contents c.show_words.new.writer c.show_words.new.text.items)) (Adds
     (outgoing g.W.Write.contents c.show_words.new.writer c.show_words.new.text.items)
     (outgoing g.W.Write.contents c.show_slots.new.writer c.show_slots.new.text.items))
     (λ x y h k. both (outgoing g.W.Write.contents c.args.writer.now c.args.text.now.items)
-    (outgoing g.W.Write.contents c.body_line.new.writer c.body_line.new.text.items)
+    (outgoing g.W.Write.contents c.put_piece.new.writer c.put_piece.new.text.items)
     (outgoing g.W.Write.contents c.show_slots.new.writer c.show_slots.new.text.items) _
-    (x ++ y) c.in_ok-body_line.ensures.shown
-    (both (outgoing g.W.Write.contents c.body_line.new.writer c.body_line.new.text.items)
+    (x ++ y) c.in_ok-put_piece.ensures.shown
+    (both (outgoing g.W.Write.contents c.put_piece.new.writer c.put_piece.new.text.items)
     (outgoing g.W.Write.contents c.show_words.new.writer c.show_words.new.text.items)
     (outgoing g.W.Write.contents c.show_slots.new.writer c.show_slots.new.text.items) x y h k))
     c.in_ok-show_words.ensures.shown)
@@ -518,15 +519,15 @@ slots::show_body-returns-clause-cut g t c =
     c.args.start.segment c.args.start.word c.args.size.words c.args.size.slots (BreaksOff
     (outgoing g.W.Write.contents c.args.writer.now c.args.text.now.items)
     (outgoing g.W.Write.contents c.show_slots.new.writer c.show_slots.new.text.items) e) (Adds
-    (outgoing g.W.Write.contents c.body_line.new.writer c.body_line.new.text.items)
+    (outgoing g.W.Write.contents c.put_piece.new.writer c.put_piece.new.text.items)
     (outgoing g.W.Write.contents c.show_words.new.writer c.show_words.new.text.items))
     (BreaksOff (outgoing g.W.Write.contents c.show_words.new.writer c.show_words.new.text.items)
     (outgoing g.W.Write.contents c.show_slots.new.writer c.show_slots.new.text.items) e)
     (λ x y h k. then-broken (outgoing g.W.Write.contents c.args.writer.now c.args.text.now.items)
-    (outgoing g.W.Write.contents c.body_line.new.writer c.body_line.new.text.items)
+    (outgoing g.W.Write.contents c.put_piece.new.writer c.put_piece.new.text.items)
     (outgoing g.W.Write.contents c.show_slots.new.writer c.show_slots.new.text.items) e _ (x ++ y)
-    c.in_ok-body_line.ensures.shown
-    (then-broken (outgoing g.W.Write.contents c.body_line.new.writer c.body_line.new.text.items)
+    c.in_ok-put_piece.ensures.shown
+    (then-broken (outgoing g.W.Write.contents c.put_piece.new.writer c.put_piece.new.text.items)
     (outgoing g.W.Write.contents c.show_words.new.writer c.show_words.new.text.items)
     (outgoing g.W.Write.contents c.show_slots.new.writer c.show_slots.new.text.items) e x y h k))
     c.in_ok-show_words.ensures.shown)
@@ -542,29 +543,29 @@ slots::show_body-returns-in_err-show_words-clause-cut g t c =
     c.args.start.segment c.args.start.word c.args.size.words c.args.size.slots (BreaksOff
     (outgoing g.W.Write.contents c.args.writer.now c.args.text.now.items)
     (outgoing g.W.Write.contents c.show_words.new.writer c.show_words.new.text.items) _) (BreaksOff
-    (outgoing g.W.Write.contents c.body_line.new.writer c.body_line.new.text.items)
+    (outgoing g.W.Write.contents c.put_piece.new.writer c.put_piece.new.text.items)
     (outgoing g.W.Write.contents c.show_words.new.writer c.show_words.new.text.items)
     _) (λ y. ⊤)
     (λ x y h k. then-broken (outgoing g.W.Write.contents c.args.writer.now c.args.text.now.items)
-    (outgoing g.W.Write.contents c.body_line.new.writer c.body_line.new.text.items)
+    (outgoing g.W.Write.contents c.put_piece.new.writer c.put_piece.new.text.items)
     (outgoing g.W.Write.contents c.show_words.new.writer c.show_words.new.text.items) _ _ (x ++ y)
-    c.in_ok-body_line.ensures.shown (broken-before (outgoing g.W.Write.contents c.body_line.new.writer
-    c.body_line.new.text.items) (outgoing g.W.Write.contents c.show_words.new.writer c.show_words.new.text.items) _ x
+    c.in_ok-put_piece.ensures.shown (broken-before (outgoing g.W.Write.contents c.put_piece.new.writer
+    c.put_piece.new.text.items) (outgoing g.W.Write.contents c.show_words.new.writer c.show_words.new.text.items) _ x
     y h))
     c.in_err-show_words.ensures.cut (λ ts h n. tt))
 
-pub slots::show_body-returns-in_err-body_line-clause-cut : goal.slots::show_body-returns-in_err-body_line-clause-cut
-slots::show_body-returns-in_err-body_line-clause-cut g t c =
+pub slots::show_body-returns-in_err-put_piece-clause-cut : goal.slots::show_body-returns-in_err-put_piece-clause-cut
+slots::show_body-returns-in_err-put_piece-clause-cut g t c =
     let rule = g.E.Emitter.rule c.args.emitter.now in
     let path = g.E.Emitter.path c.args.emitter.now in
-    passed c.from_residual.result c.in_err-body_line.field-0.0 _ c.from_residual.ensures.1
+    passed c.from_residual.result c.in_err-put_piece.field-0.0 _ c.from_residual.ensures.1
     (body-emitted (g.S.Space.message c.args.space.now) rule c.args.level path
     c.args.start.segment c.args.start.word c.args.size.words c.args.size.slots (BreaksOff
     (outgoing g.W.Write.contents c.args.writer.now c.args.text.now.items)
-    (outgoing g.W.Write.contents c.body_line.new.writer c.body_line.new.text.items) _) (λ y. ⊤) (λ y. ⊤)
+    (outgoing g.W.Write.contents c.put_piece.new.writer c.put_piece.new.text.items) _) (λ y. ⊤) (λ y. ⊤)
     (λ x y h k. broken-before (outgoing g.W.Write.contents c.args.writer.now c.args.text.now.items)
-    (outgoing g.W.Write.contents c.body_line.new.writer c.body_line.new.text.items) _ _
-    (x ++ y) c.in_err-body_line.ensures.cut) (λ ws h n. tt)
+    (outgoing g.W.Write.contents c.put_piece.new.writer c.put_piece.new.text.items) _ _
+    (x ++ y) c.in_err-put_piece.ensures.cut) (λ ws h n. tt)
     (λ ts h n. tt))
 
 pub rows::show_slots-show_below-requires : goal.rows::show_slots-show_below-requires
@@ -635,13 +636,13 @@ rows::show_rows-show_row-requires g t c κs live =
 
 pub slots::show_found-returns-in-Nil-clause-kept : goal.slots::show_found-returns-in-Nil-clause-kept
 slots::show_found-returns-in-Nil-clause-kept g t c =
-    on_ok_weaker c.plain_line.result (λ h. record { rule = refl; path = refl; of = λ m k. k })
-    c.plain_line.ensures.shown
+    on_ok_weaker c.put_piece.result (λ h. record { rule = refl; path = refl; of = λ m k. k })
+    c.put_piece.ensures.shown
 
 pub slots::show_found-returns-in-Cap-clause-kept : goal.slots::show_found-returns-in-Cap-clause-kept
 slots::show_found-returns-in-Cap-clause-kept g t c =
-    on_ok_weaker c.named_line.result (λ h. record { rule = refl; path = refl; of = λ m k. k })
-    c.named_line.ensures.shown
+    on_ok_weaker c.put_piece-in-Cap.result (λ h. record { rule = refl; path = refl; of = λ m k. k })
+    c.put_piece-in-Cap.ensures.shown
 
 pub slots::show_found-returns-in_default-clause-kept : goal.slots::show_found-returns-in_default-clause-kept
 slots::show_found-returns-in_default-clause-kept g t c =
@@ -658,11 +659,11 @@ slots::show_slot-returns-clause-shown g t c =
     let q = (outgoing g.W.Write.contents c.put_mark.new.writer c.put_mark.new.text.items) in
     let r = (outgoing g.W.Write.contents c.show_found.new.writer c.show_found.new.text.items) in
     on_ok_weaker c.show_found.result
-    (slot-emitted m rule c.args.level path c.views_show_values.ensures c.args.at
+    (slot-emitted m rule c.args.level path c.views_show_values.ensures c.args.number c.args.at
     c.in-Ok.found
     (sym c.resolve.ensures.exact ∙ c.in-Ok.is) (Adds p r) (Adds q r)
-    (λ y. both p q r (rule.mark (rule.lies m c.args.at) path) y
-    (otherwise p q _ _ (ap (λ (n : ℕ). rule.mark n path) c.byte_of-byte.ensures.is)
+    (λ y. both p q r (rule.mark c.args.number (rule.lies m c.args.at) path) y
+    (otherwise p q _ _ (ap (λ (n : ℕ). rule.mark c.args.number n path) c.byte_of-byte.ensures.is)
     c.in_ok-put_mark.ensures.shown)))
     c.show_found.ensures.shown
 
@@ -675,11 +676,11 @@ slots::show_slot-returns-clause-cut g t c =
     let q = (outgoing g.W.Write.contents c.put_mark.new.writer c.put_mark.new.text.items) in
     let r = (outgoing g.W.Write.contents c.show_found.new.writer c.show_found.new.text.items) in
     IfErr-weaker c.show_found.result _ _
-    (λ e. slot-emitted m rule c.args.level path c.views_show_values.ensures c.args.at
+    (λ e. slot-emitted m rule c.args.level path c.views_show_values.ensures c.args.number c.args.at
     c.in-Ok.found
     (sym c.resolve.ensures.exact ∙ c.in-Ok.is) (BreaksOff p r e) (BreaksOff q r e)
-    (λ y. then-broken p q r e (rule.mark (rule.lies m c.args.at) path) y
-    (otherwise p q _ _ (ap (λ (n : ℕ). rule.mark n path) c.byte_of-byte.ensures.is)
+    (λ y. then-broken p q r e (rule.mark c.args.number (rule.lies m c.args.at) path) y
+    (otherwise p q _ _ (ap (λ (n : ℕ). rule.mark c.args.number n path) c.byte_of-byte.ensures.is)
     c.in_ok-put_mark.ensures.shown)))
     c.show_found.ensures.cut
 
@@ -691,9 +692,9 @@ slots::show_slot-returns-in_err-put_mark-clause-cut g t c =
     let p = (outgoing g.W.Write.contents c.args.writer.now c.args.text.now.items) in
     let q = (outgoing g.W.Write.contents c.put_mark.new.writer c.put_mark.new.text.items) in
     passed c.from_residual.result c.in_err-put_mark.field-0.0 _ c.from_residual.ensures.1
-    (λ v i. broken-before p q _ (rule.mark (rule.lies m c.args.at) path)
+    (λ v i. broken-before p q _ (rule.mark c.args.number (rule.lies m c.args.at) path)
     (emitted m rule c.args.level path (named_by (target m c.args.at)) v)
-    (otherwise-broken p q _ _ _ (ap (λ (n : ℕ). rule.mark n path) c.byte_of-byte.ensures.is)
+    (otherwise-broken p q _ _ _ (ap (λ (n : ℕ). rule.mark c.args.number n path) c.byte_of-byte.ensures.is)
     c.in_err-put_mark.ensures.cut))
 
 -- ---- the text of the slot of a number
@@ -720,7 +721,7 @@ rows::show_below-returns-clause-shown g t c =
     let p = (outgoing g.W.Write.contents c.args.writer.now c.args.text.now.items) in
     let r = (outgoing g.W.Write.contents c.show_slot.new.writer c.show_slot.new.text.items) in
     slot-moved m c.args.level _ _ c.in_ok-step_below.ensures.rule _ _ c.in_ok-step_below.ensures.below (Adds p r)
-    c.args.at c.in_ok-show_slot.ensures.shown
+    c.args.number c.args.at c.in_ok-show_slot.ensures.shown
 
 pub rows::show_below-returns-clause-kept : goal.rows::show_below-returns-clause-kept
 rows::show_below-returns-clause-kept g t c =
@@ -746,7 +747,7 @@ rows::show_below-returns-in_err-show_slot-clause-cut g t c =
     c.in_ok-step_below.ensures.below
     (BreaksOff (outgoing g.W.Write.contents c.args.writer.now c.args.text.now.items)
     (outgoing g.W.Write.contents c.show_slot.new.writer c.show_slot.new.text.items) c.in_err-show_slot.field-0.0)
-    c.args.at c.in_err-show_slot.ensures.cut)
+    c.args.number c.args.at c.in_err-show_slot.ensures.cut)
 
 -- ---- the text of a row
 
@@ -776,10 +777,11 @@ rows::show_row-returns-clause-shown g t c =
     let path = g.E.Emitter.path c.step_below.new.self in
     let row = struct_at c.args.start.segment c.args.start.word c.args.size.words c.args.size.slots in
     row-moved m c.args.level _ _ c.in_ok-step_below.ensures.rule _ _ c.in_ok-step_below.ensures.below (Adds p r)
-    c.args.start.segment c.args.start.word c.args.size.words c.args.size.slots
-    (λ ws ss h. both p q r (rule.mark (rule.lies m (begin row)) path)
+    c.args.number c.args.start.segment c.args.start.word c.args.size.words c.args.size.slots
+    (λ ws ss h. both p q r (rule.mark c.args.number (rule.lies m (begin row)) path)
     (emitted_body m rule c.args.level path row ws ss)
-    (otherwise p q _ _ (ap (λ (n : ℕ). rule.mark n path) c.byte_of-byte.ensures.is) c.in_ok-put_mark.ensures.shown)
+    (otherwise p q _ _ (ap (λ (n : ℕ). rule.mark c.args.number n path) c.byte_of-byte.ensures.is)
+    c.in_ok-put_mark.ensures.shown)
     (c.in_ok-show_body.ensures.shown ws ss h))
 
 pub rows::show_row-returns-clause-kept : goal.rows::show_row-returns-clause-kept
@@ -809,10 +811,10 @@ rows::show_row-returns-in_err-put_mark-clause-cut g t c =
     c.from_residual-in_err-put_mark.ensures.1
     (row-moved m c.args.level _ _ c.in_ok-step_below.ensures.rule _ _ c.in_ok-step_below.ensures.below (BreaksOff p q
     c.in_err-put_mark.field-0.0)
-    c.args.start.segment c.args.start.word c.args.size.words c.args.size.slots
-    (λ ws ss h. broken-before p q _ (rule.mark (rule.lies m (begin row)) path)
+    c.args.number c.args.start.segment c.args.start.word c.args.size.words c.args.size.slots
+    (λ ws ss h. broken-before p q _ (rule.mark c.args.number (rule.lies m (begin row)) path)
     (emitted_body m rule c.args.level path row ws ss)
-    (otherwise-broken p q _ _ _ (ap (λ (n : ℕ). rule.mark n path) c.byte_of-byte.ensures.is)
+    (otherwise-broken p q _ _ _ (ap (λ (n : ℕ). rule.mark c.args.number n path) c.byte_of-byte.ensures.is)
     c.in_err-put_mark.ensures.cut)))
 
 pub rows::show_row-returns-in_err-show_body-clause-cut : goal.rows::show_row-returns-in_err-show_body-clause-cut
@@ -828,10 +830,11 @@ rows::show_row-returns-in_err-show_body-clause-cut g t c =
     c.from_residual-in_err-show_body.ensures.1
     (row-moved m c.args.level _ _ c.in_ok-step_below.ensures.rule _ _ c.in_ok-step_below.ensures.below (BreaksOff p r
     c.in_err-show_body.field-0.0)
-    c.args.start.segment c.args.start.word c.args.size.words c.args.size.slots
-    (λ ws ss h. then-broken p q r _ (rule.mark (rule.lies m (begin row)) path)
+    c.args.number c.args.start.segment c.args.start.word c.args.size.words c.args.size.slots
+    (λ ws ss h. then-broken p q r _ (rule.mark c.args.number (rule.lies m (begin row)) path)
     (emitted_body m rule c.args.level path row ws ss)
-    (otherwise p q _ _ (ap (λ (n : ℕ). rule.mark n path) c.byte_of-byte.ensures.is) c.in_ok-put_mark.ensures.shown)
+    (otherwise p q _ _ (ap (λ (n : ℕ). rule.mark c.args.number n path) c.byte_of-byte.ensures.is)
+    c.in_ok-put_mark.ensures.shown)
     (c.in_err-show_body.ensures.cut ws ss h)))
 
 -- ---- slots, one after the other
@@ -868,18 +871,44 @@ rows::show_slots-loop-i-preserved g t c =
     }
 
 pub rows::show_slots-returns-clause-shown : goal.rows::show_slots-returns-clause-shown
-rows::show_slots-returns-clause-shown g t c ts h n =
+rows::show_slots-returns-clause-shown g t c =
     let rule = g.E.Emitter.rule c.args.emitter.now in
     let path = g.E.Emitter.path c.args.emitter.now in
     let m = (g.S.Space.message c.args.space.now) in
     let p = (outgoing g.W.Write.contents c.args.writer.now c.args.text.now.items) in
     let q = (outgoing g.W.Write.contents c.loop-i.writer c.loop-i.text.items) in
-    let long = length-listed ts in
+    let r = (outgoing g.W.Write.contents c.put_piece.new.writer c.put_piece.new.text.items) in
     let past = c.loop-i-test.false in
-    otherwise p q _ _ (slots-items m rule c.args.level path (nth c.args.first) 0 ts)
-    (items-all (slot_item m rule c.args.level path (nth c.args.first)) nil p q
-    (listed ts) c.loop-i.i
-    (omega arith) (c.loop-i.invariant.rest ts h n))
+    on_ok_weaker c.put_piece.result
+    (λ k ts h n. let long = length-listed ts in
+    otherwise p r _ _ (slots-items m rule c.args.level path (nth c.args.first) 0 ts)
+    (items-end (slot_item m rule c.args.level path (nth c.args.first)) nil p q
+    (listed ts) c.loop-i.i r (end m rule c.args.level path)
+    (omega arith) (c.loop-i.invariant.rest ts h n)
+    (otherwise q r _ _ (closing c.args.level c.loop-i.invariant.kept.rule) k)))
+    c.put_piece.ensures.shown
+
+pub rows::show_slots-returns-clause-cut : goal.rows::show_slots-returns-clause-cut
+rows::show_slots-returns-clause-cut g t c =
+    let rule = g.E.Emitter.rule c.args.emitter.now in
+    let path = g.E.Emitter.path c.args.emitter.now in
+    let m = (g.S.Space.message c.args.space.now) in
+    let p = (outgoing g.W.Write.contents c.args.writer.now c.args.text.now.items) in
+    let q = (outgoing g.W.Write.contents c.loop-i.writer c.loop-i.text.items) in
+    let r = (outgoing g.W.Write.contents c.put_piece.new.writer c.put_piece.new.text.items) in
+    let past = c.loop-i-test.false in
+    IfErr-weaker c.put_piece.result _ _
+    (λ e k ts h n. let long = length-listed ts in
+    otherwise-broken p r e _ _ (slots-items m rule c.args.level path (nth c.args.first) 0 ts)
+    (end-cut (slot_item m rule c.args.level path (nth c.args.first)) nil p q
+    (listed ts) c.loop-i.i r e (end m rule c.args.level path)
+    (omega arith) (c.loop-i.invariant.rest ts h n)
+    (otherwise-broken q r e _ _ (closing c.args.level c.loop-i.invariant.kept.rule) k)))
+    c.put_piece.ensures.cut
+
+pub rows::show_slots-returns-clause-kept : goal.rows::show_slots-returns-clause-kept
+rows::show_slots-returns-clause-kept g t c =
+    on_ok_weaker c.put_piece.result (λ h. c.loop-i.invariant.kept) c.put_piece.ensures.shown
 
 pub rows::show_slots-returns-in_err-show_below-clause-cut :
     goal.rows::show_slots-returns-in_err-show_below-clause-cut
@@ -898,7 +927,7 @@ rows::show_slots-returns-in_err-show_below-clause-cut g t c =
     otherwise-broken p r _ _ _ (slots-items m rule c.args.level path (nth c.args.first) 0
     ts)
     (item-cut (slot_item m rule c.args.level path (nth c.args.first)) nil p q (listed ts) i
-    r _
+    r _ (end m rule c.args.level path)
     (omega arith) (c.loop-i.invariant.rest ts h n)
     (otherwise-broken q r _ _ _ (item-is m rule c.args.level path _ _ c.loop-i.invariant.kept.rule
     c.loop-i.invariant.kept.path (nth c.args.first) ts i) (c.in_err-show_below.ensures.cut (tree_at ts i)
@@ -945,19 +974,46 @@ rows::show_rows-loop-row-preserved g t c =
     }
 
 pub rows::show_rows-returns-clause-shown : goal.rows::show_rows-returns-clause-shown
-rows::show_rows-returns-clause-shown g t c bs h n =
+rows::show_rows-returns-clause-shown g t c =
     let rule = g.E.Emitter.rule c.args.emitter.now in
     let path = g.E.Emitter.path c.args.emitter.now in
     let m = (g.S.Space.message c.args.space.now) in
     let p = (outgoing g.W.Write.contents c.args.writer.now c.args.text.now.items) in
     let q = (outgoing g.W.Write.contents c.loop-row.writer c.loop-row.text.items) in
-    let long = length-rows_listed bs in
+    let r = (outgoing g.W.Write.contents c.put_piece.new.writer c.put_piece.new.text.items) in
     let past = c.loop-row-test.false in
     let row = nth_row c.args.first c.args.size.words c.args.size.slots in
-    otherwise p q _ _ (rows-items m rule c.args.level path row 0 bs)
-    (items-all (row_item m rule c.args.level path row) no_row p q
-    (rows_listed bs) c.loop-row.row
-    (omega arith) (c.loop-row.invariant.rest bs h n))
+    on_ok_weaker c.put_piece.result
+    (λ k bs h n. let long = length-rows_listed bs in
+    otherwise p r _ _ (rows-items m rule c.args.level path row 0 bs)
+    (items-end (row_item m rule c.args.level path row) no_row p q
+    (rows_listed bs) c.loop-row.row r (end m rule c.args.level path)
+    (omega arith) (c.loop-row.invariant.rest bs h n)
+    (otherwise q r _ _ (closing c.args.level c.loop-row.invariant.kept.rule) k)))
+    c.put_piece.ensures.shown
+
+pub rows::show_rows-returns-clause-cut : goal.rows::show_rows-returns-clause-cut
+rows::show_rows-returns-clause-cut g t c =
+    let rule = g.E.Emitter.rule c.args.emitter.now in
+    let path = g.E.Emitter.path c.args.emitter.now in
+    let m = (g.S.Space.message c.args.space.now) in
+    let p = (outgoing g.W.Write.contents c.args.writer.now c.args.text.now.items) in
+    let q = (outgoing g.W.Write.contents c.loop-row.writer c.loop-row.text.items) in
+    let r = (outgoing g.W.Write.contents c.put_piece.new.writer c.put_piece.new.text.items) in
+    let past = c.loop-row-test.false in
+    let row = nth_row c.args.first c.args.size.words c.args.size.slots in
+    IfErr-weaker c.put_piece.result _ _
+    (λ e k bs h n. let long = length-rows_listed bs in
+    otherwise-broken p r e _ _ (rows-items m rule c.args.level path row 0 bs)
+    (end-cut (row_item m rule c.args.level path row) no_row p q
+    (rows_listed bs) c.loop-row.row r e (end m rule c.args.level path)
+    (omega arith) (c.loop-row.invariant.rest bs h n)
+    (otherwise-broken q r e _ _ (closing c.args.level c.loop-row.invariant.kept.rule) k)))
+    c.put_piece.ensures.cut
+
+pub rows::show_rows-returns-clause-kept : goal.rows::show_rows-returns-clause-kept
+rows::show_rows-returns-clause-kept g t c =
+    on_ok_weaker c.put_piece.result (λ h. c.loop-row.invariant.kept) c.put_piece.ensures.shown
 
 pub rows::show_rows-returns-in_err-show_row-clause-cut :
     goal.rows::show_rows-returns-in_err-show_row-clause-cut
@@ -980,7 +1036,7 @@ rows::show_rows-returns-in_err-show_row-clause-cut g t c =
     otherwise-broken p r _ _ _ (rows-items m rule c.args.level path
     (nth_row c.args.first a b) 0 bs)
     (item-cut (row_item m rule c.args.level path (nth_row c.args.first a b)) no_row p q
-    (rows_listed bs) i r _
+    (rows_listed bs) i r _ (end m rule c.args.level path)
     (omega arith) (c.loop-row.invariant.rest bs h n)
     (otherwise-broken q r _ _ _ (row-is m rule c.args.level path _ _ c.loop-row.invariant.kept.rule
     c.loop-row.invariant.kept.path c.args.first a b c.loop-row.next bs i next)

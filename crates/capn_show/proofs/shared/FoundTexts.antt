@@ -1,4 +1,4 @@
--- The height of a value that a pointer names, and its parts. (For the cycle `json` and the cycle `slots`.)
+-- The height of a value that a pointer names, and its parts. (For the cycle `slots`.)
 use Rattle.std.proofs.Common.{◌≡◌, ℕ, ◌+◌, ◌-◌, ◌≤◌, List, refl, subst, ap, ◌∙◌, arith}
 use Rattle.capn_words.specs.declared.pointer.Width.{Width}
 use Rattle.capn_words.specs.declared.pointer.Width.TheVariants.{W0, W1, W8, W16, W32, W64, Link, Rows}

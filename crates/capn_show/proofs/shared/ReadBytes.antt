@@ -1,5 +1,4 @@
--- Bytes that are read from a message are the numbers of a list of bytes. (For `json_text_or_digits`,
--- `show_text_or_digits` and capn_marks.)
+-- Bytes that are read from a message are the numbers of a list of bytes. (For `show_byte_list`.)
 use Rattle.std.proofs.Common.{◌≡◌, ℕ, ◌+◌, ◌*◌, ◌≤◌, List, length, sym, ◌∙◌, arith}
 use Rattle.std.proofs.lemmas.Grind.{same_number_lists}
 use Rattle.capn_words.specs.Message.{segment_at, bytes_at}

@@ -1,5 +1,5 @@
 -- A step of the text's recursion: a place with a value has a target, and what is shown there is the value. (For the
--- cycle `json` and the cycle `slots`.)
+-- cycle `slots`.)
 use Rattle.std.proofs.Common.{◌≡◌, ℕ, ◌+◌, ◌*◌, ◌<◌, List, Ok, Err, sym, arith}
 use Rattle.capn_words.specs.declared.space.Place.{Place}
 use Rattle.capn_value.specs.Tree.{Tree, nil, node, voids, numbers, links, rows, cap}

@@ -1,24 +1,37 @@
-use Rattle.std.proofs.Common.{ℕ, ◌≡◌, length, arith, ap, subst}
+use Rattle.std.proofs.Common.{ℕ, ◌≡◌, ◌++◌, length, arith, ap, subst}
 use Rattle.std.proofs.lemmas.Result.{on_ok_weaker, IfErr-weaker}
 use Rattle.capn_value.specs.Text.{digits_of}
-use Rattle.capn_value.specs.Text.{one_line}
 use Rattle.capn_show.specs.Emitted.{emitted_digits}
-use Rattle.capn_show.specs.Outgoing.{Adds, outgoing}
+use Rattle.capn_show.specs.Outgoing.{Adds, BreaksOff, outgoing}
+use Rattle.capn_show.specs.declared.piece.Piece.TheVariants as pieces
 use Rattle.capn_show.proofs.EmittedTexts.{digits-emitted}
-use Rattle.capn_show.proofs.shared.Appended.{passed, same, both, then-broken, broken-before, otherwise}
-use Rattle.capn_show.proofs.shared.Appended.{otherwise-broken}
+use Rattle.capn_show.proofs.shared.Appended.{passed, broken-before, otherwise, otherwise-broken}
+use Rattle.capn_show.proofs.shared.Sequels.{three, cut-second, cut-third}
 use Rattle.capn_show.proofs.bits.show_bits.Goals as goal
 
 pub returns-then-count-eq0-clause-shown : goal.returns-then-count-eq0-clause-shown
-returns-then-count-eq0-clause-shown g c xs h n =
+returns-then-count-eq0-clause-shown g c =
     let rule = g.E.Emitter.rule c.args.emitter.now in
     let path = g.E.Emitter.path c.args.emitter.now in
     let lies = rule.lies (g.S.Space.message c.args.space.now) c.args.start in
     let p = (outgoing g.W.Write.contents c.args.writer.now c.args.text.now.items) in
-    let none : 0 ≡ length xs = omega arith in
-    subst (λ (k : ℕ). Adds p p (emitted_digits rule c.args.level path lies k
-    (digits_of xs))) none
-    (same p)
+    let q = (outgoing g.W.Write.contents c.put_piece.new.writer c.put_piece.new.text.items) in
+    on_ok_weaker c.put_piece.result
+    (λ k xs h n. let none : 0 ≡ length xs = omega arith in
+    subst (λ (j : ℕ). Adds p q (emitted_digits rule c.args.level path lies j (digits_of xs))) none k)
+    c.put_piece.ensures.shown
+
+pub returns-then-count-eq0-clause-cut : goal.returns-then-count-eq0-clause-cut
+returns-then-count-eq0-clause-cut g c =
+    let rule = g.E.Emitter.rule c.args.emitter.now in
+    let path = g.E.Emitter.path c.args.emitter.now in
+    let lies = rule.lies (g.S.Space.message c.args.space.now) c.args.start in
+    let p = (outgoing g.W.Write.contents c.args.writer.now c.args.text.now.items) in
+    let q = (outgoing g.W.Write.contents c.put_piece.new.writer c.put_piece.new.text.items) in
+    IfErr-weaker c.put_piece.result _ _
+    (λ e k xs h n. let none : 0 ≡ length xs = omega arith in
+    subst (λ (j : ℕ). BreaksOff p q e (emitted_digits rule c.args.level path lies j (digits_of xs))) none k)
+    c.put_piece.ensures.cut
 
 pub returns-clause-shown : goal.returns-clause-shown
 returns-clause-shown g c =
@@ -26,15 +39,17 @@ returns-clause-shown g c =
     let path = g.E.Emitter.path c.args.emitter.now in
     let lies = rule.lies (g.S.Space.message c.args.space.now) c.args.start in
     let p = (outgoing g.W.Write.contents c.args.writer.now c.args.text.now.items) in
-    let q = (outgoing g.W.Write.contents c.put_mark.new.writer c.put_mark.new.text.items) in
-    let r = (outgoing g.W.Write.contents c.bits_line.new.writer c.bits_line.new.text.items) in
-    on_ok_weaker c.bits_line.result
-    (λ k xs h n. otherwise p r _ _
+    let q = (outgoing g.W.Write.contents c.begin_digits.new.writer c.begin_digits.new.text.items) in
+    let r = (outgoing g.W.Write.contents c.push_bits.new.writer c.push_bits.new.text.items) in
+    let s = (outgoing g.W.Write.contents c.put_piece-2.new.writer c.put_piece-2.new.text.items) in
+    let head = rule.piece c.args.level pieces.Digits in
+    on_ok_weaker c.put_piece-2.result
+    (λ k xs h n. otherwise p s _ _
     (digits-emitted rule c.args.level path lies (length xs) (digits_of xs) (omega arith))
-    (both p q r (rule.mark lies path) (one_line c.args.level (length xs) (digits_of xs))
-    (otherwise p q _ _ (ap (λ (f : ℕ). rule.mark f path) c.byte_of-first.ensures.is)
-    c.in_ok-put_mark.ensures.shown) (k xs h n)))
-    c.bits_line.ensures.shown
+    (three p q _ (digits_of xs) _ r s
+    (otherwise p q _ _ (ap (λ (f : ℕ). rule.mark 0 f path ++ head) c.byte_of-first.ensures.is)
+    c.in_ok-begin_digits.ensures.shown) (c.in_ok-push_bits.ensures.shown xs h n) k))
+    c.put_piece-2.ensures.shown
 
 pub returns-clause-cut : goal.returns-clause-cut
 returns-clause-cut g c =
@@ -42,28 +57,46 @@ returns-clause-cut g c =
     let path = g.E.Emitter.path c.args.emitter.now in
     let lies = rule.lies (g.S.Space.message c.args.space.now) c.args.start in
     let p = (outgoing g.W.Write.contents c.args.writer.now c.args.text.now.items) in
-    let q = (outgoing g.W.Write.contents c.put_mark.new.writer c.put_mark.new.text.items) in
-    let r = (outgoing g.W.Write.contents c.bits_line.new.writer c.bits_line.new.text.items) in
-    IfErr-weaker c.bits_line.result _ _
-    (λ e k xs h n. otherwise-broken p r e _ _
+    let q = (outgoing g.W.Write.contents c.begin_digits.new.writer c.begin_digits.new.text.items) in
+    let r = (outgoing g.W.Write.contents c.push_bits.new.writer c.push_bits.new.text.items) in
+    let s = (outgoing g.W.Write.contents c.put_piece-2.new.writer c.put_piece-2.new.text.items) in
+    let head = rule.piece c.args.level pieces.Digits in
+    IfErr-weaker c.put_piece-2.result _ _
+    (λ e k xs h n. otherwise-broken p s e _ _
     (digits-emitted rule c.args.level path lies (length xs) (digits_of xs) (omega arith))
-    (then-broken p q r e (rule.mark lies path) (one_line c.args.level (length xs)
-    (digits_of xs))
-    (otherwise p q _ _ (ap (λ (f : ℕ). rule.mark f path) c.byte_of-first.ensures.is)
-    c.in_ok-put_mark.ensures.shown) (k xs h n)))
-    c.bits_line.ensures.cut
+    (cut-third p q _ (digits_of xs) _ r s e
+    (otherwise p q _ _ (ap (λ (f : ℕ). rule.mark 0 f path ++ head) c.byte_of-first.ensures.is)
+    c.in_ok-begin_digits.ensures.shown) (c.in_ok-push_bits.ensures.shown xs h n) k))
+    c.put_piece-2.ensures.cut
 
-pub returns-in_err-put_mark-clause-cut : goal.returns-in_err-put_mark-clause-cut
-returns-in_err-put_mark-clause-cut g c =
+pub returns-in_err-begin_digits-clause-cut : goal.returns-in_err-begin_digits-clause-cut
+returns-in_err-begin_digits-clause-cut g c =
     let rule = g.E.Emitter.rule c.args.emitter.now in
     let path = g.E.Emitter.path c.args.emitter.now in
     let lies = rule.lies (g.S.Space.message c.args.space.now) c.args.start in
-    passed c.from_residual.result c.in_err-put_mark.field-0.0 _ c.from_residual.ensures.1
-    (λ xs h n. let p = (outgoing g.W.Write.contents c.args.writer.now c.args.text.now.items) in
-    let q = (outgoing g.W.Write.contents c.put_mark.new.writer c.put_mark.new.text.items) in
-    otherwise-broken p q _ _ _
+    let p = (outgoing g.W.Write.contents c.args.writer.now c.args.text.now.items) in
+    let q = (outgoing g.W.Write.contents c.begin_digits.new.writer c.begin_digits.new.text.items) in
+    let head = rule.piece c.args.level pieces.Digits in
+    passed c.from_residual.result c.in_err-begin_digits.field-0.0 _ c.from_residual.ensures.1
+    (λ xs h n. otherwise-broken p q _ _ _
     (digits-emitted rule c.args.level path lies (length xs) (digits_of xs) (omega arith))
-    (broken-before p q _ (rule.mark lies path) (one_line c.args.level (length xs)
-    (digits_of xs))
-    (otherwise-broken p q _ _ _ (ap (λ (f : ℕ). rule.mark f path) c.byte_of-first.ensures.is)
-    c.in_err-put_mark.ensures.cut)))
+    (broken-before p q _ _ _
+    (otherwise-broken p q _ _ _ (ap (λ (f : ℕ). rule.mark 0 f path ++ head) c.byte_of-first.ensures.is)
+    c.in_err-begin_digits.ensures.cut)))
+
+pub returns-in_err-push_bits-clause-cut : goal.returns-in_err-push_bits-clause-cut
+returns-in_err-push_bits-clause-cut g c =
+    let rule = g.E.Emitter.rule c.args.emitter.now in
+    let path = g.E.Emitter.path c.args.emitter.now in
+    let lies = rule.lies (g.S.Space.message c.args.space.now) c.args.start in
+    let p = (outgoing g.W.Write.contents c.args.writer.now c.args.text.now.items) in
+    let q = (outgoing g.W.Write.contents c.begin_digits.new.writer c.begin_digits.new.text.items) in
+    let r = (outgoing g.W.Write.contents c.push_bits.new.writer c.push_bits.new.text.items) in
+    let head = rule.piece c.args.level pieces.Digits in
+    passed c.from_residual-in_err-push_bits.result c.in_err-push_bits.field-0.0 _
+    c.from_residual-in_err-push_bits.ensures.1
+    (λ xs h n. otherwise-broken p r _ _ _
+    (digits-emitted rule c.args.level path lies (length xs) (digits_of xs) (omega arith))
+    (cut-second p q _ (digits_of xs) _ r _
+    (otherwise p q _ _ (ap (λ (f : ℕ). rule.mark 0 f path ++ head) c.byte_of-first.ensures.is)
+    c.in_ok-begin_digits.ensures.shown) (c.in_err-push_bits.ensures.cut xs h n)))

@@ -4,7 +4,7 @@ use Rattle.std.proofs.lemmas.Fmt.{length-decimal-le}
 use Rattle.std.proofs.lemmas.Result.{on_ok_weaker, IfErr-weaker}
 use Rattle.capn_show.specs.Outgoing.{outgoing}
 use Rattle.capn_show.proofs.shared.Appended.{otherwise, otherwise-broken}
-use Rattle.capn_show.proofs.JsonTexts.{plain-digits}
+use Rattle.capn_show.proofs.JsonDigits.{plain-digits}
 use Rattle.capn_show.proofs.json_items.put_plain.Goals as goal
 
 pub write_digits-start-requires : goal.write_digits-start-requires

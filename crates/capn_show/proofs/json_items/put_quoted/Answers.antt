@@ -5,7 +5,7 @@ use Rattle.std.proofs.lemmas.Result.{on_ok_weaker, IfErr-weaker}
 use Rattle.capn_show.specs.Json.{number_text}
 use Rattle.capn_show.specs.Outgoing.{outgoing}
 use Rattle.capn_show.proofs.shared.Appended.{otherwise, otherwise-broken}
-use Rattle.capn_show.proofs.JsonTexts.{quoted-digits}
+use Rattle.capn_show.proofs.JsonDigits.{quoted-digits}
 use Rattle.capn_show.proofs.json_items.put_quoted.Goals as goal
 
 pub write_digits-start-requires : goal.write_digits-start-requires

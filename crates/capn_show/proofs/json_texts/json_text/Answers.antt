@@ -4,8 +4,8 @@ use Rattle.capn_show.specs.Json.{member, quoted}
 use Rattle.capn_show.specs.JsonTexts.{json_escapes, text_json}
 use Rattle.capn_show.specs.Outgoing.{outgoing}
 use Rattle.capn_show.proofs.shared.Appended.{passed, otherwise, otherwise-broken, broken-before}
-use Rattle.capn_show.proofs.JsonTexts.{closed}
-use Rattle.capn_show.proofs.JsonItems.{three, cut-second, cut-third}
+use Rattle.capn_show.proofs.JsonEmitted.{closed}
+use Rattle.capn_show.proofs.shared.Sequels.{three, cut-second, cut-third}
 use Rattle.capn_show.proofs.json_texts.json_text.Goals as goal
 
 -- the object of a text, by its parts

@@ -13,9 +13,10 @@ use Rattle.capn_show.proofs.shared.Appended.{otherwise, otherwise-broken}
 use Rattle.capn_show.proofs.message.show_message.Goals as goal
 
 -- the text by the rule of plain lines
-plain-text : (m : List (List ℕ)) (v : Tree) → emitted_slot m (plain_rule false) 0 [] root v ≡ show_text v
+plain-text : (m : List (List ℕ)) (v : Tree) → emitted_slot m (plain_rule false) 0 0 [] root v ≡ show_text v
 plain-text m v =
-    bare (plain_rule false) (λ n path. refl) m 0 [] (named_by (target m root)) v ∙ plain-shown 0 v
+    bare false (λ m at. 0) (λ path i. path) (λ byte path. []) (λ n path. refl) m 0 [] (named_by (target m root)) v
+    ∙ plain-shown 0 v
 
 pub show_slot-requires-clause-ready : goal.show_slot-requires-clause-ready
 show_slot-requires-clause-ready g c =

@@ -1,9 +1,9 @@
 use Rattle.std.proofs.Common.{◌≡◌, ℕ, List, length, take}
-use Rattle.capn_show.specs.Emitted.{word_line}
+use Rattle.capn_show.specs.declared.piece.Piece.TheVariants as pieces
 use Rattle.capn_show.specs.Outgoing.{Adds, outgoing}
 use Rattle.capn_show.specs.ReadyPlaces.{AreDataWords}
 use Rattle.capn_show.proofs.ItemTexts.{texts}
-use Rattle.capn_show.proofs.EmittedItems.{line_item}
+use Rattle.capn_show.proofs.EmittedItems.{number_item}
 use Rattle.capn_show.proofs.numbers.show_words.Given as goal
 
 abbrev pub invariant-loop-i : goal.invariant-loop-i
@@ -11,5 +11,7 @@ invariant-loop-i g l = (ws : List ℕ)
     → AreDataWords (g.S.Space.message l.space) l.start.segment l.start.word ws → length ws ≡ l.count
     → Adds (outgoing g.W.Write.contents l.initial.writer l.initial.text.items)
     (outgoing g.W.Write.contents l.writer l.text.items)
-    (texts (line_item (g.E.Emitter.rule l.emitter) 8 (word_line l.level) (g.E.Emitter.path l.emitter)
+    (texts (number_item (g.E.Emitter.rule l.emitter) 8
+    (λ w. (g.E.Emitter.rule l.emitter).piece l.level (pieces.Word w))
+    ((g.E.Emitter.rule l.emitter).piece l.level pieces.EndWords) (g.E.Emitter.path l.emitter)
     ((g.E.Emitter.rule l.emitter).lies (g.S.Space.message l.space) l.start)) 0 (take l.i ws))

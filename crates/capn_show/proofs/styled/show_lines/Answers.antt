@@ -1,6 +1,5 @@
 use Rattle.std.proofs.Common.{[], refl, not, eqb}
 use Rattle.std.proofs.lemmas.Result.{on_ok_weaker, IfErr-weaker}
-use Rattle.capn_show.specs.Emitted.{plain_rule}
 use Rattle.capn_show.specs.Outgoing.{outgoing}
 use Rattle.capn_show.proofs.shared.Appended.{otherwise, otherwise-broken}
 use Rattle.capn_show.proofs.shared.BareTexts.{bare}
@@ -11,9 +10,10 @@ returns-clause-shown g c =
     let m = g.S.Space.message c.args.space.now in
     let p = outgoing g.W.Write.contents c.args.writer.now c.args.text.now.items in
     let q = outgoing g.W.Write.contents c.show_found.new.writer c.show_found.new.text.items in
-    let rule = plain_rule (not (eqb g.row.QUOTED 0)) in
+    let asked = not (eqb g.row.QUOTED 0) in
+    let text = bare asked (λ m at. 0) (λ path i. path) (λ byte path. []) (λ n path. refl) m 0 [] c.args.found in
     on_ok_weaker c.show_found.result
-    (λ k v h. otherwise p q _ _ (bare rule (λ n path. refl) m 0 [] c.args.found v) (k v h))
+    (λ k v h. otherwise p q _ _ (text v) (k v h))
     c.show_found.ensures.shown
 
 pub returns-clause-cut : goal.returns-clause-cut
@@ -21,7 +21,8 @@ returns-clause-cut g c =
     let m = g.S.Space.message c.args.space.now in
     let p = outgoing g.W.Write.contents c.args.writer.now c.args.text.now.items in
     let q = outgoing g.W.Write.contents c.show_found.new.writer c.show_found.new.text.items in
-    let rule = plain_rule (not (eqb g.row.QUOTED 0)) in
+    let asked = not (eqb g.row.QUOTED 0) in
+    let text = bare asked (λ m at. 0) (λ path i. path) (λ byte path. []) (λ n path. refl) m 0 [] c.args.found in
     IfErr-weaker c.show_found.result _ _
-    (λ e k v h. otherwise-broken p q e _ _ (bare rule (λ n path. refl) m 0 [] c.args.found v) (k v h))
+    (λ e k v h. otherwise-broken p q e _ _ (text v) (k v h))
     c.show_found.ensures.cut

@@ -1,8 +1,7 @@
-use Rattle.capn_show.specs.Emitted.{number_line}
 use Rattle.capn_show.specs.Outgoing.{outgoing}
 use Rattle.capn_show.proofs.shared.Sequels.{ok-then, err-then}
 use Rattle.capn_show.proofs.shared.Appended.{passed, broken-before}
-use Rattle.capn_show.proofs.numbers.show_number.Goals as goal
+use Rattle.capn_show.proofs.numbers.put_item.Goals as goal
 
 pub returns-clause-shown : goal.returns-clause-shown
 returns-clause-shown g c =
@@ -10,10 +9,10 @@ returns-clause-shown g c =
     let path = g.E.Emitter.path c.args.emitter.now in
     ok-then (outgoing g.W.Write.contents c.args.writer.now c.args.text.now.items)
     (outgoing g.W.Write.contents c.put_mark.new.writer c.put_mark.new.text.items)
-    (outgoing g.W.Write.contents c.number_line.new.writer c.number_line.new.text.items)
-    (rule.mark c.args.byte path)
-    (number_line c.args.level c.args.n)
-    c.in_ok-put_mark.ensures.shown c.number_line.result c.number_line.ensures.shown
+    (outgoing g.W.Write.contents c.put_piece.new.writer c.put_piece.new.text.items)
+    (rule.mark c.args.number c.args.byte path)
+    (rule.piece c.args.level c.args.piece)
+    c.in_ok-put_mark.ensures.shown c.put_piece.result c.put_piece.ensures.shown
 
 pub returns-clause-cut : goal.returns-clause-cut
 returns-clause-cut g c =
@@ -21,10 +20,10 @@ returns-clause-cut g c =
     let path = g.E.Emitter.path c.args.emitter.now in
     err-then (outgoing g.W.Write.contents c.args.writer.now c.args.text.now.items)
     (outgoing g.W.Write.contents c.put_mark.new.writer c.put_mark.new.text.items)
-    (outgoing g.W.Write.contents c.number_line.new.writer c.number_line.new.text.items)
-    (rule.mark c.args.byte path)
-    (number_line c.args.level c.args.n)
-    c.in_ok-put_mark.ensures.shown c.number_line.result c.number_line.ensures.cut
+    (outgoing g.W.Write.contents c.put_piece.new.writer c.put_piece.new.text.items)
+    (rule.mark c.args.number c.args.byte path)
+    (rule.piece c.args.level c.args.piece)
+    c.in_ok-put_mark.ensures.shown c.put_piece.result c.put_piece.ensures.cut
 
 pub returns-in_err-put_mark-clause-cut : goal.returns-in_err-put_mark-clause-cut
 returns-in_err-put_mark-clause-cut g c =
@@ -33,6 +32,6 @@ returns-in_err-put_mark-clause-cut g c =
     passed c.from_residual.result c.in_err-put_mark.field-0.0 _ c.from_residual.ensures.1
     (broken-before (outgoing g.W.Write.contents c.args.writer.now c.args.text.now.items)
     (outgoing g.W.Write.contents c.put_mark.new.writer c.put_mark.new.text.items) _
-    (rule.mark c.args.byte path)
-    (number_line c.args.level c.args.n)
+    (rule.mark c.args.number c.args.byte path)
+    (rule.piece c.args.level c.args.piece)
     c.in_err-put_mark.ensures.cut)
