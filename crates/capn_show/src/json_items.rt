@@ -15,7 +15,7 @@ use std::alloc::Allocator;
 use std::io::Write;
 
 /// Appends a comma to `text`, unless `item` is 0, the first.
-#[inline]
+#[inline(always)]
 pub fn separate<W: Write, A: Allocator>(
     text: &mut Vec<u8, A>,
     writer: &mut Watched<W>,
@@ -33,6 +33,7 @@ pub fn separate<W: Write, A: Allocator>(
 }
 
 /// Appends the number `n` to `text`.
+#[inline(always)]
 fn put_plain<W: Write, A: Allocator>(
     text: &mut Vec<u8, A>,
     writer: &mut Watched<W>,
@@ -49,6 +50,7 @@ fn put_plain<W: Write, A: Allocator>(
 }
 
 /// Appends the number `n` between quotes to `text`.
+#[inline(always)]
 fn put_quoted<W: Write, A: Allocator>(
     text: &mut Vec<u8, A>,
     writer: &mut Watched<W>,
@@ -65,6 +67,7 @@ fn put_quoted<W: Write, A: Allocator>(
 }
 
 /// Appends the number `n` to `text`, between quotes if it is `quoted`.
+#[inline(always)]
 pub fn put_value<W: Write, A: Allocator>(
     text: &mut Vec<u8, A>,
     writer: &mut Watched<W>,
@@ -103,6 +106,7 @@ fn word_bytes(word: u64) -> [u8; 18]
 }
 
 /// Appends a data `word` between quotes to `text`.
+#[inline(always)]
 pub fn put_word<W: Write, A: Allocator>(
     text: &mut Vec<u8, A>,
     writer: &mut Watched<W>,

@@ -9,4 +9,3 @@ pub mod FrameRows
 pub mod OneSegment
 mod Joined
 mod Held
-mod KeptEnds

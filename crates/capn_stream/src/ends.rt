@@ -1,7 +1,4 @@
 //! The ends of the segments of a message, of which the first are kept in place.
-//!
-//! A segment begins where the one before it ends, and the first one at word 0. That 0 is kept too, so that a look-up
-//! needs no test for the first segment.
 
 ghost use Rattle.std.specs.Prelude.{◌≡◌, ◌+◌, ◌-◌, ◌*◌, ◌^◌, ◌<◌, ◌≤◌, ◌∷◌, ◌++◌, [], length, take, sum};
 ghost use Rattle.std.specs.Prelude.{slice_index, IfOk, OnErr};
@@ -13,18 +10,18 @@ ghost use Rattle.capn_stream.specs.inner.KeptEnds.{AreKept, kept};
 use crate::table::{ends_of, entry_at, total_of};
 use std::alloc::{AllocError, Allocator};
 
-/// The number of segments whose starts are kept in place.
-const MOST_KEPT: usize = 64;
+/// The most ends that are kept in place.
+const MOST_KEPT: usize = 63;
 
-/// The ends of all segments of a message but the last: the first 63 in place, and the others in a list. The number of a
-/// segment alone tells which of the two has its end.
+/// The ends of all segments of a message but the last: the first 63 in place, and the others in a list. Which of both
+/// has the end of a segment is known by its number alone.
 #[derive(Debug, Drop)]
 pub(crate) struct Ends<A: Allocator> {
     /// The number of them.
     count: usize,
-    /// The 0 at which the first segment begins, and the first ends, as many as there are.
+    /// The first, as many as there are.
     few: [u32; MOST_KEPT],
-    /// The other ends.
+    /// The others.
     rest: Vec<u32, A>,
 }
 
@@ -45,11 +42,13 @@ impl<A: Allocator> Ends<A> {
         requires inside { segment ≤ length (kept self.now) }
         ensures { result ≡ slice_index (0 ∷ kept self.now) segment }
     {
-        if segment < MOST_KEPT {
-            self.few[segment]
-        } else {
-            self.rest[segment - MOST_KEPT]
+        if segment == 0 {
+            return 0;
         }
+        if segment <= MOST_KEPT {
+            return self.few[segment - 1];
+        }
+        self.rest[segment - MOST_KEPT - 1]
     }
 
     /// Returns the word at which `segment` ends: for the last one, the end of the message, which has `words` words.
@@ -67,20 +66,20 @@ impl<A: Allocator> Ends<A> {
     }
 }
 
-/// Returns 0 and the ends of the first `count` segments of `sizes`, in words, each in its place.
-fn few_starts(sizes: &[u8], count: usize) -> [u32; MOST_KEPT]
+/// Returns the ends of the first `count` segments of `sizes`, in words, each in its place.
+fn few_ends(sizes: &[u8], count: usize) -> [u32; MOST_KEPT]
     requires few { count ≤ 63 }
     requires inside { 4 * count ≤ length sizes.now }
     requires room { sum (entries count sizes.now) < 2 ^ 32 }
-    ensures { take (count + 1) result ≡ 0 ∷ ends_from 0 (entries count sizes.now) }
+    ensures { take count result ≡ ends_from 0 (entries count sizes.now) }
 {
-    let mut starts = [0; MOST_KEPT];
+    let mut ends = [0; MOST_KEPT];
     let mut end: u32 = 0;
     for index in 0..count {
         end += entry_at(sizes, index);
-        starts[index + 1] = end;
+        ends[index] = end;
     }
-    starts
+    ends
 }
 
 /// Returns the ends of the segments of `sizes` from number `first` on and below `count`, in words. It takes memory only
@@ -117,18 +116,18 @@ pub(crate) fn read_ends<A: Allocator>(
     ensures ends { IfOk result (λ e. kept e ≡ ends_from 0 (entries count sizes.now)) }
     ensures memory { OnErr result (most_few ≤ count) }
 {
-    if count < MOST_KEPT {
+    if count <= MOST_KEPT {
         return Ok(Ends {
             count,
-            few: few_starts(sizes, count),
+            few: few_ends(sizes, count),
             rest: Vec::new(alloc),
         });
     }
-    let few = MOST_KEPT - 1;
+    let few = count.min(MOST_KEPT);
     let rest = rest_ends(alloc, sizes, few, count)?;
     Ok(Ends {
         count,
-        few: few_starts(sizes, few),
+        few: few_ends(sizes, few),
         rest,
     })
 }

@@ -1,4 +1,4 @@
--- The ends of segments of given sizes. (For `ends_of`, `few_starts` and `rest_ends`.)
+-- The ends of segments of given sizes. (For `ends_of`, `few_ends` and `rest_ends`.)
 use Rattle.std.proofs.Common.{◌≡◌, ℕ, ◌+◌, ◌-◌, ◌≤◌, List, [], ◌∷◌, ◌++◌, length, take, drop, sum, map, refl, ap, sym}
 use Rattle.std.proofs.Common.{◌∙◌, arith, append_assoc, length-append, length-drop, length-take}
 use Rattle.std.specs.List.{flat_map}

@@ -1,4 +1,4 @@
--- Numbers of 4 bytes, one and many. (For `ends_of`, `few_starts`, `rest_ends`,
+-- Numbers of 4 bytes, one and many. (For `ends_of`, `few_ends`, `rest_ends`,
 -- `total_of` and capn_explain.)
 use Rattle.std.proofs.Common.{◌≡◌, ℕ, zero, suc, ◌+◌, ◌*◌, ◌^◌, ◌<◌, ◌≤◌, List, [], ◌∷◌, ◌++◌, length, take, drop, sum}
 use Rattle.std.proofs.Common.{slice_index, refl, ap, ◌∙◌, arith, append_assoc, length-append, length-drop}

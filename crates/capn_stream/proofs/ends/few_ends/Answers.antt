@@ -4,7 +4,7 @@ use Rattle.capn_stream.specs.Cuts.{ends_from}
 use Rattle.capn_stream.specs.FrameRefusal.{entries, entry_number}
 use Rattle.capn_stream.proofs.shared.Entries.{entries_more, sum-entries_le, sum-entries_more}
 use Rattle.capn_stream.proofs.shared.Ends.{ends_from_push}
-use Rattle.capn_stream.proofs.ends.few_starts.Goals as goal
+use Rattle.capn_stream.proofs.ends.few_ends.Goals as goal
 
 pub overflow_add-end : goal.overflow_add-end
 overflow_add-end c =
@@ -17,19 +17,19 @@ overflow_add-end c =
 pub loop-index-preserved : goal.loop-index-preserved
 loop-index-preserved c =
     let i : ℕ = c.loop-index.index in
-    let before : List ℕ = c.loop-index.starts in
+    let before : List ℕ = c.loop-index.ends in
     let sizes : List ℕ = entries i c.args.sizes.now in
     let size : ℕ = entry_number (drop (4 * i) c.args.sizes.now) in
     let next : ℕ = c.loop-index.end + c.entry_at-end.result in
     let end : next ≡ 0 + sum sizes + size =
     omega (arith, c.loop-index.invariant.end, c.entry_at-end.ensures) in
     record {
-      starts =
-          take_more_set before (i + 1) next (omega (arith, c.loop-index.invariant.room, c.requires.few))
-          ∙ ap (λ (starts : List ℕ). starts ++ next ∷ []) c.loop-index.invariant.starts
-          ∙ ap (λ (n : ℕ). 0 ∷ (ends_from 0 sizes ++ n ∷ [])) end
-          ∙ ap (λ (ends : List ℕ). 0 ∷ ends) (sym (ends_from_push 0 sizes size)
-          ∙ ap (λ (ns : List ℕ). ends_from 0 ns) (sym (entries_more i c.args.sizes.now)));
-      room = length-set before (i + 1) next ∙ c.loop-index.invariant.room;
+      ends =
+          take_more_set before i next (omega (arith, c.loop-index.invariant.room, c.requires.few))
+          ∙ ap (λ (ends : List ℕ). ends ++ next ∷ []) c.loop-index.invariant.ends
+          ∙ ap (λ (n : ℕ). ends_from 0 sizes ++ n ∷ []) end
+          ∙ sym (ends_from_push 0 sizes size)
+          ∙ ap (λ (ns : List ℕ). ends_from 0 ns) (sym (entries_more i c.args.sizes.now));
+      room = length-set before i next ∙ c.loop-index.invariant.room;
       end = omega (arith, sum-entries_more i c.args.sizes.now);
     }
