@@ -17,8 +17,8 @@ use Rattle.capn_serve.specs.Fold.{Fold, Leaves, texts_of}
 use Rattle.capn_serve.specs.StreamRun.{HasWrittenAll, IsAhead}
 use Rattle.capn_serve.specs.PackedRun.{HasWrittenAllPacked}
 use Rattle.capn_serve.specs.FormRun.{HasWritten, IsReadSoFar, MessagesEnd, ServesMessages, most_stream}
-use Rattle.capn_archive.proofs.Closings.{io_is_not_memory, memory_is_not_io, neither, not_io, not_memory}
-use Rattle.capn_archive.proofs.Closings.{reader_fine, same_io, told, told_memory, writer_fine}
+use Rattle.capn_archive.proofs.Endings.{io_is_not_memory, memory_is_not_io, neither, not_io, not_memory}
+use Rattle.capn_archive.proofs.Endings.{reader_fine, same_io, told, told_memory, writer_fine}
 use Rattle.capn_archive.proofs.ToldAlone.{TellsAlone}
 
 module _ {X : Type 0} (f : Fold X) (x : X) (finish : Finish X) (form : Form) where

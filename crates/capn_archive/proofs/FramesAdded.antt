@@ -1,5 +1,5 @@
--- Text that is added in two pieces, and the frame of canonical bytes. (For `add_frame`, `add_kept`, `serve_canonical`
--- and `serve_task`.)
+-- Text that is added in two pieces, and what a message writes. (For `add_frame`, `add_kept`, `serve_canonical`,
+-- `serve_digests` and `serve_list`.)
 use Rattle.std.proofs.Common.{◌≡◌, inl, inr, ℕ, List, [], ◌++◌, length, take, Bool, false, Option, Result, Ok, Err}
 use Rattle.std.proofs.Common.{IsErrAnd, refl, ap, sym, subst, ◌∙◌, append-nil}
 use Rattle.std.proofs.Math.Seq.{take-append_seam}
@@ -11,8 +11,10 @@ use Rattle.capn_serve.specs.declared.fault.ServeFault.{ServeFault}
 use Rattle.capn_serve.specs.declared.fault.ServeFault.TheVariants as faults
 use Rattle.capn_serve.specs.Outgoing.{Outgoing, Adds, AddsBytes, outgoing}
 use Rattle.capn_serve.proofs.shared.Adding.{added_both, broken_after, broken_before}
-use Rattle.capn_archive.specs.CanonicalFrame.{AddsText, framed}
-use Rattle.capn_archive.specs.Tasks.{AddsServed, Serves}
+use Rattle.capn_archive.specs.CanonicalFrame.{AddsText, PutsText, framed}
+use Rattle.capn_archive.specs.MessageHead.{head_of}
+use Rattle.capn_archive.specs.Tasks.{AddsServed, IsServedBy}
+use Rattle.capn_archive.specs.declared.message_head.MessageHead.{MessageHead}
 use Rattle.capn_archive.specs.declared.task.Task.{Task}
 use Rattle.capn_archive.specs.declared.task.Task.TheVariants as tasks
 use Rattle.capn_archive.specs.declared.tally.Tally.{Tally}
@@ -73,20 +75,15 @@ module _ (limits : Bounds) (tally : Tally) (at : Position) (frame : List ℕ) (m
       ((framed answer, tally, count, (answer, price, is, refl, refl), breaks), broken)
   frame_added answer price is a b failed (Err (faults.Refused r)) none = absurd none
 
-  appended : (task : Task) (after : Tally) (c : Option (List ℕ)) (old new : List ℕ) (failed : Bool) → failed ≡ false
-      → (r : Ending) → Serves task limits tally at frame message old new r after
-      → AddsServed task limits tally at frame message (outgoing c old) (outgoing c new) failed r after
-  appended task after c old new failed fine (Ok u) (text, is, joined) = (text, is, ([], Appends-nil c, joined), fine)
-  appended task after c old new failed fine (Err faults.Memory) (same, kept) =
-      (inl ([], Appends-nil c, same ∙ sym (append-nil old)), fine)
-  appended task after c old new failed fine (Err faults.Io) none = absurd none
-  appended task after c old new failed fine (Err (faults.Refused r)) (refused, same, kept) =
-      (refused, ap (outgoing c) same, kept, fine)
-
-  -- what a task appended to the text was added to what goes out
-  pub served_added : (task seen : Task) → task ≡ seen → (after : Tally) (c : Option (List ℕ)) (old new : List ℕ)
-      (failed : Bool) → failed ≡ false → (r : Ending) → Serves seen limits tally at frame message old new r after
-      → AddsServed task limits tally at frame message (outgoing c old) (outgoing c new) failed r after
-  served_added task seen is after c old new failed fine r served =
-      subst (λ (k : Task). AddsServed k limits tally at frame message (outgoing c old) (outgoing c new) failed r after)
-      (sym is) (appended seen after c old new failed fine r served)
+  -- the line of a message was appended, or memory was refused
+  pub line_added : (task : Task) (line : MessageHead → List ℕ) (head : MessageHead) → head ≡ head_of at frame message
+      → IsServedBy task limits tally at frame message (line (head_of at frame message)) tally
+      → (c : Option (List ℕ)) (old new : List ℕ) (r : Ending) → PutsText (line head) old new r
+      → AddsServed task limits tally at frame message (outgoing c old) (outgoing c new) false r tally
+  line_added task line head same is c old new (Ok u) put =
+      let joined = put ∙ ap (λ (h : MessageHead). old ++ line h) same in
+      (line (head_of at frame message), is, ([], Appends-nil c, joined), refl)
+  line_added task line head same is c old new (Err faults.Memory) put =
+      (inl ([], Appends-nil c, put.1 ∙ sym (append-nil old)), refl)
+  line_added task line head same is c old new (Err faults.Io) put = absurd (let bad = put.0 in cc)
+  line_added task line head same is c old new (Err (faults.Refused r)) put = absurd (let bad = put.0 in cc)

@@ -1,7 +1,7 @@
 pub mod FramesAdded
 pub mod ArchiveServed
 pub mod LineParts
-pub mod Closings
+pub mod Endings
 pub mod ToldAlone
 pub mod Finishes
 pub mod UniqServed

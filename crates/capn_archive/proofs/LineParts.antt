@@ -1,5 +1,5 @@
--- Parts of a line that are put before others. (For `put_measured`.)
-use Rattle.std.proofs.Common.{◌≡◌, ℕ, List, ◌++◌, refl, ap, sym, ◌∙◌, append_assoc}
+-- Parts of a line that are put before others. (For `put_measured` and `count_line`.)
+use Rattle.std.proofs.Common.{◌≡◌, ◌≢◌, ℕ, List, [], ◌∷◌, ◌++◌, refl, ap, sym, ◌∙◌, append_assoc}
 
 -- a part before what was put before the rest
 pub before : (part done rest line new : List ℕ) → line ≡ done ++ rest → new ≡ part ++ line
@@ -12,3 +12,8 @@ pub both_before : (name part done rest line new : List ℕ) → line ≡ done ++
     → new ≡ (name ++ (part ++ done)) ++ rest
 both_before name part done rest line new was put =
     before name (part ++ done) rest (part ++ line) new (before part done rest line (part ++ line) was refl) put
+
+-- a line that goes on is not empty
+pub some_after : (part rest : List ℕ) → rest ≢ [] → part ++ rest ≢ []
+some_after [] rest some = some
+some_after (x ∷ part) rest some = λ h. cc

@@ -25,7 +25,7 @@ use Rattle.capn_archive.specs.CanonicalFrame.{framed}
 use Rattle.capn_canon.specs.Measure.{IsCanonicalOf, IsChecked}
 use Rattle.capn_canon.specs.Measure.{IsMeasure}
 use Rattle.capn_archive.specs.MessageHead.{head_of}
-use Rattle.capn_archive.specs.Digest.{IsDigest, IsDigestIfAny}
+use Rattle.capn_archive.specs.Digest.{IsDigest, IsDigestIfAny, IsUndigested}
 use Rattle.capn_archive.specs.Lines.{digests_line, list_line}
 use Rattle.capn_archive.specs.Tally.{counted}
 use Rattle.capn_archive.specs.Tasks.{IsRefusedBy, IsServedBy, refuses, serves, skipped_text}
@@ -45,7 +45,7 @@ one_answer false true P h k = absurd (let bad : false ≡ true = h.1 (k.0 refl) 
 one_answer false false P h k = refl
 
 module _ (m : List (List ℕ)) (limits : Bounds) where
-  pub unaccepted_message : (r : Refusal) → IsUnaccepted m limits r → (r ≡ refusals.Memory → ⊥)
+  unaccepted_message : (r : Refusal) → IsUnaccepted m limits r → (r ≡ refusals.Memory → ⊥)
       → IsRefusedMessage m limits r
   unaccepted_message (refusals.Walk s) h other = h
   unaccepted_message refusals.Memory h other = absurd (other refl)
@@ -55,10 +55,10 @@ module _ (m : List (List ℕ)) (limits : Bounds) where
   unaccepted_message (refusals.Frame e) h other = absurd h
   unaccepted_message (refusals.Trailing at) h other = absurd h
 
-  one_unaccepted : (r s : Refusal) → IsUnaccepted m limits r → (r ≡ refusals.Memory → ⊥) → IsUnaccepted m limits s
-      → (s ≡ refusals.Memory → ⊥) → r ≡ s
-  one_unaccepted r s h other k another =
-      one_message_refusal m limits r s other another (unaccepted_message r h other) (unaccepted_message s k another)
+  -- what any task refuses, the one that needs canonical bytes refuses
+  pub refused_message : (task : Task) (r : Refusal) → IsRefusedBy task m limits r → IsUndigested m limits r
+  refused_message tasks.Canonical r h = h
+  refused_message _ r (h, other) = (unaccepted_message r h other, other)
 
   pub not_accepted : (r : Refusal) → IsAccepted m limits → IsUnaccepted m limits r → (r ≡ refusals.Memory → ⊥) → ⊥
   not_accepted (refusals.Walk s) is h other = accepted-not_refused m limits s is h
@@ -152,10 +152,10 @@ module _ (m : List (List ℕ)) (limits : Bounds) where
     served_refused tasks.Limits t p r (d, is, deep, e, a) (h, other) = not_accepted r is h other
 
   pub one_refused : (task : Task) (r s : Refusal) → IsRefusedBy task m limits r → IsRefusedBy task m limits s → r ≡ s
-  one_refused tasks.List r s (h, other) (k, another) = one_unaccepted r s h other k another
-  one_refused tasks.Digests r s (h, other) (k, another) = one_unaccepted r s h other k another
-  one_refused tasks.Limits r s (h, other) (k, another) = one_unaccepted r s h other k another
-  one_refused tasks.Canonical r s (h, other) (k, another) = one_message_refusal m limits r s other another h k
+  one_refused task r s h k =
+      let (refused, other) = refused_message task r h in
+      let (also, another) = refused_message task s k in
+      one_message_refusal m limits r s other another refused also
 
 module _ (s : ArchiveService) (at : Position) (frame : List ℕ) (m : List (List ℕ)) where
   one_tally : (t u : List ℕ) (p q : ArchiveService) → serves s at frame m t p → serves s at frame m u q

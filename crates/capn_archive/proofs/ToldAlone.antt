@@ -20,7 +20,7 @@ use Rattle.capn_archive.specs.FilterRun.{filter_fold}
 use Rattle.capn_archive.specs.declared.filter_order.FilterOrder.{FilterOrder}
 use Rattle.capn_archive.specs.Finish.{refused_after}
 use Rattle.capn_archive.specs.Tasks.{IsRefusedBy}
-use Rattle.capn_archive.proofs.OneArchive.{unaccepted_message}
+use Rattle.capn_archive.proofs.OneArchive.{refused_message}
 
 -- one position, refused for a reason
 abbrev pub alone : Position → Refusal → ArchiveFault
@@ -47,10 +47,7 @@ module _ (m : List (List ℕ)) (limits : Bounds) where
   message_alone refusals.Memory h s n at = refl
 
   task_alone : (task : Task) (r : Refusal) → IsRefusedBy task m limits r → IsAlone r
-  task_alone tasks.List r (h, other) = message_alone r (unaccepted_message m limits r h other)
-  task_alone tasks.Digests r (h, other) = message_alone r (unaccepted_message m limits r h other)
-  task_alone tasks.Limits r (h, other) = message_alone r (unaccepted_message m limits r h other)
-  task_alone tasks.Canonical r (h, other) = message_alone r h
+  task_alone task r h = message_alone r (refused_message m limits task r h).0
 
 pub archive_alone : (order : ArchiveOrder) → TellsAlone (archive_fold order)
 archive_alone order x frame message r h =

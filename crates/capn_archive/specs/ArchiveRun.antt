@@ -33,10 +33,8 @@ needs_of order run = record {
 
 -- what is written after the last message: the lines of `limits`, and nothing by the other tasks
 abbrev pub closing_by : Task → Needs → List ℕ
-closing_by tasks.List needs = []
-closing_by tasks.Digests needs = []
 closing_by tasks.Limits needs = limits_text needs
-closing_by tasks.Canonical needs = []
+closing_by _ needs = []
 
 -- the same by an order
 abbrev pub closing : ArchiveOrder → Run ArchiveService → List ℕ

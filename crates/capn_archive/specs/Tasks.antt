@@ -35,10 +35,8 @@ Finds is isn't needs (Err (faults.Refused r)) = isn't r × (r ≢ refusals.Memor
 
 -- a message is refused: by its walk, and where its canonical bytes are needed, also for a capability
 abbrev pub IsRefusedBy : Task → List (List ℕ) → Bounds → Refusal → Type 0
-IsRefusedBy tasks.List message limits r = IsUnaccepted message limits r × (r ≢ refusals.Memory)
-IsRefusedBy tasks.Digests message limits r = IsUnaccepted message limits r × (r ≢ refusals.Memory)
-IsRefusedBy tasks.Limits message limits r = IsUnaccepted message limits r × (r ≢ refusals.Memory)
 IsRefusedBy tasks.Canonical message limits r = IsRefusedMessage message limits r × (r ≢ refusals.Memory)
+IsRefusedBy _ message limits r = IsUnaccepted message limits r × (r ≢ refusals.Memory)
 
 -- What a message that is not refused writes, and the tally after it: the line of what is found of it; the same with its
 -- digest; the frame of its canonical bytes; or nothing, but it is counted.
@@ -61,8 +59,7 @@ IsServedBy tasks.Limits limits tally at frame message text tally_after =
 abbrev pub skipped_text : Task → Position → List ℕ → List (List ℕ) → Refusal → List ℕ
 skipped_text tasks.List at frame message r = refused_line (head_of at frame message) r
 skipped_text tasks.Digests at frame message r = refused_line (head_of at frame message) r
-skipped_text tasks.Limits at frame message r = []
-skipped_text tasks.Canonical at frame message r = []
+skipped_text _ at frame message r = []
 
 -- a message is skipped: it is refused, and the run keeps going
 abbrev pub IsSkippedBy : ArchiveOrder → Tally → Position → List ℕ → List (List ℕ) → List ℕ → Tally → Type 0
@@ -80,17 +77,6 @@ serves s at frame message text t =
 -- a message that is refused ends a run that does not keep going
 abbrev pub refuses : ArchiveService → Position → List ℕ → List (List ℕ) → Refusal → Type 0
 refuses s at frame message r = (s.order.keep_going ≡ false) × IsRefusedBy s.order.task message s.order.limits r
-
--- a message was served; or it is refused, or memory was, and the text and the tally are as they were
-abbrev pub Serves : Task → Bounds → Tally → Position → List ℕ → List (List ℕ) → List ℕ → List ℕ
-    → Result (Unit {0}) ServeFault → Tally → Type 0
-Serves task limits tally at frame message old new (Ok u) tally_after =
-    (text : List ℕ) × IsServedBy task limits tally at frame message text tally_after × (new ≡ old ++ text)
-Serves task limits tally at frame message old new (Err faults.Memory) tally_after =
-    (new ≡ old) × (tally_after ≡ tally)
-Serves task limits tally at frame message old new (Err faults.Io) tally_after = ⊥
-Serves task limits tally at frame message old new (Err (faults.Refused r)) tally_after =
-    IsRefusedBy task message limits r × (new ≡ old) × (tally_after ≡ tally)
 
 -- A message was served, and its text was added to what goes out; or it is refused, and that and the tally are as they
 -- were. Or memory was refused, before the text or within it; or the writer failed within it.

@@ -1,9 +1,9 @@
 //! The service of all tasks over an archive.
 
-ghost use Rattle.std.specs.Prelude.{◌≡◌, ℕ, List, false};
+ghost use Rattle.std.specs.Prelude.{◌≡◌, ℕ, List, Option, false};
 ghost use Rattle.capn_words.specs.Watched.{inner_of, has_failed};
 ghost use Rattle.capn_archive.specs.Tasks as spec;
-ghost use Rattle.capn_archive.specs.Tasks.{AddsServed, Serves, Skips};
+ghost use Rattle.capn_archive.specs.Tasks.{AddsServed, Skips};
 ghost use Rattle.capn_archive.specs.declared.task.Task.TheVariants as tasks;
 ghost use Rattle.capn_serve.specs.Outgoing.{outgoing};
 ghost use Rattle.capn_serve.specs.Service.{AddsOne};
@@ -71,8 +71,8 @@ fn serve_list<S: Space, A: Allocator + Copy>(
     message: &S,
     text: &mut Vec<u8, A>,
 ) -> Result<(), ServeFault>
-    ensures { (tally : Tally) → Serves tasks.List limits tally at frame.now (S.message message.now) text.old.items
-        text.new.items result tally }
+    ensures { (tally : Tally) (taken : Option (List ℕ)) → AddsServed tasks.List limits tally at frame.now
+        (S.message message.now) (outgoing taken text.old.items) (outgoing taken text.new.items) false result tally }
 {
     let measured = measured_of(alloc, message, limits)?;
     put_list_line(&head_of(at, frame, message), &measured, text)
@@ -87,8 +87,8 @@ fn serve_digests<S: Space, A: Allocator + Copy>(
     message: &S,
     text: &mut Vec<u8, A>,
 ) -> Result<(), ServeFault>
-    ensures { (tally : Tally) → Serves tasks.Digests limits tally at frame.now (S.message message.now) text.old.items
-        text.new.items result tally }
+    ensures { (tally : Tally) (taken : Option (List ℕ)) → AddsServed tasks.Digests limits tally at frame.now
+        (S.message message.now) (outgoing taken text.old.items) (outgoing taken text.new.items) false result tally }
 {
     let measured = measured_of(alloc, message, limits)?;
     let digest = digest_if_any(alloc, limits, message)?;
@@ -104,8 +104,8 @@ fn serve_limits<S: Space, A: Allocator + Copy>(
     frame: &[u8],
     message: &S,
 ) -> Result<(), ServeFault>
-    ensures { (text : List ℕ) → Serves tasks.Limits limits tally.old at frame.now (S.message message.now) text text
-        result tally.new }
+    ensures { (taken : Option (List ℕ)) (text : List ℕ) → AddsServed tasks.Limits limits tally.old at frame.now
+        (S.message message.now) (outgoing taken text) (outgoing taken text) false result tally.new }
 {
     let measured = measured_of(alloc, message, limits)?;
     let head = head_of(at, frame, message);

@@ -1,10 +1,11 @@
 //! Closing lines and outcome of a run over an archive.
 
-ghost use Rattle.std.specs.Prelude.{◌≡◌, false};
+ghost use Rattle.std.specs.Prelude.{◌≡◌, ◌≢◌, [], IfOk, IfErr, string_bytes, false};
 ghost use Rattle.capn_words.specs.Watched.{inner_of, has_failed};
 ghost use Rattle.capn_archive.specs.ArchiveRun as spec;
 ghost use Rattle.capn_archive.specs.inner.Closing.{PutsClosing};
 ghost use Rattle.capn_archive.specs.Finish as finish;
+ghost use Rattle.capn_serve.specs.declared.fault.RunFault.TheVariants as faults;
 
 use crate::archive_service::ArchiveService;
 use crate::fault::ArchiveFault;
@@ -92,7 +93,18 @@ fn needs_of(order: &ArchiveOrder, run: &Run<ArchiveService>) -> Needs
     }
 }
 
-/// Writes the text after the last message: the limits that all need, or nothing for another task.
+/// Returns the text after the last message: the limits that all need, or nothing for another task.
+fn closing_text<A: Allocator>(alloc: A, task: Task, needs: &Needs) -> Result<String<A>, RunFault>
+    ensures found { IfOk result (λ text. string_bytes text ≡ spec.closing_by task needs.now) }
+    ensures only { IfErr result (λ e. (e ≡ faults.Memory) × (spec.closing_by task needs.now ≢ [])) }
+{
+    match task {
+        Task::List | Task::Digests | Task::Canonical => Ok(String::new(alloc)),
+        Task::Limits => limits_text(alloc, needs),
+    }
+}
+
+/// Writes the text after the last message.
 pub(crate) fn write_closing<W: Write, A: Allocator + Copy>(
     alloc: A,
     order: &ArchiveOrder,
@@ -103,11 +115,6 @@ pub(crate) fn write_closing<W: Write, A: Allocator + Copy>(
     ensures { PutsClosing (spec.closing order.now run.now) (W.contents (inner_of writer.old))
         (W.contents (inner_of writer.new)) (has_failed writer.new) result }
 {
-    match order.task {
-        Task::List | Task::Digests | Task::Canonical => Ok(()),
-        Task::Limits => {
-            let text = limits_text(alloc, &needs_of(order, run))?;
-            write_all(writer, text.as_bytes())
-        }
-    }
+    let text = closing_text(alloc, order.task, &needs_of(order, run))?;
+    write_all(writer, text.as_bytes())
 }

@@ -1,11 +1,10 @@
 //! The program's commands over an archive.
 //! An archive is a stream of messages, or a bare input.
 //!
-//! [`run_archive`] carries an order out, an [`ArchiveOrder`]: by its service, the [`ArchiveService`], it lists
-//! messages, says what limits they need, or writes their canonical bytes as frames. [`run_uniq`] carries out a
-//! [`UniqOrder`] by a [`UniqService`]: it leaves out each message with the canonical bytes of an earlier one.
-//! [`run_filter`] carries out a [`FilterOrder`] by a [`FilterService`]: it lets accepted messages through. The loops
-//! over the messages are those of [`capn_serve`].
+//! [`run_archive`] carries out an [`ArchiveOrder`] by an [`ArchiveService`]: of each message, and at the end, it writes
+//! what the order's [`Task`] asks for. [`run_uniq`] carries out a [`UniqOrder`] by a [`UniqService`]: it leaves out
+//! each message with the canonical bytes of an earlier one. [`run_filter`] carries out a [`FilterOrder`] by a
+//! [`FilterService`]: it lets accepted messages through. The loops over the messages are those of [`capn_serve`].
 #![tactic(auto)]
 
 mod archive_run;

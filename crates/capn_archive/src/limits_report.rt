@@ -1,6 +1,6 @@
 //! The limits needed for the messages of an archive.
 
-ghost use Rattle.std.specs.Prelude.{◌≡◌, ◌<◌, ◌^◌, IfOk, IfErr, string_bytes};
+ghost use Rattle.std.specs.Prelude.{◌≡◌, ◌≢◌, ◌<◌, ◌^◌, [], IfOk, IfErr, string_bytes};
 ghost use Rattle.capn_archive.specs.Lines as spec;
 ghost use Rattle.capn_serve.specs.declared.fault.RunFault.TheVariants as faults;
 
@@ -115,7 +115,7 @@ impl<'a> fmt::Display for Advice<'a> {
 /// Returns the five lines of the limits that the messages of an archive need.
 pub(crate) fn limits_text<A: Allocator>(alloc: A, needs: &Needs) -> Result<String<A>, RunFault>
     ensures found { IfOk result (λ text. string_bytes text ≡ spec.limits_text needs.now) }
-    ensures only { IfErr result (λ e. e ≡ faults.Memory) }
+    ensures only { IfErr result (λ e. (e ≡ faults.Memory) × (spec.limits_text needs.now ≢ [])) }
 {
     let advice = Advice(needs);
     match format!(in alloc; "{needs}\n{advice}\n") {

@@ -1,6 +1,6 @@
 //! A whole run of `uniq`.
 
-ghost use Rattle.std.specs.Prelude.{◌≡◌, false, IfOk, IfErr, string_bytes};
+ghost use Rattle.std.specs.Prelude.{◌≡◌, ◌≢◌, [], false, IfOk, IfErr, string_bytes};
 ghost use Rattle.capn_words.specs.Watched.{inner_of, has_failed};
 ghost use Rattle.capn_archive.specs.inner.Closing.{PutsClosing};
 ghost use Rattle.capn_archive.specs.Finish as finish;
@@ -25,9 +25,10 @@ fn first_run<A: Allocator + Copy>(alloc: A, order: UniqOrder) -> Run<UniqService
 }
 
 /// Returns the line of the count: how many messages are kept, and how many were served.
+#[tactic(auto, using(crate::proofs::LineParts::some_after))]
 fn count_line<A: Allocator>(alloc: A, kept: usize, served: u64) -> Result<String<A>, RunFault>
     ensures found { IfOk result (λ line. string_bytes line ≡ spec.count_line kept served) }
-    ensures only { IfErr result (λ e. e ≡ faults.Memory) }
+    ensures only { IfErr result (λ e. (e ≡ faults.Memory) × (spec.count_line kept served ≢ [])) }
 {
     match format!(in alloc; "{kept} of {served}\n") {
         Ok(line) => Ok(line),

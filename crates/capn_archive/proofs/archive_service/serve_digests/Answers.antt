@@ -1,40 +1,44 @@
-use Rattle.std.proofs.Common.{◌≡◌, ℕ, List, Option, Result, Ok, Err, ap, refl}
+use Rattle.std.proofs.Common.{◌≡◌, ℕ, List, IsErrAnd, false, Result, Ok, Err, inl, refl, sym, subst}
 use Rattle.capn_walk.specs.Limits.{Bounds}
+use Rattle.capn_canon.specs.Refusal.{IsUnaccepted}
+use Rattle.capn_serve.specs.Outgoing.{Outgoing, outgoing}
 use Rattle.capn_serve.specs.declared.fault.ServeFault.{ServeFault}
 use Rattle.capn_serve.specs.declared.fault.ServeFault.TheVariants as faults
 use Rattle.capn_serve.specs.declared.position.Position.{Position}
+use Rattle.capn_serve.proofs.shared.Adding.{added_none}
 use Rattle.capn_archive.specs.Digest.{IsDigestIfAny}
-use Rattle.capn_archive.specs.CanonicalFrame.{PutsText}
 use Rattle.capn_archive.specs.Lines.{digests_line}
-use Rattle.capn_canon.specs.Measure.{IsMeasure}
-use Rattle.capn_archive.specs.MessageHead.{head_of}
-use Rattle.capn_archive.specs.Tasks.{Serves}
-use Rattle.capn_canon.specs.declared.surveyed_bare.MeasuredBare.{MeasuredBare}
+use Rattle.capn_archive.specs.Tasks.{AddsServed, Finds}
 use Rattle.capn_archive.specs.declared.message_head.MessageHead.{MessageHead}
-use Rattle.capn_archive.specs.declared.task.Task.TheVariants as tasks
 use Rattle.capn_archive.specs.declared.tally.Tally.{Tally}
+use Rattle.capn_archive.specs.declared.task.Task.TheVariants as tasks
+use Rattle.capn_archive.proofs.FramesAdded.{line_added}
 use Rattle.capn_archive.proofs.archive_service.serve_digests.Goals as goal
 
--- the line was appended, or memory was refused
-listed : (limits : Bounds) (at : Position) (frame : List ℕ) (message : List (List ℕ)) (measured : MeasuredBare)
-    (digest : Option (List ℕ)) (head : MessageHead) (old new : List ℕ) (r : Result (Unit {0}) ServeFault)
-    → IsMeasure message limits measured → IsDigestIfAny message limits digest → head ≡ head_of at frame message
-    → PutsText (digests_line head measured digest) old new r → (tally : Tally)
-    → Serves tasks.Digests limits tally at frame message old new r tally
-listed limits at frame message measured digest head old new (Ok u) are is same put tally = (
-  digests_line head measured digest,
-  (measured, digest, are, is, ap (λ (h : MessageHead). digests_line h measured digest) same, refl),
-  put,
-)
-listed limits at frame message measured digest head old new (Err faults.Memory) are is same put tally = (put.1, refl)
-listed limits at frame message measured digest head old new (Err faults.Io) are is same put tally =
-    absurd (let bad = put.0 in cc)
-listed limits at frame message measured digest head old new (Err (faults.Refused e)) are is same put tally =
-    absurd (let bad = put.0 in cc)
+module _ (limits : Bounds) (tally : Tally) (at : Position) (frame : List ℕ) (message : List (List ℕ))
+    (needs : Type 0) (a : Outgoing) where
+  abbrev HasNone : ServeFault → Type 0
+  HasNone fault = Finds (IsDigestIfAny message limits) (IsUnaccepted message limits) needs (Err fault)
+
+  -- it was not found whether there is a digest, and nothing was added
+  none_found : (fault : ServeFault) → HasNone fault → (r : Result (Unit {0}) ServeFault) → IsErrAnd r (λ e. e ≡ fault)
+      → AddsServed tasks.Digests limits tally at frame message a a false r tally
+  none_found fault none (Ok u) is = absurd is
+  none_found fault none (Err faults.Memory) is = (inl (added_none a), refl)
+  none_found fault none (Err faults.Io) is = absurd (subst HasNone (sym is) none)
+  none_found fault none (Err (faults.Refused r)) is = (subst HasNone (sym is) none, refl, refl, refl)
+
+pub returns-in_err-digest : goal.returns-in_err-digest
+returns-in_err-digest g c tally taken =
+    none_found c.args.limits tally c.args.at c.args.frame.now (g.S.Space.message c.args.message.now) _
+    (outgoing taken c.args.text.now.items) c.in_err-digest.field-0.0 c.in_err-digest.ensures
+    c.from_residual-in_err-digest.result c.from_residual-in_err-digest.ensures.1
 
 pub returns : goal.returns
-returns g c =
-    listed c.args.limits c.args.at c.args.frame.now (g.S.Space.message c.args.message.now) c.in_ok-measured.measured
-    c.in_ok-digest.digest c.head_of.result c.args.text.now.items c.put_digests_line.new.text.items
-    c.put_digests_line.result c.in_ok-measured.ensures c.in_ok-digest.ensures c.head_of.ensures
-    c.put_digests_line.ensures
+returns g c tally taken =
+    let measured = c.in_ok-measured.measured in
+    let digest = c.in_ok-digest.digest in
+    line_added c.args.limits tally c.args.at c.args.frame.now (g.S.Space.message c.args.message.now) tasks.Digests
+    (λ (head : MessageHead). digests_line head measured digest) c.head_of.result c.head_of.ensures
+    (measured, digest, c.in_ok-measured.ensures, c.in_ok-digest.ensures, refl, refl) taken c.args.text.now.items
+    c.put_digests_line.new.text.items c.put_digests_line.result c.put_digests_line.ensures

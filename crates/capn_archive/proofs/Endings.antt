@@ -1,11 +1,6 @@
--- What is written at the end of a run, and the faults of a run over an archive. (For `write_closing` and
--- `write_count`.)
-use Rattle.std.proofs.Common.{◌≡◌, ◌≢◌, ◌↔◌, ◌⊎◌, inl, inr, ℕ, List, [], ◌∷◌, ◌++◌, Bool, true, false, Option, None}
-use Rattle.std.proofs.Common.{Some, OnOk, IsErrOf, IsErrAnd, length, codes, arith}
-use Rattle.std.specs.Fmt.{decimal}
-use Rattle.std.proofs.Common.{IsOkUnless, Result, Ok, Err, refl, ap, sym, subst, ◌∙◌}
-use Rattle.std.specs.Io.KnownBytes.{Appends}
-use Rattle.capn_words.specs.Watched.{HasBegun}
+-- The faults and the outcome of a run over an archive. (For `run_archive` and `run_service`.)
+use Rattle.std.proofs.Common.{◌≡◌, ◌≢◌, ◌↔◌, ◌⊎◌, inl, inr, ℕ, Bool, true, false, Option, None, Some, Result, Ok, Err}
+use Rattle.std.proofs.Common.{refl, ap, sym, ◌∙◌}
 use Rattle.capn_canon.specs.declared.refusal.Refusal.{Refusal}
 use Rattle.capn_canon.specs.declared.refusal.Refusal.TheVariants as refusals
 use Rattle.capn_serve.specs.declared.position.Position.{Position}
@@ -17,12 +12,6 @@ use Rattle.capn_archive.specs.declared.fault.ArchiveFault.TheVariants as faults
 use Rattle.capn_serve.specs.declared.skipped.SkippedSoFar.{SkippedSoFar}
 use Rattle.capn_archive.specs.Finish.{after_skipped, fault_after, outcome_unless, refused_after}
 use Rattle.capn_serve.specs.Skipped.{skipped_of}
-use Rattle.capn_archive.specs.inner.Closing.{PutsClosing}
-use Rattle.capn_archive.specs.ArchiveRun.{closing_by}
-use Rattle.capn_archive.specs.UniqRun as uniqs
-use Rattle.capn_archive.specs.declared.limits_report.Needs.{Needs}
-use Rattle.capn_archive.specs.declared.task.Task.{Task}
-use Rattle.capn_archive.specs.declared.task.Task.TheVariants as tasks
 
 abbrev pub Served : Type 0
 Served = Result (Unit {0}) RunFault
@@ -93,45 +82,7 @@ same_io s n e reader writer (to, from) = (
   λ h. let k = from h in let j : e ≡ run_faults.Io = cc in ap (λ (f : RunFault). told (fault_after s n f)) j,
 )
 
--- ---- what is written at the end
-
-no_failure : (failed : Bool) → ((served (Ok tt) ≡ Err run_faults.Io) ↔ (failed ≡ true)) → failed ≡ false
-no_failure false io = refl
-no_failure true (to, from) = let k = from refl in absurd (cc)
-
--- it was written, or the writer failed
-pub closing_wrote : (text bytes : List ℕ) (old new : Option (List ℕ)) (failed : Bool) (r : Served) → bytes ≡ text
-    → OnOk r (Appends old new bytes) → HasBegun old new bytes → (IsErrOf r run_faults.Io ↔ (failed ≡ true))
-    → IsOkUnless r run_faults.Io → PutsClosing text old new failed r
-closing_wrote text bytes old new failed (Ok u) same ok begun io only =
-    (subst (Appends old new) same ok, no_failure failed io)
-closing_wrote text bytes old new failed (Err e) same ok begun io only =
-    inr (only, subst (HasBegun old new) same begun, io.0 (ap stopped_by only))
-
--- a text that goes on is not empty
-pub some_after : (xs ys : List ℕ) → ys ≢ [] → xs ++ ys ≢ []
-some_after [] ys some = some
-some_after (x ∷ xs) ys some = λ h. cc
-
--- memory was refused for it
-pub closing_refused : (text : List ℕ) (old new : Option (List ℕ)) (failed : Bool) (r : Served) (fault : RunFault)
-    → IsErrAnd r (λ e. e ≡ fault) → fault ≡ run_faults.Memory → new ≡ old → failed ≡ false → text ≢ []
-    → PutsClosing text old new failed r
-closing_refused text old new failed (Ok u) fault why is same fine some = absurd why
-closing_refused text old new failed (Err e) fault why is same fine some = inl (why ∙ is, same, fine, some)
-
--- the lines of `limits` are not empty, nor is that of a count
-pub limits_some : (task : Task) (needs : Needs) → task ≡ tasks.Limits → closing_by task needs ≢ []
-limits_some tasks.List needs is = absurd (cc)
-limits_some tasks.Digests needs is = absurd (cc)
-limits_some tasks.Canonical needs is = absurd (cc)
-limits_some tasks.Limits needs is = λ h. absurd (omega (arith, ap length h))
-
-pub count_some : (count : Bool) (kept served : ℕ) → count ≡ true → uniqs.closing_by count kept served ≢ []
-count_some false kept served is = absurd (cc)
-count_some true kept served is =
-    some_after (decimal kept) (codes " of " ++ (decimal served ++ codes "\n"))
-    (λ h. absurd (omega (arith, ap length h)))
+-- ---- the outcome
 
 pub not_io : (ended : Option Position) (skipped : Option SkippedSoFar) (messages : ℕ)
     → outcome_unless ended skipped messages ≡ Err faults.Io → ⊥
