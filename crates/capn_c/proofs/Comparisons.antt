@@ -1,5 +1,5 @@
 -- What is told of two messages is told of the bytes that are read as them. (For `compared.rt` and `compare`.)
-use Rattle.std.proofs.Common.{◌≡◌, ◌↔◌, inl, inr, ℕ, List, Bool, IsTrue, subst}
+use Rattle.std.proofs.Common.{rules, ◌≡◌, ◌↔◌, inl, inr, ℕ, List, Bool, IsTrue, subst}
 use Rattle.std.proofs.Common.{Result, Ok, Err, IfOk, IfErr, IsErrOf}
 use Rattle.capn_value.specs.Tree.{Tree}
 use Rattle.capn_value.specs.Same.{Same}
@@ -19,7 +19,7 @@ use Rattle.capn_canon.proofs.shared.OneReading.{one_value}
 use Rattle.capn_answers.proofs.shared.Reading.{reading_unaccepted, reading_wanted, reading_within}
 use Rattle.capn_c.specs.Compared.{ComparesIn, DenoteBoth}
 use Rattle.capn_c.specs.inner.Told.{IsCompared, IsComparedTo, IsSameIn}
-use Rattle.capn_c.proofs.Digests.{unaccepted_refused}
+use Rattle.capn_c.proofs.OutOfMemory.{unaccepted_refused}
 
 -- ---- a second message, in a packed text
 
@@ -29,13 +29,7 @@ module _ (bs stream : List ℕ) (limits : Bounds) (u : Unpacks bs limits.message
   packed_same first told (second, reads, is) = (second, (stream, u, reads), is)
 
   pub packed_refused : (e : Refusal) → IsRefused forms.Stream stream limits e → IsRefused forms.Packed bs limits e
-  packed_refused (refusals.Walk s) (m, reads, h) = (m, (stream, u, reads), h)
-  packed_refused (refusals.Capability k) (m, reads, h) = (m, (stream, u, reads), h)
-  packed_refused (refusals.Frame e) h = (stream, u, h)
-  packed_refused (refusals.Trailing at) h = (stream, u, h)
-  packed_refused refusals.Memory h = tt
-  packed_refused (refusals.Bare e) h = absurd h
-  packed_refused (refusals.Packed e) h = absurd h
+  packed_refused e h = search rules
 
 -- ---- a first message, in each form
 

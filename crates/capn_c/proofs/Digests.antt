@@ -1,11 +1,11 @@
--- A report on a message's digest is true of the bytes that are read as it. (For `digest_in` and `refusal_way`.)
+-- A report on a message's digest is true of the bytes that are read as it. (For `digest_in`.)
 use Rattle.std.proofs.Common.{◌≡◌, ◌≤◌, inl, inr, ℕ, List, subst, Result, Ok, Err, IfOk, IfErr}
 use Rattle.std.proofs.Common.{IsErrOf, MatchResult}
 use Rattle.sha2.specs.Sha256.{sha256}
 use Rattle.capn_walk.specs.Limits.{Bounds}
 use Rattle.capn_canon.specs.Answered.{IsAnswered, IsRefusedReading}
 use Rattle.capn_canon.specs.Denotes.{Answers}
-use Rattle.capn_canon.specs.Refusal.{IsPaidWithin, IsRefused, IsUnacceptedIn}
+use Rattle.capn_canon.specs.Refusal.{IsPaidWithin, IsRefused}
 use Rattle.capn_canon.specs.declared.form.Form.{Form}
 use Rattle.capn_canon.specs.declared.refusal.Refusal.{Refusal}
 use Rattle.capn_canon.specs.declared.refusal.Refusal.TheVariants as refusals
@@ -14,17 +14,7 @@ use Rattle.capn_answers.proofs.shared.Reading.{reading_unaccepted, reading_wante
 use Rattle.capn_c.specs.MadeBytes.{MayNeedToMake}
 use Rattle.capn_c.specs.declared.message_digest.Digested.{Digested}
 use Rattle.capn_c.specs.inner.Told.{IsDigestTold}
-
--- what is not accepted is refused
-pub unaccepted_refused : (form : Form) (bs : List ℕ) (limits : Bounds) (e : Refusal) → IsUnacceptedIn form bs limits e
-    → IsRefused form bs limits e
-unaccepted_refused form bs limits refusals.Memory h = tt
-unaccepted_refused form bs limits (refusals.Frame e) h = h
-unaccepted_refused form bs limits (refusals.Trailing at) h = h
-unaccepted_refused form bs limits (refusals.Bare e) h = h
-unaccepted_refused form bs limits (refusals.Packed e) h = h
-unaccepted_refused form bs limits (refusals.Walk s) h = h
-unaccepted_refused form bs limits (refusals.Capability k) h = absurd h
+use Rattle.capn_c.proofs.OutOfMemory.{unaccepted_refused}
 
 module _ (form : Form) (bs : List ℕ) (limits : Bounds) where
   -- how bytes are answered

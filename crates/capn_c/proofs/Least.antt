@@ -1,5 +1,5 @@
 -- The number of bytes that a frame has at least. (For `frame`.)
-use Rattle.std.proofs.Common.{◌≡◌, ◌≢◌, ◌⊎◌, ◌∙◌, refl, inl, inr, ℕ, ◌<◌, ◌≤◌, List, ◌++◌, length, ap}
+use Rattle.std.proofs.Common.{◌≡◌, ◌≢◌, ◌⊎◌, ◌∙◌, inl, inr, ℕ, ◌<◌, ◌≤◌, List, ◌++◌, length, ap}
 use Rattle.std.proofs.Common.{sym, subst, arith}
 use Rattle.std.proofs.lemmas.Bool.Decides.{nat_tests}
 use Rattle.capn_stream.specs.Frames.{padding}
@@ -12,7 +12,6 @@ use Rattle.capn_stream.specs.FrameRefusal.{IsFrameRefused}
 use Rattle.capn_stream.specs.declared.fault.FrameFault.{FrameFault}
 use Rattle.capn_stream.specs.declared.fault.FrameFault.TheVariants as frame
 use Rattle.capn_abi.specs.declared.report.CapnReport.{CapnReport}
-use Rattle.capn_abi.specs.StatusCodes.{frame_code}
 use Rattle.capn_c.specs.FrameReport.{ReportsFrame}
 use Rattle.capn_c.specs.FrameNeed.{IsNeeded, needed}
 
@@ -61,15 +60,6 @@ is_needed bs most (inr (inr (inl table))) =
 is_needed bs most (inr (inr (inr contents))) =
     let e : needed bs ≡ frame_length bs = grind (arith, nat_tests, contents.0.0.0, contents.0.1) in
     subst (IsNeeded bs most) (sym e) (words_needed bs most contents.0 contents.1 contents.2)
-
--- the status 8 says that memory ran out
-pub frame_memory : (e : FrameFault) → frame_code e ≡ 8 → e ≡ frame.Memory
-frame_memory frame.Memory h = refl
-frame_memory frame.Empty h = absurd (omega arith)
-frame_memory (frame.TooManySegments n) h = absurd (omega arith)
-frame_memory (frame.TooManyWords n) h = absurd (omega arith)
-frame_memory frame.Cut h = absurd (omega arith)
-frame_memory frame.Failed h = absurd (omega arith)
 
 -- another number is none of these
 neither : (n status : ℕ) → status ≡ n → (status ≡ 48) ⊎ (status ≡ 51) → n ≢ 48 → n ≢ 51 → ⊥

@@ -1,18 +1,9 @@
 -- The clauses of a call that is lent its scratch, from its result. (For `write_lent`.)
-use Rattle.std.proofs.Common.{◌≡◌, ◌≢◌, inl, inr, ℕ, ◌+◌, ◌*◌, ◌<◌, ◌≤◌, IsTrue, List, length, take, Some, None}
+use Rattle.std.proofs.Common.{◌≡◌, ◌≢◌, inl, inr, ℕ, ◌+◌, ◌*◌, ◌<◌, ◌≤◌, IsTrue, List, length, take}
 use Rattle.std.specs.Prelude.{MatchResult}
 use Rattle.std.proofs.Common.{Result, Ok, Err, refl, ap, sym, subst, ◌∙◌, arith}
 use Rattle.std.proofs.lemmas.Bool.{le-ltb}
-use Rattle.capn_words.specs.declared.bare.BareFault.{BareFault}
-use Rattle.capn_words.specs.declared.bare.BareFault.TheVariants as bare
-use Rattle.capn_pack.specs.declared.fault.UnpackFault.{UnpackFault}
-use Rattle.capn_pack.specs.declared.fault.UnpackFault.TheVariants as packed
-use Rattle.capn_stream.specs.declared.fault.FrameFault.{FrameFault}
-use Rattle.capn_stream.specs.declared.fault.FrameFault.TheVariants as frame
-use Rattle.capn_target.specs.declared.target.Fault.{Fault}
-use Rattle.capn_target.specs.declared.target.Fault.TheVariants as walk
 use Rattle.capn_value.specs.Tree.{Tree}
-use Rattle.capn_value.specs.FirstCap.{first_cap}
 use Rattle.capn_walk.specs.Accepted.{IsBounded}
 use Rattle.capn_walk.specs.Limits.{AreLimits, Bounds}
 use Rattle.capn_canon.specs.Canonicity.{IsCanonicalForm}
@@ -28,67 +19,22 @@ use Rattle.capn_canon.proofs.shared.NotRefused.{not_refused}
 use Rattle.capn_canon.proofs.shared.OneReading.{one_value}
 use Rattle.capn_scratch.specs.FormRefusal.{IsFormPaidWithin, IsFormRefused}
 use Rattle.capn_scratch.specs.Laws.{FormIsDecided, IsFormWrittenOrRefused, LackingIsNotHaving, ScratchIsBounded}
-use Rattle.capn_scratch.specs.Needs.{HasScratch}
 use Rattle.capn_scratch.specs.Theorem.{WrittenForm}
 use Rattle.capn_scratch.specs.declared.refusal.FormRefusal.{FormRefusal}
 use Rattle.capn_scratch.specs.declared.refusal.FormRefusal.TheVariants as told
 use Rattle.capn_abi.specs.Calls.{Delivers, IsWritten}
-use Rattle.capn_abi.specs.StatusCodes.{Reports, answered, at_number, bare_code, code, frame_code, is_status}
-use Rattle.capn_abi.specs.StatusCodes.{packed_code, report_of, walk_code}
+use Rattle.capn_abi.specs.StatusCodes.{Reports, answered, at_number, code, is_status, report_of}
 use Rattle.capn_abi.specs.declared.report.CapnReport.{CapnReport}
 use Rattle.capn_c.specs.Lent.{LacksScratch, is_lent_status}
 use Rattle.capn_c.specs.inner.Lent.{IsLent, IsRefusalTold, IsResultTold}
 use Rattle.capn_c.proofs.Delivered.{in_buffer}
-use Rattle.capn_c.proofs.Listed.{refused_listed}
+use Rattle.capn_c.proofs.Listed.{above, refused_listed}
 use Rattle.capn_c.proofs.OutOfMemory.{refused_memory}
 
--- ---- the statuses of refusals
-
-above_bare : (e : BareFault) → 16 ≤ bare_code e
-above_bare (bare.NotWhole n) = omega arith
-above_bare (bare.TooLong n) = omega arith
-
-above_packed : (e : UnpackFault) → packed_code e ≢ 8 → 16 ≤ packed_code e
-above_packed packed.Memory h = absurd (h refl)
-above_packed (packed.Cut at) h = omega arith
-above_packed (packed.TooLong at) h = omega arith
-above_packed packed.Failed h = omega arith
-
-above_frame : (e : FrameFault) → frame_code e ≢ 8 → 16 ≤ frame_code e
-above_frame frame.Memory h = absurd (h refl)
-above_frame frame.Empty h = omega arith
-above_frame (frame.TooManySegments n) h = omega arith
-above_frame (frame.TooManyWords n) h = omega arith
-above_frame frame.Cut h = omega arith
-above_frame frame.Failed h = omega arith
-
-above_walk : (e : Fault) → walk_code e ≢ 8 → 16 ≤ walk_code e
-above_walk walk.NoRoot h = omega arith
-above_walk walk.RootKind h = omega arith
-above_walk walk.Reserved h = omega arith
-above_walk walk.NoSegment h = omega arith
-above_walk walk.PadRange h = omega arith
-above_walk walk.BadPad h = omega arith
-above_walk walk.Range h = omega arith
-above_walk walk.BadTag h = omega arith
-above_walk walk.TagOverrun h = omega arith
-above_walk walk.TooDeep h = omega arith
-above_walk walk.OverBudget h = omega arith
-above_walk walk.Memory h = absurd (h refl)
-
-above : (r : Refusal) → code r ≢ 8 → 16 ≤ code r
-above (refusals.Bare e) h = above_bare e
-above (refusals.Packed e) h = above_packed e h
-above (refusals.Frame e) h = above_frame e h
-above (refusals.Trailing at) h = omega arith
-above (refusals.Walk s) h = above_walk s.fault h
-above (refusals.Capability k) h = omega arith
-above refusals.Memory h = absurd (h refl)
+-- ---- one call
 
 lent_status : (n : ℕ) → 10 ≤ n → IsTrue (is_status n) → IsTrue (is_lent_status n)
 lent_status n h listed = rw (le-ltb n 10 h) listed
-
--- ---- one call
 
 module _ (decided : FormIsDecided) (most : ScratchIsBounded) (never : LackingIsNotHaving) (have : DenotedHaveForms)
     (form : Form) (bs : List ℕ) (limits : Bounds) (are : AreLimits limits.message_words limits.budget limits.depth)

@@ -4,7 +4,9 @@ pub mod Delivered
 pub mod Digests
 pub mod Entered
 pub mod Figured
+pub mod Filled
 pub mod Framed
+pub mod Indexed
 pub mod Least
 pub mod Lent
 pub mod Listed
@@ -14,6 +16,7 @@ pub mod OutOfMemory
 pub mod PackedText
 pub mod Placed
 pub mod Ready
+pub mod Reported
 pub mod Short
 pub mod Shown
 pub mod Unpacked

@@ -1,12 +1,11 @@
 -- An answer for a message is one for the bytes that are read as it. (For `canonical_fill.rt`,
 -- `canonical_segments_call.rt` and `message_index.rt`.)
-use Rattle.std.proofs.Common.{◌≡◌, ℕ, List, Err, subst}
+use Rattle.std.proofs.Common.{rules, ◌≡◌, ℕ, List, Err, sym, subst}
 use Rattle.capn_value.specs.Tree.{Tree}
 use Rattle.capn_walk.specs.Accepted.{IsValueOf}
 use Rattle.capn_walk.specs.Limits.{Bounds}
 use Rattle.capn_canon.specs.declared.form.Form.{Form}
 use Rattle.capn_canon.specs.declared.refusal.Refusal.{Refusal}
-use Rattle.capn_canon.specs.declared.refusal.Refusal.TheVariants as refusals
 use Rattle.capn_canon.specs.Denotes.{Denotes}
 use Rattle.capn_canon.specs.Reads.{Reads}
 use Rattle.capn_canon.specs.Refusal.{IsRefusedMessage}
@@ -23,18 +22,18 @@ value_of form bs limits m reads v d =
     let same = one_message form bs limits.message_words d.message m d.reads reads in
     subst (λ (x : List (List ℕ)). IsValueOf x limits v) same d.value
 
+-- what bytes denote in a form within limits
+pub denoted : {f g : Form} {k l : Bounds} {bs : List ℕ} {v : Tree} → f ≡ g → k ≡ l → Denotes g bs l v
+    → Denotes f bs k v
+denoted {f} {g} {k} {l} {bs} {v} e h d =
+    subst (λ (x : Bounds). Denotes f bs x v) (sym h) (subst (λ (x : Form). Denotes x bs l v) (sym e) d)
+
 -- ---- segments
 
 -- segments that hold no message have that refusal
 pub held_refused : (m : List (List ℕ)) (limits : Bounds) (r : Refusal) → IsHeldOr m limits (Err r)
     → IsRefusedHeld m limits r
-held_refused m limits (refusals.Frame e) h = h
-held_refused m limits (refusals.Trailing at) h = absurd h
-held_refused m limits (refusals.Bare e) h = absurd h
-held_refused m limits (refusals.Packed e) h = absurd h
-held_refused m limits (refusals.Walk s) h = absurd h
-held_refused m limits (refusals.Capability k) h = absurd h
-held_refused m limits refusals.Memory h = absurd h
+held_refused m limits r h = search rules
 
 -- and not because memory was refused
 pub held_asks : (m : List (List ℕ)) (limits : Bounds) (r : Refusal) → IsHeldOr m limits (Err r) → code r ≡ 8 → ⊥
@@ -45,10 +44,4 @@ held_asks m limits r h e =
 -- why a message that is held is refused is why its segments are
 pub held_refused_message : (m : List (List ℕ)) (limits : Bounds) (r : Refusal) → IsHeld m limits.message_words
     → IsRefusedMessage m limits r → IsRefusedHeld m limits r
-held_refused_message m limits (refusals.Walk s) h r = (h, r)
-held_refused_message m limits (refusals.Capability k) h r = (h, r)
-held_refused_message m limits refusals.Memory h r = tt
-held_refused_message m limits (refusals.Frame e) h r = absurd r
-held_refused_message m limits (refusals.Trailing at) h r = absurd r
-held_refused_message m limits (refusals.Bare e) h r = absurd r
-held_refused_message m limits (refusals.Packed e) h r = absurd r
+held_refused_message m limits r h e = search rules

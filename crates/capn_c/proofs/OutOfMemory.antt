@@ -1,8 +1,7 @@
 -- The status 8 says only that memory ran out: no bytes, and no message, are refused with it. (For `canonical_call.rt`,
 -- `canonical_fill.rt`, `canonical_segments_call.rt` and others.)
-use Rattle.std.proofs.Common.{◌≡◌, ◌⊎◌, inl, inr, ℕ, ◌+◌, ◌<◌, List, length, refl, arith}
+use Rattle.std.proofs.Common.{rules, ◌≡◌, ◌⊎◌, inl, inr, ℕ, ◌+◌, ◌<◌, List, length, refl, arith}
 use Rattle.capn_words.specs.declared.bare.BareFault.{BareFault}
-use Rattle.capn_words.specs.declared.bare.BareFault.TheVariants as bare
 use Rattle.capn_pack.specs.declared.fault.UnpackFault.{UnpackFault}
 use Rattle.capn_pack.specs.declared.fault.UnpackFault.TheVariants as packed
 use Rattle.capn_stream.specs.declared.fault.FrameFault.{FrameFault}
@@ -29,36 +28,16 @@ use Rattle.capn_abi.specs.StatusCodes.{bare_code, packed_code, frame_code, walk_
 
 -- of packed bytes
 pub packed_memory : (e : UnpackFault) → packed_code e ≡ 8 → e ≡ packed.Memory
-packed_memory packed.Memory h = refl
-packed_memory (packed.Cut at) h = absurd (omega arith)
-packed_memory (packed.TooLong at) h = absurd (omega arith)
-packed_memory packed.Failed h = absurd (omega arith)
+packed_memory e h = search rules
 
-frame_memory : (e : FrameFault) → frame_code e ≡ 8 → e ≡ frame.Memory
-frame_memory frame.Memory h = refl
-frame_memory frame.Empty h = absurd (omega arith)
-frame_memory (frame.TooManySegments n) h = absurd (omega arith)
-frame_memory (frame.TooManyWords n) h = absurd (omega arith)
-frame_memory frame.Cut h = absurd (omega arith)
-frame_memory frame.Failed h = absurd (omega arith)
+pub frame_memory : (e : FrameFault) → frame_code e ≡ 8 → e ≡ frame.Memory
+frame_memory e h = search rules
 
 walk_memory : (e : Fault) → walk_code e ≡ 8 → e ≡ walk.Memory
-walk_memory walk.Memory h = refl
-walk_memory walk.NoRoot h = absurd (omega arith)
-walk_memory walk.RootKind h = absurd (omega arith)
-walk_memory walk.Reserved h = absurd (omega arith)
-walk_memory walk.NoSegment h = absurd (omega arith)
-walk_memory walk.PadRange h = absurd (omega arith)
-walk_memory walk.BadPad h = absurd (omega arith)
-walk_memory walk.Range h = absurd (omega arith)
-walk_memory walk.BadTag h = absurd (omega arith)
-walk_memory walk.TagOverrun h = absurd (omega arith)
-walk_memory walk.TooDeep h = absurd (omega arith)
-walk_memory walk.OverBudget h = absurd (omega arith)
+walk_memory e h = search rules
 
 never_bare : (e : BareFault) → bare_code e ≡ 8 → ⊥
-never_bare (bare.NotWhole n) h = omega arith
-never_bare (bare.TooLong n) h = omega arith
+never_bare e h = search rules
 
 -- of a refusal of bytes
 pub refused_memory : (form : Form) (bs : List ℕ) (l : Bounds) (r : Refusal) → IsRefused form bs l r → code r ≡ 8
@@ -76,24 +55,17 @@ refused_memory forms.Bare bs l (refusals.Frame e) h c = absurd h
 refused_memory forms.Stream bs l (refusals.Frame e) h c = absurd (h.0 (frame_memory e c))
 refused_memory forms.Packed bs l (refusals.Frame e) h c = absurd (h.2.0 (frame_memory e c))
 
--- and of bytes that are not accepted
+-- and of bytes that are not accepted, which are refused
+pub unaccepted_refused : (form : Form) (bs : List ℕ) (limits : Bounds) (e : Refusal) → IsUnacceptedIn form bs limits e
+    → IsRefused form bs limits e
+unaccepted_refused form bs limits e h = search rules
+
 pub unaccepted_memory : (form : Form) (bs : List ℕ) (l : Bounds) (r : Refusal) → IsUnacceptedIn form bs l r
     → code r ≡ 8 → r ≡ refusals.Memory
-unaccepted_memory form bs l (refusals.Capability k) h c = absurd h
-unaccepted_memory form bs l refusals.Memory h c = refl
-unaccepted_memory form bs l (refusals.Walk s) h c = refused_memory form bs l (refusals.Walk s) h c
-unaccepted_memory form bs l (refusals.Trailing at) h c = refused_memory form bs l (refusals.Trailing at) h c
-unaccepted_memory form bs l (refusals.Bare e) h c = refused_memory form bs l (refusals.Bare e) h c
-unaccepted_memory form bs l (refusals.Packed e) h c = refused_memory form bs l (refusals.Packed e) h c
-unaccepted_memory form bs l (refusals.Frame e) h c = refused_memory form bs l (refusals.Frame e) h c
+unaccepted_memory form bs l r h c = refused_memory form bs l r (unaccepted_refused form bs l r h) c
 
 misheld_memory : (m : List (List ℕ)) (most : ℕ) (e : FrameFault) → IsMisheld m most e → frame_code e ≡ 8 → ⊥
-misheld_memory m most frame.Memory h c = h
-misheld_memory m most frame.Empty h c = omega (arith, c)
-misheld_memory m most (frame.TooManySegments n) h c = omega (arith, c)
-misheld_memory m most (frame.TooManyWords n) h c = omega (arith, c)
-misheld_memory m most frame.Cut h c = h
-misheld_memory m most frame.Failed h c = h
+misheld_memory m most e h c = search rules
 
 -- of a message that is held in segments
 pub held_memory : (m : List (List ℕ)) (l : Bounds) (r : Refusal) → IsRefusedHeld m l r → code r ≡ 8
@@ -107,16 +79,14 @@ held_memory m l (refusals.Trailing at) h c = absurd h
 held_memory m l (refusals.Bare e) h c = absurd h
 held_memory m l (refusals.Packed e) h c = absurd h
 
--- and of one that is not accepted
+-- and of one that is not accepted, which is refused
+pub unaccepted_held_refused : (m : List (List ℕ)) (l : Bounds) (r : Refusal) → IsUnacceptedHeld m l r
+    → IsRefusedHeld m l r
+unaccepted_held_refused m l r h = search rules
+
 pub unaccepted_held_memory : (m : List (List ℕ)) (l : Bounds) (r : Refusal) → IsUnacceptedHeld m l r → code r ≡ 8
     → r ≡ refusals.Memory
-unaccepted_held_memory m l (refusals.Capability k) h c = absurd h
-unaccepted_held_memory m l refusals.Memory h c = refl
-unaccepted_held_memory m l (refusals.Walk s) h c = held_memory m l (refusals.Walk s) h c
-unaccepted_held_memory m l (refusals.Frame e) h c = held_memory m l (refusals.Frame e) h c
-unaccepted_held_memory m l (refusals.Trailing at) h c = absurd h
-unaccepted_held_memory m l (refusals.Bare e) h c = absurd h
-unaccepted_held_memory m l (refusals.Packed e) h c = absurd h
+unaccepted_held_memory m l r h c = held_memory m l r (unaccepted_held_refused m l r h) c
 
 -- a walk of a message stops for another reason
 pub stopped_memory : (m : List (List ℕ)) (l : Bounds) (s : Stopped)

@@ -1,5 +1,5 @@
 -- An answer for the stream that a text packs is one for the text. (For `figures_of_packed`.)
-use Rattle.std.proofs.Common.{◌≡◌, ℕ, ◌+◌, ◌*◌, ◌≤◌, List, length, subst, sym}
+use Rattle.std.proofs.Common.{rules, ◌≡◌, ℕ, ◌+◌, ◌*◌, ◌≤◌, List, length, subst, sym}
 use Rattle.capn_pack.specs.Packed.{Packs}
 use Rattle.capn_stream.specs.Frames.{most_table_words}
 use Rattle.capn_walk.specs.Limits.{Bounds}
@@ -8,7 +8,6 @@ use Rattle.capn_canon.specs.Reads.{Unpacks}
 use Rattle.capn_canon.specs.Refusal.{IsUnacceptedIn}
 use Rattle.capn_canon.specs.declared.form.Form.TheVariants as forms
 use Rattle.capn_canon.specs.declared.refusal.Refusal.{Refusal}
-use Rattle.capn_canon.specs.declared.refusal.Refusal.TheVariants as refusals
 use Rattle.capn_canon.proofs.shared.MemoryNeeds.{packed_wanted}
 use Rattle.capn_c.specs.Figures.{FiguresIn}
 use Rattle.capn_c.specs.declared.figures.CapnFigures.{CapnFigures}
@@ -28,13 +27,7 @@ module _ (bs stream : List ℕ) (limits : Bounds) (u : Unpacks bs limits.message
   -- why it is not accepted
   pub packed_unaccepted : (e : Refusal) → IsUnacceptedIn forms.Stream stream limits e
       → IsUnacceptedIn forms.Packed bs limits e
-  packed_unaccepted (refusals.Walk s) (m, reads, h) = (m, (stream, u, reads), h)
-  packed_unaccepted (refusals.Frame e) h = (stream, u, h)
-  packed_unaccepted (refusals.Trailing at) h = (stream, u, h)
-  packed_unaccepted refusals.Memory h = tt
-  packed_unaccepted (refusals.Bare e) h = absurd h
-  packed_unaccepted (refusals.Packed e) h = absurd h
-  packed_unaccepted (refusals.Capability k) h = absurd h
+  packed_unaccepted e h = search rules
 
   -- and that memory may be needed
   pub packed_needs : MayNeedMemory forms.Stream stream limits → MayNeedMemory forms.Packed bs limits

@@ -1,16 +1,12 @@
 -- The stop of a walk, and the report on it. (For `refusal_way` and `tell_path`.)
-use Rattle.std.proofs.Common.{◌≡◌, ◌<◌, ◌≤◌, ℕ, List, refl, sym, subst, arith}
+use Rattle.std.proofs.Common.{rules, ◌≡◌, ◌<◌, ◌≤◌, ℕ, List, refl, sym, subst, arith}
 use Rattle.capn_pack.specs.declared.fault.UnpackFault.{UnpackFault}
-use Rattle.capn_pack.specs.declared.fault.UnpackFault.TheVariants as packed
 use Rattle.capn_pack.specs.UnpackRefusal as packs
 use Rattle.capn_stream.specs.declared.fault.FrameFault.{FrameFault}
-use Rattle.capn_stream.specs.declared.fault.FrameFault.TheVariants as frame
 use Rattle.capn_stream.specs.FrameRefusal as frames
 use Rattle.capn_words.specs.declared.bare.BareFault.{BareFault}
-use Rattle.capn_words.specs.declared.bare.BareFault.TheVariants as bare
 use Rattle.capn_target.specs.declared.target.Fault.{Fault}
 use Rattle.capn_target.specs.declared.target.Fault.TheVariants as walk
-use Rattle.capn_walk.specs.Accepted.{IsBounded}
 use Rattle.capn_walk.specs.Limits.{Bounds}
 use Rattle.capn_walk.specs.declared.walk_answer.Stopped.{Stopped}
 use Rattle.capn_walk.proofs.shared.Plain.{plain-refusal}
@@ -18,27 +14,15 @@ use Rattle.capn_canon.specs.declared.form.Form.{Form}
 use Rattle.capn_canon.specs.declared.form.Form.TheVariants as forms
 use Rattle.capn_canon.specs.declared.refusal.Refusal.{Refusal}
 use Rattle.capn_canon.specs.declared.refusal.Refusal.TheVariants as refusals
-use Rattle.capn_canon.specs.Refusal.{IsPaidWithin}
 use Rattle.capn_answers.specs.Paths.{IsStoppedIn, IsUnread}
-use Rattle.capn_abi.specs.StatusCodes.{Reports, bare_code, packed_code, frame_code, walk_code, code, report_of}
+use Rattle.capn_abi.specs.StatusCodes.{Reports, bare_code, packed_code, frame_code, walk_code, code}
 use Rattle.capn_c.specs.PathNumbers.{with_length}
 use Rattle.capn_abi.specs.declared.report.CapnReport.{CapnReport}
 
 -- ---- the status of a stop is 64 or more
 
 fault_status : (f : Fault) → (f ≡ walk.Memory → ⊥) → 64 ≤ walk_code f
-fault_status walk.NoRoot n = omega arith
-fault_status walk.RootKind n = omega arith
-fault_status walk.Reserved n = omega arith
-fault_status walk.NoSegment n = omega arith
-fault_status walk.PadRange n = omega arith
-fault_status walk.BadPad n = omega arith
-fault_status walk.Range n = omega arith
-fault_status walk.BadTag n = omega arith
-fault_status walk.TagOverrun n = omega arith
-fault_status walk.TooDeep n = omega arith
-fault_status walk.OverBudget n = omega arith
-fault_status walk.Memory n = absurd (n refl)
+fault_status f n = search rules
 
 pub stop_status : (form : Form) (bs : List ℕ) (l : Bounds) (s : Stopped) (path : List ℕ) → IsStoppedIn form bs l s path
     → 64 ≤ walk_code s.fault
@@ -48,22 +32,13 @@ stop_status form bs l s path h =
 -- ---- and that of any other refusal is less
 
 bare_status : (e : BareFault) → bare_code e < 64
-bare_status (bare.NotWhole n) = omega arith
-bare_status (bare.TooLong n) = omega arith
+bare_status e = search rules
 
 packed_status : (bs : List ℕ) (most : ℕ) (e : UnpackFault) → packs.IsUnpackRefused bs most e → packed_code e < 64
-packed_status bs most packed.Memory h = omega arith
-packed_status bs most (packed.Cut at) h = omega arith
-packed_status bs most (packed.TooLong at) h = omega arith
-packed_status bs most packed.Failed h = absurd h
+packed_status bs most e h = search rules
 
 frame_status : (bs : List ℕ) (most : ℕ) (e : FrameFault) → frames.IsFrameRefused bs most e → frame_code e < 64
-frame_status bs most frame.Memory h = omega arith
-frame_status bs most frame.Empty h = omega arith
-frame_status bs most (frame.TooManySegments n) h = omega arith
-frame_status bs most (frame.TooManyWords n) h = omega arith
-frame_status bs most frame.Cut h = omega arith
-frame_status bs most frame.Failed h = absurd h
+frame_status bs most e h = search rules
 
 pub unread_status : (form : Form) (bs : List ℕ) (l : Bounds) (e : Refusal) → IsUnread form bs l e → code e < 64
 unread_status form bs l refusals.Memory h = omega arith
@@ -82,18 +57,6 @@ unread_status forms.Bare bs l (refusals.Frame e) h = absurd (h (λ x. cc))
 unread_status forms.Stream bs l (refusals.Frame e) h = frame_status bs l.message_words e ((h (λ x. cc)).1)
 unread_status forms.Packed bs l (refusals.Frame e) h =
     let (text, u, is) = h (λ x. cc) in frame_status text l.message_words e is.1
-
--- ---- what a refusal reports as paid
-
-pub refusal_bounded : (budget : ℕ) (e : Refusal) → IsPaidWithin budget e
-    → IsBounded budget (report_of e).paid (report_of e).visits
-refusal_bounded budget (refusals.Walk s) h = h
-refusal_bounded budget (refusals.Capability k) h = record { within = omega arith; few = omega arith }
-refusal_bounded budget (refusals.Bare e) h = record { within = omega arith; few = omega arith }
-refusal_bounded budget (refusals.Packed e) h = record { within = omega arith; few = omega arith }
-refusal_bounded budget (refusals.Frame e) h = record { within = omega arith; few = omega arith }
-refusal_bounded budget (refusals.Trailing at) h = record { within = omega arith; few = omega arith }
-refusal_bounded budget refusals.Memory h = record { within = omega arith; few = omega arith }
 
 -- ---- a report with another length reports the same but for that
 pub but_length : (status n : ℕ) (r : CapnReport) (s : Stopped) → Reports status r (refusals.Walk s)

@@ -1,5 +1,5 @@
 -- The canonical bytes of the value of an accepted message are at most 8 for each word paid, and 8 more. (For
--- `survey_short` and `write_message`.)
+-- `survey_held` and `write_message`.)
 use Rattle.std.proofs.Common.{ℕ, ◌+◌, ◌*◌, ◌^◌, ◌≤◌, List, length, Result, IfOk, arith}
 use Rattle.std.proofs.lemmas.Result.{IfOk-weaker}
 use Rattle.capn_words.specs.Message.{IsMessage}

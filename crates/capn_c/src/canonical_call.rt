@@ -13,6 +13,7 @@ ghost use Rattle.capn_canon.specs.MemoryNeed.{MayNeedMemory};
 ghost use Rattle.capn_canon.specs.declared.refusal.Refusal.{Refusal as Refusals};
 ghost use Rattle.capn_abi.specs.Calls.{IsForm, form_named, GiveLimits, IsTariff, bounds_of, Serves};
 ghost use Rattle.capn_abi.specs.StatusCodes.{Reports, answered, at_number, is_status};
+ghost use Rattle.capn_c.specs.inner.Reported.{IsReported};
 
 use crate::canonical_fill::fill;
 use capn_abi::{
@@ -36,10 +37,8 @@ fn survey_length(
     ensures only { (v : Value) → Denotes form bytes.now limits v → first_cap v ≡ None
         → (result ≡ 8) ⊎ ((result ≡ 1) × (length (canon v) ≤ report.new.length)) }
     ensures rest { result ≡ 1 → report.new ≡ answered (8 * (report.new.paid + 1)) report.new.paid 0 }
-    ensures listed { IsTrue (is_status result) }
-    ensures refused { 8 ≤ result → (e : Refusals) × Reports result report.new e × IsRefused form bytes.now limits e }
-    ensures memory { result ≡ 8 → MayNeedMemory form bytes.now limits }
-    ensures bounded { IsBounded limits.budget report.new.paid report.new.visits }
+    ensures reported { IsReported (IsRefused form bytes.now limits) (MayNeedMemory form bytes.now limits)
+        limits.budget result report.new }
 {
     match survey_bytes(alloc, form, bytes, limits) {
         Ok(surveyed) => match surveyed.capability {

@@ -1,18 +1,8 @@
 //! Canonical bytes of input in any form, into a buffer.
 
-ghost use Rattle.std.specs.Prelude.{IsTrue, ◌≡◌, ◌≢◌, ◌⊎◌, ◌≤◌, ◌+◌, ◌*◌, ℕ, List, None, length, take};
-ghost use Rattle.capn_value.specs.Tree.{Tree as Value};
-ghost use Rattle.capn_value.specs.FirstCap.{first_cap};
-ghost use Rattle.capn_walk.specs.Accepted.{IsBounded};
-ghost use Rattle.capn_canon.specs.Layout.{canon};
-ghost use Rattle.capn_canon.specs.Denotes.{Denotes, Answers};
-ghost use Rattle.capn_canon.specs.Canonicity.{IsCanonicalForm};
-ghost use Rattle.capn_canon.specs.Refusal.{IsRefused};
 ghost use Rattle.capn_canon.specs.MemoryNeed.{MayNeedBytesIn, MayNeedMemory};
 ghost use Rattle.capn_canon.specs.declared.form.Form.TheVariants as forms;
-ghost use Rattle.capn_canon.specs.declared.refusal.Refusal.{Refusal as Refusals};
-ghost use Rattle.capn_abi.specs.Calls.{Delivers};
-ghost use Rattle.capn_abi.specs.StatusCodes.{Reports, answered, is_status};
+ghost use Rattle.capn_c.specs.inner.Reported.{IsFilledIn};
 
 use crate::frame::read_frame;
 use crate::written_message::write_message;
@@ -32,20 +22,8 @@ fn fill_copied(
     out: &mut [u8],
     report: &mut CapnReport,
 ) -> u32
-    ensures possible { (result ≤ 1) ⊎ (8 ≤ result) }
-    ensures found { result ≤ 1 → (text : List ℕ) × Answers form bytes.now limits text report.new.paid
-        × Delivers text result report.new.length out.old out.new }
-    ensures only { (v : Value) → Denotes form bytes.now limits v → first_cap v ≡ None
-        → (result ≡ 8) ⊎ Delivers (canon v) result report.new.length out.old out.new }
-    ensures rest { result ≤ 1 → report.new ≡ answered report.new.length report.new.paid 0 }
-    ensures listed { IsTrue (is_status result) }
-    ensures refused { 8 ≤ result → (e : Refusals) × Reports result report.new e × IsRefused form bytes.now limits e }
-    ensures memory { result ≡ 8 → MayNeedBytesIn form bytes.now limits }
-    ensures bounded { IsBounded limits.budget report.new.paid report.new.visits }
-    ensures short { result ≤ 1 → report.new.length ≤ 8 * (report.new.paid + 1) }
-    ensures kept { result ≢ 0 → out.new ≡ out.old }
-    ensures canonical { result ≡ 0 → (v : Value) → Denotes form bytes.now limits v
-        → IsCanonicalForm (take report.new.length out.new) limits v }
+    ensures { IsFilledIn form bytes.now limits (MayNeedBytesIn form bytes.now limits) out.old out.new result
+        report.new }
 {
     match canonicalise(alloc, form, bytes, limits) {
         Ok(canonical) => {
@@ -58,21 +36,7 @@ fn fill_copied(
 
 /// Writes the canonical bytes of bare words to `out`, in place.
 fn fill_bare(bytes: &[u8], limits: Limits, out: &mut [u8], report: &mut CapnReport) -> u32
-    ensures possible { (result ≤ 1) ⊎ (8 ≤ result) }
-    ensures found { result ≤ 1 → (text : List ℕ) × Answers forms.Bare bytes.now limits text report.new.paid
-        × Delivers text result report.new.length out.old out.new }
-    ensures only { (v : Value) → Denotes forms.Bare bytes.now limits v → first_cap v ≡ None
-        → Delivers (canon v) result report.new.length out.old out.new }
-    ensures rest { result ≤ 1 → report.new ≡ answered report.new.length report.new.paid 0 }
-    ensures listed { IsTrue (is_status result) }
-    ensures refused { 8 ≤ result → (e : Refusals) × Reports result report.new e
-        × IsRefused forms.Bare bytes.now limits e }
-    ensures no_memory { result ≢ 8 }
-    ensures bounded { IsBounded limits.budget report.new.paid report.new.visits }
-    ensures short { result ≤ 1 → report.new.length ≤ 8 * (report.new.paid + 1) }
-    ensures kept { result ≢ 0 → out.new ≡ out.old }
-    ensures canonical { result ≡ 0 → (v : Value) → Denotes forms.Bare bytes.now limits v
-        → IsCanonicalForm (take report.new.length out.new) limits v }
+    ensures { IsFilledIn forms.Bare bytes.now limits ⊥ out.old out.new result report.new }
 {
     match Bare::new(bytes) {
         Ok(message) => write_message(&message, limits, out, report),
@@ -90,21 +54,8 @@ fn fill_frame(
     out: &mut [u8],
     report: &mut CapnReport,
 ) -> u32
-    ensures possible { (result ≤ 1) ⊎ (8 ≤ result) }
-    ensures found { result ≤ 1 → (text : List ℕ) × Answers forms.Stream bytes.now limits text report.new.paid
-        × Delivers text result report.new.length out.old out.new }
-    ensures only { (v : Value) → Denotes forms.Stream bytes.now limits v → first_cap v ≡ None
-        → (result ≡ 8) ⊎ Delivers (canon v) result report.new.length out.old out.new }
-    ensures rest { result ≤ 1 → report.new ≡ answered report.new.length report.new.paid 0 }
-    ensures listed { IsTrue (is_status result) }
-    ensures refused { 8 ≤ result → (e : Refusals) × Reports result report.new e
-        × IsRefused forms.Stream bytes.now limits e }
-    ensures memory { result ≡ 8 → MayNeedMemory forms.Stream bytes.now limits }
-    ensures bounded { IsBounded limits.budget report.new.paid report.new.visits }
-    ensures short { result ≤ 1 → report.new.length ≤ 8 * (report.new.paid + 1) }
-    ensures kept { result ≢ 0 → out.new ≡ out.old }
-    ensures canonical { result ≡ 0 → (v : Value) → Denotes forms.Stream bytes.now limits v
-        → IsCanonicalForm (take report.new.length out.new) limits v }
+    ensures { IsFilledIn forms.Stream bytes.now limits (MayNeedMemory forms.Stream bytes.now limits) out.old out.new
+        result report.new }
 {
     match read_frame(alloc, bytes, limits) {
         Ok(message) => write_message(&message, limits, out, report),
@@ -122,20 +73,8 @@ pub fn fill(
     out: &mut [u8],
     report: &mut CapnReport,
 ) -> u32
-    ensures possible { (result ≤ 1) ⊎ (8 ≤ result) }
-    ensures found { result ≤ 1 → (text : List ℕ) × Answers form bytes.now limits text report.new.paid
-        × Delivers text result report.new.length out.old out.new }
-    ensures only { (v : Value) → Denotes form bytes.now limits v → first_cap v ≡ None
-        → (result ≡ 8) ⊎ Delivers (canon v) result report.new.length out.old out.new }
-    ensures rest { result ≤ 1 → report.new ≡ answered report.new.length report.new.paid 0 }
-    ensures listed { IsTrue (is_status result) }
-    ensures refused { 8 ≤ result → (e : Refusals) × Reports result report.new e × IsRefused form bytes.now limits e }
-    ensures memory { result ≡ 8 → MayNeedMemory form bytes.now limits }
-    ensures bounded { IsBounded limits.budget report.new.paid report.new.visits }
-    ensures short { result ≤ 1 → report.new.length ≤ 8 * (report.new.paid + 1) }
-    ensures kept { result ≢ 0 → out.new ≡ out.old }
-    ensures canonical { result ≡ 0 → (v : Value) → Denotes form bytes.now limits v
-        → IsCanonicalForm (take report.new.length out.new) limits v }
+    ensures { IsFilledIn form bytes.now limits (MayNeedMemory form bytes.now limits) out.old out.new result
+        report.new }
 {
     match form {
         Form::Stream => fill_frame(alloc, bytes, limits, out, report),

@@ -8,9 +8,10 @@ ghost use Rattle.capn_canon.specs.Layout.{canon};
 ghost use Rattle.capn_canon.specs.Canonicity.{IsCanonicalForm};
 ghost use Rattle.capn_canon.specs.declared.refusal.Refusal.{Refusal as Refusals};
 ghost use Rattle.capn_stream.specs.Segments.{message_of};
-ghost use Rattle.capn_abi.specs.Calls.{GiveLimits, IsTariff, bounds_of, Delivers, Serves};
+ghost use Rattle.capn_abi.specs.Calls.{GiveLimits, IsTariff, bounds_of, Serves};
 ghost use Rattle.capn_c.specs.Held.{AnswersHeld, DenotesHeld, IsRefusedHeld};
 ghost use Rattle.capn_abi.specs.StatusCodes.{Reports, answered, at_number, is_status};
+ghost use Rattle.capn_c.specs.inner.Reported.{IsFilled, IsReported};
 
 use crate::held_message::{held, survey_held};
 use crate::written_message::write_message;
@@ -28,16 +29,12 @@ fn held_length(
     report: &mut CapnReport,
 ) -> u32
     ensures possible { (result ≡ 1) ⊎ (8 ≤ result) }
-    ensures no_memory { result ≢ 8 }
     ensures found { result ≡ 1 → (text : List ℕ)
         × AnswersHeld (message_of segments.now) limits text report.new.paid × (length text ≤ report.new.length) }
     ensures only { (v : Value) → DenotesHeld (message_of segments.now) limits v → first_cap v ≡ None
         → (result ≡ 1) × (length (canon v) ≤ report.new.length) }
     ensures rest { result ≡ 1 → report.new ≡ answered (8 * (report.new.paid + 1)) report.new.paid 0 }
-    ensures listed { IsTrue (is_status result) }
-    ensures refused { 8 ≤ result → (e : Refusals) × Reports result report.new e
-        × IsRefusedHeld (message_of segments.now) limits e }
-    ensures bounded { IsBounded limits.budget report.new.paid report.new.visits }
+    ensures reported { IsReported (IsRefusedHeld (message_of segments.now) limits) ⊥ limits.budget result report.new }
 {
     match survey_held(alloc, segments, limits) {
         Ok(surveyed) => match surveyed.capability {
@@ -59,22 +56,8 @@ fn fill_held(
     out: &mut [u8],
     report: &mut CapnReport,
 ) -> u32
-    ensures possible { (result ≤ 1) ⊎ (8 ≤ result) }
-    ensures no_memory { result ≢ 8 }
-    ensures found { result ≤ 1 → (text : List ℕ)
-        × AnswersHeld (message_of segments.now) limits text report.new.paid
-        × Delivers text result report.new.length out.old out.new }
-    ensures only { (v : Value) → DenotesHeld (message_of segments.now) limits v → first_cap v ≡ None
-        → Delivers (canon v) result report.new.length out.old out.new }
-    ensures rest { result ≤ 1 → report.new ≡ answered report.new.length report.new.paid 0 }
-    ensures listed { IsTrue (is_status result) }
-    ensures refused { 8 ≤ result → (e : Refusals) × Reports result report.new e
-        × IsRefusedHeld (message_of segments.now) limits e }
-    ensures bounded { IsBounded limits.budget report.new.paid report.new.visits }
-    ensures short { result ≤ 1 → report.new.length ≤ 8 * (report.new.paid + 1) }
-    ensures kept { result ≢ 0 → out.new ≡ out.old }
-    ensures canonical { result ≡ 0 → (v : Value) → DenotesHeld (message_of segments.now) limits v
-        → IsCanonicalForm (take report.new.length out.new) limits v }
+    ensures { IsFilled (DenotesHeld (message_of segments.now) limits) (AnswersHeld (message_of segments.now) limits)
+        (IsRefusedHeld (message_of segments.now) limits) ⊥ limits out.old out.new result report.new }
 {
     match held(segments, limits) {
         Ok(message) => write_message(&message, limits, out, report),

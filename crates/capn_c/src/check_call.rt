@@ -11,6 +11,7 @@ ghost use Rattle.capn_canon.specs.MemoryNeed.{MayNeedMemory};
 ghost use Rattle.capn_canon.specs.declared.refusal.Refusal.{Refusal as Refusals};
 ghost use Rattle.capn_abi.specs.Calls.{IsForm, form_named, GiveLimits, IsTariff, bounds_of};
 ghost use Rattle.capn_abi.specs.StatusCodes.{Reports, answered, at_number, is_status};
+ghost use Rattle.capn_c.specs.inner.Reported.{IsDoneIn};
 
 use capn_abi::{
     BAD_FORM, CapnLimits, CapnReport, DONE, answer_of, form_of, limits_of, refuse, report_at,
@@ -21,15 +22,9 @@ use std::alloc::Global;
 
 /// Surveys the message that `bytes` encode in this `form`.
 fn check(alloc: Global, form: Form, bytes: &[u8], limits: Limits, report: &mut CapnReport) -> u32
-    ensures possible { (result ≡ 0) ⊎ (8 ≤ result) }
-    ensures found { result ≡ 0 → (s : Survey) × Surveys form bytes.now limits s
-        × (report.new ≡ answered 0 s.paid s.visits) }
-    ensures only { (v : Value) → Denotes form bytes.now limits v → (result ≡ 0) ⊎ (result ≡ 8) }
-    ensures listed { IsTrue (is_status result) }
-    ensures refused { 8 ≤ result → (e : Refusals) × Reports result report.new e
-        × IsUnacceptedIn form bytes.now limits e }
-    ensures memory { result ≡ 8 → MayNeedMemory form bytes.now limits }
-    ensures bounded { IsBounded limits.budget report.new.paid report.new.visits }
+    ensures { IsDoneIn form bytes.now limits
+        ((s : Survey) × Surveys form bytes.now limits s × (report.new ≡ answered 0 s.paid s.visits))
+        (MayNeedMemory form bytes.now limits) result report.new }
 {
     match survey_bytes(alloc, form, bytes, limits) {
         Ok(surveyed) => {

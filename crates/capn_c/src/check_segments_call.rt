@@ -1,6 +1,6 @@
 //! Checks of messages held in segments.
 
-ghost use Rattle.std.specs.Prelude.{IsTrue, ◌≡◌, ◌≢◌, ◌⊎◌, ◌↔◌, ◌≤◌};
+ghost use Rattle.std.specs.Prelude.{IsTrue, ◌≡◌, ◌≢◌, ◌↔◌, ◌≤◌};
 ghost use Rattle.capn_value.specs.Tree.{Tree as Value};
 ghost use Rattle.capn_walk.specs.Accepted.{IsBounded};
 ghost use Rattle.capn_walk.specs.declared.survey_answer.Surveyed.{Surveyed as Survey};
@@ -9,6 +9,7 @@ ghost use Rattle.capn_stream.specs.Segments.{message_of};
 ghost use Rattle.capn_abi.specs.Calls.{GiveLimits, IsTariff, bounds_of};
 ghost use Rattle.capn_c.specs.Held.{DenotesHeld, IsUnacceptedHeld, SurveysHeld};
 ghost use Rattle.capn_abi.specs.StatusCodes.{Reports, answered, at_number, is_status};
+ghost use Rattle.capn_c.specs.inner.Reported.{IsDoneHeld};
 
 use crate::held_message::survey_held;
 use capn_abi::{CapnLimits, CapnReport, DONE, answer_of, limits_of, refuse, report_at};
@@ -22,15 +23,9 @@ fn check_held(
     limits: Limits,
     report: &mut CapnReport,
 ) -> u32
-    ensures possible { (result ≡ 0) ⊎ (8 ≤ result) }
-    ensures no_memory { result ≢ 8 }
-    ensures found { result ≡ 0 → (s : Survey) × SurveysHeld (message_of segments.now) limits s
-        × (report.new ≡ answered 0 s.paid s.visits) }
-    ensures only { (v : Value) → DenotesHeld (message_of segments.now) limits v → result ≡ 0 }
-    ensures listed { IsTrue (is_status result) }
-    ensures refused { 8 ≤ result → (e : Refusals) × Reports result report.new e
-        × IsUnacceptedHeld (message_of segments.now) limits e }
-    ensures bounded { IsBounded limits.budget report.new.paid report.new.visits }
+    ensures { IsDoneHeld (message_of segments.now) limits
+        ((s : Survey) × SurveysHeld (message_of segments.now) limits s
+        × (report.new ≡ answered 0 s.paid s.visits)) result report.new }
 {
     match survey_held(alloc, segments, limits) {
         Ok(surveyed) => {

@@ -1,12 +1,12 @@
 //! The comparison of two messages in each form.
 
-ghost use Rattle.std.specs.Prelude.{◌≢◌, IfOk, IfErr, IsErrOf};
+ghost use Rattle.std.specs.Prelude.{IfOk, IfErr, IsErrOf};
 ghost use Rattle.capn_canon.specs.CanonicalLength.{HasBytes};
 ghost use Rattle.capn_canon.specs.MemoryNeed.{MayNeedMemory};
-ghost use Rattle.capn_canon.specs.Refusal.{IsPaidWithin, IsRefused, IsRefusedMessage};
+ghost use Rattle.capn_canon.specs.Refusal.{IsPaidWithin, IsRefused};
 ghost use Rattle.capn_canon.specs.declared.form.Form.TheVariants as forms;
 ghost use Rattle.capn_canon.specs.declared.refusal.Refusal.TheVariants as refusals;
-ghost use Rattle.capn_c.specs.inner.Told.{IsCompared, IsComparedTo, IsSameIn, IsSameTo};
+ghost use Rattle.capn_c.specs.inner.Told.{IsCompared, IsComparedTo, IsSameTo, IsSecondTold, IsToldOf};
 
 use crate::frame::read_frame;
 use crate::same_surveyed::same_surveyed;
@@ -19,10 +19,7 @@ use std::alloc::Global;
 
 /// Surveys a message: returns nothing if it has canonical bytes, else the reason why it has none.
 fn survey_free<S: Space>(alloc: Global, message: &S, limits: Limits) -> Result<(), Refusal>
-    ensures found { IfOk result (λ _. HasBytes (S.message message.now) limits) }
-    ensures refused { IfErr result (λ e. IsRefusedMessage (S.message message.now) limits e) }
-    ensures no_memory { IfErr result (λ e. e ≢ refusals.Memory) }
-    ensures bounded { IfErr result (λ e. IsPaidWithin limits.budget e) }
+    ensures { IsToldOf (S.message message.now) limits (λ _. HasBytes (S.message message.now) limits) result }
 {
     match survey(alloc, message, limits)?.capability {
         Some(index) => Err(Refusal::Capability(index)),
@@ -39,10 +36,8 @@ fn same_message<A: Space, B: Space>(
     limits: Limits,
 ) -> Result<bool, Refusal>
     requires first { HasBytes (A.message first.now) limits }
-    ensures found { IfOk result (λ same. IsSameTo (A.message first.now) (B.message second.now) limits same) }
-    ensures refused { IfErr result (λ e. IsRefusedMessage (B.message second.now) limits e) }
-    ensures no_memory { IfErr result (λ e. e ≢ refusals.Memory) }
-    ensures bounded { IfErr result (λ e. IsPaidWithin limits.budget e) }
+    ensures { IsToldOf (B.message second.now) limits
+        (λ same. IsSameTo (A.message first.now) (B.message second.now) limits same) result }
 {
     survey_free(alloc, second, limits)?;
     Ok(same_surveyed(first, second, limits))
@@ -57,10 +52,7 @@ fn same_frame<A: Space>(
     limits: Limits,
 ) -> Result<bool, Refusal>
     requires first { HasBytes (A.message first.now) limits }
-    ensures found { IfOk result (λ same. IsSameIn (A.message first.now) forms.Stream bytes.now limits same) }
-    ensures refused { IfErr result (λ e. IsRefused forms.Stream bytes.now limits e) }
-    ensures memory { IsErrOf result refusals.Memory → MayNeedMemory forms.Stream bytes.now limits }
-    ensures bounded { IfErr result (λ e. IsPaidWithin limits.budget e) }
+    ensures { IsSecondTold (A.message first.now) forms.Stream bytes.now limits result }
 {
     let second = read_frame(alloc, bytes, limits)?;
     same_message(alloc, first, &second, limits)
@@ -74,10 +66,7 @@ fn same_packed<A: Space>(
     limits: Limits,
 ) -> Result<bool, Refusal>
     requires first { HasBytes (A.message first.now) limits }
-    ensures found { IfOk result (λ same. IsSameIn (A.message first.now) forms.Packed bytes.now limits same) }
-    ensures refused { IfErr result (λ e. IsRefused forms.Packed bytes.now limits e) }
-    ensures memory { IsErrOf result refusals.Memory → MayNeedMemory forms.Packed bytes.now limits }
-    ensures bounded { IfErr result (λ e. IsPaidWithin limits.budget e) }
+    ensures { IsSecondTold (A.message first.now) forms.Packed bytes.now limits result }
 {
     let stream = unpack(alloc, bytes, limits.message_words() + MOST_TABLE_WORDS)?;
     same_frame(alloc, first, stream.as_slice(), limits)
@@ -92,10 +81,7 @@ fn same_in<A: Space>(
     limits: Limits,
 ) -> Result<bool, Refusal>
     requires first { HasBytes (A.message first.now) limits }
-    ensures found { IfOk result (λ same. IsSameIn (A.message first.now) form bytes.now limits same) }
-    ensures refused { IfErr result (λ e. IsRefused form bytes.now limits e) }
-    ensures memory { IsErrOf result refusals.Memory → MayNeedMemory form bytes.now limits }
-    ensures bounded { IfErr result (λ e. IsPaidWithin limits.budget e) }
+    ensures { IsSecondTold (A.message first.now) form bytes.now limits result }
 {
     match form {
         Form::Stream => same_frame(alloc, first, bytes, limits),

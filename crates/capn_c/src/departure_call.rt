@@ -14,6 +14,7 @@ ghost use Rattle.capn_answers.specs.Mismatches.{IsMismatchIn, MayNeedMismatch};
 ghost use Rattle.capn_abi.specs.Calls.{IsForm, form_named, GiveLimits, IsTariff, bounds_of};
 ghost use Rattle.capn_c.specs.Departed.{TellsMismatch};
 ghost use Rattle.capn_abi.specs.StatusCodes.{Reports, at_number, is_status};
+ghost use Rattle.capn_c.specs.inner.Reported.{IsDoneIn};
 
 use crate::departed::{CapnDeparted, departed_of, path_of};
 use crate::path_numbers::place_path;
@@ -57,16 +58,10 @@ fn find_mismatch(
     way: &mut [u32],
     report: &mut CapnReport,
 ) -> u32
-    ensures possible { (result ≡ 0) ⊎ (8 ≤ result) }
-    ensures found { result ≡ 0
-        → TellsMismatch form bytes.now limits departed.new report.new way.old way.new }
-    ensures only { (v : Value) → Denotes form bytes.now limits v → (result ≡ 0) ⊎ (result ≡ 8) }
+    ensures told { IsDoneIn form bytes.now limits
+        (TellsMismatch form bytes.now limits departed.new report.new way.old way.new)
+        (MayNeedMismatch form bytes.now limits) result report.new }
     ensures short { result ≡ 0 → report.new.length ≤ 8 * limits.depth }
-    ensures listed { IsTrue (is_status result) }
-    ensures refused { 8 ≤ result → (e : Refusals) × Reports result report.new e
-        × IsUnacceptedIn form bytes.now limits e }
-    ensures memory { result ≡ 8 → MayNeedMismatch form bytes.now limits }
-    ensures bounded { IsBounded limits.budget report.new.paid report.new.visits }
     ensures kept { result ≢ 0 → (departed.new ≡ departed.old) × (way.new ≡ way.old) }
 {
     let _depth = limits.depth();

@@ -12,6 +12,7 @@ ghost use Rattle.capn_canon.specs.declared.refusal.Refusal.{Refusal as Refusals}
 ghost use Rattle.capn_abi.specs.Calls.{IsForm, form_named, GiveLimits, IsTariff, bounds_of};
 ghost use Rattle.capn_abi.specs.StatusCodes.{Reports, answered, at_number, is_status};
 ghost use Rattle.capn_c.specs.MadeBytes.{MayNeedToMake};
+ghost use Rattle.capn_c.specs.inner.Reported.{IsReported};
 
 use crate::message_digest::digest_in;
 use capn_abi::{
@@ -36,10 +37,8 @@ fn hash(
     ensures only { (v : Value) → Denotes form bytes.now limits v → first_cap v ≡ None
         → (result ≡ 8) ⊎ ((result ≡ 0) × (digest.new ≡ sha256 (canon v))) }
     ensures rest { result ≡ 0 → report.new ≡ answered 0 report.new.paid 0 }
-    ensures listed { IsTrue (is_status result) }
-    ensures refused { 8 ≤ result → (e : Refusals) × Reports result report.new e × IsRefused form bytes.now limits e }
-    ensures memory { result ≡ 8 → MayNeedToMake form bytes.now limits }
-    ensures bounded { IsBounded limits.budget report.new.paid report.new.visits }
+    ensures reported { IsReported (IsRefused form bytes.now limits) (MayNeedToMake form bytes.now limits)
+        limits.budget result report.new }
     ensures kept { result ≢ 0 → digest.new ≡ digest.old }
 {
     match digest_in(alloc, form, bytes, limits) {

@@ -12,6 +12,7 @@ ghost use Rattle.capn_stream.specs.Segments.{message_of};
 ghost use Rattle.capn_abi.specs.Calls.{GiveLimits, IsTariff, bounds_of};
 ghost use Rattle.capn_c.specs.Held.{AnswersHeld, DenotesHeld, IsRefusedHeld};
 ghost use Rattle.capn_abi.specs.StatusCodes.{Reports, answered, at_number, is_status};
+ghost use Rattle.capn_c.specs.inner.Reported.{IsReported};
 
 use crate::held_message::canonical_held;
 use capn_abi::{CapnLimits, CapnReport, DONE, answer_of, limits_of, refuse, report_at};
@@ -33,11 +34,8 @@ fn hash_held(
     ensures only { (v : Value) → DenotesHeld (message_of segments.now) limits v → first_cap v ≡ None
         → (result ≡ 8) ⊎ ((result ≡ 0) × (digest.new ≡ sha256 (canon v))) }
     ensures rest { result ≡ 0 → report.new ≡ answered 0 report.new.paid 0 }
-    ensures listed { IsTrue (is_status result) }
-    ensures refused { 8 ≤ result → (e : Refusals) × Reports result report.new e
-        × IsRefusedHeld (message_of segments.now) limits e }
-    ensures memory { result ≡ 8 → MayNeedBytes (message_of segments.now) limits }
-    ensures bounded { IsBounded limits.budget report.new.paid report.new.visits }
+    ensures reported { IsReported (IsRefusedHeld (message_of segments.now) limits)
+        (MayNeedBytes (message_of segments.now) limits) limits.budget result report.new }
     ensures kept { result ≢ 0 → digest.new ≡ digest.old }
 {
     match canonical_held(alloc, segments, limits) {

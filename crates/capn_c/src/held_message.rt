@@ -1,15 +1,14 @@
 //! Messages held in segments.
 
-ghost use Rattle.std.specs.Prelude.{◌≡◌, ◌≢◌, ◌≤◌, ◌+◌, ◌*◌, List, ℕ, Ok, None, length};
+ghost use Rattle.std.specs.Prelude.{◌≡◌, ◌≢◌, ◌≤◌, ◌+◌, ◌*◌, Ok, None, length};
 ghost use Rattle.std.specs.Prelude.{IfOk, IfErr, IsErrOf, IsOk, MatchResult};
 ghost use Rattle.capn_value.specs.Tree.{Tree as Value};
 ghost use Rattle.capn_value.specs.FirstCap.{first_cap};
-ghost use Rattle.capn_walk.specs.Accepted.{IsBounded, IsValueOf};
-ghost use Rattle.capn_walk.specs.Surveyed.{IsSurvey};
+ghost use Rattle.capn_walk.specs.Accepted.{IsBounded};
 ghost use Rattle.capn_canon.specs.Layout.{canon};
 ghost use Rattle.capn_canon.specs.Canonicity.{IsCanonicalForm};
 ghost use Rattle.capn_canon.specs.MemoryNeed.{MayNeedBytes};
-ghost use Rattle.capn_canon.specs.Refusal.{IsPaidWithin, IsUnaccepted};
+ghost use Rattle.capn_canon.specs.Refusal.{IsPaidWithin};
 ghost use Rattle.capn_canon.specs.declared.refusal.Refusal.TheVariants as refusals;
 ghost use Rattle.capn_stream.specs.Segments.{IsHeld, message_of};
 ghost use Rattle.capn_c.specs.Held.{AnswersHeld, DenotesHeld, FiguresHeld, IsHeldOr, IsRefusedHeld};
@@ -27,6 +26,7 @@ use std::alloc::Global;
 pub fn held<'a>(segments: &'a [&'a [[u8; 8]]], limits: Limits) -> Result<Segments<'a>, Refusal>
     ensures exact { IsHeldOr (message_of segments.now) limits result }
     ensures only { IsHeld (message_of segments.now) limits.message_words → result ≡ Ok (message_of segments.now) }
+    ensures bounded { IfErr result (λ e. IsPaidWithin limits.budget e) }
 {
     match Segments::new(segments, limits.message_words()) {
         Ok(message) => Ok(message),
@@ -60,25 +60,6 @@ pub fn canonical_held(
     canonical_of(alloc, &message, limits)
 }
 
-/// Surveys the message `space` within `limits`, with a bound of the length of its canonical bytes.
-pub fn survey_short<S: Space>(alloc: Global, space: &S, limits: Limits) -> Result<Surveyed, Refusal>
-    ensures found { IfOk result (λ s. IsSurvey (S.message space.now) limits s) }
-    ensures only { (v : Value) → IsValueOf (S.message space.now) limits v
-        → MatchResult result (λ s. s.capability ≡ first_cap v) (λ e. e ≡ refusals.Memory) }
-    ensures refused { IfErr result (λ e. IsUnaccepted (S.message space.now) limits e) }
-    ensures no_memory { IfErr result (λ e. e ≢ refusals.Memory) }
-    ensures bounded { MatchResult result (λ s. IsBounded limits.budget s.paid s.visits)
-        (λ e. IsPaidWithin limits.budget e) }
-    ensures short { IfOk result (λ s. (v : Value) → IsValueOf (S.message space.now) limits v
-        → length (canon v) ≤ 8 * (s.paid + 1)) }
-{
-    // The clause on the length needs their promises.
-    let _segments = space.segments();
-    let _budget = limits.budget();
-    let _depth = limits.depth();
-    survey(alloc, space, limits)
-}
-
 /// Surveys a message that is held in `segments`, within `limits`.
 pub fn survey_held(
     alloc: Global,
@@ -96,7 +77,11 @@ pub fn survey_held(
         → length (canon v) ≤ 8 * (s.paid + 1)) }
 {
     let message = held(segments, limits)?;
-    survey_short(alloc, &message, limits)
+    // The clause on the length needs their promises.
+    let _segments = message.segments();
+    let _budget = limits.budget();
+    let _depth = limits.depth();
+    survey(alloc, &message, limits)
 }
 
 /// Returns the figures of a message that is held in `segments`, within `limits`, or the reason why they hold none or it

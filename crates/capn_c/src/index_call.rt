@@ -14,6 +14,7 @@ ghost use Rattle.capn_abi.specs.Calls.{form_named, GiveLimits, IsTariff, bounds_
 ghost use Rattle.capn_abi.specs.StatusCodes.{Reports, answered, at_number, is_status};
 ghost use Rattle.capn_c.specs.Entries.{HasEntries, IndexedIn};
 ghost use Rattle.capn_abi.specs.Calls.{IsFlat};
+ghost use Rattle.capn_c.specs.inner.Reported.{IsIndexedIn};
 
 use crate::entries::CapnEntry;
 use crate::message_index::{index_bare, index_frame};
@@ -33,20 +34,9 @@ fn index_in(
     report: &mut CapnReport,
 ) -> u32
     requires { (form ≡ forms.Stream) ⊎ (form ≡ forms.Bare) }
-    ensures possible { (result ≤ 1) ⊎ (8 ≤ result) }
-    ensures counted { result ≤ 1 → (s : Survey) × Surveys form bytes.now limits s
-        × (report.new ≡ answered (24 * s.visits) s.paid s.visits) }
-    ensures written { result ≡ 0 → (report.new.visits ≤ length out.old)
-        × IndexedIn form bytes.now limits out.old out.new }
-    ensures no_room { result ≡ 1 → length out.old < report.new.visits }
-    ensures only { (v : Value) → Denotes form bytes.now limits v → (result ≤ 1) ⊎ (result ≡ 8) }
-    ensures listed { IsTrue (is_status result) }
-    ensures refused { 8 ≤ result → (e : Refusals) × Reports result report.new e
-        × IsUnacceptedIn form bytes.now limits e }
+    ensures indexed { IsIndexedIn form bytes.now limits (MayNeedMemory form bytes.now limits) out.old out.new result
+        report.new }
     ensures entries { result ≤ 1 → HasEntries form bytes.now limits report.new.visits }
-    ensures memory { result ≡ 8 → MayNeedMemory form bytes.now limits }
-    ensures bounded { IsBounded limits.budget report.new.paid report.new.visits }
-    ensures kept { result ≢ 0 → out.new ≡ out.old }
 {
     indexes();
     match form {

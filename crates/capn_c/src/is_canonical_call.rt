@@ -12,6 +12,7 @@ ghost use Rattle.capn_canon.specs.declared.form.Form.TheVariants as forms;
 ghost use Rattle.capn_canon.specs.declared.refusal.Refusal.{Refusal as Refusals};
 ghost use Rattle.capn_abi.specs.Calls.{GiveLimits, IsTariff, bounds_of};
 ghost use Rattle.capn_abi.specs.StatusCodes.{Reports, at_number, is_status};
+ghost use Rattle.capn_c.specs.inner.Reported.{IsReported};
 
 use capn_abi::{CapnLimits, CapnReport, DONE, NOT_CANONICAL, limits_of, refuse, report_at};
 use capn_canon::is_canonical;
@@ -26,11 +27,7 @@ fn test(alloc: Global, bytes: &[u8], limits: Limits, report: &mut CapnReport) ->
     ensures only { (v : Value) → Denotes forms.Bare bytes.now limits v → first_cap v ≡ None
         → (result ≡ 8) ⊎ ((result ≡ 0) × (canon v ≡ bytes.now)) ⊎ ((result ≡ 5) × (canon v ≢ bytes.now)) }
     ensures blank { result ≤ 5 → report.new ≡ at_number 0 }
-    ensures listed { IsTrue (is_status result) }
-    ensures refused { 8 ≤ result → (e : Refusals) × Reports result report.new e
-        × IsRefused forms.Bare bytes.now limits e }
-    ensures no_memory { result ≢ 8 }
-    ensures bounded { IsBounded limits.budget report.new.paid report.new.visits }
+    ensures reported { IsReported (IsRefused forms.Bare bytes.now limits) ⊥ limits.budget result report.new }
 {
     *report = report_at(0);
     match is_canonical(alloc, bytes, limits) {

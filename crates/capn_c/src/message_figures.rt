@@ -1,12 +1,10 @@
 //! The figures of a message in each form.
 
-ghost use Rattle.std.specs.Prelude.{IfOk, IfErr, IsErrOf, MatchResult};
-ghost use Rattle.capn_walk.specs.Accepted.{IsBounded};
-ghost use Rattle.capn_canon.specs.Refusal.{IsUnacceptedIn, IsPaidWithin};
+ghost use Rattle.capn_canon.specs.Refusal.{IsUnacceptedIn};
 ghost use Rattle.capn_canon.specs.MemoryNeed.{MayNeedMemory};
 ghost use Rattle.capn_canon.specs.declared.form.Form.TheVariants as forms;
-ghost use Rattle.capn_canon.specs.declared.refusal.Refusal.TheVariants as refusals;
 ghost use Rattle.capn_c.specs.Figures.{FiguresIn};
+ghost use Rattle.capn_c.specs.inner.Told.{AreFiguresTold};
 
 use crate::figures::{CapnFigures, figures_of};
 use crate::frame::read_frame;
@@ -19,11 +17,8 @@ use std::alloc::Global;
 
 /// Returns the figures of a stream of one message. Memory is asked for only by a frame of more than 64 segments.
 fn figures_of_frame(alloc: Global, bytes: &[u8], limits: Limits) -> Result<CapnFigures, Refusal>
-    ensures found { IfOk result (λ f. FiguresIn forms.Stream bytes.now limits f) }
-    ensures refused { IfErr result (λ e. IsUnacceptedIn forms.Stream bytes.now limits e) }
-    ensures memory { IsErrOf result refusals.Memory → MayNeedMemory forms.Stream bytes.now limits }
-    ensures bounded { MatchResult result (λ f. IsBounded limits.budget f.paid f.visits)
-        (λ e. IsPaidWithin limits.budget e) }
+    ensures { AreFiguresTold (FiguresIn forms.Stream bytes.now limits) (IsUnacceptedIn forms.Stream bytes.now limits)
+        (MayNeedMemory forms.Stream bytes.now limits) limits.budget result }
 {
     let message = read_frame(alloc, bytes, limits)?;
     figures_of(alloc, &message, limits)
@@ -31,11 +26,8 @@ fn figures_of_frame(alloc: Global, bytes: &[u8], limits: Limits) -> Result<CapnF
 
 /// Returns the figures of a packed stream of one message.
 fn figures_of_packed(alloc: Global, bytes: &[u8], limits: Limits) -> Result<CapnFigures, Refusal>
-    ensures found { IfOk result (λ f. FiguresIn forms.Packed bytes.now limits f) }
-    ensures refused { IfErr result (λ e. IsUnacceptedIn forms.Packed bytes.now limits e) }
-    ensures memory { IsErrOf result refusals.Memory → MayNeedMemory forms.Packed bytes.now limits }
-    ensures bounded { MatchResult result (λ f. IsBounded limits.budget f.paid f.visits)
-        (λ e. IsPaidWithin limits.budget e) }
+    ensures { AreFiguresTold (FiguresIn forms.Packed bytes.now limits) (IsUnacceptedIn forms.Packed bytes.now limits)
+        (MayNeedMemory forms.Packed bytes.now limits) limits.budget result }
 {
     let stream = unpack(alloc, bytes, limits.message_words() + MOST_TABLE_WORDS)?;
     figures_of_frame(alloc, stream.as_slice(), limits)
@@ -52,11 +44,8 @@ pub fn figures_in(
     bytes: &[u8],
     limits: Limits,
 ) -> Result<CapnFigures, Refusal>
-    ensures found { IfOk result (λ f. FiguresIn form bytes.now limits f) }
-    ensures refused { IfErr result (λ e. IsUnacceptedIn form bytes.now limits e) }
-    ensures memory { IsErrOf result refusals.Memory → MayNeedMemory form bytes.now limits }
-    ensures bounded { MatchResult result (λ f. IsBounded limits.budget f.paid f.visits)
-        (λ e. IsPaidWithin limits.budget e) }
+    ensures { AreFiguresTold (FiguresIn form bytes.now limits) (IsUnacceptedIn form bytes.now limits)
+        (MayNeedMemory form bytes.now limits) limits.budget result }
 {
     match form {
         Form::Stream => figures_of_frame(alloc, bytes, limits),

@@ -1,20 +1,15 @@
 //! Indexes of messages that are streams or bare.
 
-ghost use Rattle.std.specs.Prelude.{IsTrue, ◌≡◌, ◌≢◌, ◌⊎◌, ◌<◌, ◌≤◌, ◌*◌, ◌++◌, length, drop, false};
+ghost use Rattle.std.specs.Prelude.{◌≡◌, ◌<◌, ◌*◌, length, false};
 ghost use Rattle.capn_stream.specs.FrameRefusal.{head_length, most_few};
-ghost use Rattle.capn_value.specs.Tree.{Tree as Value};
-ghost use Rattle.capn_walk.specs.Accepted.{IsAccepted, IsBounded, IsValueOf};
-ghost use Rattle.capn_walk.specs.Index.{index_of};
+ghost use Rattle.capn_walk.specs.Accepted.{IsValueOf};
 ghost use Rattle.capn_walk.specs.Surveyed.{IsSurvey};
-ghost use Rattle.capn_walk.specs.declared.survey_answer.Surveyed.{Surveyed as Survey};
-ghost use Rattle.capn_canon.specs.Denotes.{Denotes};
 ghost use Rattle.capn_canon.specs.MemoryNeed.{MayNeedMemory};
-ghost use Rattle.capn_canon.specs.Refusal.{IsUnaccepted, IsUnacceptedIn};
-ghost use Rattle.capn_canon.specs.SurveyedBytes.{Surveys};
+ghost use Rattle.capn_canon.specs.Refusal.{IsUnaccepted};
 ghost use Rattle.capn_canon.specs.declared.form.Form.TheVariants as forms;
-ghost use Rattle.capn_canon.specs.declared.refusal.Refusal.{Refusal as Refusals};
-ghost use Rattle.capn_c.specs.Entries.{IndexedIn, c_index, starts_from};
-ghost use Rattle.capn_abi.specs.StatusCodes.{Reports, answered, is_status};
+ghost use Rattle.capn_c.specs.Entries.{starts_from};
+ghost use Rattle.capn_abi.specs.StatusCodes.{answered};
+ghost use Rattle.capn_c.specs.inner.Reported.{HasRoom, IsIndex, IsIndexOr, IsIndexed, IsIndexedIn};
 
 use crate::entries::{CapnEntry, Offsets, put_starts};
 use crate::frame::read_frame;
@@ -35,11 +30,9 @@ fn write_index<S: Space>(
     starts: &[u32],
     out: &mut [CapnEntry],
 )
-    requires accepted { IsAccepted (S.message space.now) limits }
-    requires fits { length (index_of (S.message space.now) limits) ≤ length out.old }
+    requires room { HasRoom (S.message space.now) limits (length out.old) }
     requires starts { starts.now ≡ starts_from 0 (S.message space.now) }
-    ensures { out.new ≡ c_index table (S.message space.now) limits
-        ++ drop (length (index_of (S.message space.now) limits)) out.old }
+    ensures { IsIndex table (S.message space.now) limits out.old out.new }
 {
     match index_into_form(space, limits, &Offsets { table, starts }, out) {
         Ok(_) => {}
@@ -55,11 +48,8 @@ fn write_many<S: Space>(
     table: u32,
     out: &mut [CapnEntry],
 ) -> bool
-    requires accepted { IsAccepted (S.message space.now) limits }
-    requires fits { length (index_of (S.message space.now) limits) ≤ length out.old }
-    ensures written { IsTrue result → out.new ≡ c_index table (S.message space.now) limits
-        ++ drop (length (index_of (S.message space.now) limits)) out.old }
-    ensures kept { result ≡ false → out.new ≡ out.old }
+    requires { HasRoom (S.message space.now) limits (length out.old) }
+    ensures { IsIndexOr table (S.message space.now) limits out.old out.new result }
 {
     let count = space.segments() as usize;
     let Ok(mut starts) = vec![in alloc; 0u32; count] else {
@@ -78,11 +68,8 @@ fn write_entries<S: Space>(
     table: u32,
     out: &mut [CapnEntry],
 ) -> bool
-    requires accepted { IsAccepted (S.message space.now) limits }
-    requires fits { length (index_of (S.message space.now) limits) ≤ length out.old }
-    ensures written { IsTrue result → out.new ≡ c_index table (S.message space.now) limits
-        ++ drop (length (index_of (S.message space.now) limits)) out.old }
-    ensures kept { result ≡ false → out.new ≡ out.old }
+    requires { HasRoom (S.message space.now) limits (length out.old) }
+    ensures told { IsIndexOr table (S.message space.now) limits out.old out.new result }
     ensures asked { result ≡ false → most_few < length (S.message space.now) }
 {
     let count = space.segments() as usize;
@@ -112,20 +99,10 @@ fn index_message<S: Space>(
     out: &mut [CapnEntry],
     report: &mut CapnReport,
 ) -> u32
-    ensures possible { (result ≤ 1) ⊎ (8 ≤ result) }
-    ensures counted { result ≤ 1 → (s : Survey) × IsSurvey (S.message space.now) limits s
-        × (report.new ≡ answered (24 * s.visits) s.paid s.visits) }
-    ensures written { result ≡ 0 → (report.new.visits ≤ length out.old)
-        × (out.new ≡ c_index table (S.message space.now) limits
-        ++ drop (length (index_of (S.message space.now) limits)) out.old) }
-    ensures no_room { result ≡ 1 → length out.old < report.new.visits }
-    ensures only { (v : Value) → IsValueOf (S.message space.now) limits v → (result ≤ 1) ⊎ (result ≡ 8) }
-    ensures listed { IsTrue (is_status result) }
-    ensures refused { 8 ≤ result → (e : Refusals) × Reports result report.new e
-        × IsUnaccepted (S.message space.now) limits e }
-    ensures asked { result ≡ 8 → most_few < length (S.message space.now) }
-    ensures bounded { IsBounded limits.budget report.new.paid report.new.visits }
-    ensures kept { result ≢ 0 → out.new ≡ out.old }
+    ensures { IsIndexed (IsSurvey (S.message space.now) limits)
+        (IsIndex table (S.message space.now) limits out.old out.new) (IsValueOf (S.message space.now) limits)
+        (IsUnaccepted (S.message space.now) limits) (most_few < length (S.message space.now)) limits.budget
+        out.old out.new result report.new }
 {
     indexes();
     match survey(alloc, space, limits) {
@@ -159,19 +136,8 @@ pub fn index_frame(
     out: &mut [CapnEntry],
     report: &mut CapnReport,
 ) -> u32
-    ensures possible { (result ≤ 1) ⊎ (8 ≤ result) }
-    ensures counted { result ≤ 1 → (s : Survey) × Surveys forms.Stream bytes.now limits s
-        × (report.new ≡ answered (24 * s.visits) s.paid s.visits) }
-    ensures written { result ≡ 0 → (report.new.visits ≤ length out.old)
-        × IndexedIn forms.Stream bytes.now limits out.old out.new }
-    ensures no_room { result ≡ 1 → length out.old < report.new.visits }
-    ensures only { (v : Value) → Denotes forms.Stream bytes.now limits v → (result ≤ 1) ⊎ (result ≡ 8) }
-    ensures listed { IsTrue (is_status result) }
-    ensures refused { 8 ≤ result → (e : Refusals) × Reports result report.new e
-        × IsUnacceptedIn forms.Stream bytes.now limits e }
-    ensures memory { result ≡ 8 → MayNeedMemory forms.Stream bytes.now limits }
-    ensures bounded { IsBounded limits.budget report.new.paid report.new.visits }
-    ensures kept { result ≢ 0 → out.new ≡ out.old }
+    ensures { IsIndexedIn forms.Stream bytes.now limits (MayNeedMemory forms.Stream bytes.now limits) out.old out.new
+        result report.new }
 {
     match read_frame(alloc, bytes, limits) {
         Ok(message) => index_message(alloc, &message, limits, table_of(&message), out, report),
@@ -187,19 +153,7 @@ pub fn index_bare(
     out: &mut [CapnEntry],
     report: &mut CapnReport,
 ) -> u32
-    ensures possible { (result ≤ 1) ⊎ (8 ≤ result) }
-    ensures counted { result ≤ 1 → (s : Survey) × Surveys forms.Bare bytes.now limits s
-        × (report.new ≡ answered (24 * s.visits) s.paid s.visits) }
-    ensures written { result ≡ 0 → (report.new.visits ≤ length out.old)
-        × IndexedIn forms.Bare bytes.now limits out.old out.new }
-    ensures no_room { result ≡ 1 → length out.old < report.new.visits }
-    ensures only { (v : Value) → Denotes forms.Bare bytes.now limits v → (result ≤ 1) ⊎ (result ≡ 8) }
-    ensures listed { IsTrue (is_status result) }
-    ensures refused { 8 ≤ result → (e : Refusals) × Reports result report.new e
-        × IsUnacceptedIn forms.Bare bytes.now limits e }
-    ensures no_memory { result ≢ 8 }
-    ensures bounded { IsBounded limits.budget report.new.paid report.new.visits }
-    ensures kept { result ≢ 0 → out.new ≡ out.old }
+    ensures { IsIndexedIn forms.Bare bytes.now limits ⊥ out.old out.new result report.new }
 {
     match Bare::new(bytes) {
         Ok(space) => index_message(alloc, &space, limits, 0, out, report),

@@ -12,6 +12,7 @@ ghost use Rattle.capn_abi.specs.Calls.{IsForm, form_named, GiveLimits, IsTariff,
 ghost use Rattle.capn_abi.specs.Styles.{IsStyle, style_named};
 ghost use Rattle.capn_c.specs.Shown.{MayNeedText, ShowsIn, message_text};
 ghost use Rattle.capn_abi.specs.StatusCodes.{Reports, answered, at_number, is_status};
+ghost use Rattle.capn_c.specs.inner.Reported.{IsReported};
 
 use crate::message_text::text_in;
 use capn_abi::{
@@ -19,46 +20,11 @@ use capn_abi::{
     report_at, style_of,
 };
 use capn_canon::Form;
-use capn_show::Style;
 use capn_walk::Limits;
 use std::alloc::Global;
 
-/// Writes the text of the message that `bytes` encode in this `form` to `out`.
+/// Writes the text of the message that `bytes` encode in this `form` to `out`, in the style whose number is `style`.
 fn show_in(
-    alloc: Global,
-    form: Form,
-    bytes: &[u8],
-    limits: Limits,
-    style: Style,
-    out: &mut [u8],
-    report: &mut CapnReport,
-) -> u32
-    ensures possible { (result ≤ 1) ⊎ (8 ≤ result) }
-    ensures found { result ≤ 1 → (text : List ℕ) × ShowsIn form bytes.now limits style text
-        × Delivers text result report.new.length out.old out.new }
-    ensures only { (v : Value) → Denotes form bytes.now limits v
-        → (result ≡ 8) ⊎ Delivers (message_text style v) result report.new.length out.old out.new }
-    ensures rest { result ≤ 1 → (s : Survey) × Surveys form bytes.now limits s
-        × (report.new ≡ answered report.new.length s.paid s.visits) }
-    ensures listed { IsTrue (is_status result) }
-    ensures refused { 8 ≤ result → (e : Refusals) × Reports result report.new e
-        × IsUnacceptedIn form bytes.now limits e }
-    ensures memory { result ≡ 8 → MayNeedText form bytes.now limits }
-    ensures bounded { IsBounded limits.budget report.new.paid report.new.visits }
-    ensures kept { result ≢ 0 → out.new ≡ out.old }
-{
-    match text_in(alloc, form, bytes, limits, style) {
-        Ok(shown) => {
-            let survey = shown.survey;
-            *report = answer_of(shown.text.len() as u64, survey.paid, survey.visits);
-            deliver(shown.text.as_slice(), out)
-        }
-        Err(refusal) => refuse(refusal, report),
-    }
-}
-
-/// Writes that text in the style whose number is `style`.
-fn show_styled(
     alloc: Global,
     form: Form,
     bytes: &[u8],
@@ -76,19 +42,21 @@ fn show_styled(
     ensures rest { result ≤ 1 → (s : Survey) × Surveys form bytes.now limits s
         × (report.new ≡ answered report.new.length s.paid s.visits) }
     ensures blank { result ≡ 6 → report.new ≡ at_number 0 }
-    ensures listed { IsTrue (is_status result) }
-    ensures refused { 8 ≤ result → (e : Refusals) × Reports result report.new e
-        × IsUnacceptedIn form bytes.now limits e }
-    ensures memory { result ≡ 8 → MayNeedText form bytes.now limits }
-    ensures bounded { IsBounded limits.budget report.new.paid report.new.visits }
+    ensures reported { IsReported (IsUnacceptedIn form bytes.now limits) (MayNeedText form bytes.now limits)
+        limits.budget result report.new }
     ensures kept { result ≢ 0 → out.new ≡ out.old }
 {
-    match style_of(style) {
-        Some(style) => show_in(alloc, form, bytes, limits, style, out, report),
-        None => {
-            *report = report_at(0);
-            BAD_STYLE
+    let Some(style) = style_of(style) else {
+        *report = report_at(0);
+        return BAD_STYLE;
+    };
+    match text_in(alloc, form, bytes, limits, style) {
+        Ok(shown) => {
+            let survey = shown.survey;
+            *report = answer_of(shown.text.len() as u64, survey.paid, survey.visits);
+            deliver(shown.text.as_slice(), out)
         }
+        Err(refusal) => refuse(refusal, report),
     }
 }
 
@@ -145,7 +113,7 @@ pub extern "C" fn capn_show(
         return BAD_FORM;
     };
     match limits_of(limits) {
-        Ok(limits) => show_styled(alloc, form, bytes, limits, style, out, report),
+        Ok(limits) => show_in(alloc, form, bytes, limits, style, out, report),
         Err(status) => status,
     }
 }

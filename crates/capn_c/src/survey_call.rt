@@ -10,6 +10,7 @@ ghost use Rattle.capn_canon.specs.declared.refusal.Refusal.{Refusal as Refusals}
 ghost use Rattle.capn_abi.specs.Calls.{IsForm, form_named, GiveLimits, IsTariff, bounds_of};
 ghost use Rattle.capn_abi.specs.StatusCodes.{Reports, answered, at_number, is_status};
 ghost use Rattle.capn_c.specs.Figures.{FiguresIn};
+ghost use Rattle.capn_c.specs.inner.Reported.{IsDoneIn};
 
 use crate::figures::CapnFigures;
 use crate::message_figures::figures_in;
@@ -29,15 +30,9 @@ fn survey_in(
     figures: &mut CapnFigures,
     report: &mut CapnReport,
 ) -> u32
-    ensures possible { (result ≡ 0) ⊎ (8 ≤ result) }
-    ensures found { result ≡ 0 → FiguresIn form bytes.now limits figures.new
-        × (report.new ≡ answered 0 figures.new.paid figures.new.visits) }
-    ensures only { (v : Value) → Denotes form bytes.now limits v → (result ≡ 0) ⊎ (result ≡ 8) }
-    ensures listed { IsTrue (is_status result) }
-    ensures refused { 8 ≤ result → (e : Refusals) × Reports result report.new e
-        × IsUnacceptedIn form bytes.now limits e }
-    ensures memory { result ≡ 8 → MayNeedMemory form bytes.now limits }
-    ensures bounded { IsBounded limits.budget report.new.paid report.new.visits }
+    ensures told { IsDoneIn form bytes.now limits (FiguresIn form bytes.now limits figures.new
+        × (report.new ≡ answered 0 figures.new.paid figures.new.visits))
+        (MayNeedMemory form bytes.now limits) result report.new }
     ensures kept { result ≢ 0 → figures.new ≡ figures.old }
 {
     match figures_in(alloc, form, bytes, limits) {

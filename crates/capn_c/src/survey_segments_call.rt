@@ -1,6 +1,6 @@
 //! The figures of messages held in segments.
 
-ghost use Rattle.std.specs.Prelude.{IsTrue, ◌≡◌, ◌≢◌, ◌⊎◌, ◌↔◌, ◌≤◌};
+ghost use Rattle.std.specs.Prelude.{IsTrue, ◌≡◌, ◌≢◌, ◌↔◌, ◌≤◌};
 ghost use Rattle.capn_value.specs.Tree.{Tree as Value};
 ghost use Rattle.capn_walk.specs.Accepted.{IsBounded};
 ghost use Rattle.capn_canon.specs.declared.refusal.Refusal.{Refusal as Refusals};
@@ -8,6 +8,7 @@ ghost use Rattle.capn_stream.specs.Segments.{message_of};
 ghost use Rattle.capn_abi.specs.Calls.{GiveLimits, IsTariff, bounds_of};
 ghost use Rattle.capn_c.specs.Held.{DenotesHeld, FiguresHeld, IsUnacceptedHeld};
 ghost use Rattle.capn_abi.specs.StatusCodes.{Reports, answered, at_number, is_status};
+ghost use Rattle.capn_c.specs.inner.Reported.{IsDoneHeld};
 
 use crate::figures::CapnFigures;
 use crate::held_message::figures_held;
@@ -23,15 +24,8 @@ fn tell_figures(
     figures: &mut CapnFigures,
     report: &mut CapnReport,
 ) -> u32
-    ensures possible { (result ≡ 0) ⊎ (8 ≤ result) }
-    ensures no_memory { result ≢ 8 }
-    ensures found { result ≡ 0 → FiguresHeld (message_of segments.now) limits figures.new
-        × (report.new ≡ answered 0 figures.new.paid figures.new.visits) }
-    ensures only { (v : Value) → DenotesHeld (message_of segments.now) limits v → result ≡ 0 }
-    ensures listed { IsTrue (is_status result) }
-    ensures refused { 8 ≤ result → (e : Refusals) × Reports result report.new e
-        × IsUnacceptedHeld (message_of segments.now) limits e }
-    ensures bounded { IsBounded limits.budget report.new.paid report.new.visits }
+    ensures told { IsDoneHeld (message_of segments.now) limits (FiguresHeld (message_of segments.now) limits figures.new
+        × (report.new ≡ answered 0 figures.new.paid figures.new.visits)) result report.new }
     ensures kept { result ≢ 0 → figures.new ≡ figures.old }
 {
     match figures_held(alloc, segments, limits) {

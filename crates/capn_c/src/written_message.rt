@@ -1,18 +1,9 @@
 //! Canonical bytes of a message, written into the caller's buffer.
 
-ghost use Rattle.std.specs.Prelude.{IsTrue, ◌≡◌, ◌≢◌, ◌⊎◌, ◌≤◌, ◌+◌, ◌*◌, ℕ, List, None, length, take};
-ghost use Rattle.capn_value.specs.Tree.{Tree as Value};
-ghost use Rattle.capn_value.specs.FirstCap.{first_cap};
-ghost use Rattle.capn_walk.specs.Accepted.{IsBounded, IsValueOf, paid as price};
-ghost use Rattle.capn_canon.specs.Layout.{canon};
-ghost use Rattle.capn_canon.specs.Canonicity.{IsCanonicalForm};
+ghost use Rattle.capn_walk.specs.Accepted.{IsValueOf};
 ghost use Rattle.capn_canon.specs.Denotes.{AnswersMessage};
 ghost use Rattle.capn_canon.specs.Refusal.{IsRefusedMessage};
-ghost use Rattle.capn_canon.specs.Theorem.{RefusedInto};
-ghost use Rattle.capn_canon.specs.declared.message_refusal.IntoRefusal.{IntoRefusal as IntoRefusals};
-ghost use Rattle.capn_canon.specs.declared.refusal.Refusal.{Refusal as Refusals};
-ghost use Rattle.capn_abi.specs.Calls.{Delivers};
-ghost use Rattle.capn_abi.specs.StatusCodes.{Reports, answered, is_status};
+ghost use Rattle.capn_c.specs.inner.Reported.{IsFilled};
 
 use capn_abi::{CapnReport, DONE, NO_ROOM, answer_of, refuse};
 use capn_canon::{IntoRefusal, Refusal, canonical_into};
@@ -27,21 +18,8 @@ pub fn write_message<S: Space>(
     out: &mut [u8],
     report: &mut CapnReport,
 ) -> u32
-    ensures possible { (result ≤ 1) ⊎ (8 ≤ result) }
-    ensures no_memory { result ≢ 8 }
-    ensures found { result ≤ 1 → (text : List ℕ) × AnswersMessage (S.message space.now) limits text report.new.paid
-        × Delivers text result report.new.length out.old out.new }
-    ensures only { (v : Value) → IsValueOf (S.message space.now) limits v → first_cap v ≡ None
-        → Delivers (canon v) result report.new.length out.old out.new }
-    ensures rest { result ≤ 1 → report.new ≡ answered report.new.length report.new.paid 0 }
-    ensures listed { IsTrue (is_status result) }
-    ensures refused { 8 ≤ result → (e : Refusals) × Reports result report.new e
-        × IsRefusedMessage (S.message space.now) limits e }
-    ensures bounded { IsBounded limits.budget report.new.paid report.new.visits }
-    ensures short { result ≤ 1 → report.new.length ≤ 8 * (report.new.paid + 1) }
-    ensures kept { result ≢ 0 → out.new ≡ out.old }
-    ensures canonical { result ≡ 0 → (v : Value) → IsValueOf (S.message space.now) limits v
-        → IsCanonicalForm (take report.new.length out.new) limits v }
+    ensures { IsFilled (IsValueOf (S.message space.now) limits) (AnswersMessage (S.message space.now) limits)
+        (IsRefusedMessage (S.message space.now) limits) ⊥ limits out.old out.new result report.new }
 {
     // The clause on the length needs their promises.
     let _segments = space.segments();

@@ -19,6 +19,7 @@ use Rattle.capn_canon.specs.declared.form.Form.{Form}
 use Rattle.capn_canon.specs.declared.refusal.Refusal.{Refusal}
 use Rattle.capn_canon.specs.declared.refusal.Refusal.TheVariants as refusals
 use Rattle.capn_c.specs.Shown.{ShowsMessage}
+use Rattle.capn_c.specs.declared.figures.CapnFigures.{CapnFigures}
 use Rattle.capn_c.specs.declared.message_digest.Digested.{Digested}
 use Rattle.capn_c.specs.declared.message_text.ShownText.{ShownText}
 
@@ -41,6 +42,23 @@ pub record IsDigestTold (message : List (List ℕ)) (limits : Bounds) (r : Resul
   pub made : IsErrOf r refusals.Memory → (v : Tree) → IsValueOf message limits v → IsCanonicalOf message v → ⊥
   pub bounded : MatchResult r (λ d. d.paid ≤ limits.budget) (λ e. IsPaidWithin limits.budget e)
 
+-- a call reports such figures, or a reason why there are none; memory is refused only if it may be needed, and no walk
+-- pays beyond its budget
+pub record AreFiguresTold (are : CapnFigures → Type 0) (reason : Refusal → Type 0) (needed : Type 0) (budget : ℕ)
+    (r : Result CapnFigures Refusal) : Type 0 where
+  pub found : IfOk r (λ f. are f)
+  pub refused : IfErr r (λ e. reason e)
+  pub memory : IsErrOf r refusals.Memory → needed
+  pub bounded : MatchResult r (λ f. IsBounded budget f.paid f.visits) (λ e. IsPaidWithin budget e)
+
+-- this is told of a message, or the reason why it has no canonical bytes, which is never that memory ran out
+pub record IsToldOf {T : Type 0} (message : List (List ℕ)) (limits : Bounds) (told : T → Type 0) (r : Result T Refusal)
+    : Type 0 where
+  pub found : IfOk r (λ x. told x)
+  pub refused : IfErr r (λ e. IsRefusedMessage message limits e)
+  pub no_memory : IfErr r (λ e. e ≢ refusals.Memory)
+  pub bounded : IfErr r (λ e. IsPaidWithin limits.budget e)
+
 -- a message denotes a value without capabilities, and it is told whether that is the same as those of another message
 abbrev pub IsSameTo : List (List ℕ) → List (List ℕ) → Bounds → Bool → Type 0
 IsSameTo first second limits told = (w : Tree) × IsValueOf second limits w × (first_cap w ≡ None)
@@ -61,12 +79,9 @@ pub record IsSecondTold (first : List (List ℕ)) (form : Form) (bs : List ℕ) 
   pub bounded : IfErr r (λ e. IsPaidWithin limits.budget e)
 
 -- a message has canonical bytes, and is compared with bytes; or why it has none
-pub record IsComparedTo (form : Form) (bs : List ℕ) (message : List (List ℕ)) (limits : Bounds)
-    (r : Result (Result Bool Refusal) Refusal) : Type 0 where
-  pub found : IfOk r (λ s. HasBytes message limits × IsSecondTold message form bs limits s)
-  pub refused : IfErr r (λ e. IsRefusedMessage message limits e)
-  pub no_memory : IfErr r (λ e. e ≢ refusals.Memory)
-  pub bounded : IfErr r (λ e. IsPaidWithin limits.budget e)
+abbrev pub IsComparedTo : Form → List ℕ → List (List ℕ) → Bounds → Result (Result Bool Refusal) Refusal → Type 0
+IsComparedTo form bs message limits r =
+    IsToldOf message limits (λ s. HasBytes message limits × IsSecondTold message form bs limits s) r
 
 -- bytes are read as a message that has canonical bytes, and is compared with other bytes
 pub record IsCompared (form : Form) (bs ds : List ℕ) (limits : Bounds) (r : Result Bool Refusal) : Type 0 where

@@ -4,7 +4,8 @@ use Rattle.std.proofs.Common.{inl, ap, sym, refl, ◌∙◌, arith, Err}
 use Rattle.capn_canon.specs.Layout.{canon}
 use Rattle.capn_abi.specs.declared.report.CapnReport.{CapnReport}
 use Rattle.capn_abi.specs.StatusCodes.{code}
-use Rattle.capn_c.proofs.OutOfMemory.{unaccepted_memory}
+use Rattle.capn_c.proofs.OutOfMemory.{unaccepted_refused}
+use Rattle.capn_c.proofs.Reported.{refused_bytes}
 use Rattle.capn_c.proofs.canonical_call.survey_length.Goals as goal
 
 pub returns-in-None-clause-found : goal.returns-in-None-clause-found
@@ -33,9 +34,9 @@ returns-in-None-clause-found c t =
 pub returns-in-Err-clause-only : goal.returns-in-Err-clause-only
 returns-in-Err-clause-only c v d n = inl (c.refuse-in-Err.ensures.status_is ∙ ap code (c.in-Err.ensures.only v d))
 
-pub returns-in-Err-clause-memory : goal.returns-in-Err-clause-memory
-returns-in-Err-clause-memory c e =
-    c.in-Err.ensures.memory
-    (ap Err
-    (unaccepted_memory c.args.form c.args.bytes.now c.args.limits c.in-Err.refusal c.in-Err.ensures.refused
-    (sym c.refuse-in-Err.ensures.status_is ∙ e)))
+pub returns-in-Err-clause-reported : goal.returns-in-Err-clause-reported
+returns-in-Err-clause-reported c =
+    let h = c.in-Err.ensures in
+    refused_bytes c.args.form c.args.bytes.now c.args.limits c.refuse-in-Err.result c.refuse-in-Err.new.report
+    c.in-Err.refusal c.refuse-in-Err.ensures h.bounded (λ k. h.memory (ap Err k))
+    (unaccepted_refused c.args.form c.args.bytes.now c.args.limits c.in-Err.refusal h.refused)

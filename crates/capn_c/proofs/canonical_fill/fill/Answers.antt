@@ -1,20 +1,15 @@
 -- The form is the one that was matched.
-use Rattle.std.proofs.Common.{subst}
-use Rattle.capn_canon.specs.Denotes.{Denotes}
-use Rattle.capn_canon.specs.declared.form.Form.{Form}
+use Rattle.capn_c.proofs.Filled.{filled_for}
 use Rattle.capn_c.proofs.OutOfMemory.{packed_need}
 use Rattle.capn_c.proofs.canonical_fill.fill.Goals as goal
 
-pub returns-in-Stream-clause-canonical : goal.returns-in-Stream-clause-canonical
-returns-in-Stream-clause-canonical c e v d =
-    c.fill_frame.ensures.canonical e v
-    (subst (λ (f : Form). Denotes f c.args.bytes.now c.args.limits v) c.in-Stream.is d)
+pub returns-in-Stream : goal.returns-in-Stream
+returns-in-Stream c = rw c.in-Stream.is c.fill_frame.ensures
 
-pub returns-in-Bare-clause-canonical : goal.returns-in-Bare-clause-canonical
-returns-in-Bare-clause-canonical c e v d =
-    c.fill_bare.ensures.canonical e v
-    (subst (λ (f : Form). Denotes f c.args.bytes.now c.args.limits v) c.in-Bare.is d)
+pub returns-in-Bare : goal.returns-in-Bare
+returns-in-Bare c = rw c.in-Bare.is c.fill_bare.ensures
 
-pub returns-in-Packed-clause-memory : goal.returns-in-Packed-clause-memory
-returns-in-Packed-clause-memory c e =
-    packed_need c.args.form c.args.bytes.now c.args.limits c.in-Packed.is (c.fill_copied.ensures.memory e)
+pub returns-in-Packed : goal.returns-in-Packed
+returns-in-Packed c =
+    filled_for (λ v d. d) (λ text price a. a) (λ e r. r)
+    (packed_need c.args.form c.args.bytes.now c.args.limits c.in-Packed.is) c.fill_copied.ensures

@@ -3,7 +3,9 @@ use Rattle.std.proofs.Common.{ap, sym, refl, ◌∙◌, arith}
 use Rattle.capn_canon.specs.Layout.{canon}
 use Rattle.capn_stream.specs.Segments.{message_of}
 use Rattle.capn_abi.specs.declared.report.CapnReport.{CapnReport}
-use Rattle.capn_c.proofs.OutOfMemory.{unaccepted_held_memory}
+use Rattle.capn_c.proofs.Listed.{held_listed}
+use Rattle.capn_c.proofs.OutOfMemory.{unaccepted_held_memory, unaccepted_held_refused}
+use Rattle.capn_c.proofs.Reported.{reported}
 use Rattle.capn_c.proofs.canonical_segments_call.held_length.Goals as goal
 
 pub returns-in-None-clause-found : goal.returns-in-None-clause-found
@@ -37,8 +39,12 @@ returns-in-None-clause-only c v d n =
 pub returns-in-Err-clause-only : goal.returns-in-Err-clause-only
 returns-in-Err-clause-only c v d n = absurd (c.in-Err.ensures.no_memory (c.in-Err.ensures.only v d))
 
-pub returns-in-Err-clause-no_memory : goal.returns-in-Err-clause-no_memory
-returns-in-Err-clause-no_memory c e =
-    c.in-Err.ensures.no_memory
-    (unaccepted_held_memory (message_of c.args.segments.now) c.args.limits c.in-Err.refusal c.in-Err.ensures.refused
-    (sym c.refuse-in-Err.ensures.status_is ∙ e))
+pub returns-in-Err-clause-reported : goal.returns-in-Err-clause-reported
+returns-in-Err-clause-reported c =
+    let m = message_of c.args.segments.now in
+    let l = c.args.limits in
+    let e = c.in-Err.refusal in
+    let f = c.in-Err.ensures in
+    let h = unaccepted_held_refused m l e f.refused in
+    reported l.budget c.refuse-in-Err.result c.refuse-in-Err.new.report e c.refuse-in-Err.ensures h
+    (held_listed m l e h) (λ k. f.no_memory (unaccepted_held_memory m l e f.refused k)) f.bounded

@@ -1,15 +1,10 @@
 -- What is accepted is refused only if memory runs out, for which the status is 8.
-use Rattle.std.proofs.Common.{inr, ap, sym, ◌∙◌, Err}
-use Rattle.capn_abi.specs.StatusCodes.{code}
-use Rattle.capn_c.proofs.OutOfMemory.{unaccepted_memory}
+use Rattle.std.proofs.Common.{ap, Err}
+use Rattle.capn_c.proofs.Reported.{unaccepted_done}
 use Rattle.capn_c.proofs.check_call.check.Goals as goal
 
-pub returns-in-Err-clause-only : goal.returns-in-Err-clause-only
-returns-in-Err-clause-only c v d = inr (c.refuse.ensures.status_is ∙ ap code (c.in-Err.ensures.only v d))
-
-pub returns-in-Err-clause-memory : goal.returns-in-Err-clause-memory
-returns-in-Err-clause-memory c e =
-    c.in-Err.ensures.memory
-    (ap Err
-    (unaccepted_memory c.args.form c.args.bytes.now c.args.limits c.in-Err.refusal c.in-Err.ensures.refused
-    (sym c.refuse.ensures.status_is ∙ e)))
+pub returns-in-Err : goal.returns-in-Err
+returns-in-Err c =
+    let h = c.in-Err.ensures in
+    unaccepted_done c.args.form c.args.bytes.now c.args.limits c.refuse.result c.refuse.new.report c.in-Err.refusal
+    c.refuse.ensures h.bounded (λ k. h.memory (ap Err k)) h.refused

@@ -1,11 +1,10 @@
 -- No refusal has the status 8, since no memory is needed.
-use Rattle.std.proofs.Common.{sym, ◌∙◌}
 use Rattle.capn_stream.specs.Segments.{message_of}
-use Rattle.capn_c.proofs.OutOfMemory.{unaccepted_held_memory}
+use Rattle.capn_c.proofs.Reported.{unaccepted_held_done}
 use Rattle.capn_c.proofs.check_segments_call.check_held.Goals as goal
 
-pub returns-in-Err-clause-no_memory : goal.returns-in-Err-clause-no_memory
-returns-in-Err-clause-no_memory c e =
-    c.in-Err.ensures.no_memory
-    (unaccepted_held_memory (message_of c.args.segments.now) c.args.limits c.in-Err.refusal c.in-Err.ensures.refused
-    (sym c.refuse.ensures.status_is ∙ e))
+pub returns-in-Err : goal.returns-in-Err
+returns-in-Err c =
+    let h = c.in-Err.ensures in
+    unaccepted_held_done (message_of c.args.segments.now) c.args.limits c.refuse.result c.refuse.new.report
+    c.in-Err.refusal c.refuse.ensures h.bounded h.no_memory h.refused h.only

@@ -2,7 +2,8 @@
 use Rattle.std.proofs.Common.{inl, inr, ap, refl, sym, ◌∙◌, Err}
 use Rattle.capn_abi.specs.declared.report.CapnReport.{CapnReport}
 use Rattle.capn_abi.specs.StatusCodes.{frame_code}
-use Rattle.capn_c.proofs.Least.{frame_memory, needed_told}
+use Rattle.capn_c.proofs.Least.{needed_told}
+use Rattle.capn_c.proofs.OutOfMemory.{frame_memory}
 use Rattle.capn_c.proofs.first_call.frame.Goals as goal
 
 pub returns-in-Ok-clause-only : goal.returns-in-Ok-clause-only

@@ -1,18 +1,17 @@
--- A refusal with the status 8 says that memory ran out; the digest is that of the canonical bytes of the one value.
-use Rattle.std.proofs.Common.{inl, inr, refl, ap, sym, ◌∙◌, Err}
+-- The digest is that of the canonical bytes of the one value, which is refused only if memory runs out.
+use Rattle.std.proofs.Common.{inl, inr, refl, ap, ◌∙◌, Err}
 use Rattle.sha2.specs.Sha256.{sha256}
 use Rattle.capn_canon.proofs.shared.NotRefused.{not_refused}
 use Rattle.capn_canon.proofs.shared.OneReading.{answers_only}
 use Rattle.capn_abi.specs.StatusCodes.{code}
-use Rattle.capn_c.proofs.OutOfMemory.{refused_memory}
+use Rattle.capn_c.proofs.Reported.{refused_bytes}
 use Rattle.capn_c.proofs.hash_call.hash.Goals as goal
 
-pub returns-in-Err-clause-memory : goal.returns-in-Err-clause-memory
-returns-in-Err-clause-memory c e =
-    c.in-Err.ensures.memory
-    (ap Err
-    (refused_memory c.args.form c.args.bytes.now c.args.limits c.in-Err.refusal c.in-Err.ensures.refused
-    (sym c.refuse.ensures.status_is ∙ e)))
+pub returns-in-Err-clause-reported : goal.returns-in-Err-clause-reported
+returns-in-Err-clause-reported c =
+    let h = c.in-Err.ensures in
+    refused_bytes c.args.form c.args.bytes.now c.args.limits c.refuse.result c.refuse.new.report c.in-Err.refusal
+    c.refuse.ensures h.bounded (λ k. h.memory (ap Err k)) h.refused
 
 pub returns-in-Err-clause-only : goal.returns-in-Err-clause-only
 returns-in-Err-clause-only c v d free =

@@ -1,11 +1,11 @@
 -- The index has as many entries as its survey has visits; the form is the one that was matched.
-use Rattle.std.proofs.Common.{subst}
-use Rattle.capn_canon.specs.Denotes.{Denotes}
-use Rattle.capn_canon.specs.declared.form.Form.{Form}
 use Rattle.capn_canon.specs.declared.form.Form.TheVariants as forms
 use Rattle.capn_c.proofs.Counted.{entries_told}
 use Rattle.capn_c.proofs.OutOfMemory.{flat_packed}
 use Rattle.capn_c.proofs.index_call.index_in.Goals as goal
+
+pub returns-in-Stream-clause-indexed : goal.returns-in-Stream-clause-indexed
+returns-in-Stream-clause-indexed c = rw c.in-Stream.is c.index_frame.ensures
 
 pub returns-in-Stream-clause-entries : goal.returns-in-Stream-clause-entries
 returns-in-Stream-clause-entries c e =
@@ -13,9 +13,8 @@ returns-in-Stream-clause-entries c e =
     rw c.in-Stream.is (entries_told c.indexes.ensures.visits forms.Stream c.args.bytes.now c.args.limits s h
     c.index_frame.new.report r)
 
-pub returns-in-Stream-clause-only : goal.returns-in-Stream-clause-only
-returns-in-Stream-clause-only c v d =
-    c.index_frame.ensures.only v (subst (λ (f : Form). Denotes f c.args.bytes.now c.args.limits v) c.in-Stream.is d)
+pub returns-in-Bare-clause-indexed : goal.returns-in-Bare-clause-indexed
+returns-in-Bare-clause-indexed c = rw c.in-Bare.is c.index_bare.ensures
 
 pub returns-in-Bare-clause-entries : goal.returns-in-Bare-clause-entries
 returns-in-Bare-clause-entries c e =
@@ -23,9 +22,5 @@ returns-in-Bare-clause-entries c e =
     rw c.in-Bare.is (entries_told c.indexes.ensures.visits forms.Bare c.args.bytes.now c.args.limits s h
     c.index_bare.new.report r)
 
-pub returns-in-Bare-clause-only : goal.returns-in-Bare-clause-only
-returns-in-Bare-clause-only c v d =
-    c.index_bare.ensures.only v (subst (λ (f : Form). Denotes f c.args.bytes.now c.args.limits v) c.in-Bare.is d)
-
-pub returns-in-Packed-clause-memory : goal.returns-in-Packed-clause-memory
-returns-in-Packed-clause-memory c e = absurd (flat_packed c.args.form c.requires c.in-Packed.is)
+pub returns-in-Packed-clause-indexed : goal.returns-in-Packed-clause-indexed
+returns-in-Packed-clause-indexed c = absurd (flat_packed c.args.form c.requires c.in-Packed.is)

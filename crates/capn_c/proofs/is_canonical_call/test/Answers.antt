@@ -1,11 +1,10 @@
--- A refusal with the status 8 says that memory ran out, which it doesn't.
-use Rattle.std.proofs.Common.{sym, ◌∙◌}
+-- A refusal is reported, which is never that memory ran out.
 use Rattle.capn_canon.specs.declared.form.Form.TheVariants as forms
-use Rattle.capn_c.proofs.OutOfMemory.{refused_memory}
+use Rattle.capn_c.proofs.Reported.{refused_bytes}
 use Rattle.capn_c.proofs.is_canonical_call.test.Goals as goal
 
-pub returns-in-Err-clause-no_memory : goal.returns-in-Err-clause-no_memory
-returns-in-Err-clause-no_memory c e =
-    c.in-Err.ensures.no_memory
-    (refused_memory forms.Bare c.args.bytes.now c.args.limits c.in-Err.refusal c.in-Err.ensures.refused
-    (sym c.refuse.ensures.status_is ∙ e))
+pub returns-in-Err-clause-reported : goal.returns-in-Err-clause-reported
+returns-in-Err-clause-reported c =
+    let h = c.in-Err.ensures in
+    refused_bytes forms.Bare c.args.bytes.now c.args.limits c.refuse.result c.refuse.new.report c.in-Err.refusal
+    c.refuse.ensures h.bounded h.no_memory h.refused

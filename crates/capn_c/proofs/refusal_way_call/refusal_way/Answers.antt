@@ -6,10 +6,10 @@ use Rattle.capn_answers.proofs.shared.Reading.{unread_unaccepted, unread_within}
 use Rattle.capn_abi.specs.StatusCodes.{code, is_status}
 use Rattle.capn_c.specs.PathNumbers.{TellsPath}
 use Rattle.capn_abi.specs.declared.report.CapnReport.{CapnReport}
-use Rattle.capn_c.proofs.Digests.{unaccepted_refused}
 use Rattle.capn_c.proofs.Listed.{refused_listed}
-use Rattle.capn_c.proofs.OutOfMemory.{unaccepted_memory}
-use Rattle.capn_c.proofs.PathTold.{refusal_bounded, stop_status, unread_status}
+use Rattle.capn_c.proofs.OutOfMemory.{unaccepted_memory, unaccepted_refused}
+use Rattle.capn_c.proofs.PathTold.{stop_status, unread_status}
+use Rattle.capn_c.proofs.Reported.{refusal_bounded}
 use Rattle.capn_c.proofs.refusal_way_call.refusal_way.Goals as goal
 
 -- ---- a message that is accepted

@@ -1,0 +1,107 @@
+-- The answers of private calls: a status, a report, and what is written.
+use Rattle.std.specs.Prelude.{IsTrue, ◌≡◌, ◌≢◌, ◌⊎◌, ℕ, ◌+◌, ◌*◌, ◌<◌, ◌≤◌, Bool, false, List, None, ◌++◌, length, take}
+use Rattle.std.specs.Prelude.{drop}
+use Rattle.capn_value.specs.FirstCap.{first_cap}
+use Rattle.capn_value.specs.Tree.{Tree}
+use Rattle.capn_walk.specs.Accepted.{IsAccepted, IsBounded}
+use Rattle.capn_walk.specs.Index.{index_of}
+use Rattle.capn_walk.specs.Limits.{Bounds}
+use Rattle.capn_walk.specs.declared.survey_answer.Surveyed.{Surveyed}
+use Rattle.capn_canon.specs.Canonicity.{IsCanonicalForm}
+use Rattle.capn_canon.specs.Denotes.{Answers, Denotes}
+use Rattle.capn_canon.specs.Layout.{canon}
+use Rattle.capn_canon.specs.Refusal.{IsRefused, IsUnacceptedIn}
+use Rattle.capn_canon.specs.SurveyedBytes.{Surveys}
+use Rattle.capn_canon.specs.declared.form.Form.{Form}
+use Rattle.capn_canon.specs.declared.refusal.Refusal.{Refusal}
+use Rattle.capn_abi.specs.Calls.{Delivers}
+use Rattle.capn_abi.specs.StatusCodes.{Reports, answered, is_status}
+use Rattle.capn_abi.specs.declared.report.CapnReport.{CapnReport}
+use Rattle.capn_c.specs.Entries.{IndexedIn, c_index}
+use Rattle.capn_c.specs.Held.{DenotesHeld, IsUnacceptedHeld}
+use Rattle.capn_c.specs.declared.entries.CapnEntry.{CapnEntry}
+
+-- the status is one of the list; from 8 on it stands, with the report, for a refusal that has its reason; it is 8 only
+-- if memory may be needed; and no walk pays beyond its budget
+pub record IsReported (reason : Refusal → Type 0) (needed : Type 0) (budget status : ℕ) (report : CapnReport)
+    : Type 0 where
+  pub listed : IsTrue (is_status status)
+  pub refused : 8 ≤ status → (e : Refusal) × Reports status report e × reason e
+  pub memory : status ≡ 8 → needed
+  pub bounded : IsBounded budget report.paid report.visits
+
+-- ---- calls with one answer, of status 0
+
+-- a call has done this, as it does for each value unless memory runs out; or it reports a refusal
+pub record IsDone (done : Type 0) (value : Tree → Type 0) (reason : Refusal → Type 0) (needed : Type 0)
+    (budget status : ℕ) (report : CapnReport) : Type 0 where
+  pub possible : (status ≡ 0) ⊎ (8 ≤ status)
+  pub found : status ≡ 0 → done
+  pub only : (v : Tree) → value v → (status ≡ 0) ⊎ (status ≡ 8)
+  pub reported : IsReported reason needed budget status report
+
+-- a call has done this for bytes in a form, or reports why they are not accepted
+abbrev pub IsDoneIn : Form → List ℕ → Bounds → (done needed : Type 0) → ℕ → CapnReport → Type 0
+IsDoneIn form bs limits done needed status report =
+    IsDone done (Denotes form bs limits) (IsUnacceptedIn form bs limits) needed limits.budget status report
+
+-- a call has done this for segments, without memory, or reports why they are not accepted
+abbrev pub IsDoneHeld : List (List ℕ) → Bounds → (done : Type 0) → ℕ → CapnReport → Type 0
+IsDoneHeld message limits done status report =
+    IsDone done (DenotesHeld message limits) (IsUnacceptedHeld message limits) ⊥ limits.budget status report
+
+-- ---- calls for canonical bytes
+
+-- a call has written the canonical bytes of a value to a buffer, or says that they have no room; or reports a refusal
+pub record IsFilled (value : Tree → Type 0) (answer : List ℕ → ℕ → Type 0) (reason : Refusal → Type 0)
+    (needed : Type 0) (limits : Bounds) (old new : List ℕ) (status : ℕ) (report : CapnReport) : Type 0 where
+  pub possible : (status ≤ 1) ⊎ (8 ≤ status)
+  pub found : status ≤ 1 → (text : List ℕ) × answer text report.paid × Delivers text status report.length old new
+  pub only : (v : Tree) → value v → first_cap v ≡ None → (status ≡ 8) ⊎ Delivers (canon v) status report.length old new
+  pub rest : status ≤ 1 → report ≡ answered report.length report.paid 0
+  pub reported : IsReported reason needed limits.budget status report
+  pub short : status ≤ 1 → report.length ≤ 8 * (report.paid + 1)
+  pub kept : status ≢ 0 → new ≡ old
+  pub canonical : status ≡ 0 → (v : Tree) → value v → IsCanonicalForm (take report.length new) limits v
+
+-- it has done so for bytes in a form, or reports why they have none
+abbrev pub IsFilledIn : Form → List ℕ → Bounds → (needed : Type 0) → (old new : List ℕ) → ℕ → CapnReport → Type 0
+IsFilledIn form bs limits needed old new status report =
+    IsFilled (Denotes form bs limits) (Answers form bs limits) (IsRefused form bs limits) needed limits old new status
+    report
+
+-- ---- calls for an index
+
+-- a message is accepted, and its index fits into the room
+pub record HasRoom (message : List (List ℕ)) (limits : Bounds) (room : ℕ) : Type 0 where
+  pub accepted : IsAccepted message limits
+  pub fits : length (index_of message limits) ≤ room
+
+-- the index of a message that comes after a table is at the start of the room, and the rest of the room is as it was
+abbrev pub IsIndex : (table : ℕ) → List (List ℕ) → Bounds → (old new : List CapnEntry) → Type 0
+IsIndex table message limits old new =
+    new ≡ c_index table message limits ++ drop (length (index_of message limits)) old
+
+-- the index is there, or it is told that memory was refused, and the room is as it was
+pub record IsIndexOr (table : ℕ) (message : List (List ℕ)) (limits : Bounds) (old new : List CapnEntry) (told : Bool)
+    : Type 0 where
+  pub written : IsTrue told → IsIndex table message limits old new
+  pub kept : told ≡ false → new ≡ old
+
+-- a call has written the index of a surveyed message to a room, or says that it doesn't fit; or it reports a refusal
+pub record IsIndexed (survey : Surveyed → Type 0) (index : Type 0) (value : Tree → Type 0) (reason : Refusal → Type 0)
+    (needed : Type 0) (budget : ℕ) (old new : List CapnEntry) (status : ℕ) (report : CapnReport) : Type 0 where
+  pub possible : (status ≤ 1) ⊎ (8 ≤ status)
+  pub counted : status ≤ 1 → (s : Surveyed) × survey s × (report ≡ answered (24 * s.visits) s.paid s.visits)
+  pub written : status ≡ 0 → (report.visits ≤ length old) × index
+  pub no_room : status ≡ 1 → length old < report.visits
+  pub only : (v : Tree) → value v → (status ≤ 1) ⊎ (status ≡ 8)
+  pub reported : IsReported reason needed budget status report
+  pub kept : status ≢ 0 → new ≡ old
+
+-- it has done so for bytes in a form, or reports why they are not accepted
+abbrev pub IsIndexedIn : Form → List ℕ → Bounds → (needed : Type 0) → (old new : List CapnEntry) → ℕ → CapnReport
+    → Type 0
+IsIndexedIn form bs limits needed old new status report =
+    IsIndexed (Surveys form bs limits) (IndexedIn form bs limits old new) (Denotes form bs limits)
+    (IsUnacceptedIn form bs limits) needed limits.budget old new status report
