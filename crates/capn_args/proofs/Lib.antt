@@ -1,6 +1,7 @@
 pub mod CommandLines
 pub mod Entered
 pub mod ReadValues
+pub mod ByName
 pub mod OneMeaning
 pub mod OneInvocation
 pub mod NamedInvocations

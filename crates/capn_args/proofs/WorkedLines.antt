@@ -17,7 +17,7 @@ pack_taken = refl
 
 pack_means : MeansInvocation (subcommand_of program_line pack_words) (invocations.Message commands.Pack)
 unfolding walked
-pack_means = (refl, refl)
+pack_means = (refl, (tt, refl))
 
 abbrev check_words : List (List ℕ)
 check_words = codes "capn" ∷ codes "check" ∷ codes "--form" ∷ codes "bare" ∷ codes "--depth=2" ∷ []

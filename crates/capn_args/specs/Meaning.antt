@@ -5,6 +5,7 @@ use Rattle.clap.specs.Words.{Row, Text, first_of}
 use Rattle.capn_words.specs.Message.{most_message_words}
 use Rattle.capn_value.specs.declared.tariff.Tariff.TheVariants as tariffs
 use Rattle.capn_walk.specs.Limits.{Bounds}
+use Rattle.capn_canon.specs.declared.form.Form.{Form}
 use Rattle.capn_commands.specs.declared.command.Command.{Command}
 use Rattle.capn_commands.specs.declared.command.Command.TheVariants as commands
 use Rattle.capn_archive.specs.declared.filter_order.FilterOrder.{FilterOrder}
@@ -70,13 +71,19 @@ PickIs rows pick = FormIs rows (form_of pick.form)
     × NumberIn rows (codes "to") 1 most_number pick.to
     × (first_of (codes "only") rows ≡ None)
 
--- the subcommand of this name is for this task: `list` with or without `--digest`, `canonical` where `--framed` is
--- given
-abbrev pub IsTask : Text → List Row → Task → Type 0
-IsTask name rows tasks.List = (name ≡ codes "list") × FlagIs rows (codes "digest") false
-IsTask name rows tasks.Digests = (name ≡ codes "list") × FlagIs rows (codes "digest") true
-IsTask name rows tasks.Limits = name ≡ codes "limits"
-IsTask name rows tasks.Canonical = (name ≡ codes "canonical") × FlagIs rows (codes "framed") true
+-- the name of the subcommand for this task
+abbrev pub task_name : Task → Text
+task_name tasks.List = codes "list"
+task_name tasks.Digests = codes "list"
+task_name tasks.Limits = codes "limits"
+task_name tasks.Canonical = codes "canonical"
+
+-- the flags are those of this task: `list` with or without `--digest`, `canonical` where `--framed` is given
+abbrev pub TaskIs : List Row → Task → Type 0
+TaskIs rows tasks.List = FlagIs rows (codes "digest") false
+TaskIs rows tasks.Digests = FlagIs rows (codes "digest") true
+TaskIs rows tasks.Limits = ⊤
+TaskIs rows tasks.Canonical = FlagIs rows (codes "framed") true
 
 -- `--only` is given, its value is a list of ascending numbers and ranges, and neither `--from` nor `--to` is given
 abbrev pub ListIs : List Row → Text → Type 0
@@ -113,11 +120,15 @@ ExplanationIs rows (explanations.Refused refused) = RefusedIs rows refused × Fl
 abbrev pub MakeIs : List Row → Make → Type 0
 MakeIs rows make = FormIs rows make.form × FlagIs rows (codes "text") make.quoted
 
--- the subcommand of this name lets bytes flow this way: `--streaming` is given, and `--message-words` is not
-abbrev pub IsFlow : Text → List Row → Flow → Type 0
-IsFlow name rows flows.Pack = (name ≡ codes "pack") × FlagIs rows (codes "streaming") true
-IsFlow name rows flows.Unpack =
-    (name ≡ codes "unpack") × FlagIs rows (codes "streaming") true × IsUsual rows (codes "message-words")
+-- the name of the subcommand that lets bytes flow this way
+abbrev pub flow_name : Flow → Text
+flow_name flows.Pack = codes "pack"
+flow_name flows.Unpack = codes "unpack"
+
+-- bytes flow this way: `--streaming` is given, and `--message-words` is not
+abbrev pub FlowIs : List Row → Flow → Type 0
+FlowIs rows flows.Pack = FlagIs rows (codes "streaming") true
+FlowIs rows flows.Unpack = FlagIs rows (codes "streaming") true × IsUsual rows (codes "message-words")
 
 -- the style of two flags: whether texts are asked for, and whether JSON is
 abbrev pub style_for : Bool → Bool → Style
@@ -153,26 +164,39 @@ ShowIs rows show = FormIs rows show.form × LimitsAre rows show.limits × StyleI
     × FlagIs rows (codes "one") show.one
 
 -- the name of the subcommand that writes this of a message
-abbrev pub name_of : MessageText → Text
-name_of pieces.Text = codes "show"
-name_of pieces.Price = codes "check"
-name_of pieces.Digest = codes "hash"
+abbrev pub text_name : MessageText → Text
+text_name pieces.Text = codes "show"
+text_name pieces.Price = codes "check"
+text_name pieces.Digest = codes "hash"
 
--- the subcommand of this name is that of this command over messages or bytes, and the options that it shares with
--- others have these values
+-- the name of the subcommand of this command over messages or bytes
+abbrev pub command_name : Command → Text
+command_name (commands.Show form limits) = codes "show"
+command_name (commands.Check form limits) = codes "check"
+command_name commands.Pack = codes "pack"
+command_name (commands.Unpack most) = codes "unpack"
+command_name (commands.Canonical form limits) = codes "canonical"
+command_name (commands.Hash form limits) = codes "hash"
+command_name (commands.One piece form limits) = text_name piece
+
+-- the input has this form and these limits, and is exactly one message or isn't
+abbrev pub InputIs : List Row → Form → Bounds → Bool → Type 0
+InputIs rows form limits one = FormIs rows form × LimitsAre rows limits × FlagIs rows (codes "one") one
+
+-- the options that this command shares with others have these values
+abbrev pub CommandIs : List Row → Command → Type 0
+CommandIs rows (commands.Show form limits) = InputIs rows form limits false
+CommandIs rows (commands.Check form limits) = InputIs rows form limits false
+CommandIs rows commands.Pack = ⊤
+CommandIs rows (commands.Unpack most) = UnpackedIs rows most
+CommandIs rows (commands.Canonical form limits) = FormIs rows form × LimitsAre rows limits
+CommandIs rows (commands.Hash form limits) = InputIs rows form limits false
+CommandIs rows (commands.One piece form limits) = InputIs rows form limits true
+
+-- the subcommand of this name is that of this command, and the options that it shares with others have these values
 abbrev pub Means : Option (Text × List Row) → Command → Type 0
 Means None command = ⊥
-Means (Some s) (commands.Show form limits) = (s.0 ≡ codes "show") × FormIs s.1 form × LimitsAre s.1 limits
-    × FlagIs s.1 (codes "one") false
-Means (Some s) (commands.Check form limits) = (s.0 ≡ codes "check") × FormIs s.1 form × LimitsAre s.1 limits
-    × FlagIs s.1 (codes "one") false
-Means (Some s) commands.Pack = s.0 ≡ codes "pack"
-Means (Some s) (commands.Unpack most) = (s.0 ≡ codes "unpack") × UnpackedIs s.1 most
-Means (Some s) (commands.Canonical form limits) = (s.0 ≡ codes "canonical") × FormIs s.1 form × LimitsAre s.1 limits
-Means (Some s) (commands.Hash form limits) = (s.0 ≡ codes "hash") × FormIs s.1 form × LimitsAre s.1 limits
-    × FlagIs s.1 (codes "one") false
-Means (Some s) (commands.One piece form limits) = (s.0 ≡ name_of piece) × FormIs s.1 form × LimitsAre s.1 limits
-    × FlagIs s.1 (codes "one") true
+Means (Some s) command = (s.0 ≡ command_name command) × CommandIs s.1 command
 
 -- `canonical`, `pack` and `unpack` are commands over one input where none of their flags is given, and `show` where
 -- neither a flag but `--one` nor `--at` is; no other command over messages has such an option
@@ -190,20 +214,38 @@ HasNoFlag rows (commands.One pieces.Text form limits) = (first_of (codes "at") r
 HasNoFlag rows (commands.One pieces.Price form limits) = ⊤
 HasNoFlag rows (commands.One pieces.Digest form limits) = ⊤
 
+-- the name of the subcommand that orders this
+abbrev pub name_of : Invocation → Text
+name_of (invocations.Message command) = command_name command
+name_of (invocations.Show show) = codes "show"
+name_of (invocations.Explain explain) = codes "explain"
+name_of (invocations.Archive archive) = task_name archive.task
+name_of (invocations.Uniq uniq) = codes "uniq"
+name_of (invocations.Filter filter) = codes "filter"
+name_of (invocations.Cmp cmp) = codes "cmp"
+name_of (invocations.Pick pick) = codes "pick"
+name_of (invocations.Only only) = codes "pick"
+name_of (invocations.Flow flow) = flow_name flow
+name_of (invocations.Make make) = codes "make"
+
+-- its options have these values
+abbrev pub HasOptions : List Row → Invocation → Type 0
+HasOptions rows (invocations.Message command) = CommandIs rows command × HasNoFlag rows command
+HasOptions rows (invocations.Show show) = ShowIs rows show
+HasOptions rows (invocations.Explain explain) = ExplanationIs rows explain
+HasOptions rows (invocations.Archive archive) = TaskIs rows archive.task × AreOptions rows archive
+HasOptions rows (invocations.Uniq uniq) = UniqIs rows uniq
+HasOptions rows (invocations.Filter filter) = FilterIs rows filter
+HasOptions rows (invocations.Cmp cmp) = CmpIs rows cmp
+HasOptions rows (invocations.Pick pick) = PickIs rows pick
+HasOptions rows (invocations.Only only) = OnlyIs rows only
+HasOptions rows (invocations.Flow flow) = FlowIs rows flow
+HasOptions rows (invocations.Make make) = MakeIs rows make
+
 -- the subcommand of this name, with these values, orders this
 abbrev pub MeansInvocation : Option (Text × List Row) → Invocation → Type 0
 MeansInvocation None invocation = ⊥
-MeansInvocation (Some s) (invocations.Message command) = Means (Some s) command × HasNoFlag s.1 command
-MeansInvocation (Some s) (invocations.Show show) = (s.0 ≡ codes "show") × ShowIs s.1 show
-MeansInvocation (Some s) (invocations.Explain explain) = (s.0 ≡ codes "explain") × ExplanationIs s.1 explain
-MeansInvocation (Some s) (invocations.Archive archive) = IsTask s.0 s.1 archive.task × AreOptions s.1 archive
-MeansInvocation (Some s) (invocations.Uniq uniq) = (s.0 ≡ codes "uniq") × UniqIs s.1 uniq
-MeansInvocation (Some s) (invocations.Filter filter) = (s.0 ≡ codes "filter") × FilterIs s.1 filter
-MeansInvocation (Some s) (invocations.Cmp cmp) = (s.0 ≡ codes "cmp") × CmpIs s.1 cmp
-MeansInvocation (Some s) (invocations.Pick pick) = (s.0 ≡ codes "pick") × PickIs s.1 pick
-MeansInvocation (Some s) (invocations.Only only) = (s.0 ≡ codes "pick") × OnlyIs s.1 only
-MeansInvocation (Some s) (invocations.Flow flow) = IsFlow s.0 s.1 flow
-MeansInvocation (Some s) (invocations.Make make) = (s.0 ≡ codes "make") × MakeIs s.1 make
+MeansInvocation (Some s) invocation = (s.0 ≡ name_of invocation) × HasOptions s.1 invocation
 
 -- a meaning is that of one command at most
 abbrev pub MeansOne : Type 0
