@@ -65,12 +65,12 @@ fn fill_held(
     }
 }
 
-/// Writes the canonical bytes of a message that is held in `segments`, each its words of 8 bytes, to `out`.
+/// Writes the canonical bytes of a message that is held in `segments`, each given as words of 8 bytes, to `out`.
 ///
 /// 0: the answer is at the start of the buffer. 1: the buffer has no room for it, and is as it was; `length` is what it
 /// needs, exactly; if the buffer has no bytes at all, the message is surveyed and nothing is written, and `length` is 8
-/// for each word paid and 8 more, which is enough. 3 and 4: a limit or the tariff is out of its range. Others: the
-/// refusal, as of the frame of the same segments: 48, if there are none. It takes no memory.
+/// for each word paid and 8 more, which is enough. 3 and 4: a limit or the tariff is out of its range. Any other status
+/// is the refusal that the frame of these segments would get; with no segments it is 48. It takes no memory.
 #[unsafe(no_mangle)]
 pub extern "C" fn capn_canonical_segments(
     alloc: Global,

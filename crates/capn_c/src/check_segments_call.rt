@@ -39,8 +39,8 @@ fn check_held(
 /// Tests whether a message that is held in `segments` is accepted within `limits`, and reports the words that reading
 /// it pays.
 ///
-/// 0: it is; `paid` and `visits` are those of its walk. 3 and 4: a limit or the tariff is out of its range. Others: the
-/// refusal, as of the frame of the same segments: 48, if there are none. It takes no memory.
+/// 0: it is; `paid` and `visits` are those of its walk. 3 and 4: a limit or the tariff is out of its range. Any other
+/// status is the refusal that the frame of these segments would get; with no segments it is 48. It takes no memory.
 #[unsafe(no_mangle)]
 pub extern "C" fn capn_check_segments(
     alloc: Global,

@@ -48,11 +48,11 @@ fn hash_held(
     }
 }
 
-/// Writes the SHA-256 of the canonical bytes of a message that is held in `segments`, each its words of 8 bytes, to
-/// `digest`.
+/// Writes the SHA-256 of the canonical bytes of a message that is held in `segments`, each given as words of 8
+/// bytes, to `digest`.
 ///
 /// 0: the digest is written. 3 and 4: a limit or the tariff is out of its range. 8: memory was refused, for canonical
-/// bytes. Others: the refusal, as of the frame of the same segments: 48, if there are none.
+/// bytes. Any other status is the refusal that the frame of these segments would get; with no segments it is 48.
 #[unsafe(no_mangle)]
 pub extern "C" fn capn_hash_segments(
     alloc: Global,

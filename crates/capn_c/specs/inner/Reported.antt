@@ -1,4 +1,4 @@
--- The answers of private calls: a status, a report, and what is written.
+-- The answers of functions behind the calls for C: a status, a report, and what is written.
 use Rattle.std.specs.Prelude.{IsTrue, ◌≡◌, ◌≢◌, ◌⊎◌, ℕ, ◌+◌, ◌*◌, ◌<◌, ◌≤◌, Bool, false, List, None, ◌++◌, length, take}
 use Rattle.std.specs.Prelude.{drop}
 use Rattle.capn_value.specs.FirstCap.{first_cap}
@@ -21,8 +21,8 @@ use Rattle.capn_c.specs.Entries.{IndexedIn, c_index}
 use Rattle.capn_c.specs.Held.{DenotesHeld, IsUnacceptedHeld}
 use Rattle.capn_c.specs.declared.entries.CapnEntry.{CapnEntry}
 
--- the status is one of the list; from 8 on it stands, with the report, for a refusal that has its reason; it is 8 only
--- if memory may be needed; and no walk pays beyond its budget
+-- the status is one of the list; a status of 8 or more reports a refusal for which `reason` holds; it is 8 only if
+-- memory may be needed; and no walk pays beyond its budget
 pub record IsReported (reason : Refusal → Type 0) (needed : Type 0) (budget status : ℕ) (report : CapnReport)
     : Type 0 where
   pub listed : IsTrue (is_status status)
@@ -32,7 +32,7 @@ pub record IsReported (reason : Refusal → Type 0) (needed : Type 0) (budget st
 
 -- ---- calls with one answer, of status 0
 
--- a call has done this, as it does for each value unless memory runs out; or it reports a refusal
+-- a call has done this, and has, wherever there is a value, unless memory runs out; or it reports a refusal
 pub record IsDone (done : Type 0) (value : Tree → Type 0) (reason : Refusal → Type 0) (needed : Type 0)
     (budget status : ℕ) (report : CapnReport) : Type 0 where
   pub possible : (status ≡ 0) ⊎ (8 ≤ status)
@@ -64,7 +64,7 @@ pub record IsFilled (value : Tree → Type 0) (answer : List ℕ → ℕ → Typ
   pub kept : status ≢ 0 → new ≡ old
   pub canonical : status ≡ 0 → (v : Tree) → value v → IsCanonicalForm (take report.length new) limits v
 
--- it has done so for bytes in a form, or reports why they have none
+-- it has done so for bytes in a form, or reports why they have no canonical bytes
 abbrev pub IsFilledIn : Form → List ℕ → Bounds → (needed : Type 0) → (old new : List ℕ) → ℕ → CapnReport → Type 0
 IsFilledIn form bs limits needed old new status report =
     IsFilled (Denotes form bs limits) (Answers form bs limits) (IsRefused form bs limits) needed limits old new status
@@ -82,11 +82,11 @@ abbrev pub IsIndex : (table : ℕ) → List (List ℕ) → Bounds → (old new :
 IsIndex table message limits old new =
     new ≡ c_index table message limits ++ drop (length (index_of message limits)) old
 
--- the index is there, or it is told that memory was refused, and the room is as it was
-pub record IsIndexOr (table : ℕ) (message : List (List ℕ)) (limits : Bounds) (old new : List CapnEntry) (told : Bool)
-    : Type 0 where
-  pub written : IsTrue told → IsIndex table message limits old new
-  pub kept : told ≡ false → new ≡ old
+-- the index is written, or memory was refused, and the room is as it was
+pub record IsIndexOr (table : ℕ) (message : List (List ℕ)) (limits : Bounds) (old new : List CapnEntry)
+    (is_written : Bool) : Type 0 where
+  pub written : IsTrue is_written → IsIndex table message limits old new
+  pub kept : is_written ≡ false → new ≡ old
 
 -- a call has written the index of a surveyed message to a room, or says that it doesn't fit; or it reports a refusal
 pub record IsIndexed (survey : Surveyed → Type 0) (index : Type 0) (value : Tree → Type 0) (reason : Refusal → Type 0)
