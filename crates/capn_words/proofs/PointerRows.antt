@@ -1,4 +1,4 @@
--- Pointer words as their 8 bytes, and what they say: the definitions compute to what one reads off the page's layouts.
+-- Worked pointer words, as 8 bytes each: the definitions give the pointers that one reads off the page's layouts.
 use Rattle.std.proofs.Common.{◌≡◌, ℕ, List, [], ◌∷◌, true, false, pos, negsuc, refl}
 use Rattle.capn_words.specs.Message.{word_number}
 use Rattle.capn_words.specs.Pointers.{word_of, pointer_of}
@@ -6,16 +6,16 @@ use Rattle.capn_words.specs.declared.pointer.Pointer.{Pointer}
 use Rattle.capn_words.specs.declared.pointer.Pointer.TheVariants.{Nil, Node, Many, Far, Cap, Reserved}
 use Rattle.capn_words.specs.declared.pointer.Width.TheVariants.{W0, W1, W8, W16, W32, W64, Link, Rows}
 
--- 8 bytes, read both ways: they say the pointer, and they are its word
+-- the 8 bytes `bs` stand for the pointer `p`, and the word of `p` has these bytes
 abbrev Says : List ℕ → Pointer → Type 0
 Says bs p = (pointer_of (word_number bs) ≡ p) × (word_of p ≡ word_number bs)
 
--- the word 0 alone
+-- the null pointer is the word 0
 null_pointer : Says (0 ∷ 0 ∷ 0 ∷ 0 ∷ 0 ∷ 0 ∷ 0 ∷ 0 ∷ []) (Nil)
 unfolding pointer_of word_number
 null_pointer = (refl, refl)
 
--- offset -1: a struct of no words that isn't null
+-- offset -1 makes the pointer of a struct without words differ from null
 empty_struct : Says (252 ∷ 255 ∷ 255 ∷ 255 ∷ 0 ∷ 0 ∷ 0 ∷ 0 ∷ []) (Node (negsuc 0) 0 0)
 unfolding pointer_of word_number
 empty_struct = (refl, refl)
@@ -71,7 +71,7 @@ rows_of_two_words : Says (1 ∷ 0 ∷ 0 ∷ 0 ∷ 23 ∷ 0 ∷ 0 ∷ 0 ∷ []) (
 unfolding pointer_of word_number
 rows_of_two_words = (refl, refl)
 
--- a list that comes before its pointer
+-- a list whose content is before its pointer
 list_back : Says (249 ∷ 255 ∷ 255 ∷ 255 ∷ 5 ∷ 0 ∷ 0 ∷ 0 ∷ []) (Many (negsuc 1) W64 0)
 unfolding pointer_of word_number
 list_back = (refl, refl)

@@ -16,7 +16,7 @@ word_bytes w = little_bytes 8 w
 abbrev pub bytes : List ℕ → List ℕ
 bytes ws = flat_map word_bytes ws
 
--- the words of a segment; none if there is no such segment
+-- the words of segment `s`, or no words if there is no such segment
 abbrev pub segment_at : List (List ℕ) → ℕ → List ℕ
 segment_at message s = slice_index_or message s []
 
@@ -28,40 +28,41 @@ segment_at message s = slice_index_or message s []
 abbrev pub most_segments : ℕ
 most_segments = 4096
 
--- the most words that a limit on framed messages allows
+-- the most words that a caller may allow for a framed message
 abbrev pub most_message_words : ℕ
 most_message_words = 2 ^ 28
 
--- the most words that any message has, all segments together: its root pointer, and the words that one may pay for
+-- the most words that any message has in all its segments together: its root pointer, and the words that one may pay
+-- for
 abbrev pub most_words : ℕ
 most_words = most_message_words + 1
 
 -- ---- words and their bytes: a word is 8 bytes, the least significant first. (Page: messages.)
 
--- each number of a list is a byte
+-- `bs` are bytes: each number is below 256
 abbrev pub AreBytes : List ℕ → Type 0
 AreBytes bs = (i : ℕ) → slice_index bs i < 256
 
--- each number of a list is a word
+-- `ws` are words: each number is below 2^64
 abbrev pub AreWords : List ℕ → Type 0
 AreWords ws = (k : ℕ) → slice_index ws k < 2 ^ 64
 
--- the word whose bytes are the first 8
+-- the word whose bytes are the first 8 of `bs`
 unfoldable pub word_number : List ℕ → ℕ
 word_number bs = little_number 8 bs
 
--- the first n words of bytes
+-- the first `n` words of the bytes `bs`
 unfoldable pub words_in : ℕ → List ℕ → List ℕ
 words_in zero bs = []
 words_in (suc n) bs = word_number bs ∷ words_in n (drop 8 bs)
 
--- the bytes are those of words, no more of them than a message may have (Own.)
+-- `bs` are the bytes of the words `ws`, which are no more than a message may have (Own.)
 pub record IsBare (bs ws : List ℕ) : Type 0 where
   pub same : bs ≡ bytes ws
   pub each : AreWords ws
   pub room : length ws ≤ most_words
 
--- bytes are read as one segment: its words, or the first of the two refusals (Own.)
+-- reading `bs` as one segment gives its words, or the first of the two refusals (Own.)
 abbrev pub ReadsBare : List ℕ → Result (List ℕ) BareFault → Type 0
 ReadsBare bs (Ok ws) = IsBare bs ws
 ReadsBare bs (Err (NotWhole n)) = (n ≡ length bs) × (length bs % 8 ≢ 0)
@@ -73,18 +74,18 @@ ReadsBare bs (Err (TooLong n)) = (8 * n ≡ length bs) × (most_words < n)
 abbrev pub total : List (List ℕ) → ℕ
 total message = sum_by length message
 
--- there is a segment, there are not too many segments or words, and each number is a word (own: the limits)
+-- `message` has a segment, not too many segments or words, and only numbers that are words (own: the limits)
 pub record IsMessage (message : List (List ℕ)) : Type 0 where
   pub some : 0 < length message
   pub few : length message ≤ most_segments
   pub room : total message ≤ most_words
   pub each : (s k : ℕ) → slice_index (segment_at message s) k < 2 ^ 64
 
--- the number of words of a segment, if there is such a segment
+-- the number of words of segment `s`, if there is such a segment
 abbrev pub words_of : List (List ℕ) → ℕ → Option ℕ
 words_of message s = if nat_lt s (length message) then Some (length (segment_at message s)) else None
 
--- a place is in range: its segment exists and its word is below that segment's length
+-- `at` is in range: its segment exists and its word is below that segment's length
 abbrev pub IsPlace : List (List ℕ) → Place → Type 0
 IsPlace message at = at.word < length (segment_at message at.segment)
 
@@ -92,11 +93,11 @@ IsPlace message at = at.word < length (segment_at message at.segment)
 abbrev pub word_at : List (List ℕ) → Place → ℕ
 word_at message at = slice_index (segment_at message at.segment) at.word
 
--- `len` bytes from the start of a word on stay within its segment
+-- `len` bytes from the start of the word at `at` on stay within its segment, which exists
 abbrev pub IsRange : List (List ℕ) → Place → ℕ → Type 0
 IsRange message at len = (at.segment < length message)
     × (8 * at.word + len ≤ 8 * length (segment_at message at.segment))
 
--- these bytes
+-- the `len` bytes from the start of the word at `at` on
 abbrev pub bytes_at : List (List ℕ) → Place → ℕ → List ℕ
 bytes_at message at len = take len (drop (8 * at.word) (bytes (segment_at message at.segment)))

@@ -1,5 +1,5 @@
--- The pointer that a word is, and the word of a pointer. `split` ties both if the fields fit. (Page: structs, lists,
--- inter-segment pointers, capabilities.)
+-- The pointer that a word stands for, and the word of a pointer. If the fields fit, `split` and `join` lead from one to
+-- the other. (Page: structs, lists, inter-segment pointers, capabilities.)
 use Rattle.std.specs.Prelude.{ℕ, suc, ◌-◌, ◌/◌, ◌%◌, ◌^◌, nat_lt, ◌==◌, ℤ, pos, negsuc, [], ◌∷◌, slice_index_or}
 use Rattle.std.specs.Prelude.{if◌then◌else◌, ◌≡◌, ◌+◌, ◌*◌, ◌<◌, ⊤}
 use Rattle.capn_words.specs.declared.pointer.Pointer.{Pointer}
@@ -11,26 +11,26 @@ use Rattle.std.specs.Int.{from_bool}
 -- ---- the pointer that a word is, each field by a quotient and a remainder. (Page: structs, lists, inter-segment
 -- pointers, capabilities.)
 
--- the number in n bits of a word, from a bit on
+-- the number in `n` bits of the word `w`, from bit `from` on
 abbrev pub field : ℕ → ℕ → ℕ → ℕ
 field from n w = w / 2 ^ from % 2 ^ n
 
--- the offset that 30 bits stand for: from 2^29 on they stand for 2^30 less
+-- the offset that the 30 bits of `n` stand for: numbers from 2^29 on stand for themselves less 2^30
 abbrev pub signed : ℕ → ℤ
 signed n = if nat_lt n (2 ^ 29) then pos n else negsuc (2 ^ 30 - suc n)
 
--- the width that 3 bits stand for
+-- the width that the 3 bits of `c` stand for
 abbrev pub width_of : ℕ → Width
 width_of c = slice_index_or (W0 ∷ W1 ∷ W8 ∷ W16 ∷ W32 ∷ W64 ∷ Link ∷ Rows ∷ []) c Rows
 
--- the pointer of a word whose bits 0 to 1 are 2 or 3
+-- the pointer of a word `w` whose bits 0 to 1 are 2 or 3
 abbrev pub other_pointer : ℕ → Pointer
 other_pointer w =
     if w % 4 == 2 then Far (field 2 1 w == 1) (field 3 29 w) (field 32 32 w)
     else if field 2 30 w == 0 then Cap (field 32 32 w)
     else Reserved w
 
--- the pointer of a word: null for 0, else by bits 0 to 1
+-- the pointer of the word `w`: null for 0, otherwise as bits 0 to 1 say
 unfoldable pub pointer_of : ℕ → Pointer
 pointer_of w =
     if w == 0 then Nil
@@ -52,7 +52,7 @@ width_code W64 = 5
 width_code Link = 6
 width_code Rows = 7
 
--- the 30 bits of an offset: one below 0 is taken with 2^30 added
+-- the 30 bits of an offset: a negative offset is stored with 2^30 added
 abbrev pub offset_field : ℤ → ℕ
 offset_field (pos n) = n
 offset_field (negsuc n) = 2 ^ 30 - suc n
@@ -73,8 +73,8 @@ abbrev pub FitsOffset : ℤ → Type 0
 FitsOffset (pos n) = n < 2 ^ 29
 FitsOffset (negsuc n) = n < 2 ^ 29
 
--- each field is in the range of its bits; a struct pointer isn't all zeros, which is null;
--- a reserved word has bits 0 to 1 equal to 3 and isn't a capability
+-- Each field is in the range of its bits. A struct pointer isn't all zeros, which is null. A reserved word has bits 0
+-- to 1 equal to 3 and isn't a capability.
 abbrev pub FitsFields : Pointer → Type 0
 FitsFields Nil = ⊤
 FitsFields (Node o w s) = FitsOffset o × (w < 2 ^ 16) × (s < 2 ^ 16) × (0 < offset_field o + w + s)
@@ -83,6 +83,6 @@ FitsFields (Far d w s) = (w < 2 ^ 29) × (s < 2 ^ 32)
 FitsFields (Cap i) = i < 2 ^ 32
 FitsFields (Reserved n) = (n < 2 ^ 64) × (n % 4 ≡ 3) × (0 < n / 4 % 2 ^ 30)
 
--- a pointer is that of a word: its fields fit, and the word is their sum
+-- `p` is the pointer of the word `w`: its fields fit, and `w` is their sum
 abbrev pub Fields : ℕ → Pointer → Type 0
 Fields w p = FitsFields p × (w ≡ word_of p)

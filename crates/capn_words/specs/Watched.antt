@@ -1,4 +1,4 @@
--- A watched reader or writer, and the calls that fail. (Own.)
+-- A watched reader or writer, and the calls on it that fail. (Own.)
 use Rattle.std.specs.Prelude.{ℕ, Bool, true, ◌&&◌, ◌==◌, not, List, length, take, Option, Result, Ok, Err}
 use Rattle.std.specs.Io.KnownBytes.{Appends}
 use Rattle.capn_words.specs.declared.watched.Watched.{Watched}
@@ -7,15 +7,15 @@ use Rattle.capn_words.specs.declared.watched.Watched.{Watched}
 abbrev pub inner_of : {T : Type 0} → Watched T → T
 inner_of w = w.inner
 
--- true if a call of it has failed
+-- true if a call on it has failed
 abbrev pub has_failed : {T : Type 0} → Watched T → Bool
 has_failed w = w.failed
 
--- a write fails if it answers an error, or takes no byte of a piece that has some
+-- true if a write of `piece` fails: it returns an error, or takes no byte of a piece that has some
 abbrev pub write_fails : {E : Type 0} → Result ℕ E → List ℕ → Bool
 write_fails (Ok n) piece = n == 0 && not (length piece == 0)
 write_fails (Err e) piece = true
 
--- a beginning of the text was written
+-- a prefix of `text` was written
 abbrev pub HasBegun : Option (List ℕ) → Option (List ℕ) → List ℕ → Type 0
 HasBegun old new text = (count : ℕ) × Appends old new (take count text)

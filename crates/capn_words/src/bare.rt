@@ -10,7 +10,7 @@ use std::error::Error;
 use std::fmt;
 use std::marker::Model;
 
-/// The reason why bytes are not one segment, in the order of the tests.
+/// The reason why bytes are not one segment. The variants are in the order of the tests.
 #[derive(Clone, Copy, Debug, PartialEq, Eq)]
 pub enum BareFault {
     /// The number of bytes, which is no multiple of 8.
@@ -75,10 +75,10 @@ impl<'a> Model for Bare<'a> {
 impl<'a> Bare<'a> {
     /// Reads `bytes` as the words of one segment, which may be empty. Nothing is copied.
     ///
-    /// Refusals: `NotWhole` with the number of bytes, if it is no multiple of 8; else `TooLong` with the number of
-    /// words, if it is above 2^28 + 1. (Own: the limit.)
+    /// Refusals: `NotWhole` with the number of bytes, if that is no multiple of 8. Otherwise `TooLong` with the number
+    /// of words, if that is above 2^28 + 1. (Own: the limit.)
     pub fn new(bytes: &'a [u8]) -> Result<Bare<'a>, BareFault>
-        // The meaning of each answer; and the words of any bytes that have some are answered.
+        // Each `result` means what `ReadsBare` says. If the bytes are those of a list of words, that list is returned.
         ensures exact { ReadsBare bytes.now result }
         ensures only { (ws : List ℕ) → IsBare bytes.now ws → result ≡ Ok ws }
     {
@@ -98,7 +98,7 @@ impl<'a> Space for Bare<'a> {
     ghost message = { λ words. words ∷ [] };
 
     fn segments(&self) -> u32 {
-        // The proof knows the words' number and range once the body has read a field.
+        // The read of a field gives the proof the type's invariant, which bounds the number and the range of the words.
         let _bytes = &self.bytes;
         1
     }

@@ -2,7 +2,8 @@
 
 ghost use Rattle.capn_words.specs.Laws.{BareAreNotRefused, OneBareReading, OneBareRefusal};
 
-/// States: bytes are those of one list of words at most; else they are refused for one reason, and never both.
+/// States that `bytes` hold at most one list of words, are refused for at most one reason, and are never both read and
+/// refused.
 pub fn one_segment()
     ensures one { OneBareReading }
     ensures refusal { OneBareRefusal }

@@ -1,12 +1,11 @@
-//! Words, pointers and segments.
-//! Every other crate reads a message by them.
+//! Words, pointers and segments, by which every other crate reads a message.
 //!
-//! - `split` takes a pointer word apart and `join` puts one together; each is the other's inverse.
-//! - `Space` is a message whose words and bytes can be read at a `Place`; a function over any `Space`
-//!   is written and proved once. `Bare` is the `Space` of one borrowed segment.
-//! - `Watched` is a reader or a writer that remembers whether a call of it has failed.
-//! - `laws` has what holds of one segment's bytes apart from any call: one reading, one refusal.
-//! - `Memory` says that a growth was refused, in all crates.
+//! - `split` takes a pointer word apart and `join` puts one together. Each is the inverse of the other.
+//! - `Space` is a message whose words and bytes can be read at a `Place`. A function over any `Space` is written and
+//!   proved once. `Bare` is the `Space` of one borrowed segment.
+//! - `Watched` is a reader or a writer that remembers whether a call on it has failed.
+//! - `laws` states what holds of the bytes of one segment, apart from any call: one reading, one refusal.
+//! - `Memory` is the error of a refused growth, in all crates.
 //!
 //! No call takes memory. A message has 1 to 4,096 segments and at most 2^28 + 1 words in all.
 //!

@@ -3,8 +3,8 @@
 /// The most segments of a message.
 pub const MOST_SEGMENTS: u32 = 4096;
 
-/// The most words that a limit on framed messages may allow.
+/// The most words that a caller may allow for a framed message.
 pub const MOST_MESSAGE_WORDS: u32 = 1 << 28;
 
-/// The most words of any message, all segments together.
+/// The most words of any message, in all its segments together.
 pub const MOST_WORDS: u32 = MOST_MESSAGE_WORDS + 1;

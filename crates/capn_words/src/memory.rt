@@ -1,4 +1,4 @@
-//! Out of memory.
+//! The error of a call that ran out of memory.
 
 ghost use Rattle.std.specs.Prelude.{Some, codes};
 
@@ -6,7 +6,7 @@ use std::alloc::AllocError;
 use std::error::Error;
 use std::fmt;
 
-/// A growth was refused. What was asked for doesn't exist, and what was handed in is as it was.
+/// The refusal of a growth. The result of the call does not exist, and its arguments are as they were.
 #[derive(Clone, Copy, Debug, PartialEq, Eq)]
 pub struct Memory;
 

@@ -1,11 +1,11 @@
-//! The size of a message.
+//! The number of words of a whole message.
 
 ghost use Rattle.std.specs.Prelude.{◌≡◌};
 ghost use Rattle.capn_words.specs.Message.{total};
 
 use crate::space::Space;
 
-/// Returns the number of words that all segments of `space` have together. Takes no memory.
+/// Returns the number of words in all segments of `space` together. Takes no memory.
 #[tactic(auto, using(std::proofs::lemmas::List::Sums::sum_by_more_le, std::proofs::lemmas::List::Sums::fold_more))]
 pub fn total_words<S: Space>(space: &S) -> u32
     ensures { result ≡ total (S.message space.now) }

@@ -1,4 +1,4 @@
-//! A pointer word and its fields.
+//! A pointer word taken apart into its fields, and put together from them.
 
 ghost use Rattle.std.specs.Prelude.{◌≡◌, ◌↔◌, ℕ, ◌<◌, ◌^◌, ◌/◌, ◌%◌};
 ghost use Rattle.capn_words.specs.declared.pointer.Pointer.{Pointer};
@@ -26,10 +26,10 @@ pub enum Width {
     Rows,
 }
 
-/// A pointer word, read. (Page: structs, lists, inter-segment pointers, capabilities.)
+/// The fields of a pointer word, by its kind. (Page: structs, lists, inter-segment pointers, capabilities.)
 ///
-/// Offsets are in words and counted from the end of the pointer word, so that the content of a pointer at word `w`
-/// begins at word `w + 1 + offset`.
+/// Offsets are in words and count from the end of the pointer word: the content of a pointer at word `w` begins at word
+/// `w + 1 + offset`.
 #[derive(Clone, Copy, Debug, PartialEq, Eq)]
 pub enum Pointer {
     /// The null pointer: the word 0 alone.
@@ -38,9 +38,9 @@ pub enum Pointer {
     Node {
         /// The offset of its data section, from -2^29 to 2^29 - 1.
         offset: i32,
-        /// The words of its data section.
+        /// The number of words of its data section.
         words: u16,
-        /// The pointers of its pointer section, which follows the data at once.
+        /// The number of pointers of its pointer section, which follows the data section at once.
         slots: u16,
     },
     /// A list.
@@ -49,21 +49,21 @@ pub enum Pointer {
         offset: i32,
         /// The kind of its elements.
         width: Width,
-        /// The number of its elements, or at `Rows` of its words without the tag; below 2^29.
+        /// The number of its elements, or for `Rows` the number of its words without the tag word. It is below 2^29.
         count: u32,
     },
     /// A far pointer, to a landing pad in a segment.
     Far {
         /// `true` if the pad is two words, `false` if it is one.
         double: bool,
-        /// The word of its segment at which the pad begins, below 2^29.
+        /// The index of the pad's first word in its segment, below 2^29.
         word: u32,
-        /// The segment of the pad.
+        /// The number of the pad's segment.
         segment: u32,
     },
-    /// A capability: its index in the table of capabilities.
+    /// A capability, by its index in the table of capabilities.
     Cap(u32),
-    /// A word that no kind of pointer uses, whole: bits 0 to 1 are 3 and one of bits 2 to 31 is set.
+    /// The whole of a word that is no kind of pointer: bits 0 to 1 are 3, and one of bits 2 to 31 is set.
     Reserved(u64),
 }
 
@@ -100,7 +100,7 @@ fn code_of(width: Width) -> u64
     }
 }
 
-/// Returns the offset in bits 2 to 31 of `word`, of which the highest is its sign.
+/// Returns the offset in bits 2 to 31 of `word`. Bit 31 is its sign.
 fn offset_of(word: u64) -> i32
     ensures fits { FitsOffset result }
     ensures field { offset_field result ≡ word / 4 % 2 ^ 30 }
@@ -113,7 +113,7 @@ fn offset_of(word: u64) -> i32
     }
 }
 
-/// Returns the 30 bits of `offset`.
+/// Returns the 30 bits that stand for `offset`.
 fn field_of(offset: i32) -> u64
     requires { FitsOffset offset }
     ensures { result ≡ offset_field offset }
@@ -125,7 +125,7 @@ fn field_of(offset: i32) -> u64
     }
 }
 
-/// Reads the fields of `word`, by its bits 0 to 1.
+/// Reads the fields of `word`, as its bits 0 to 1 ask.
 fn fields_of(word: u64) -> Pointer
     ensures { Fields word result }
 {
@@ -156,17 +156,17 @@ fn fields_of(word: u64) -> Pointer
     }
 }
 
-/// Reads `word` as a pointer: the one pointer whose fields fit and add up to the word.
+/// Reads `word` as a pointer. It is the one pointer whose fields fit and add up to `word`.
 ///
-/// Every word is a pointer: `Nil` is the word 0 alone, and a word of no kind is `Reserved`. `join` gives the word back.
-/// (Page: structs, lists, inter-segment pointers, capabilities.)
+/// Every word is a pointer: `Nil` is the word 0 alone, and a word of no known kind is `Reserved`. `join` gives the word
+/// back. (Page: structs, lists, inter-segment pointers, capabilities.)
 #[inline(always)]
 pub fn split(word: u64) -> Pointer
-    // The pointer is exactly what the word's fields say, in their two forms: as a sum, and by division.
+    // `result` is exactly what the fields of `word` say. They are stated in two forms: as a sum, and by division.
     ensures fields { (p : Pointer) → Fields word p ↔ (result ≡ p) }
     ensures read { result ≡ pointer_of word }
 
-    // `join` may be called on it, and answers the word.
+    // `join` accepts `result`, and returns `word` for it.
     ensures fits { FitsFields result }
     ensures joined { word_of result ≡ word }
 {
@@ -200,15 +200,16 @@ fn sum_of(pointer: Pointer) -> u64
     }
 }
 
-/// Returns the word of `pointer`: the sum of its fields, each at its bits.
+/// Returns the word of `pointer`: the sum of its fields, each shifted to its bits.
 ///
-/// The fields have to fit their bits, a struct pointer may not be all zeros (that word is null), and a reserved word
-/// has to be one. `split` gives the pointer back. (Page: structs, lists, inter-segment pointers, capabilities.)
+/// The fields have to fit their bits. A struct pointer may not be all zeros, since that word is null. A reserved word
+/// has to be one that `split` gives as `Reserved`. `split` gives the pointer back. (Page: structs, lists, inter-segment
+/// pointers, capabilities.)
 pub fn join(pointer: Pointer) -> u64
     requires { FitsFields pointer }
     ensures word { result ≡ word_of pointer }
 
-    // `split` of the word answers the pointer.
+    // `split` of `result` returns `pointer`.
     ensures split { pointer_of result ≡ pointer }
 {
     sum_of(pointer)

@@ -1,4 +1,4 @@
-//! A message as its segments.
+//! A message as a list of segments whose words are read in place.
 
 ghost use Rattle.std.specs.Prelude.{◌≡◌, ℕ, ◌<◌, ◌≤◌, List, length};
 ghost use Rattle.capn_words.specs.Message.{IsMessage, IsPlace, IsRange, bytes_at, word_at, words_of};
@@ -24,8 +24,8 @@ impl Place {
 
 /// A message whose words and bytes can be read in place. No call takes memory. (Page: messages.)
 ///
-/// A function over any `Space` that needs the bounds of the message calls `segments`: it then knows them
-/// for every later call on the same value.
+/// A function over any `Space` that needs the bounds of the message calls `segments`. The prover then knows them for
+/// every later call on the same value.
 pub trait Space {
     /// The segments, each the list of its words.
     ghost message: { Self → List (List ℕ) };
@@ -44,10 +44,10 @@ pub trait Space {
         requires { IsPlace (message self.now) at }
         ensures { result ≡ word_at (message self.now) at };
 
-    /// Returns the `len` bytes from the start of the word at `at` on: those of the segment's words, the least
-    /// significant of each first.
+    /// Returns `len` bytes from the start of the word at `at` on. They are the bytes of the segment's words, the least
+    /// significant byte of each word first.
     ///
-    /// The segment has to exist, the word may be its end, and the bytes have to stay within it.
+    /// The segment has to exist. The word may be the end of the segment. The bytes have to stay within the segment.
     fn bytes(&self, at: Place, len: usize) -> &[u8]
         requires { IsRange (message self.now) at len }
         ensures { result.now ≡ bytes_at (message self.now) at len };

@@ -1,4 +1,4 @@
-//! Readers and writers with a record of failure.
+//! A wrapper of a reader or a writer that remembers whether a call failed.
 
 ghost use Rattle.std.specs.Prelude.{◌≡◌, ℕ, ◌<◌, ◌≤◌, Bool, true, false, ◌||◌, is_err, OnOk};
 ghost use Rattle.std.specs.Io.{ReadsAtMost, WritesAtMost};
@@ -7,10 +7,11 @@ ghost use Rattle.capn_words.specs.Watched.{HasBegun, has_failed, inner_of, write
 
 use std::io::{ErrorKind, Read, Result, Write};
 
-/// A reader or a writer, with a flag that says if a call of it has failed. (Own.)
+/// A reader or a writer, with a flag that says whether a call on it has failed. (Own.)
 ///
-/// It has failed from the first call on that answered an error, `Interrupted` too and that of a flush, or that wrote no
-/// byte of a piece that has some. Every call is passed on, after a failure too.
+/// The flag is set by the first call that returns an error, and by the first write that takes no byte of a `buf` that
+/// has some. `Interrupted` counts as an error, and so does the error of a flush. Every call is passed on, also after a
+/// failure.
 #[derive(Debug, Drop)]
 pub struct Watched<T> {
     inner: T,
@@ -18,7 +19,7 @@ pub struct Watched<T> {
 }
 
 impl<T> Watched<T> {
-    /// Wraps `inner`, of which no call has failed.
+    /// Wraps `inner`, with no failed call on record.
     pub fn new(inner: T) -> Watched<T>
         ensures inner { inner_of result ≡ inner }
         ensures failed { has_failed result ≡ false }
@@ -29,7 +30,7 @@ impl<T> Watched<T> {
         }
     }
 
-    /// Returns `true` if a call has answered an error, or a write has taken no byte of a piece that has some.
+    /// Tests whether a call has returned an error, or a write has taken no byte of a `buf` that has some.
     pub fn failed(&self) -> bool
         ensures { result ≡ has_failed self.now }
     {
@@ -46,8 +47,8 @@ impl<T> Watched<T> {
 }
 
 impl<R: Read> Watched<R> {
-    /// Reads into `buf` as the reader does, and returns its answer: the number of bytes now at the front of `buf`. An
-    /// error makes it failed.
+    /// Reads into `buf` with the inner reader and returns its result: the number of bytes now at the front of `buf`. An
+    /// error sets the flag.
     pub fn read(&mut self, buf: &mut [u8]) -> Result<usize>
         ensures bound { ReadsAtMost result buf.new }
         ensures bytes { ReadConsumes (R.remaining (inner_of self.old)) (R.remaining (inner_of self.new))
@@ -61,8 +62,8 @@ impl<R: Read> Watched<R> {
 }
 
 impl<W: Write> Watched<W> {
-    /// Writes `buf` as the writer does, and returns its answer: the number of bytes of `buf` that it took. An error
-    /// makes it failed, and so does 0 for a `buf` that has bytes.
+    /// Writes `buf` with the inner writer and returns its result: the number of bytes of `buf` that it took. The flag
+    /// is set by an error, and by 0 for a `buf` that has bytes.
     pub fn write(&mut self, buf: &[u8]) -> Result<usize>
         ensures bound { WritesAtMost result buf.now }
         ensures bytes { WriteAppends (W.contents (inner_of self.old)) (W.contents (inner_of self.new))
@@ -77,9 +78,9 @@ impl<W: Write> Watched<W> {
         answer
     }
 
-    /// Writes all of `text`, by as many calls of `write` as that takes.
+    /// Writes all of `text`, by as many calls of `write` as needed.
     ///
-    /// Fails at the first call that answers an error or takes no byte, and then a beginning of `text` was written.
+    /// Fails at the first call that returns an error or takes no byte. A prefix of `text` was written then.
     pub fn write_all(&mut self, text: &[u8]) -> Result<()>
         ensures ok { OnOk result (Appends (W.contents (inner_of self.old)) (W.contents (inner_of self.new)) text.now) }
         ensures begun { HasBegun (W.contents (inner_of self.old)) (W.contents (inner_of self.new)) text.now }
@@ -96,7 +97,7 @@ impl<W: Write> Watched<W> {
         Ok(())
     }
 
-    /// Flushes as the writer does, and returns its answer. An error makes it failed.
+    /// Flushes the inner writer and returns its result. An error sets the flag.
     pub fn flush(&mut self) -> Result<()>
         ensures kept { Keeps (W.contents (inner_of self.old)) (W.contents (inner_of self.new)) }
         ensures failed { has_failed self.new ≡ (has_failed self.old || is_err result) }

@@ -1,20 +1,20 @@
--- Choices by a test: what holds of them, and which branch they are. The library of the toolchain has no such lemmas.
--- (For `FieldBits`, `Pointers`, capn_canon, capn_mismatch and other crates.)
+-- Lemmas for `FieldBits`, `Pointers`, capn_canon, capn_mismatch and other crates: an `if` by a test takes the one
+-- branch or the other. The library of the toolchain has no such lemmas.
 use Rattle.std.proofs.Common.{◌≡◌, ◌≢◌, ℕ, ◌<◌, ◌≤◌, ◌==◌, nat_lt, Bool, true, false, refl, arith, if◌then◌else◌}
 use Rattle.std.proofs.lemmas.Bool.Decides.{nat_tests}
 
--- what holds of both branches holds of the choice
+-- what holds of both branches of an `if` holds of the `if`
 pub pick : {A : Type 0} (P : A → Type 0) (b : Bool) (x y : A) → (b ≡ true → P x) → (b ≡ false → P y)
     → P (if b then x else y)
 pick P true x y f g = f refl
 pick P false x y f g = g refl
 
--- a choice whose test holds is the first
+-- an `if` whose test holds is its first branch
 pub if-yes : {A : Type 0} (b : Bool) (x y : A) → b ≡ true → (if b then x else y) ≡ x
 if-yes true x y e = refl
 if-yes false x y e = absurd cc
 
--- a choice whose test fails is the second
+-- an `if` whose test fails is its second branch
 pub if-no : {A : Type 0} (b : Bool) (x y : A) → b ≡ false → (if b then x else y) ≡ y
 if-no true x y e = absurd cc
 if-no false x y e = refl
@@ -27,10 +27,10 @@ same-yes a b e = grind (arith, nat_tests)
 pub same-no : (a b : ℕ) → a ≢ b → (a == b) ≡ false
 same-no a b e = grind (arith, nat_tests)
 
--- the test of a smaller number holds
+-- `nat_lt a b` is true if `a` is smaller
 pub less-yes : (a b : ℕ) → a < b → nat_lt a b ≡ true
 less-yes a b e = grind (arith, nat_tests)
 
--- the test of one that is not smaller fails
+-- `nat_lt a b` is false if `a` is not smaller
 pub less-no : (a b : ℕ) → b ≤ a → nat_lt a b ≡ false
 less-no a b e = grind (arith, nat_tests)

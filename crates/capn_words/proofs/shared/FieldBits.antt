@@ -1,4 +1,4 @@
--- The fields of a pointer word are within their bits, and are found again there. (For `Pointers`.)
+-- Lemmas for `Pointers`: each field of a pointer fits its bits in the word, and is read back from them.
 use Rattle.std.proofs.Common.{◌≡◌, ℕ, suc, ◌-◌, ◌^◌, ◌<◌, ◌≤◌, ◌==◌, nat_lt, Bool, true, false, ℤ, pos}
 use Rattle.std.proofs.Common.{negsuc, refl, ap, ◌∙◌, arith}
 use Rattle.std.specs.Int.{from_bool}
@@ -9,12 +9,12 @@ use Rattle.capn_words.proofs.shared.Choices.{if-yes, if-no, less-yes, less-no}
 
 -- ---- offsets
 
--- the bits of an offset are 30
+-- an offset takes 30 bits
 pub offset_field-lt : (o : ℤ) → FitsOffset o → offset_field o < 2 ^ 30
 offset_field-lt (pos n) h = omega arith
 offset_field-lt (negsuc n) h = omega arith
 
--- the offset that the bits of an offset stand for
+-- the 30 bits of an offset stand for that offset
 pub signed-again : (o : ℤ) → FitsOffset o → signed (offset_field o) ≡ o
 signed-again (pos n) h = if-yes (nat_lt n (2 ^ 29)) _ _ (less-yes n (2 ^ 29) h)
 signed-again (negsuc n) h =
@@ -35,7 +35,7 @@ width_code-lt W64 = omega arith
 width_code-lt Link = omega arith
 width_code-lt Rows = omega arith
 
--- the width of a width's code is that width
+-- the code of a width stands for that width
 pub width_of-width_code : (k : Width) → width_of (width_code k) ≡ k
 width_of-width_code W0 = refl
 width_of-width_code W1 = refl
@@ -53,7 +53,7 @@ pub from_bool-le : (d : Bool) → from_bool d ≤ 1
 from_bool-le true = omega arith
 from_bool-le false = omega arith
 
--- a bit that is 1 stands for the truth value that it was made of
+-- a truth value is read back from its bit
 pub bool-again : (d : Bool) → (from_bool d == 1) ≡ d
 bool-again true = refl
 bool-again false = refl

@@ -1,5 +1,5 @@
--- A message of one segment, read from its bytes in one way, or refused for one reason. (For `bare.rt`, `laws.rt`,
--- capn_canon, capn_commands and other crates.)
+-- Lemmas for `bare.rt`, `laws.rt`, capn_canon, capn_commands and other crates: bytes are read as a message of one
+-- segment in one way, or refused for one reason.
 use Rattle.std.proofs.Common.{◌≡◌, ℕ, zero, suc, ◌*◌, ◌/◌, ◌%◌, ◌^◌, ◌<◌, ◌≤◌, List, [], ◌∷◌, length, drop, slice_index}
 use Rattle.std.proofs.Common.{Err, refl, ap, sym, subst, ◌∙◌, arith}
 use Rattle.capn_words.specs.Message.{most_words, word_number, words_in, bytes, AreBytes, AreWords, IsBare, ReadsBare}
@@ -18,11 +18,11 @@ bare_is bs h whole room = record {
   room = rw (length-words_in (length bs / 8) bs) room;
 }
 
--- bare bytes have 8 for each word
+-- the bytes of one segment are 8 for each word
 pub bare_length : (bs ws : List ℕ) → IsBare bs ws → length bs ≡ 8 * length ws
 bare_length bs ws h = ap length h.same ∙ length-bytes ws
 
--- bytes are those of one list of words at most
+-- the words that are read from `bs` are the only words with the bytes `bs`
 pub bare_only : (bs ws : List ℕ) → IsBare bs ws → words_in (length bs / 8) bs ≡ ws
 bare_only bs ws h =
     let n : length bs / 8 ≡ length ws = omega (arith, bare_length bs ws h) in
@@ -32,7 +32,7 @@ bare_only bs ws h =
 pub one_bare : (bs vs ws : List ℕ) → IsBare bs vs → IsBare bs ws → vs ≡ ws
 one_bare bs vs ws h k = sym (bare_only bs vs h) ∙ bare_only bs ws k
 
--- they are refused for one reason
+-- bytes are refused for one reason
 pub one_bare_fault : (bs : List ℕ) (e f : BareFault) → ReadsBare bs (Err e) → ReadsBare bs (Err f) → e ≡ f
 one_bare_fault bs (NotWhole m) (NotWhole n) r s = ap (λ (k : ℕ). NotWhole k) (r.0 ∙ sym s.0)
 one_bare_fault bs (NotWhole m) (TooLong n) r s = let l = s.0 in absurd (r.1 (omega arith))
@@ -57,7 +57,7 @@ only_segment : (ws : List ℕ) → AreWords ws → (s k : ℕ) → slice_index (
 only_segment ws each zero k = each k
 only_segment ws each (suc s) k = omega arith
 
--- the one segment is a message
+-- one segment of words that are not too many is a message
 pub bare_message : (ws : List ℕ) → AreWords ws → length ws ≤ most_words → IsMessage (ws ∷ [])
 bare_message ws each room = record {
   some = omega arith;
@@ -66,18 +66,18 @@ bare_message ws each room = record {
   each = only_segment ws each;
 }
 
--- a place in range is in the one segment
+-- a place in range is in segment 0
 pub only_place : (ws : List ℕ) (s k : ℕ) → k < length (segment_at (ws ∷ []) s) → (s ≡ 0) × (k < length ws)
 only_place ws zero k h = (refl, h)
 only_place ws (suc s) k h = absurd (omega arith)
 
--- a segment that exists is the one
+-- a segment that exists is segment 0
 pub one_segment : (ws : List ℕ) (s : ℕ) → s < length (ws ∷ []) → s ≡ 0
 one_segment ws s h = omega arith
 
--- what the words that the bytes are seen as have to do with the bytes
+-- facts about `ws`, the words in the bytes `bs`
 module _ (bs ws : List ℕ) (is : words_in (length bs / 8) bs ≡ ws) where
-  -- a word for each 8 bytes
+  -- there is a word for each 8 bytes
   pub seen_length : length ws ≡ length bs / 8
   seen_length = ap length (sym is) ∙ length-words_in (length bs / 8) bs
 
@@ -86,11 +86,11 @@ module _ (bs ws : List ℕ) (is : words_in (length bs / 8) bs ≡ ws) where
   seen_word k h = ap (λ (xs : List ℕ). slice_index xs k) (sym is)
       ∙ word_in (length bs / 8) k bs (omega (arith, seen_length))
 
-  -- they are a message of one segment
+  -- the words are a message of one segment
   pub seen_message : AreBytes bs → length bs / 8 ≤ most_words → IsMessage (ws ∷ [])
   seen_message h room =
       bare_message ws (subst AreWords is (words_below (length bs / 8) bs h)) (omega (arith, seen_length))
 
-  -- whose bytes are the bytes
+  -- the bytes of the words are `bs`
   pub seen_bytes : AreBytes bs → length bs % 8 ≡ 0 → bytes ws ≡ bs
   seen_bytes h whole = ap bytes (sym is) ∙ bytes_of_words (length bs / 8) bs h (omega arith)

@@ -1,5 +1,5 @@
--- A pointer that fits has one word, of which `pointer_of` reads it, and no other pointer has that word. (For `join`,
--- `split`, capn_canon and capn_mismatch.)
+-- Lemmas for `join` and `split`, capn_canon and capn_mismatch: `pointer_of` reads a pointer back from its word, and no
+-- other pointer has that word.
 use Rattle.std.proofs.Common.{◌≡◌, ◌≢◌, ℕ, ◌+◌, ◌*◌, ◌/◌, ◌%◌, ◌^◌, ◌<◌, ◌==◌, Bool, ℤ, refl, ap, ◌∙◌, arith}
 use Rattle.std.specs.Int.{from_bool}
 use Rattle.capn_words.specs.Pointers.{Fields, FitsFields, FitsOffset, offset_field, width_code, word_of, field, signed}
@@ -38,7 +38,7 @@ list-again w o k c e ho hc =
     if-no (w == 0) _ _ (same-no w 0 (omega arith)) ∙ if-no (w % 4 == 0) _ _ (same-no (w % 4) 0 (omega arith))
     ∙ if-yes (w % 4 == 1) _ _ (same-yes (w % 4) 1 (omega arith)) ∙ cc
 
--- neither null nor a struct nor a list
+-- a word that is neither null nor a struct nor a list pointer
 other-again : (w : ℕ) → w % 4 ≢ 0 → w % 4 ≢ 1 → pointer_of w ≡ other_pointer w
 unfolding pointer_of
 other-again w h l =
@@ -72,7 +72,7 @@ null-again : pointer_of 0 ≡ Nil
 unfolding pointer_of
 null-again = refl
 
--- the pointer in a pointer's word is that pointer
+-- `pointer_of` of a pointer's word is that pointer
 pub pointer_of-word_of : (p : Pointer) → FitsFields p → pointer_of (word_of p) ≡ p
 pointer_of-word_of Nil h = null-again
 pointer_of-word_of (Node o w s) h = struct-again (word_of (Node o w s)) o w s refl h.0 h.1 h.2 h.3
@@ -90,6 +90,6 @@ word_of-lt (Far d w s) h = let l = from_bool-le d in omega (arith, h.0, h.1)
 word_of-lt (Cap i) h = omega arith
 word_of-lt (Reserved n) h = h.0
 
--- the only pointer whose fields a word has is the one that `pointer_of` reads
+-- if `p` has the fields of the word `w`, it is the pointer that `pointer_of` reads
 pub Fields-only : (w : ℕ) (p : Pointer) → Fields w p → pointer_of w ≡ p
 Fields-only w p h = ap pointer_of h.1 ∙ pointer_of-word_of p h.0

@@ -1,4 +1,4 @@
--- Words and their bytes determine each other. (For `OneSegment`, capn_c, capn_canon and other crates.)
+-- Lemmas for `OneSegment`, capn_c, capn_canon and other crates: words and their bytes determine each other.
 use Rattle.std.proofs.Common.{◌≡◌, ℕ, zero, suc, ◌+◌, ◌*◌, ◌/◌, ◌%◌, ◌^◌, ◌<◌, ◌≤◌, List, [], ◌∷◌, ◌++◌, length, take}
 use Rattle.std.proofs.Common.{drop, slice_index, refl, ap, sym, ◌∙◌, arith, length-append, length-drop}
 use Rattle.std.proofs.Math.Seq.{take-append-add}
@@ -10,19 +10,19 @@ use Rattle.byteorder.specs.Endian.{little_from}
 use Rattle.byteorder.specs.Numbers.{little_from-cons, little_from-lt, little_number-reads_back}
 use Rattle.capn_words.specs.Message.{word_bytes, word_number, words_in, bytes, AreBytes, AreWords}
 
--- a byte further on is that byte of what is left
+-- byte `i + 1` of a number is byte `i` of its quotient by 256
 byte_at-suc : (i x : ℕ) → byte_at (suc i) x ≡ byte_at i (x / 256)
 byte_at-suc zero x = refl
 byte_at-suc (suc i) x =
     ap (λ (y : ℕ). y % 256) (ap (λ (p : ℕ). x / p) (pow-succ' 256 (suc i))
     ∙ sym (div-div-eq-div-mul x 256 (256 ^ suc i)))
 
--- so are the bytes from there on
+-- the bytes from `i + 1` on are the bytes from `i` on of the quotient by 256
 bytes_low_first-suc : (i k x : ℕ) → bytes_low_first (suc i) k x ≡ bytes_low_first i k (x / 256)
 bytes_low_first-suc i zero x = refl
 bytes_low_first-suc i (suc k) x = rw (byte_at-suc i x, bytes_low_first-suc (suc i) k x) refl
 
--- the bytes of the number that n bytes are
+-- the number that `n` bytes stand for has those bytes
 bytes_of_number : (n : ℕ) (bs : List ℕ) → AreBytes bs → n ≤ length bs
     → bytes_low_first 0 n (little_from 0 n bs) ≡ take n bs
 bytes_of_number zero bs h l = refl
@@ -44,7 +44,7 @@ bytes_low_first-below i (suc k) x (suc j) = bytes_low_first-below (suc i) k x j
 
 -- ---- one word
 
--- what is left of bytes is bytes
+-- bytes without the first `n` are bytes
 pub AreBytes-drop : (n : ℕ) (bs : List ℕ) → AreBytes bs → AreBytes (drop n bs)
 AreBytes-drop n bs h i = rw (get_or-drop n bs i 0) (h (n + i))
 
@@ -54,17 +54,17 @@ AreBytes-append [] bs h l i = l i
 AreBytes-append (c ∷ cs) bs h l zero = h zero
 AreBytes-append (c ∷ cs) bs h l (suc i) = AreBytes-append cs bs (λ j. h (suc j)) l i
 
--- 8 bytes are a word below 2^64
+-- 8 bytes stand for a word below 2^64
 pub word_number-lt : (bs : List ℕ) → AreBytes bs → word_number bs < 2 ^ 64
 unfolding word_number
 word_number-lt bs h = little_from-lt 0 8 bs h
 
--- the bytes of the word in 8 bytes are those bytes
+-- the word that 8 bytes stand for has those bytes
 pub word_bytes-number : (bs : List ℕ) → AreBytes bs → 8 ≤ length bs → word_bytes (word_number bs) ≡ take 8 bs
 unfolding word_number word_bytes
 word_bytes-number bs h l = bytes_of_number 8 bs h l
 
--- the word in the bytes of a word is that word
+-- the bytes of a word stand for that word
 pub number-word_bytes : (w : ℕ) (rest : List ℕ) → w < 2 ^ 64 → word_number (word_bytes w ++ rest) ≡ w
 unfolding word_number word_bytes
 number-word_bytes w rest h = little_number-reads_back 8 w rest h
@@ -80,7 +80,7 @@ word_bytes-below w = bytes_low_first-below 0 8 w
 
 -- ---- the words in bytes
 
--- as many words are read as are asked for
+-- `n` words are read
 pub length-words_in : (n : ℕ) (bs : List ℕ) → length (words_in n bs) ≡ n
 unfolding words_in
 length-words_in zero bs = refl
@@ -102,7 +102,7 @@ words_below zero bs h k = omega arith
 words_below (suc n) bs h zero = word_number-lt bs h
 words_below (suc n) bs h (suc k) = words_below n (drop 8 bs) (AreBytes-drop 8 bs h) k
 
--- the bytes of the words in bytes are those bytes
+-- the words in bytes have those bytes
 pub bytes_of_words : (n : ℕ) (bs : List ℕ) → AreBytes bs → length bs ≡ 8 * n → bytes (words_in n bs) ≡ bs
 unfolding words_in
 bytes_of_words zero bs h l = sym (nil_from_length bs (omega arith))
@@ -118,7 +118,7 @@ pub length-bytes : (ws : List ℕ) → length (bytes ws) ≡ 8 * length ws
 length-bytes [] = refl
 length-bytes (w ∷ ws) = omega (arith, length-bytes ws, length-append (word_bytes w) (bytes ws), length-word_bytes w)
 
--- the words in the bytes of words are those words
+-- the bytes of words stand for those words
 pub words_of_bytes : (ws : List ℕ) → AreWords ws → words_in (length ws) (bytes ws) ≡ ws
 unfolding words_in
 words_of_bytes [] h = refl
