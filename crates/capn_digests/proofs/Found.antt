@@ -1,4 +1,4 @@
--- What is found stays so. (For `add`, `contains` and `double`.)
+-- Lemmas for `add`, `contains` and `double`: digests that the table finds are still found after each change.
 use Rattle.std.proofs.Common.{◌≡◌, ℕ, ◌+◌, ◌-◌, ◌*◌, ◌/◌, ◌%◌, ◌<◌, ◌≤◌, ◌≢◌, inl, inr, ◌⊎◌, List, [], ◌∷◌, ◌++◌}
 use Rattle.std.proofs.Common.{length, get_or, set, true, false, nat_eq, arith, ap, sym, ◌∙◌, subst, refl, length-append}
 use Rattle.std.specs.BTreeSet.{insert_key}
@@ -20,7 +20,7 @@ use Rattle.capn_digests.specs.Tag.{tag}
 use Rattle.capn_digests.specs.Buckets.{IsMarked, IsHeld, IsHeldAt, IsOverflowed, IsFound}
 use Rattle.capn_digests.specs.Buckets.{slot_of, no_slot, no_head}
 
--- the same head and bucket at each index but one, where all stays that is held
+-- `heads` and `table` are changed only at index `at`, and each slot that was held there is held afterwards
 pub record IsChangedAt (at : ℕ) (heads : List Head) (table : List (List Slot)) (new_heads : List Head)
     (new_table : List (List Slot)) : Type 0 where
   pub headed : length new_heads ≡ length heads
@@ -62,7 +62,7 @@ module _ (at : ℕ) (heads : List Head) (table : List (List Slot)) (new_heads : 
         | inr other ↦ (below, ap (λ (h : Head). h.overflowed) (change.same_head (t % n) other) ∙ is)
       ]
 
-  -- what is found stays so
+  -- each digest that was found is still found
   pub found_still : (list rest : List (List ℕ)) → IsFound list heads table rest → IsFound list new_heads new_table rest
   found_still list rest f =
       record {
@@ -75,7 +75,7 @@ module _ (at : ℕ) (heads : List Head) (table : List (List Slot)) (new_heads : 
             (λ d. overflowed_at f.buckets (tag d)) rest f.others;
       }
 
--- a digest that is held at the end of the list is found there
+-- a digest that is pushed to the list is found there, if its bucket holds the slot for that index
 pub found_more : (list : List (List ℕ)) (heads : List Head) (table : List (List Slot)) (rest : List (List ℕ))
     (d : List ℕ) → IsFound list heads table rest → IsHeldAt (length heads) heads table (slot_of d (length list))
     → IsFound (list ++ d ∷ []) heads table rest
@@ -99,7 +99,7 @@ found_more list heads table rest d f held =
       others = f.others;
     }
 
--- a digest whose bucket has overflowed is found in the tree
+-- a digest that is put into the tree is found there, if its bucket has overflowed
 pub found_other : (list : List (List ℕ)) (heads : List Head) (table : List (List Slot)) (rest : List (List ℕ))
     (d : List ℕ) → IsFound list heads table rest → IsOverflowed (length heads) heads (tag d)
     → IsFound list heads table (insert_key (slice_cmp nat_cmp) rest d)
@@ -118,7 +118,7 @@ module _ (at : ℕ) (heads : List Head) (table : List (List Slot)) (head : Head)
   over : (get_or heads at no_head).overflowed ≡ true → (get_or (set heads at head) at no_head).overflowed ≡ true
   over e = ap (λ (h : Head). h.overflowed) (get_or-set_same heads at head no_head inside) ∙ overflowed e
 
-  -- a head is changed with its bucket
+  -- the head and the bucket at one index are changed together
   pub changed_both : (bucket : List Slot) → length table ≡ length heads → ((s : Slot) → s.tag % length heads ≡ at
       → IsHeld (get_or heads at no_head) (get_or table at []) s → IsHeld head bucket s)
       → IsChangedAt at heads table (set heads at head) (set table at bucket)
@@ -134,7 +134,7 @@ module _ (at : ℕ) (heads : List Head) (table : List (List Slot)) (head : Head)
         overflowed = over;
       }
 
-  -- a head is changed alone
+  -- only the head at one index is changed
   pub changed_head : ((s : Slot) → IsHeld (get_or heads at no_head) (get_or table at []) s
       → IsHeld head (get_or table at []) s) → IsChangedAt at heads table (set heads at head) table
   changed_head held =
@@ -148,7 +148,7 @@ module _ (at : ℕ) (heads : List Head) (table : List (List Slot)) (head : Head)
         overflowed = over;
       }
 
--- a tag's bucket of twice as many
+-- with twice as many buckets, the bucket of a tag is its old one or that in the second half
 twice : (n t : ℕ) → 0 < n → t % (n + n) < n + n → ((t % (n + n) < n) × (t % n ≡ t % (n + n)))
     ⊎ ((n ≤ t % (n + n)) × (t % n ≡ t % (n + n) - n))
 twice n t some below =
@@ -167,7 +167,7 @@ twice n t some below =
 
 module _ (list : List (List ℕ)) (heads : List Head) (table : List (List Slot)) (rest : List (List ℕ))
     (q : List ℕ) (f : IsFound list heads table rest) where
-  -- the slot of a digest of the list is held
+  -- the bucket of a digest in the list holds its slot
   pub held_of : (i : ℕ) → i < length list → get_or list i [] ≡ q → IsHeldAt (length heads) heads table (slot_of q i)
   held_of i below is =
       subst (λ (n : ℕ). IsHeldAt n heads table (slot_of q i)) (sym f.headed)
@@ -179,7 +179,7 @@ module _ (list : List (List ℕ)) (heads : List Head) (table : List (List Slot))
       subst (λ (n : ℕ). IsOverflowed n heads (tag q)) (sym f.headed)
       (subst (λ (d : List ℕ). IsOverflowed f.buckets heads (tag d)) is (f.others i [] below))
 
-  -- without buckets there is no digest
+  -- without buckets the list has no digests
   pub none_listed : length heads ≡ 0 → (i : ℕ) → i < length list → get_or list i [] ≡ q → ⊥
   none_listed none i below is =
       let less : tag q % length heads < length heads = (held_of i below is).0 in
@@ -190,18 +190,18 @@ module _ (list : List (List ℕ)) (heads : List Head) (table : List (List Slot))
       let less : tag q % length heads < length heads = (over_of i below is).0 in
       omega arith
 
-  -- a digest of a bucket that has no mark of it is not in the list
+  -- a digest is not in the list if the head of its bucket lacks a mark of it
   pub unmarked_listed : (head : Head) → head ≡ get_or heads (tag q % length heads) no_head
       → (IsMarked head (tag q) → ⊥) → (i : ℕ) → i < length list → get_or list i [] ≡ q → ⊥
   unmarked_listed head same not i below is =
       not (subst (λ (h : Head). IsMarked h (tag q)) (sym same) (held_of i below is).1.marked)
 
-  -- nor in the tree, if the bucket has not overflowed
+  -- a digest is not in the tree if its bucket has not overflowed
   pub unmarked_other : (head : Head) → head ≡ get_or heads (tag q % length heads) no_head
       → (head.overflowed ≡ true → ⊥) → (i : ℕ) → i < length rest → get_or rest i [] ≡ q → ⊥
   unmarked_other head same not i below is = not (ap (λ (h : Head). h.overflowed) same ∙ (over_of i below is).1)
 
-  -- a digest is not in the list to which no slot of its bucket leads
+  -- a digest is not in the list if no slot of its bucket leads to it
   pub unled : (bucket : List Slot) → bucket ≡ get_or table (tag q % length heads) []
       → ((k : ℕ) → k < length bucket → (get_or bucket k no_slot).tag ≡ tag q
       → (get_or bucket k no_slot).at < length list → get_or list ((get_or bucket k no_slot).at) [] ≡ q → ⊥)
@@ -214,7 +214,7 @@ module _ (list : List (List ℕ)) (heads : List Head) (table : List (List Slot))
       (subst (λ (n : ℕ). n < length list) (sym (ap (λ (s : Slot). s.at) e)) below)
       (ap (λ (s : Slot). get_or list s.at []) e ∙ is)
 
--- the head and the bucket of a tag are the same where each stands twice
+-- if a list is repeated twice, its item for a tag is the same as before
 pub same_twice : {X : Type 0} (xs : List X) (d : X) (n t : ℕ) → length xs ≡ n → t % n < n
     → (t % (n + n) < n + n) × (get_or (xs ++ xs) (t % (n + n)) d ≡ get_or xs (t % n) d)
 same_twice xs d n t same below =
@@ -242,7 +242,7 @@ twice_over : (heads : List Head) (n : ℕ) → length heads ≡ n → (t : ℕ) 
 twice_over heads n a t (below, is) =
     let h = same_twice heads no_head n t a below in (h.0, ap (λ (x : Head). x.overflowed) h.1 ∙ is)
 
--- twice as many buckets, each of which has all that is held
+-- if heads and buckets are repeated twice, every digest is still found
 pub found_twice : (list : List (List ℕ)) (heads : List Head) (table : List (List Slot)) (rest : List (List ℕ))
     → IsFound list heads table rest → IsFound list (heads ++ heads) (table ++ table) rest
 found_twice list heads table rest f =
@@ -257,7 +257,7 @@ found_twice list heads table rest f =
       others = λ i d below. twice_over heads f.buckets f.headed (tag (get_or rest i d)) (f.others i d below);
     }
 
--- what is held by a head is held by one that has overflowed too
+-- a slot that a bucket holds is also held with a head that is marked as overflowed
 flagged : (head : Head) (bucket : List Slot) (s : Slot) → IsHeld head bucket s → IsHeld (record {
   marks = head.marks;
   more = head.more;
@@ -281,7 +281,7 @@ module _ (list : List (List ℕ)) (heads : List Head) (table : List (List Slot))
   even : length table ≡ length heads
   even = f.tabled ∙ sym f.headed
 
-  -- a digest that is added to the list and to its bucket is found there
+  -- a digest that is added to the list and to its bucket is found in the list
   pub found_added : (new : Head) → IsOneMore head new → IsMarked new t → new.overflowed ≡ head.overflowed
       → (bucket : List Slot) → bucket ≡ get_or table (t % n) bucket → head.count < length bucket → (at : ℕ)
       → at ≡ length list → IsFound (list ++ d ∷ []) (set heads (t % n) new)
@@ -316,7 +316,7 @@ module _ (list : List (List ℕ)) (heads : List Head) (table : List (List Slot))
       (subst (λ (x : ℕ). IsHeldAt n (set heads (t % n) new) (set table (t % n) new_bucket) (record { tag = t; at = x }))
       last at_home)))
 
-  -- a digest that is added to the tree is found there, where its bucket has overflowed
+  -- a digest that is added to the tree is found there, since its bucket is marked as overflowed
   pub found_in_tree : IsFound list (set heads (t % n) (record {
     marks = head.marks;
     more = head.more;
@@ -348,7 +348,7 @@ some_of n e =
       | inr other ↦ omega arith
     ]
 
--- what is read at the home of a digest's tag
+-- the item read at the index of a digest's bucket is that of the digest's tag
 pub read_at_home : {X : Type 0} (xs : List X) (d : X) (q : List ℕ) (heads t n : ℕ) (x : X) → t ≡ tag q → n ≡ heads
     → 0 < n → length xs ≡ heads → x ≡ get_or xs (t % n) x → x ≡ get_or xs (tag q % heads) d
 read_at_home xs d q heads t n x tagged count some long is =

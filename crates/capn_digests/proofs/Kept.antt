@@ -1,4 +1,4 @@
--- A bucket with one slot more. (For `double` and `kept`.)
+-- Lemmas for `kept` and `double`: a bucket with one slot more, and the slots that are kept of a bucket.
 use Rattle.std.proofs.Common.{◌≡◌, ℕ, ◌+◌, ◌<◌, ◌≢◌, List, length, get_or, set, ◌%◌, ◌++◌, take, drop, arith, ap, sym}
 use Rattle.std.proofs.Common.{◌∙◌, subst, below_more}
 use Rattle.std.specs.Prelude.{slice_range}
@@ -9,13 +9,13 @@ use Rattle.capn_digests.specs.declared.slot.Slot.{Slot}
 use Rattle.capn_digests.specs.declared.slot.Head.{Head}
 use Rattle.capn_digests.specs.Buckets.{IsMarked, IsHeld, no_slot}
 
--- this head has one slot more than that one, and its marks
+-- `new` has one slot more than `old`, and all its marks
 pub record IsOneMore (old new : Head) : Type 0 where
   pub count : new.count ≡ old.count + 1
   pub kept : (t : ℕ) → IsMarked old t → IsMarked new t
 
 module _ (old new : Head) (bucket : List Slot) (slot : Slot) (more : IsOneMore old new) where
-  -- what is held stays so
+  -- a slot that was held before is held afterwards
   pub held_still : (s : Slot) → IsHeld old bucket s → IsHeld new (set bucket old.count slot) s
   held_still s h =
       let taken : h.place < old.count = h.taken in
@@ -41,14 +41,14 @@ module _ (old new : Head) (bucket : List Slot) (slot : Slot) (more : IsOneMore o
         marked = marked;
       }
 
--- the slot at k is held, if it is taken and its tag is of this bucket
+-- slot `k` of `bucket` is held by the new bucket, if it is taken and its tag belongs there
 abbrev pub IsKept : Head → List Slot → ℕ → ℕ → Head → List Slot → ℕ → Type 0
 IsKept head bucket buckets at new kept k =
     k < head.count → (get_or bucket k no_slot).tag % buckets ≡ at → IsHeld new kept (get_or bucket k no_slot)
 
 module _ (head : Head) (bucket : List Slot) (buckets at j : ℕ) (new : Head) (kept : List Slot)
     (held : (k : ℕ) → k < j → IsKept head bucket buckets at new kept k) where
-  -- the slot at j is kept
+  -- slot `j` is kept
   pub kept_one : (more : Head) → IsOneMore new more → new.count < length kept
       → IsMarked more (get_or bucket j no_slot).tag → (k : ℕ) → k < j + 1
       → IsKept head bucket buckets at more (set kept new.count (get_or bucket j no_slot)) k
@@ -57,19 +57,19 @@ module _ (head : Head) (bucket : List Slot) (buckets at j : ℕ) (new : Head) (k
       (λ k below taken own. held_still new more kept (get_or bucket j no_slot) one (get_or bucket k no_slot)
       (held k below taken own)) (λ taken own. held_one new more kept (get_or bucket j no_slot) one within marked)
 
-  -- the slot at j is not
+  -- slot `j` is dropped
   pub kept_none : (j < head.count → (get_or bucket j no_slot).tag % buckets ≡ at → ⊥) → (k : ℕ) → k < j + 1
       → IsKept head bucket buckets at new kept k
   kept_none not =
       below_more (λ (k : ℕ). IsKept head bucket buckets at new kept k) j held (λ taken own. absurd (not taken own))
 
--- what is written back over all that was there
+-- a list that is written over all of another of its length
 pub written : {X : Type 0} (xs ys : List X) (n : ℕ) → n ≡ length ys → length xs ≡ length ys
     → take n (xs ++ drop (length xs) ys) ≡ xs
 written xs ys n whole same =
     ap (λ (m : ℕ). take m (xs ++ drop (length xs) ys)) (whole ∙ sym same)
     ∙ take-append_seam xs (drop (length xs) ys)
 
--- all of a list
+-- the range from 0 to the length is the whole list
 pub all_of : {X : Type 0} (xs : List X) (n : ℕ) → n ≡ length xs → slice_range xs 0 n ≡ xs
 all_of xs n e = ap (λ (m : ℕ). slice_range xs 0 m) e ∙ grind (arith, common_steps)

@@ -1,4 +1,4 @@
--- Marks that stay. (For `and_one`.)
+-- Lemma for `and_one`: marks that are set stay set.
 use Rattle.std.proofs.Common.{◌≡◌, ℕ, min, max, bit_and, bit_or, arith, ap, sym, ◌∙◌}
 use Rattle.std.specs.Int.{bit_at}
 use Rattle.std.proofs.lemmas.Nat.Bits.{same_from_bits, bit_at_and, bit_at_or}
@@ -6,7 +6,7 @@ use Rattle.std.proofs.lemmas.Nat.Bits.{same_from_bits, bit_at_and, bit_at_or}
 min_of_more : (a m x : ℕ) → min a x ≡ x → min (max a m) x ≡ x
 min_of_more a m x h = omega arith
 
--- what is marked stays so where more is
+-- bits that are set in `a` are set after more bits are
 pub or_keeps : (a m x : ℕ) → bit_and a x ≡ x → bit_and (bit_or a m) x ≡ x
 or_keeps a m x h =
     same_from_bits (bit_and (bit_or a m) x) x

@@ -1,4 +1,4 @@
--- Digests found by a table of buckets.
+-- The table of buckets, by which a digest is found in the list or known to be in the tree.
 use Rattle.std.specs.Prelude.{◌≡◌, ℕ, ◌+◌, ◌<◌, ◌%◌, List, length, [], ◌++◌, true, false}
 use Rattle.std.specs.Prelude.{slice_index_or, bit_and}
 use Rattle.std.specs.List.{All}
@@ -9,19 +9,17 @@ use Rattle.capn_digests.specs.declared.slot.Slot.{Slot}
 use Rattle.capn_digests.specs.declared.slot.Head.{Head}
 use Rattle.capn_digests.specs.Tag.{tag, marks, more}
 
--- a slot that is not taken
 abbrev pub no_slot : Slot
 no_slot = record { tag = 0; at = 0 }
 
--- the head of a bucket of which no slot is taken
 abbrev pub no_head : Head
 no_head = record { marks = 0; more = 0; count = 0; overflowed = false }
 
--- a head has the marks of a tag
+-- `head` has the marks of the tag `t`
 abbrev pub IsMarked : Head → ℕ → Type 0
 IsMarked head t = (bit_and head.marks (marks t) ≡ marks t) × (bit_and head.more (more t) ≡ more t)
 
--- a slot is one of those taken of a bucket, and its tag is marked
+-- `slot` is one of the slots of `bucket` that are taken, and its tag is marked in `head`
 pub record IsHeld (head : Head) (bucket : List Slot) (slot : Slot) : Type 0 where
   pub place : ℕ
   pub taken : place < head.count
@@ -29,22 +27,22 @@ pub record IsHeld (head : Head) (bucket : List Slot) (slot : Slot) : Type 0 wher
   pub is : slice_index_or bucket place no_slot ≡ slot
   pub marked : IsMarked head slot.tag
 
--- a slot is held by the bucket of its tag, which is one of so many
+-- `slot` is held by the bucket of its tag in a table of `buckets` buckets
 abbrev pub IsHeldAt : ℕ → List Head → List (List Slot) → Slot → Type 0
 IsHeldAt buckets heads table slot =
     (slot.tag % buckets < buckets)
     × IsHeld (slice_index_or heads (slot.tag % buckets) no_head) (slice_index_or table (slot.tag % buckets) []) slot
 
--- the bucket of a tag, which is one of so many, has overflowed
+-- the bucket of the tag `t` has overflowed, in a table of `buckets` buckets
 abbrev pub IsOverflowed : ℕ → List Head → ℕ → Type 0
 IsOverflowed buckets heads t =
     (t % buckets < buckets) × ((slice_index_or heads (t % buckets) no_head).overflowed ≡ true)
 
--- the slot of a digest at an index
+-- the slot of `digest`, which is at index `at` of the list
 abbrev pub slot_of : List ℕ → ℕ → Slot
 slot_of digest at = record { tag = tag digest; at = at }
 
--- Each digest of the list is held at its index by the bucket of its tag, and the bucket of each digest of the tree has
+-- The bucket of each digest in `list` holds its slot, and the bucket of each digest in the tree, `rest`, has
 -- overflowed.
 pub record IsFound (list : List (List ℕ)) (heads : List Head) (table : List (List Slot)) (rest : List (List ℕ))
     : Type 0 where
@@ -58,7 +56,7 @@ pub record IsFound (list : List (List ℕ)) (heads : List Head) (table : List (L
 abbrev pub digests_of : List (List ℕ) → List (List ℕ) → set.FinSet (slice_cmp nat_cmp)
 digests_of list rest = set.from_list (list ++ rest)
 
--- Each digest is found, and none stands twice.
+-- Each digest is found by the table, and no digest is there twice.
 pub record IsIndexed (list : List (List ℕ)) (heads : List Head) (table : List (List Slot)) (rest : List (List ℕ))
     : Type 0 where
   pub found : IsFound list heads table rest

@@ -1,4 +1,4 @@
-//! The set of digests.
+//! The set of digests: its list, its table of slots and its tree, and the calls on it.
 
 ghost use Rattle.std.specs.Prelude.{◌≡◌, true, false, OnOk, OnErr, IfOk};
 ghost use Rattle.std.specs.FinSet as set;
@@ -11,10 +11,11 @@ use std::alloc::{AllocError, Allocator};
 use std::collections::BTreeSet;
 use std::marker::Model;
 
-/// A set of digests.
+/// A set of digests that grows.
 ///
-/// A digest takes 32 to 36 bytes of the list, and 17 to 34 of the table, which has at most eight for each bucket of
-/// sixteen slots; or up to 72 of the tree. The list grows by an eighth, and the table doubles in place.
+/// The list takes 32 to 36 bytes for each digest and grows by an eighth. The table takes 17 to 34 bytes for each
+/// digest: a bucket has sixteen slots, and the table doubles in place so that there are at most eight digests for each
+/// bucket. A digest in the tree takes up to 72 bytes instead.
 #[derive(Drop)]
 pub struct DigestSet<A: Allocator> {
     list: Vec<[u8; 32], A>,
@@ -59,11 +60,11 @@ impl<A: Allocator + Copy> DigestSet<A> {
         }
     }
 
-    /// Inserts `digest`, and returns whether it was there.
+    /// Inserts `digest`, and returns whether the set had it already.
     ///
-    /// `AllocError` comes only for a digest that was not there, and only if a growth was refused: of the list, which
-    /// was full; of the table, which had at least eight digests for each bucket; or of the tree, since the bucket of
-    /// `digest` was full or the list had 2^32 - 1 digests. Then the set has what it had.
+    /// `AllocError` is returned only for a digest that the set lacks, and only if a growth was refused: that of the
+    /// list, if it was full; that of the table, if it had at least eight digests for each bucket; or that of the tree,
+    /// if the bucket of `digest` was full or the list had 2^32 - 1 digests. The set then has the digests that it had.
     pub fn insert(&mut self, digest: [u8; 32]) -> Result<bool, AllocError>
         ensures answer { IfOk result (λ was. was ≡ set.contains self.old.seen digest) }
         ensures inserted { OnOk result (self.new.seen ≡ set.insert self.old.seen digest) }
@@ -80,7 +81,7 @@ impl<A: Allocator + Copy> DigestSet<A> {
         Ok(false)
     }
 
-    /// Adds a digest that the set does not have. If memory is refused, the set is as it was.
+    /// Adds `digest`, which the set does not have. If memory is refused, the set has the digests that it had.
     #[inline(always)]
     fn add(&mut self, digest: [u8; 32]) -> Result<(), AllocError>
         requires { set.contains self.old.seen digest ≡ false }
@@ -118,7 +119,7 @@ impl<A: Allocator> DigestSet<A> {
         self.list.len() + self.rest.len()
     }
 
-    /// Tests whether the set has a digest.
+    /// Tests whether the set has `digest`.
     #[inline(always)]
     pub fn contains(&self, digest: &[u8; 32]) -> bool
         ensures { result ≡ set.contains self.now.seen digest.now }
@@ -165,7 +166,7 @@ mod tests {
     }
 
     /// Tests that none of 1,000,001 digests is refused with ample memory. No clause can say that memory is there, so a
-    /// body that gives up instead of asking for memory would keep every clause.
+    /// body that gives up instead of growing would keep every clause.
     #[test]
     fn more_than_a_million_digests(rt: HostRuntime) -> Result<(), Fail> {
         let mut digests = DigestSet::new(rt.alloc());

@@ -1,4 +1,4 @@
-//! The table with twice as many buckets.
+//! The growth of the list and of the table: doubled buckets, each with the slots that belong to it.
 
 ghost use Rattle.std.specs.Prelude.{◌≡◌, ℕ, ◌+◌, ◌*◌, ◌<◌, ◌≤◌, ◌/◌, ◌%◌, List, length, vec_capacity, OnOk};
 ghost use Rattle.std.specs.Prelude.{OnErr, slice_index_or};
@@ -9,7 +9,7 @@ ghost use Rattle.capn_digests.specs.Digests.{HasToGrow, count_of};
 use crate::slot::{Head, NO_HEAD, NO_SLOT, SLOTS, Slot};
 use std::alloc::{AllocError, Allocator};
 
-/// Returns a bucket, and its head, with only those slots of `bucket` whose tags belong to bucket `at` of `buckets`.
+/// Returns `head` and `bucket` without the slots whose tags belong to another bucket than number `at` of `buckets`.
 fn kept(head: Head, bucket: &[Slot; SLOTS], at: usize, buckets: usize) -> (Head, [Slot; SLOTS])
     requires { 0 < buckets }
     ensures held { (s : SlotValue) → s.tag % buckets ≡ at → IsHeld head bucket.now s → IsHeld result.0 result.1 s }
@@ -31,7 +31,7 @@ fn kept(head: Head, bucket: &[Slot; SLOTS], at: usize, buckets: usize) -> (Head,
     (new, kept)
 }
 
-/// Drops the slots of bucket `at` whose tags belong to another bucket.
+/// Drops the slots of bucket `at` whose tags belong to other buckets.
 fn keep_own(heads: &mut [Head], table: &mut [[Slot; SLOTS]], at: usize)
     requires within { at < length heads.old }
     requires even { length table.old ≡ length heads.old }
@@ -44,7 +44,7 @@ fn keep_own(heads: &mut [Head], table: &mut [[Slot; SLOTS]], at: usize)
     table[at] = bucket;
 }
 
-/// Drops from each bucket the slots whose tags belong to another bucket.
+/// Drops from each bucket the slots whose tags belong to other buckets.
 fn keep_each_own(heads: &mut [Head], table: &mut [[Slot; SLOTS]])
     requires { length table.old ≡ length heads.old }
     ensures fewer { (i : ℕ) → (slice_index_or heads.new i no_head).count ≤ (slice_index_or heads.old i no_head).count }
@@ -56,7 +56,8 @@ fn keep_each_own(heads: &mut [Head], table: &mut [[Slot; SLOTS]])
     }
 }
 
-/// Doubles the number of buckets, or makes the first one. If memory is refused, all is as it was.
+/// Doubles the number of buckets, or makes the first bucket. If memory is refused, `heads` and `table` hold what they
+/// held.
 #[inline(never)]
 fn double<A: Allocator>(
     heads: &mut Vec<Head, A>,
@@ -83,11 +84,11 @@ fn double<A: Allocator>(
     Ok(())
 }
 
-/// Makes room for one digest more: in the list, which grows by an eighth, and in the table, which has at most eight
-/// digests for each bucket.
+/// Makes room for one more digest. The list grows by an eighth, and the table doubles when it has eight digests for
+/// each bucket.
 ///
-/// `AllocError` comes only if the list is as long as its room, or each bucket has eight digests already, and a growth
-/// was refused. Then what is found stays so.
+/// `AllocError` is returned only if a growth was refused, and only if the list is full or each bucket has eight digests
+/// already. Every digest that could be found before is still found then.
 #[inline(always)]
 pub(crate) fn make_room<A: Allocator>(
     list: &mut Vec<[u8; 32], A>,

@@ -1,8 +1,9 @@
 //! A set of SHA-256 digests that grows.
 //!
-//! A [`DigestSet`] takes digests and answers of each whether it came before. It has a list of them, a table of slots
-//! that says where in the list a digest may stand, and a tree for the digests whose bucket of the table is full: so
-//! whatever the digests are, a look reads one bucket, at most sixteen digests, and a path of the tree.
+//! A [`DigestSet`] takes digests and reports for each whether it was inserted before. It has three parts: a list of the
+//! digests, a table of slots that says where in the list a digest may be, and a tree for the digests whose bucket of
+//! the table is full. A lookup therefore reads at most one bucket, sixteen digests and one path of the tree, whatever
+//! the digests are.
 //!
 //! ```text
 //! let mut digests = DigestSet::new(alloc);

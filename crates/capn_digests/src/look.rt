@@ -1,4 +1,4 @@
-//! A look at a bucket.
+//! The lookup of a digest in one bucket of the table.
 
 ghost use Rattle.std.specs.Prelude.{◌≡◌, ℕ, ◌<◌, ◌≢◌, List, length, [], true, false, slice_index_or};
 ghost use Rattle.std.specs.List.{Contains};
@@ -6,7 +6,7 @@ ghost use Rattle.capn_digests.specs.Buckets.{no_slot};
 
 use crate::slot::{SLOTS, Slot};
 
-/// Tests whether a digest stands in a list at an index.
+/// Tests whether `list` has `digest` at index `at`.
 #[inline(always)]
 fn stands_at(list: &[[u8; 32]], at: u32, digest: &[u8; 32]) -> bool
     ensures found { result ≡ true → (at < length list.now) × (slice_index_or list.now at [] ≡ digest.now) }
@@ -16,7 +16,7 @@ fn stands_at(list: &[[u8; 32]], at: u32, digest: &[u8; 32]) -> bool
     at < list.len() && list[at] == *digest
 }
 
-/// Tests whether a slot of a bucket says where a digest of this tag stands in a list.
+/// Tests whether `list` has `digest` at the index of one of the slots of `bucket` with this `tag`.
 #[inline(never)]
 pub(crate) fn is_among(
     bucket: &[Slot; SLOTS],

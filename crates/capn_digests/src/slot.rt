@@ -7,18 +7,17 @@ ghost use Rattle.capn_digests.specs.Buckets.{IsMarked};
 /// The number of slots of a bucket.
 pub(crate) const SLOTS: usize = 16;
 
-/// The place of a digest: its tag, and its index in the list.
+/// The entry of one digest in a bucket: its tag, and its index in the list.
 #[derive(Clone, Copy)]
 pub(crate) struct Slot {
     pub(crate) tag: u32,
     pub(crate) at: u32,
 }
 
-/// A slot that is not taken.
 pub(crate) const NO_SLOT: Slot = Slot { tag: 0, at: 0 };
 
 /// The head of a bucket: marks of the tags in its slots, the number of slots that are taken, and whether a digest of
-/// the bucket went into the tree.
+/// the bucket is in the tree.
 #[derive(Clone, Copy)]
 pub(crate) struct Head {
     pub(crate) marks: u32,
@@ -27,7 +26,6 @@ pub(crate) struct Head {
     pub(crate) overflowed: bool,
 }
 
-/// The head of a bucket of which no slot is taken.
 pub(crate) const NO_HEAD: Head = Head {
     marks: 0,
     more: 0,
@@ -35,7 +33,7 @@ pub(crate) const NO_HEAD: Head = Head {
     overflowed: false,
 };
 
-/// Returns the first four bytes of a digest, as a number.
+/// Returns the tag of `digest`: its first four bytes, as a little-endian number.
 #[inline(always)]
 #[tactic(auto, unfolding(crate::specs::Tag::tag))]
 pub(crate) fn tag_of(digest: &[u8; 32]) -> u32
@@ -47,7 +45,7 @@ pub(crate) fn tag_of(digest: &[u8; 32]) -> u32
         + digest[3] as u32 * 0x100_0000
 }
 
-/// Returns two bits of 32, by a tag.
+/// Returns the mask of the one or two bits that `tag` sets in `marks` of a head.
 #[inline(always)]
 pub(crate) fn marks_of(tag: u32) -> u32
     ensures { result ≡ marks tag }
@@ -55,7 +53,7 @@ pub(crate) fn marks_of(tag: u32) -> u32
     (1u32 << (tag >> 27)) | (1u32 << ((tag >> 22) % 32))
 }
 
-/// Returns one bit of 16, by a tag.
+/// Returns the mask of the one bit that `tag` sets in `more` of a head.
 #[inline(always)]
 pub(crate) fn more_of(tag: u32) -> u16
     ensures { result ≡ more tag }
@@ -64,7 +62,7 @@ pub(crate) fn more_of(tag: u32) -> u16
 }
 
 impl Head {
-    /// Tests whether a digest of this tag may be in the bucket or in the tree: always, if one is.
+    /// Tests whether a digest with this `tag` may be in the bucket or in the tree. `false` shows that there is none.
     #[inline(always)]
     pub(crate) fn may_have(self, tag: u32) -> bool
         ensures marked { IsMarked self tag → result ≡ true }
@@ -75,7 +73,7 @@ impl Head {
         self.overflowed || (self.marks & marks == marks && self.more & more == more)
     }
 
-    /// Returns this head with one more slot, of this `tag`.
+    /// Returns this head with one more slot taken and `tag` marked.
     #[inline(always)]
     pub(crate) fn and_one(self, tag: u32) -> Head
         requires { self.count < 16 }
@@ -93,7 +91,7 @@ impl Head {
     }
 }
 
-/// Puts a slot into a bucket.
+/// Puts `slot` into `bucket` at index `place`.
 #[inline(always)]
 pub(crate) fn put(bucket: &mut [Slot; SLOTS], place: u8, slot: Slot)
     requires { place < 16 }
