@@ -1,5 +1,5 @@
--- The tables hold their rules, and what a vector shuffled by a row of them is. (For `gather_table.rt`, `lanes.rt`,
--- `pack_block.rt` and others.)
+-- Lemmas for `gather_table.rt`, `lanes.rt`, `pack_block.rt` and others: the tables keep their rules, and a vector
+-- shuffled by one of their rows is the word or the group's text.
 use Rattle.std.proofs.Common.{◌≡◌, ℕ, zero, suc, ◌+◌, ◌*◌, ◌/◌, ◌%◌, ◌^◌, ◌<◌, ◌≤◌, Bool, true, false, cond, eqb, ltb}
 use Rattle.std.proofs.Common.{leb, ◌&&◌, ◌||◌, T, inl, inr, List, [], ◌∷◌, ◌++◌, map, length, take, drop, get_or}
 use Rattle.std.proofs.Common.{replicate, refl, sym, ap, ◌∙◌, subst, arith, append_assoc, take_all, w8}
@@ -223,7 +223,7 @@ gather_all tag word xs row h long from e =
     (ap (λ l. tag ∷ l) (gather_lanes xs 8 tag 0 1 (replicate 7 128) all (omega arith) (omega arith) (omega arith)
     ∙ ap (named_bytes tag) back))
 
--- what an append of all lanes and a cut leave
+-- the text after all lanes are appended and the surplus is cut off
 pub pushed : (old lanes all new text : List ℕ) (end count : ℕ) → end ≡ length old + (1 + count) → all ≡ old ++ lanes
     → new ≡ take end all → take (1 + count) lanes ≡ text → new ≡ old ++ text
 pushed old lanes all new text end count at grown cut e = cut ∙ (λ i. take (at i) (grown i))
@@ -239,7 +239,7 @@ few_ones (suc n) tag h = omega (arith, ones_half tag, few_ones n (tag / 2) (omeg
 pub eight_ones : (tag : ℕ) → tag < 256 → count_ones tag ≤ 8
 eight_ones tag h = few_ones 8 tag (omega arith)
 
--- what bytes written after a front leave of it and of their own front
+-- the front of a block after a store, if only a prefix of the stored bytes counts
 pub stored : (old add new text : List ℕ) (at all n end : ℕ) → end ≡ at + n → at ≤ length old → n ≤ all
     → take (at + all) new ≡ take at old ++ add → take n add ≡ text → take end new ≡ take at old ++ text
 stored old add new text at all n end e inside few written is =

@@ -1,4 +1,4 @@
--- Words and their packed texts, from the encoding page: the definitions compute to what one reads there.
+-- Worked words and their packed texts from the encoding page: the definitions give what one reads there.
 use Rattle.std.proofs.Common.{◌≡◌, ℕ, List, [], ◌∷◌, ◌++◌, get_or, replicate, refl, ap, arith}
 use Rattle.capn_pack.specs.Packed.Group.{Named, Raw, Zeros}
 use Rattle.capn_pack.specs.Chosen.{Chosen}
@@ -12,12 +12,12 @@ first_word = 8 ∷ 0 ∷ 0 ∷ 0 ∷ 3 ∷ 0 ∷ 2 ∷ 0 ∷ []
 second_word : List ℕ
 second_word = 25 ∷ 0 ∷ 0 ∷ 0 ∷ 170 ∷ 1 ∷ 0 ∷ 0 ∷ []
 
--- the tag of the first is 51
+-- the tag of the first word is 51 in hexadecimal
 first_tag : tag_of first_word ≡ 81
 unfolding first_word
 first_tag = refl
 
--- an odd tag says nothing of the byte that it names
+-- a byte that the tag names may be any
 odd : (x : ℕ) → ◌≡◌ {A = ℕ} 1 0 → x ≡ 0
 odd x e = absurd (omega (arith, e))
 

@@ -1,5 +1,4 @@
--- Groups one after another at the front of some bytes. (For `text_piece.rt`, `unpack_block.rt` and
--- `unpacked_words.rt`.)
+-- Lemmas for `text_piece.rt`, `unpack_block.rt` and `unpacked_words.rt`: rows of groups at the front of some bytes.
 use Rattle.std.proofs.Common.{◌≡◌, ℕ, ◌+◌, ◌-◌, ◌*◌, ◌≤◌, List, [], ◌∷◌, ◌++◌, length, take, drop, slice_range}
 use Rattle.std.proofs.Common.{sym, ap, ◌∙◌, subst, arith, append_assoc, length-append, take-add, take-append-drop}
 use Rattle.std.proofs.Common.{length-take, length-drop, take_all}
@@ -10,7 +9,7 @@ use Rattle.capn_pack.specs.inner.Steps.{Takes, TakesRow}
 use Rattle.capn_pack.proofs.shared.GroupLemmas.{texts_more, contents_more, each_more, rest_is, length_content}
 use Rattle.capn_pack.proofs.shared.GroupLemmas.{length_contents, each_append}
 
--- one group more
+-- a row of groups, then one group more
 pub row_more : (bytes : List ℕ) (at : ℕ) (old out : List ℕ) (room taken count : ℕ) (new : List ℕ)
     → TakesRow bytes at old out → Takes (slice_range bytes at (length bytes)) room taken count out new
     → TakesRow bytes (at + taken) old new
@@ -27,7 +26,7 @@ row_more bytes at old out room taken count new u t =
           ∙ ap (λ l. old ++ l) (sym (contents_more u.groups t.group));
     }
 
--- one group more, up to an offset
+-- a row of groups, then one group more up to offset `next`
 pub row_next : (bytes : List ℕ) (at next : ℕ) (old out : List ℕ) (room count : ℕ) (new : List ℕ) → at ≤ next
     → TakesRow bytes at old out → Takes (slice_range bytes at (length bytes)) room (next - at) count out new
     → TakesRow bytes next old new
@@ -35,7 +34,7 @@ row_next bytes at next old out room count new forward u t =
     let sum : at + (next - at) ≡ next = omega arith in
     subst (λ n. TakesRow bytes n old new) sum (row_more bytes at old out room (next - at) count new u t)
 
--- one row after another
+-- a row of groups, then another row
 pub row_join : (bytes : List ℕ) (at : ℕ) (old out : List ℕ) (taken : ℕ) (new : List ℕ) → TakesRow bytes at old out
     → TakesRow (slice_range bytes at (length bytes)) taken out new → TakesRow bytes (at + taken) old new
 row_join bytes at old out taken new u t =
@@ -70,7 +69,7 @@ pub row_whole : (bytes : List ℕ) (taken : ℕ) (block : List ℕ) → TakesRow
     × (length block ≡ 8 * n)
 row_whole bytes taken block u = (word_count u.groups, ap length u.content ∙ length_contents u.groups u.each)
 
--- up to `at` the bytes are groups, their words are `out`, and this room is left of the maximum
+-- up to `at` the bytes are groups, their words are `out`, and `room` words are left of the maximum
 pub record Unpacked (bytes : List ℕ) (at : ℕ) (out : List ℕ) (room max : ℕ) : Type 0 where
   pub row : TakesRow bytes at [] out
   pub counted : length out + 8 * room ≡ 8 * max
@@ -99,7 +98,7 @@ unpacked_row bytes at out room max taken count new u t size fits = record {
   counted = omega (arith, u.counted);
 }
 
--- all of the bytes
+-- if the groups take all bytes, these pack `out`
 pub unpacked_all : (bytes : List ℕ) (at : ℕ) (out : List ℕ) (room max : ℕ) → Unpacked bytes at out room max
     → length bytes ≤ at → Packs bytes out × (length out ≤ 8 * max)
 unpacked_all bytes at out room max u end = (
@@ -113,7 +112,7 @@ unpacked_all bytes at out room max u end = (
   omega (arith, u.counted),
 )
 
--- a fault at the group that comes
+-- a fault of the rest after the groups so far is a fault of the text at offset `at`
 pub stands : (Q : ℕ → List ℕ → Type 0) (bytes : List ℕ) (at : ℕ) (out : List ℕ) (room max : ℕ)
     → Unpacked bytes at out room max → Q room (slice_range bytes at (length bytes)) → Stands Q bytes max at
 stands Q bytes at out room max u q = record {

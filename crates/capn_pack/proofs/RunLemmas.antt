@@ -1,4 +1,4 @@
--- Runs of words, and the bytes that a tag names. (For `long_run`, `raw_run`, `raw_step` and `zero_run`.)
+-- Lemmas for `long_run`, `raw_run`, `raw_step` and `zero_run`: runs of words, and the bytes that a tag names.
 use Rattle.std.proofs.Common.{◌≡◌, ℕ, zero, suc, ◌+◌, ◌-◌, ◌*◌, ◌/◌, ◌%◌, ◌^◌, ◌<◌, ◌≤◌, true, false, eqb, ltb, List}
 use Rattle.std.proofs.Common.{[], ◌∷◌, ◌++◌, length, take, drop, slice_range, replicate, filter, refl, sym, ap, ◌∙◌}
 use Rattle.std.proofs.Common.{subst, arith, append_assoc, take-add, take-append-drop, drop-drop, length-take}
@@ -29,7 +29,7 @@ tag_zero [] h = refl
 tag_zero (zero ∷ xs) h = ap (λ l. 0 ∷ l) (tag_zero xs (omega arith))
 tag_zero (suc x ∷ xs) h = absurd (omega (arith, tag_some x xs))
 
--- the set bits and the zero bytes are all the bytes
+-- the set bits of the tag and the zero bytes are together as many as the bytes
 pub ones_tag : (xs : List ℕ) → count_ones (tag_of xs) + zero_count xs ≡ length xs
 ones_tag [] = omega (arith, no_ones)
 ones_tag (zero ∷ xs) =
@@ -103,7 +103,7 @@ dense_join (suc n) m bs cs h long d =
 one_dense : (w : List ℕ) → IsDense w → AllDense 1 w
 one_dense w d = (subst IsDense (sym (take_all 8 w (omega (arith, d.0)))) d, drop_all 8 w (omega (arith, d.0)))
 
--- some words more
+-- a run of dense words that continues with another run
 pub dense_steps : (bytes : List ℕ) (start limit count step : ℕ) → IsDenseRun bytes start limit count
     → IsDenseRun bytes (start + 8 * count) (limit - count) step → IsDenseRun bytes start limit (count + step)
 dense_steps bytes start limit count step d more =
@@ -125,7 +125,7 @@ dense_steps bytes start limit count step d more =
       dense = subst (AllDense (count + step)) (sym grown) (dense_join count step bs cs d.dense size more.dense);
     }
 
--- one word more
+-- a run of dense words that continues with one word
 pub dense_more : (bytes : List ℕ) (start limit count : ℕ) → IsDenseRun bytes start limit count → count < limit
     → start + 8 * count + 8 ≤ length bytes → 7 ≤ count_ones (tag_of (take 8 (drop (start + 8 * count) bytes)))
     → IsDenseRun bytes start limit (count + 1)
@@ -146,7 +146,7 @@ zeros_split zero xs = omega arith
 zeros_split (suc n) [] = omega arith
 zeros_split (suc n) (x ∷ xs) = omega (arith, zeros_split n xs)
 
--- the tags of words whose bytes all count
+-- if every bit of the tag is set, no byte is zero
 full_tag : (n : ℕ) (xs : List ℕ) → length xs ≡ n → 1 + tag_of xs ≡ 2 ^ n → zero_count xs ≡ 0
 full_tag n [] long h = refl
 full_tag zero (x ∷ xs) long h = absurd (omega arith)
@@ -173,7 +173,7 @@ four_dense bytes at room h =
     let none : zero_count xs ≡ 0 = full_tag 32 xs long (omega (arith, h)) in
     subst (AllDense 4) (sym (ap (λ n. take n (drop at bytes)) size)) (full_dense 4 xs long none)
 
--- the word after no words
+-- the word after a run of no words is the first
 pub none_at : (bytes : List ℕ) (at n : ℕ) → n ≡ 0 → IsDense (take 8 (drop at bytes))
     → IsDense (take 8 (drop (at + 8 * n) bytes))
 none_at bytes at n none d =
@@ -182,7 +182,7 @@ none_at bytes at n none d =
 
 -- ---- the bytes that are named
 
--- where a run ends before its limit, fewer than eight bytes are left
+-- if fewer than eight bytes are left, there is no further word
 pub no_word : (bytes : List ℕ) (p : ℕ) → p ≤ length bytes → length bytes < p + 8 → length (take 8 (drop p bytes)) < 8
 no_word bytes p le short = simp (length-take, length-drop) (omega arith)
 

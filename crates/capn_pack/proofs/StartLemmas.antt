@@ -1,4 +1,5 @@
--- A whole group comes first. (For `text_piece.rt`, `unpack_block.rt`, `unpack_group.rt` and `unpacked_words.rt`.)
+-- Lemmas for the refusals of memory in `text_piece.rt`, `unpack_block.rt`, `unpack_group.rt` and `unpacked_words.rt`:
+-- the text begins with a whole group.
 use Rattle.std.proofs.Common.{◌≡◌, inl, inr, ℕ, ◌*◌, ◌<◌, ◌≤◌, List, [], ◌∷◌, ◌++◌, length, take, drop}
 use Rattle.std.proofs.Common.{slice_range, sym, ap, ◌∙◌, arith, append_assoc, length-take}
 use Rattle.std.proofs.Common.{take-append-drop, Result, IsErrAnd}
@@ -18,7 +19,7 @@ use Rattle.capn_pack.specs.declared.unpack_group.Taken.{Taken}
 use Rattle.capn_pack.proofs.shared.GroupLemmas.{length_contents, rest_is}
 use Rattle.capn_pack.proofs.RowLemmas.{Unpacked}
 
--- memory is refused where the first n bytes are a group's
+-- the result `Memory` is justified if the first `n` bytes are the text of a group within the room
 pub memory_gives : (rest : List ℕ) (n room : ℕ) (g : Group) (old new : List ℕ) (r : Result Taken Stop) → IsGroup g
     → take n rest ≡ group_text g → group_words g ≤ room → new ≡ old → IsErrAnd r (λ (e : Stop). e ≡ Memory)
     → TakeGives rest room old r new
@@ -33,7 +34,7 @@ memory_gives rest n room g old new r is e fits same refused =
     } in
     rw (error.1, error.2) (first, same)
 
--- the first of some groups
+-- bytes that begin with groups that have words begin with a group within the room
 first_of : (bytes : List ℕ) (at room : ℕ) (gs : List Group) → AllByRecursion IsGroup gs → take at bytes ≡ texts gs
     → 0 < word_count gs → word_count gs ≤ room → StartsWithin bytes room
 first_of bytes at room [] each e some fits = absurd (omega arith)
@@ -48,7 +49,7 @@ first_of bytes at room (g ∷ gs) each e some fits = record {
   fits = omega (arith, fits);
 }
 
--- a row with words
+-- bytes from which a row with words was taken begin with a group within the room
 pub row_starts : (bytes : List ℕ) (at room : ℕ) (out : List ℕ) → TakesRow bytes at [] out → 0 < length out
     → length out ≤ 8 * room
     → StartsWithin bytes room
@@ -57,7 +58,7 @@ row_starts bytes at room out u some fits =
     first_of bytes at room u.groups u.each u.text (omega (arith, size, ap length u.content))
     (omega (arith, size, ap length u.content))
 
--- groups without words are none
+-- a row without words has no groups
 no_groups : (bytes : List ℕ) (at : ℕ) (gs : List Group) → at ≤ length bytes → take at bytes ≡ texts gs
     → word_count gs ≡ 0 → at ≡ 0
 no_groups bytes at [] within e none = omega (arith, within, ap length e, length-take at bytes)
@@ -65,7 +66,7 @@ no_groups bytes at (Zeros more ∷ gs) within e none = absurd (omega (arith, non
 no_groups bytes at (Named tag word ∷ gs) within e none = absurd (omega (arith, none))
 no_groups bytes at (Raw word count more ∷ gs) within e none = absurd (omega (arith, none))
 
--- what comes after the groups so far, where there is room for it, or the first of them
+-- if a group within the room follows the groups so far, the text begins with a group within the maximum
 pub unpacked_starts : (bytes : List ℕ) (at : ℕ) (out : List ℕ) (room max : ℕ) → Unpacked bytes at out room max
     → StartsWithin (slice_range bytes at (length bytes)) room → StartsWithin bytes max
 unpacked_starts bytes at out room max u s = elim (cases_lt 0 (length out)) [
@@ -94,14 +95,14 @@ row_open bytes at (g ∷ gs) each within e none =
     (sym (take-append-drop at bytes) ∙ ap (λ (xs : List ℕ). xs ++ drop at bytes) e
     ∙ append_assoc (group_text g) (texts gs) (drop at bytes)))
 
--- after a row
+-- if a group follows a row of groups, the text begins with a group
 pub row_started : (bytes : List ℕ) (at room : ℕ) (old out : List ℕ) → TakesRow bytes at old out
     → StartsWithin (slice_range bytes at (length bytes)) room → NoGroupFirst bytes → ⊥
 row_started bytes at room old out u s none =
     let start : at ≡ 0 = row_open bytes at u.groups u.each u.within u.text none in
     none s.group s.more s.is_group (ap (λ (n : ℕ). drop n bytes) (sym start) ∙ sym (rest_is bytes at) ∙ s.text)
 
--- among the first bytes of a piece after a rest
+-- if `rest` and the front of `piece` begin with a group, so do `rest` and all of `piece`
 pub joined_started : (rest piece joined : List ℕ) (more room : ℕ) → joined ≡ rest ++ take more piece
     → StartsWithin joined room
     → NoGroupFirst (rest ++ piece) → ⊥
@@ -112,7 +113,7 @@ joined_started rest piece joined more room e s none =
     ∙ ap (λ (xs : List ℕ). xs ++ drop more piece) (sym e ∙ s.text)
     ∙ append_assoc (group_text s.group) s.more (drop more piece))
 
--- a rest that the front of a piece made whole
+-- if the front of `piece` made the group of `rest` whole, `rest` and `piece` begin with a group
 pub whole_started : (rest piece held : List ℕ) (at : ℕ) (old mid : List ℕ)
     → Joins rest piece held old mid (joins.Whole at)
     → NoGroupFirst (rest ++ piece) → ⊥

@@ -1,4 +1,4 @@
--- The tag of a word by lanes. (For `four_tags` and `tag`.)
+-- Lemmas for `tag` and `four_tags` in `signs.rt`: the tag of a word is the mask of its lanes.
 use Rattle.std.proofs.Common.{◌≡◌, ℕ, ◌+◌, ◌*◌, ◌%◌, ◌^◌, ◌<◌, Bool, true, false, not, cond, eqb, List, [], ◌∷◌, map}
 use Rattle.std.proofs.Common.{length, refl, ◌∙◌, arith, w8, replicate}
 use Rattle.std.proofs.lemmas.Simd.{bitmask_splat, mask_l-lt}
@@ -17,12 +17,12 @@ mask_is : (xs : List ℕ) → mask_l (map (λ x. differs x 0) xs) ≡ tag_of xs
 mask_is [] = refl
 mask_is (x ∷ xs) = λ i. turned (eqb x 0) i + 2 * mask_is xs i
 
--- the mask of the lanes that aren't zero
+-- the mask of the lanes of one word that aren't zero is its tag
 pub mask_tag : (xs : List ℕ) → length xs ≡ 8
     → mask_l (map (top 7) (zip2 (λ a b. cond (differs a b) 255 0) xs (replicate 8 0))) % 2 ^ 64 ≡ tag_of xs
 mask_tag xs long = bitmask_splat w8 differs xs 8 0 long (omega arith) ∙ mask_is xs
 
--- the same for the 32 bytes of four words
+-- the mask of the 32 lanes of four words that aren't zero is the tag of their bytes
 pub mask_four : (xs : List ℕ) → length xs ≡ 32
     → mask_l (map (top 7) (zip2 (λ a b. cond (differs a b) 255 0) xs (replicate 32 0))) % 2 ^ 64 ≡ tag_of xs
 mask_four xs long = bitmask_splat w8 differs xs 32 0 long (omega arith) ∙ mask_is xs

@@ -1,15 +1,15 @@
--- The tag of a word as the sum of the weights of its lanes. (For `tag`.)
+-- Lemmas for `tag` in `lanes.rt`: the tag of a word is the sum of the weights of its lanes.
 use Rattle.std.proofs.Common.{◌≡◌, ℕ, zero, suc, ◌+◌, ◌*◌, ◌%◌, ◌≤◌, Bool, true, false, not, cond, eqb, List, []}
 use Rattle.std.proofs.Common.{◌∷◌, map, length, refl, ap, ◌∙◌, arith, replicate}
 use lib.Lanes.{fold_l, sel_l, top, zip2}
 use Rattle.capn_pack.specs.Packed.{tag_of}
 
--- n weights from one on, each twice the one before
+-- `n` weights from `w` on, each twice the one before
 abbrev weights : ℕ → ℕ → List ℕ
 weights zero w = []
 weights (suc n) w = w ∷ weights n (2 * w)
 
--- the weight after them
+-- the weight after `n` weights from `w` on
 abbrev behind : ℕ → ℕ → ℕ
 behind zero w = w
 behind (suc n) w = behind n (2 * w)

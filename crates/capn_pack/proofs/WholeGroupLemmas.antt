@@ -1,5 +1,4 @@
--- Whole groups at the front of some bytes, whose words were appended to what was there, under a maximum. (For
--- `unpack_some`.)
+-- Lemmas for `unpack_some`: whole groups at the front of some bytes, whose words were appended under a maximum.
 use Rattle.std.proofs.Common.{◌≡◌, ℕ, ◌+◌, ◌-◌, ◌*◌, ◌<◌, ◌≤◌, List, [], ◌∷◌, ◌++◌, length, take, drop, slice_range}
 use Rattle.std.proofs.Common.{refl, sym, ap, ◌∙◌, subst, arith, append_assoc, length-append, take-append-drop}
 use Rattle.std.proofs.Common.{length-take}
@@ -14,7 +13,7 @@ use Rattle.capn_pack.specs.declared.whole_groups.Next.TheVariants as nexts
 use Rattle.capn_pack.proofs.shared.GroupLemmas.{length_content, length_contents, rest_is}
 use Rattle.capn_pack.proofs.RowLemmas.{row_join, row_more}
 
--- up to `at` the bytes are groups, their words were appended, and this room is left of the maximum
+-- up to `at` the bytes are groups, their words were appended, and `room` words are left of the maximum
 pub record Appended (bytes : List ℕ) (at : ℕ) (old out : List ℕ) (room max : ℕ) : Type 0 where
   pub row : TakesRow bytes at old out
   pub counted : length out + 8 * room ≡ length old + 8 * max
@@ -26,7 +25,7 @@ appended_none bytes old max = record {
   counted = refl;
 }
 
--- one group more
+-- one group more is appended
 pub appended_more : (bytes : List ℕ) (at : ℕ) (old out : List ℕ) (room max taken count : ℕ) (new : List ℕ)
     → Appended bytes at old out room max → Takes (slice_range bytes at (length bytes)) room taken count out new
     → Appended bytes (at + taken) old new (room - count) max
@@ -43,7 +42,7 @@ appended_more bytes at old out room max taken count new u t = record {
   );
 }
 
--- a row more
+-- a row of groups more is appended
 pub appended_row : (bytes : List ℕ) (at : ℕ) (old out : List ℕ) (room max taken count : ℕ) (new : List ℕ)
     → Appended bytes at old out room max → TakesRow (slice_range bytes at (length bytes)) taken out new
     → length new ≡ length out + 8 * count → count ≤ room → Appended bytes (at + taken) old new (room - count) max
@@ -52,13 +51,13 @@ appended_row bytes at old out room max taken count new u t size fits = record {
   counted = omega (arith, u.counted);
 }
 
--- there is no more room than the maximum
+-- `room` is at most the maximum
 pub appended_room : (bytes : List ℕ) (at : ℕ) (old out : List ℕ) (room max : ℕ) → Appended bytes at old out room max
     → room ≤ max
 appended_room bytes at old out room max u =
     omega (arith, u.counted, ap length u.row.content, length-append old (contents u.row.groups))
 
--- what comes next
+-- the progress after the groups so far, if `StandsNext` holds of what follows
 pub some_next : (bytes : List ℕ) (at : ℕ) (old out : List ℕ) (room max taken words : ℕ) (next is : Next)
     → Appended bytes at old out room max → taken ≡ at → words + room ≡ max → next ≡ is
     → StandsNext is room (drop at bytes) → UnpacksSome bytes max old out taken words next
@@ -83,7 +82,7 @@ some_next bytes at old out room max taken words next is u here sum same stops = 
       (subst (λ (n : ℕ). StandsNext is room (drop n bytes)) (sym here) stops);
 }
 
--- a group that is cut
+-- the progress before a group that is cut
 pub cut_next : (bytes : List ℕ) (at : ℕ) (old out : List ℕ) (room max taken words : ℕ) (next : Next)
     → Appended bytes at old out room max → taken ≡ at → words + room ≡ max → next ≡ nexts.Cut
     → IsCut room (slice_range bytes at (length bytes)) × (length (slice_range bytes at (length bytes)) < most_group)
@@ -92,7 +91,7 @@ cut_next bytes at old out room max taken words next u here sum same cut =
     some_next bytes at old out room max taken words next nexts.Cut u here sum same
     (subst (λ (rest : List ℕ). IsCut room rest × (length rest < most_group)) (rest_is bytes at) cut)
 
--- a group that has more words than there is room for
+-- the progress before a group with more words than `room`
 pub long_next : (bytes : List ℕ) (at : ℕ) (old out : List ℕ) (room max taken words : ℕ) (next : Next)
     → Appended bytes at old out room max → taken ≡ at → words + room ≡ max → next ≡ nexts.TooLong
     → IsTooLong room (slice_range bytes at (length bytes)) → UnpacksSome bytes max old out taken words next
@@ -118,7 +117,7 @@ some_appended bytes at old out room max u = record {
   );
 }
 
--- a group comes first where one comes after some groups, within the maximum if both are
+-- bytes begin with a group if one follows some groups at their front, and within the maximum if both are
 starts_from : (bytes : List ℕ) (at : ℕ) (gs : List Group) (room max : ℕ) → AllByRecursion IsGroup gs
     → at ≤ length bytes → take at bytes ≡ texts gs → word_count gs + room ≡ max
     → StartsWithin (slice_range bytes at (length bytes)) room → StartsWithin bytes max
@@ -142,7 +141,7 @@ starts_from bytes at (g ∷ gs) room max each within e size s = record {
   fits = omega (arith, size);
 }
 
--- a whole group comes first in the whole text if one does in the rest that the groups so far leave
+-- the text begins with a whole group if the rest after the groups so far does
 pub some_starts : (bytes : List ℕ) (at : ℕ) (old out : List ℕ) (room max : ℕ) → Appended bytes at old out room max
     → StartsWithin (slice_range bytes at (length bytes)) room → StartsWithin bytes max
 some_starts bytes at old out room max u s =

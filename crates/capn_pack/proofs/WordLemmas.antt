@@ -1,4 +1,4 @@
--- Whole words of bytes are numbers. (For `unpack`.)
+-- Lemmas for `unpack`: what a text packs are the bytes of whole words.
 use Rattle.std.proofs.Common.{sym, subst, replicate, ◌/◌, ◌≡◌, ℕ, zero, suc, ◌+◌, ◌*◌, ◌^◌, ◌<◌, ◌≤◌, List, [], ◌∷◌}
 use Rattle.std.proofs.Common.{◌++◌, length, take, drop, get_or, refl, ap, ◌∙◌, arith, take-append-drop, length-take}
 use Rattle.std.proofs.Common.{length-drop, get_or-drop, get_or-take, inl, inr}

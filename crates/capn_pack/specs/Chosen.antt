@@ -1,4 +1,4 @@
--- The one text that this packer writes, of the many that pack the same words. (Own.)
+-- The one text that this packer writes, among the many that pack the same words. (Own.)
 use Rattle.std.specs.Prelude.{ℕ, ◌≡◌, ◌+◌, ◌<◌, ◌≤◌, ◌==◌, if◌then◌else◌, List, [], ◌∷◌, length, replicate, take, drop}
 use Rattle.std.specs.Prelude.{suc, zero, ⊤}
 use Rattle.capn_pack.specs.Packed.{tag_of, Group, IsGroup, texts, contents}
@@ -13,26 +13,26 @@ zero_count (x ∷ xs) = (if x == 0 then 1 else 0) + zero_count xs
 abbrev pub IsDense : List ℕ → Type 0
 IsDense word = (length word ≡ 8) × (zero_count word ≤ 1)
 
--- These bytes are n words, each of them dense.
+-- `bs` are the bytes of `n` words, each of them dense.
 abbrev pub AllDense : ℕ → List ℕ → Type 0
 AllDense zero bs = bs ≡ []
 AllDense (suc n) bs = IsDense (take 8 bs) × AllDense n (drop 8 bs)
 
--- The packer chooses this group if the words of bs come after it.
+-- The packer chooses the given group before words whose bytes are `bs`.
 abbrev pub IsChoice : Group → List ℕ → Type 0
--- it goes on as far as zero words do, up to 255 more
+-- a zero group continues as far as zero words do, up to 255 more
 IsChoice (Zeros more) bs = more < 255 → take 8 bs ≡ replicate 8 0 → ⊥
--- it names the bytes that aren't zero, and no zero byte
+-- a tag names the bytes that aren't zero, and no zero byte
 IsChoice (Named tag word) bs = tag ≡ tag_of word
--- its first word has no zero byte, and it goes on as far as dense words do, up to 255 more
+-- the first word of a raw group has no zero byte, and the group continues as far as dense words do, up to 255 more
 IsChoice (Raw word count more) bs = (tag_of word ≡ 255) × AllDense count more × (count < 255 → IsDense (take 8 bs) → ⊥)
 
--- Each group of the row is the packer's choice before those after it.
+-- Each group of the row is the packer's choice before the groups after it.
 abbrev pub IsChosenRow : List Group → Type 0
 IsChosenRow [] = ⊤
 IsChosenRow (g ∷ gs) = IsGroup g × IsChoice g (contents gs) × IsChosenRow gs
 
--- The text b is the packer's for the words whose bytes are bs.
+-- The text `b` is the packer's for the words whose bytes are `bs`.
 pub record Chosen (b bs : List ℕ) : Type 0 where
   pub groups : List Group
   pub chosen : IsChosenRow groups

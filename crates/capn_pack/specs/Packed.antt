@@ -1,4 +1,4 @@
--- Packed texts are rows of groups. A word is its eight bytes, the least first. (Page: packing.)
+-- Packed texts, which are rows of groups. A word is its eight bytes, the least significant first. (Page: packing.)
 use Rattle.std.specs.Prelude.{ℕ, ◌≡◌, ◌+◌, ◌*◌, ◌/◌, ◌%◌, ◌<◌, ◌==◌, if◌then◌else◌, List, [], ◌∷◌, ◌++◌, length}
 use Rattle.std.specs.Prelude.{replicate, ⊤}
 use Rattle.std.specs.List.{flat_map, AllByRecursion}
@@ -6,12 +6,12 @@ use Rattle.std.specs.List.{flat_map, AllByRecursion}
 -- ---- the tag of a word, one bit for each of its eight bytes, and the three kinds of group. A word is its eight bytes,
 -- the least first. (Page: packing.)
 
--- The tag of some bytes: from the least bit on, 1 exactly if the byte isn't zero.
+-- The tag of some bytes: bit i is 1 exactly if byte i isn't zero.
 abbrev pub tag_of : List ℕ → ℕ
 tag_of [] = 0
 tag_of (x ∷ xs) = (if x == 0 then 0 else 1) + 2 * tag_of xs
 
--- The bytes that a tag names: those whose bit is 1.
+-- The bytes that `tag` names: those whose bit is 1.
 abbrev pub named_bytes : ℕ → List ℕ → List ℕ
 named_bytes tag [] = []
 named_bytes tag (x ∷ xs) = if tag % 2 == 1 then x ∷ named_bytes (tag / 2) xs else named_bytes (tag / 2) xs
@@ -23,21 +23,21 @@ IsNamedBy tag (x ∷ xs) = (tag % 2 ≡ 0 → x ≡ 0) × IsNamedBy (tag / 2) xs
 
 -- One group of a packed text.
 pub data Group : Type 0 where
-  -- a word of zeros, and this many more
+  -- a word of zeros, and `more` words of zeros after it
   Zeros : (more : ℕ) → Group
-  -- one word, of which the bytes that the tag names are written
+  -- one word, written as the bytes of it that the tag names
   Named : (tag : ℕ) (word : List ℕ) → Group
-  -- one word written whole, and this many more, copied
+  -- one word written whole, and `count` words after it, copied
   Raw : (word : List ℕ) (count : ℕ) (more : List ℕ) → Group
 
--- The numbers of a group fit: counts are bytes, words have eight bytes, and bytes that no tag names are zero. A tag may
--- name bytes that are zero, and a run may end early. (Own: both.)
+-- The numbers of a group fit: counts are bytes, words have eight bytes, and bytes that the tag does not name are zero.
+-- A tag may name bytes that are zero, and a run may end early. (Own: both.)
 abbrev pub IsGroup : Group → Type 0
 IsGroup (Zeros more) = more < 256
 IsGroup (Named tag word) = (0 < tag) × (tag < 255) × (length word ≡ 8) × IsNamedBy tag word
 IsGroup (Raw word count more) = (length word ≡ 8) × (count < 256) × (length more ≡ 8 * count)
 
--- The text of a group: its tag, then the bytes for which the tag asks.
+-- The text of a group: its tag, then the bytes that follow a tag of its kind.
 abbrev pub group_text : Group → List ℕ
 group_text (Zeros more) = 0 ∷ more ∷ []
 group_text (Named tag word) = tag ∷ named_bytes tag word
@@ -57,11 +57,11 @@ group_words (Raw word count more) = 1 + count
 
 -- ---- packed texts: rows of groups. (Page: packing.)
 
--- The groups, written one after another.
+-- The texts of `groups`, one after another.
 abbrev pub texts : List Group → List ℕ
 texts groups = flat_map group_text groups
 
--- The bytes of all their words, joined.
+-- The bytes of the words of all `groups`, joined.
 abbrev pub contents : List Group → List ℕ
 contents groups = flat_map group_bytes groups
 
@@ -70,7 +70,7 @@ abbrev pub word_count : List Group → ℕ
 word_count [] = 0
 word_count (g ∷ gs) = group_words g + word_count gs
 
--- The text b packs the words whose bytes are bs: it is a row of groups, and bs are their words joined.
+-- The text `b` packs the words whose bytes are `bs`: it is a row of groups, and `bs` are the bytes of their words.
 pub record Packs (b bs : List ℕ) : Type 0 where
   pub groups : List Group
   pub each : AllByRecursion IsGroup groups

@@ -1,13 +1,14 @@
--- A packed text that comes in pieces. (Own.)
+-- A packed text that is unpacked in pieces. (Own.)
 use Rattle.std.specs.Prelude.{ℕ, ◌≡◌, ◌+◌, ◌-◌, ◌^◌, ◌++◌, List, Bool, false, length, min}
 use Rattle.std.specs.List.{AllByRecursion}
 use Rattle.capn_pack.specs.Packed.{Group, IsGroup, group_text, texts, contents}
 
--- No whole group is at the front of these bytes.
+-- `rest` does not begin with a whole group.
 abbrev pub NoGroupFirst : List ℕ → Type 0
 NoGroupFirst rest = (group : Group) (more : List ℕ) → IsGroup group → rest ≡ group_text group ++ more → ⊥
 
--- The stream is whole groups of len bytes, whose words were appended, and then a rest that no group begins.
+-- `stream` is whole groups of `len` bytes, whose words were appended, and then `rest`, which begins with no whole
+-- group.
 pub record Splits (stream rest old new : List ℕ) (len : ℕ) : Type 0 where
   pub groups : List Group
   pub each : AllByRecursion IsGroup groups
@@ -16,7 +17,7 @@ pub record Splits (stream rest old new : List ℕ) (len : ℕ) : Type 0 where
   pub size : len ≡ length (texts groups)
   pub open_rest : NoGroupFirst rest
 
--- A beginning of the stream's words was appended.
+-- A prefix of the words of `stream` was appended.
 pub record Begins (stream old new : List ℕ) : Type 0 where
   pub groups : List Group
   pub rest : List ℕ
@@ -31,11 +32,11 @@ pub record Held : Type 0 where
   pub offset : ℕ
   pub failed : Bool
 
--- The offset `len` bytes after another; offsets stop at the greatest number of 64 bits.
+-- The offset `len` bytes after `offset`. Offsets stop at the greatest number of 64 bits.
 abbrev pub advanced : ℕ → ℕ → ℕ
 advanced offset len = min (offset + len) (2 ^ 64 - 1)
 
--- The bytes held before and the piece are whole groups, whose words were appended, and the bytes held after them.
+-- The bytes held before and `piece` are whole groups, whose words were appended, and then the bytes held afterwards.
 pub record Feeds (before : Held) (piece old new : List ℕ) (after : Held) : Type 0 where
   pub len : ℕ
   pub split : Splits (before.rest ++ piece) after.rest old new len

@@ -6,18 +6,18 @@ use Rattle.capn_pack.specs.UnpackRefusal.{IsCut, IsTooLong}
 use Rattle.capn_pack.specs.declared.whole_groups.Next.{Next}
 use Rattle.capn_pack.specs.declared.whole_groups.Next.TheVariants as nexts
 
--- no group has more bytes: a tag, a word, a count and 255 words
+-- the most bytes of a group: a tag, a word, a count and 255 words
 abbrev pub most_group : ℕ
 most_group = 2050
 
--- these bytes come next, with room for this many words: none; a group that is cut; or one that has more words
+-- `rest` follows the groups, with `room` words left: it is empty, a group that is cut, or a group with more words
 abbrev pub StandsNext : Next → ℕ → List ℕ → Type 0
 StandsNext nexts.End room rest = rest ≡ []
 StandsNext nexts.Cut room rest = IsCut room rest × (length rest < most_group)
 StandsNext nexts.TooLong room rest = IsTooLong room rest
 
--- The first bytes are whole groups of this many words, within the maximum, which were appended; and this comes next,
--- with room for the rest of the maximum.
+-- The first `taken` bytes are whole groups of `words` words within the maximum `max`, and their words were appended.
+-- What `next` says follows them, under the rest of the maximum.
 pub record UnpacksSome (bytes : List ℕ) (max : ℕ) (old new : List ℕ) (taken words : ℕ) (next : Next) : Type 0 where
   pub groups : List Group
   pub each : AllByRecursion IsGroup groups
@@ -29,7 +29,7 @@ pub record UnpacksSome (bytes : List ℕ) (max : ℕ) (old new : List ℕ) (take
   pub fits : words + left ≡ max
   pub stops : StandsNext next left (drop taken bytes)
 
--- The words of some of the groups that come first were appended, within the maximum.
+-- The words of some of the first groups of `bytes` were appended, and they are within the maximum.
 pub record AppendsSome (bytes : List ℕ) (max : ℕ) (old new : List ℕ) : Type 0 where
   pub groups : List Group
   pub rest : List ℕ

@@ -3,7 +3,7 @@ use Rattle.std.specs.Prelude.{ℕ, ◌≡◌, ◌^◌, ◌<◌, List, slice_inde
 use Rattle.std.specs.List.{flat_map, AllByRecursion}
 use Rattle.std.specs.Int.{w64, to_le_bytes}
 
--- Each word as eight bytes, the least first, joined.
+-- The words `ws` as eight bytes each, the least significant first, joined.
 abbrev pub bytes : List ℕ → List ℕ
 bytes ws = flat_map (to_le_bytes w64) ws
 
@@ -15,7 +15,7 @@ AreWords ws = AllByRecursion (λ w. w < 2 ^ 64) ws
 abbrev pub AreBytes : List ℕ → Type 0
 AreBytes bs = (i : ℕ) → slice_index bs i < 2 ^ 8
 
--- These bytes are those of some words.
+-- `bs` are the bytes of some words.
 pub record HasWords (bs : List ℕ) : Type 0 where
   pub words : List ℕ
   pub each : AreWords words

@@ -1,10 +1,10 @@
-//! The progress of a block, and writes into it.
+//! The progress of filling a block, and a copy of bytes into it.
 ghost use Rattle.std.specs.Prelude.{◌≡◌, ◌+◌, ◌≤◌, ◌++◌, length, take};
 
-/// The progress of a block: an offset of the input, and the number of bytes that were made of the groups up to it.
+/// The progress of filling a block: how much of the input was taken, and how much of the block is filled.
 #[derive(Clone, Copy)]
 pub(crate) struct Block {
-    /// The offset, in bytes.
+    /// The offset in the input of the first byte that was not taken.
     pub at: usize,
     /// The number of bytes of the block that are filled.
     pub fill: usize,

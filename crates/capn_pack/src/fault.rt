@@ -1,5 +1,4 @@
-//! Faults of packing and of unpacking.
-//! The variants are in the order in which they are tested, except for memory.
+//! The faults of packing and of unpacking.
 ghost use Rattle.std.specs.Prelude.{◌≡◌};
 
 use std::alloc::AllocError;
@@ -11,7 +10,7 @@ use std::fmt;
 pub enum PackFault {
     /// A growth was refused.
     Memory,
-    /// The bytes aren't whole words: their number, which is given, is no multiple of eight.
+    /// The bytes aren't whole words. The number of bytes, which is no multiple of eight, is given.
     NotWhole(u64),
 }
 
@@ -41,17 +40,17 @@ impl fmt::Display for PackFault {
 
 impl Error for PackFault {}
 
-/// The reason why a packed text isn't unpacked. Offsets are in bytes of the text, and are those of a group's tag.
+/// The reason why a packed text isn't unpacked. Offsets are in bytes of the text.
 #[derive(Clone, Copy, Debug, PartialEq, Eq)]
 pub enum UnpackFault {
     /// A growth was refused.
     Memory,
-    /// The text ends within the group that begins there.
+    /// The text ends within the group at `at`.
     Cut {
         /// The offset of the group's tag.
         at: u64,
     },
-    /// The group that begins there has more words than the maximum leaves.
+    /// The group at `at` has more words than the maximum leaves.
     TooLong {
         /// The offset of the group's tag.
         at: u64,

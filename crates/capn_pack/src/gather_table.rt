@@ -1,11 +1,11 @@
-//! The source lanes of the bytes named by a tag.
+//! The table of shuffles that bring the bytes named by a tag to the front of a word.
 ghost use Rattle.std.specs.Prelude.{◌≡◌};
 ghost use Rattle.capn_pack.specs.inner.ShuffleRows.{gather_row};
 
 use std::simd::prelude::*;
 
 // Row t moves the bytes of a word that the tag t names to the front, one after another, and leaves lane 0 free for the
-// tag; 128 makes a lane zero.
+// tag. The index 128 makes a lane zero.
 #[rattlefmt::skip]
 static GATHERS: [[u8; 16]; 256] = [
     [128, 128, 128, 128, 128, 128, 128, 128, 128, 128, 128, 128, 128, 128, 128, 128],
@@ -266,7 +266,8 @@ static GATHERS: [[u8; 16]; 256] = [
     [128, 0, 1, 2, 3, 4, 5, 6, 7, 128, 128, 128, 128, 128, 128, 128],
 ];
 
-/// Returns the lanes of a word that hold the bytes named by `tag`, one after another behind lane 0.
+/// Returns the lanes of a word that hold the bytes named by `tag`, for the lanes from 1 on. Lane 0 and the lanes after
+/// those bytes get zero.
 #[inline(always)]
 pub(crate) fn gather_places(tag: u8) -> u8x16
     ensures { result ≡ gather_row tag }

@@ -1,4 +1,4 @@
-//! One word and its tag, in eight or sixteen lanes.
+//! One word and its tag, in eight or sixteen lanes of a vector.
 ghost use Rattle.std.specs.Prelude.{◌≡◌, ◌+◌, ◌≤◌, ◌∷◌, ◌++◌, length, take, replicate, count_ones, ℕ};
 ghost use Rattle.capn_pack.specs.Packed.{tag_of, named_bytes, IsNamedBy};
 
@@ -8,7 +8,7 @@ use std::simd::prelude::*;
 
 /// Returns the tag of the word `bytes`: bit i is 1 if and only if byte i isn't zero. (Page: packing.)
 ///
-/// It is the sum of the weights of the lanes that aren't zero. It takes no memory.
+/// The tag is the sum of the weights of the lanes that aren't zero. Takes no memory.
 #[inline(always)]
 pub fn tag(bytes: &[u8; 8]) -> u8
     ensures { result ≡ tag_of bytes.now }
@@ -20,7 +20,7 @@ pub fn tag(bytes: &[u8; 8]) -> u8
         .reduce_sum()
 }
 
-/// Returns the first sixteen bytes of `bytes`; if there are fewer, all of them and then zeros.
+/// Returns the first sixteen bytes of `bytes`. If there are fewer, zeros follow them.
 #[inline(always)]
 fn window(bytes: &[u8]) -> u8x16
     ensures { (n : ℕ) → n ≤ 16 → n ≤ length bytes.now → take n result ≡ take n bytes.now }
@@ -33,7 +33,7 @@ fn window(bytes: &[u8]) -> u8x16
     u8x16::from_array(window)
 }
 
-/// Returns the word whose bytes named by `tag` are the first of `lanes`, in order; its other bytes are zero.
+/// Returns the word in which the bytes named by `tag` are the first of `lanes`, in order, and all others are zero.
 #[inline(always)]
 fn spread_lanes(tag: u8, lanes: u8x16) -> [u8; 8]
     ensures named { IsNamedBy tag result }
@@ -43,7 +43,7 @@ fn spread_lanes(tag: u8, lanes: u8x16) -> [u8; 8]
     lanes.swizzle_dyn(places).extract::<0, 8>().to_array()
 }
 
-/// Returns the word whose bytes named by `tag` are the first of `bytes`, in order; its other bytes are zero.
+/// Returns the word in which the bytes named by `tag` are the first of `bytes`, in order, and all others are zero.
 #[inline(always)]
 pub(crate) fn spread(tag: u8, bytes: &[u8]) -> [u8; 8]
     requires { count_ones tag ≤ length bytes.now }
@@ -53,7 +53,7 @@ pub(crate) fn spread(tag: u8, bytes: &[u8]) -> [u8; 8]
     spread_lanes(tag, window(bytes))
 }
 
-/// Returns what [`spread`] does, if `bytes` are sixteen or more, without a copy of them.
+/// Returns what [`spread`] returns, without a copy of `bytes`, which are sixteen or more.
 #[inline(always)]
 pub(crate) fn spread_far(tag: u8, bytes: &[u8]) -> [u8; 8]
     requires { 16 ≤ length bytes.now }
@@ -63,7 +63,6 @@ pub(crate) fn spread_far(tag: u8, bytes: &[u8]) -> [u8; 8]
     spread_lanes(tag, u8x16::from_slice(bytes))
 }
 
-/// Returns `word`, then eight zeros.
 #[inline(always)]
 fn widened(word: [u8; 8]) -> u8x16
     ensures { result ≡ word ++ replicate 8 0 }
@@ -74,7 +73,7 @@ fn widened(word: [u8; 8]) -> u8x16
     )
 }
 
-/// Returns `tag`, then the bytes of `word` that it names, then any.
+/// Returns `tag`, then the bytes of `word` that it names. The bytes after them are not specified.
 #[inline(always)]
 pub(crate) fn gather(word: [u8; 8], tag: u8) -> [u8; 16]
     ensures { take (1 + count_ones tag) result ≡ tag ∷ named_bytes tag word }

@@ -1,15 +1,15 @@
 //! The laws of packed texts, as empty functions.
 ghost use Rattle.capn_pack.specs.Laws.{EachSplits, OneReading, OneRefusal, OneSplit, PackedAreNotRefused};
 
-/// States: a text packs at most one list of words. Under a maximum it is read, or refused for one reason, and never
-/// both.
+/// States that a text packs at most one list of words. Under a maximum, a text is read or refused for at most one
+/// reason, and never both.
 pub fn reading()
     ensures one { OneReading }
     ensures refusal { OneRefusal }
     ensures apart { PackedAreNotRefused }
 {}
 
-/// States: there is one way to split a text into whole groups and a rest that begins with none.
+/// States that there is exactly one way to split a text into whole groups and a rest that begins with no whole group.
 pub fn splitting()
     ensures all { EachSplits }
     ensures one { OneSplit }

@@ -1,18 +1,18 @@
-//! The packing of Cap'n Proto.
-//! Words are written as groups that leave out their zero bytes.
+//! The packing of Cap'n Proto, which writes words as groups that leave out their zero bytes.
 //!
-//! [`pack`] writes the one text of whole words that this packer chooses, and [`unpack`] reads any packed text, under a
-//! maximum of words; [`unpack`] of what [`pack`] gives is the words again. [`Unpacker`] reads a text that comes in
-//! pieces, and [`tag`] is the tag of one word. (Page: packing; what it leaves open, as
-//! where a run ends, what an unpacker accepts and the order of refusals, is our own.)
+//! [`pack`] writes whole words as the one text that this packer chooses. [`unpack`] reads any packed text, up to a
+//! maximum of words, and gives back the words that [`pack`] was given. [`Unpacker`] reads a text piece by piece, and
+//! [`tag`] returns the tag of one word. (Page: packing. What the page leaves open is our own: where a run ends, what an
+//! unpacker accepts, the order of refusals.)
 //!
 //! ```text
 //! let text = pack(alloc, &[8, 0, 0, 0, 3, 0, 2, 0])?;   // 51 08 03 02 in hexadecimal
 //! let words = unpack(alloc, &text, 1)?;                 // the eight bytes again
 //! ```
 //!
-//! Every refusal is a value of [`PackFault`] or [`UnpackFault`], and the clauses of each call say exactly when it
-//! comes. [`laws`] has what holds of packed texts apart from any call: one reading, one refusal, one way to split.
+//! Every refusal is a value of [`PackFault`] or [`UnpackFault`], and the clauses of each call say exactly when it is
+//! returned. [`laws`] states what holds of packed texts apart from any call: one reading, one refusal, one way to
+//! split.
 #![tactic(auto)]
 
 mod block;

@@ -1,4 +1,4 @@
-//! Groups written into a block, for one append.
+//! The packing of small groups into a block, which is then appended at once.
 ghost use Rattle.std.specs.Prelude.{◌≡◌, ◌+◌, ◌≤◌, ◌∷◌, ◌++◌, [], length, take, drop, IfSome, IfNone};
 ghost use Rattle.capn_pack.specs.Packed.{named_bytes, tag_of};
 ghost use Rattle.capn_pack.specs.inner.Steps.{Puts, PutsRow};
@@ -8,14 +8,13 @@ use crate::lanes::gather;
 use crate::runs::{raw_run, word_at, zero_run};
 use crate::signs::tag;
 
-/// The number of bytes that are written at once after the head of a raw group: the words after its first one, of which
-/// there are fewer than eight, and any bytes that follow.
+/// The number of bytes that one store writes after the head of a raw group: the words after the first, of which there
+/// are at most seven, and any bytes that follow them.
 const SPAN: usize = 64;
 
-/// The most bytes that one group needs of a block: the head of a raw group has ten.
+/// The most bytes of a block that one group needs. The head of a raw group has ten.
 pub(crate) const ROOM: usize = 10 + SPAN;
 
-/// Copies sixteen `bytes` to `block`, from offset `at` on.
 #[inline(always)]
 fn store(block: &mut [u8], at: usize, bytes: [u8; 16])
     requires { at + 16 ≤ length block.old }
@@ -24,7 +23,6 @@ fn store(block: &mut [u8], at: usize, bytes: [u8; 16])
     block[at..at + 16].copy_from_slice(&bytes);
 }
 
-/// Copies the two bytes of `pair` to `block`, from offset `at` on.
 #[inline(always)]
 fn store_pair(block: &mut [u8], at: usize, pair: [u8; 2])
     requires { at + 2 ≤ length block.old }
@@ -33,8 +31,8 @@ fn store_pair(block: &mut [u8], at: usize, pair: [u8; 2])
     block[at..at + 2].copy_from_slice(&pair);
 }
 
-/// Writes a raw group of at most eight words, of which the first is at byte `at` of `bytes`, to `block` from offset
-/// `fill` on. Returns `None` if the group is longer, or if fewer than [`SPAN`] bytes come after its first word.
+/// Writes the raw group of the words from byte `at` of `bytes` on to `block` from offset `fill` on. Returns `None` if
+/// the group has more than eight words, or if fewer than [`SPAN`] bytes follow its first word.
 #[inline(always)]
 fn store_raw(bytes: &[u8], at: usize, block: &mut [u8], fill: usize) -> Option<Block>
     requires inside { at + 8 ≤ length bytes.now }
@@ -75,8 +73,8 @@ fn store_named(block: &mut [u8], fill: usize, word: [u8; 8], tag: u8) -> usize
     fill + 1 + tag.count_ones() as usize
 }
 
-/// Writes the group of the zero word at byte `at` of `bytes`, and of as many more as follow, up to 255, to `block` from
-/// offset `fill` on.
+/// Writes the group of the zero word at byte `at` of `bytes`, and of the zero words that follow it, up to 255, to
+/// `block` from offset `fill` on.
 #[inline(always)]
 fn store_zeros(bytes: &[u8], at: usize, block: &mut [u8], fill: usize) -> Block
     requires inside { at + 8 ≤ length bytes.now }
@@ -94,7 +92,7 @@ fn store_zeros(bytes: &[u8], at: usize, block: &mut [u8], fill: usize) -> Block
 }
 
 /// Writes the group that the packer chooses for the words from byte `at` of `bytes` on to `block` from offset `fill`
-/// on. Returns `None` for a raw group that is long or near the end.
+/// on. Returns `None` for a raw group that is long, or near the end of `bytes`.
 #[inline(always)]
 fn store_group(bytes: &[u8], at: usize, block: &mut [u8], fill: usize) -> Option<Block>
     requires inside { at + 8 ≤ length bytes.now }
@@ -115,8 +113,8 @@ fn store_group(bytes: &[u8], at: usize, block: &mut [u8], fill: usize) -> Option
     }
 }
 
-/// Writes the groups that the packer chooses for the words from byte `start` of `bytes` on, as far as `block` goes, or
-/// up to a raw group that is long or near the end.
+/// Writes the groups that the packer chooses for the words from byte `start` of `bytes` on to `block`, until it is
+/// full. Stops before a raw group that is long, or near the end of `bytes`.
 pub(crate) fn store_groups(bytes: &[u8], start: usize, block: &mut [u8]) -> Block
     requires inside { start ≤ length bytes.now }
     requires room { ROOM ≤ length block.old }

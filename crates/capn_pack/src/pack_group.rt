@@ -1,4 +1,4 @@
-//! One group, written after others.
+//! The packing of one group of any length, appended to the text.
 ghost use Rattle.std.specs.Prelude.{◌≡◌, ◌+◌, ◌<◌, ◌≤◌, ◌∷◌, ◌++◌, length, take, drop, IfOk, OnOk};
 ghost use Rattle.capn_pack.specs.Packed.{tag_of, named_bytes};
 ghost use Rattle.capn_pack.specs.inner.Steps.{Puts};
@@ -20,8 +20,8 @@ fn push_named<A: Allocator>(word: &[u8; 8], tag: u8, out: &mut Vec<u8, A>) -> Re
     Ok(())
 }
 
-/// Appends the group of the zero word at byte `at` of `bytes` and of as many more as follow, up to 255, to `out`;
-/// returns the offset of the next word.
+/// Appends the group of the zero word at byte `at` of `bytes`, and of the zero words that follow it, up to 255, to
+/// `out`. Returns the offset of the next word.
 #[inline(always)]
 fn put_zeros<A: Allocator>(
     bytes: &[u8],
@@ -37,8 +37,8 @@ fn put_zeros<A: Allocator>(
     Ok(at + 8 + 8 * more)
 }
 
-/// Appends the raw group of the word at byte `at` of `bytes`, which has no zero byte, and of as many dense words as
-/// follow, up to 255, to `out`; returns the offset of the next word.
+/// Appends the raw group of the word at byte `at` of `bytes`, which has no zero byte, to `out`. Up to 255 words that
+/// follow are part of the group, as long as each has at most one zero byte. Returns the offset of the next word.
 #[inline(always)]
 fn put_raw<A: Allocator>(bytes: &[u8], at: usize, out: &mut Vec<u8, A>) -> Result<usize, AllocError>
     requires inside { at + 8 ≤ length bytes.now }
@@ -57,8 +57,8 @@ fn put_raw<A: Allocator>(bytes: &[u8], at: usize, out: &mut Vec<u8, A>) -> Resul
     Ok(end)
 }
 
-/// Appends the group of the word at byte `at` of `bytes`, of which some bytes are zero, to `out`; returns the offset of
-/// the next word.
+/// Appends the group of the word at byte `at` of `bytes`, which has zero and other bytes, to `out`. Returns the offset
+/// of the next word.
 #[inline(always)]
 fn put_named<A: Allocator>(
     bytes: &[u8],
@@ -76,8 +76,8 @@ fn put_named<A: Allocator>(
     Ok(at + 8)
 }
 
-/// Appends the group that the packer chooses for the words from byte `at` of `bytes` on to `out`; returns the offset at
-/// which the next group begins.
+/// Appends the group that the packer chooses for the words from byte `at` of `bytes` on to `out`. Returns the offset in
+/// `bytes` at which the next group begins.
 pub(crate) fn put_group<A: Allocator>(
     bytes: &[u8],
     at: usize,

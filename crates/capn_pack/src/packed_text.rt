@@ -1,4 +1,4 @@
-//! Packing.
+//! The call `pack`: whole words to the packed text that this packer chooses.
 ghost use Rattle.std.specs.Prelude.{◌≡◌, ◌≢◌, ◌+◌, ◌%◌, ◌<◌, ◌≤◌, ◌∷◌, ◌++◌, ◌↔◌, length, take, IfOk, IsErrOf, OnErr};
 ghost use Rattle.std.specs.Prelude.{MatchResult, ℕ, List};
 ghost use Rattle.capn_pack.specs.Packed.{Packs};
@@ -10,10 +10,10 @@ use crate::pack_group::put_group;
 use crate::room::text_room;
 use std::alloc::{AllocError, Allocator};
 
-/// A block and the room for a group after it.
+/// The length of the block that groups are written into, with the room for the last one.
 const BLOCK: usize = 4096 + ROOM;
 
-/// Packs the whole words `bytes`, small groups by the block.
+/// Packs `bytes`, which are whole words. Small groups go through a block, long ones are appended one by one.
 fn pack_words<A: Allocator + Copy>(alloc: A, bytes: &[u8]) -> Result<Vec<u8, A>, AllocError>
     requires { length bytes.now % 8 ≡ 0 }
     ensures chosen { IfOk result (λ v. Chosen v.items bytes.now) }
@@ -35,19 +35,19 @@ fn pack_words<A: Allocator + Copy>(alloc: A, bytes: &[u8]) -> Result<Vec<u8, A>,
     Ok(out)
 }
 
-/// Packs whole words: returns the one text that this packer chooses. (Page: packing; where runs end is our own.)
+/// Packs whole words and returns the one text that this packer chooses. (Page: packing. Where runs end is our own.)
 ///
-/// `bytes` are the words' bytes, the least first. The answer grows on `alloc` a logarithmic number of times: it gets
-/// room for the rest of the words, as if they packed like those before, but for at most 64 times what it has; or for
-/// twice what it has.
+/// `bytes` are the bytes of the words, the least significant byte of each first. The text grows on `alloc` a
+/// logarithmic number of times. A growth makes room for the text of the remaining words, as if they packed like those
+/// before, but for no more than 64 times the text so far; or it doubles the room.
 ///
-/// Refusals: `NotWhole` with the number of bytes, if that is no multiple of eight, before any growth; `Memory` if a
-/// growth was refused, which takes some bytes.
+/// Refusals: `NotWhole` with the number of bytes, if that is no multiple of eight, before any growth. `Memory` if a
+/// growth was refused, which can happen only if there are bytes.
 pub fn pack<A: Allocator + Copy>(alloc: A, bytes: &[u8]) -> Result<Vec<u8, A>, PackFault>
-    // The answer is the packer's text of these words, and so a packed text of them.
+    // If `result` is `Ok`, it is the packer's text of the words, and so a packed text of them.
     ensures packed { IfOk result (λ v. Chosen v.items bytes.now) }
     ensures packs { IfOk result (λ v. Packs v.items bytes.now) }
-    // The packer has one text for these words: it is answered, unless memory runs out.
+    // The packer has one text for the words. It is returned, unless memory runs out.
     ensures only { (b : List ℕ) → Chosen b bytes.now
         → MatchResult result (λ v. v.items ≡ b) (λ e. e ≡ PackFault.Memory) }
     // Two of the packer's texts are equal if and only if their words are.

@@ -1,15 +1,14 @@
-//! Room for long answers, asked for at once.
-//! So a long answer is seldom moved as it grows.
+//! The room that is reserved at once for a long text or for many words, so that they are seldom moved as they grow.
 ghost use Rattle.std.specs.Prelude.{◌≤◌, ◌+◌, ◌*◌, max, length};
 
 use std::alloc::Allocator;
 
-/// A text grows by this many times itself at most.
+/// The limit of one growth of a text: this many times the text so far.
 const TIMES: usize = 64;
 
-/// Returns the room to ask of `out` for `count` more bytes of text, which pack the words up to byte `at` of `all`:
-/// `count`, if `out` has as much; else also the room for the text of the words after them, as if those packed like the
-/// words before.
+/// Returns the room to reserve in `out` for `count` more bytes of text, which pack the words up to byte `at` of `all`
+/// bytes. If `out` has room for them, that is `count`. Otherwise the text of the words after byte `at` is added, as if
+/// they packed like the words before, but no more than [`TIMES`] times the text so far.
 #[inline(always)]
 pub(crate) fn text_room<A: Allocator>(
     out: &Vec<u8, A>,
@@ -28,9 +27,9 @@ pub(crate) fn text_room<A: Allocator>(
     count.saturating_add(text.saturating_mul(times))
 }
 
-/// Returns the room to ask of `out` for `count` more bytes of words, which come first in `rest` of a text: `count`, if
-/// `out` has as much; else room for twice the bytes of `rest`, within the `room` words that are left of the maximum:
-/// ten bytes of groups have at least eight bytes of words.
+/// Returns the room to reserve in `out` for `count` more bytes, the words of the first groups of `rest`. If `out` has
+/// room for them, that is `count`. Otherwise it is twice the bytes of `rest`, but no more than `room` words, which are
+/// left of the maximum, and at least `count`. Ten bytes of groups have at least eight bytes of words.
 #[inline(always)]
 pub(crate) fn words_room<A: Allocator>(
     out: &Vec<u8, A>,

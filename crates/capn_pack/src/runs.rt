@@ -1,4 +1,4 @@
-//! Lengths of runs of zero words and of dense words.
+//! The lengths of runs of zero words and of dense words, which have at most one zero byte.
 ghost use Rattle.std.specs.Prelude.{◌≡◌, ◌+◌, ◌*◌, ◌<◌, ◌≤◌, length, take, drop, replicate};
 ghost use Rattle.capn_pack.specs.Chosen.{IsDense};
 ghost use Rattle.capn_pack.specs.inner.Steps.{IsZeroRun, IsDenseRun};
@@ -51,7 +51,6 @@ pub(crate) fn raw_run(bytes: &[u8], start: usize, limit: usize) -> usize
     count
 }
 
-/// Returns the four words that begin at byte `at` of `bytes`.
 #[inline(always)]
 fn four_at(bytes: &[u8], at: usize) -> [u8; 32]
     requires { at + 32 ≤ length bytes.now }
@@ -63,7 +62,7 @@ fn four_at(bytes: &[u8], at: usize) -> [u8; 32]
 }
 
 /// Counts the words from byte `at` of `bytes` on that have at most one zero byte, up to four and up to `limit`. Four
-/// words without a zero byte are seen at once.
+/// words without a zero byte are found by one test.
 #[inline(always)]
 fn raw_step(bytes: &[u8], at: usize, limit: usize) -> usize
     requires inside { at ≤ length bytes.now }
@@ -78,7 +77,7 @@ fn raw_step(bytes: &[u8], at: usize, limit: usize) -> usize
 }
 
 /// Counts the words from byte `start` of `bytes` on that have at most one zero byte, up to 255. Four words without a
-/// zero byte are seen at once.
+/// zero byte are found by one test.
 #[inline(always)]
 pub(crate) fn long_run(bytes: &[u8], start: usize) -> usize
     requires { start ≤ length bytes.now }

@@ -1,13 +1,13 @@
-//! Tags by sign bits: of a word, and of four.
+//! The tags of one word, and of four words, by the sign bits of their lanes.
 ghost use Rattle.std.specs.Prelude.{◌≡◌};
 ghost use Rattle.capn_pack.specs.Packed.{tag_of};
 
 use std::simd::prelude::*;
 
-/// Returns the tag of the word `bytes`, by the sign bits of its lanes.
+/// Returns the tag of the word `bytes`, read from the sign bits of its lanes.
 ///
-/// It is what [`tag`](crate::tag) answers; but testing it for zero becomes one comparison of the whole word, so long
-/// runs of zero words are found faster.
+/// The result equals that of [`tag`](crate::tag). Here a test of it for zero becomes one comparison of the whole word,
+/// so long runs of zero words are found faster.
 #[inline(always)]
 pub(crate) fn tag(bytes: &[u8; 8]) -> u8
     ensures { result ≡ tag_of bytes.now }
@@ -17,7 +17,7 @@ pub(crate) fn tag(bytes: &[u8; 8]) -> u8
         .to_bitmask() as u8
 }
 
-/// Returns the tags of the four words of `bytes`, that of the first word in the least bits.
+/// Returns the tags of the four words of `bytes`. The tag of the first word is in the least significant bits.
 #[inline(always)]
 pub(crate) fn four_tags(bytes: &[u8; 32]) -> u32
     ensures { result ≡ tag_of bytes.now }

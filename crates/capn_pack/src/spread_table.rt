@@ -1,11 +1,11 @@
-//! The source lanes of a word's bytes, by its tag.
+//! The table of shuffles that bring the bytes named by a tag from the front to their places in a word.
 ghost use Rattle.std.specs.Prelude.{◌≡◌};
 ghost use Rattle.capn_pack.specs.inner.ShuffleRows.{spread_row};
 
 use std::simd::prelude::*;
 
-// Row t moves the bytes that the tag t names to their lanes of the word; 128 makes a lane zero. As a table it is
-// one load and one shuffle a word, where a loop over the tag's bits takes some sixty instructions.
+// Row t moves the bytes that the tag t names from the front to their lanes of the word. The index 128 makes a lane
+// zero. The table costs one load and one shuffle a word. A loop over the bits of the tag takes some sixty instructions.
 #[rattlefmt::skip]
 static SPREADS: [[u8; 16]; 256] = [
     [128, 128, 128, 128, 128, 128, 128, 128, 128, 128, 128, 128, 128, 128, 128, 128],
@@ -266,7 +266,7 @@ static SPREADS: [[u8; 16]; 256] = [
     [0, 1, 2, 3, 4, 5, 6, 7, 128, 128, 128, 128, 128, 128, 128, 128],
 ];
 
-/// Returns the lanes from which the bytes of a word with this `tag` come.
+/// Returns the lane from which each byte of a word with this `tag` is taken.
 #[inline(always)]
 pub(crate) fn spread_places(tag: u8) -> u8x16
     ensures { result ≡ spread_row tag }

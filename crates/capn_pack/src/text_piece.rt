@@ -1,4 +1,4 @@
-//! One piece of a packed text, after the bytes held.
+//! The unpacking of one piece of a text, with the bytes of an unfinished group that were held before it.
 ghost use Rattle.std.specs.Prelude.{◌≡◌, ◌+◌, ◌<◌, ◌≤◌, ◌++◌, length, take, drop, IfOk, OnErr};
 ghost use Rattle.capn_pack.specs.PackedPieces.{Splits, Begins, NoGroupFirst};
 ghost use Rattle.capn_pack.specs.inner.Joins.{FeedGives, IsHeld, Joins};
@@ -7,10 +7,10 @@ use crate::unpack_block::{SLACK, take_block};
 use crate::unpack_group::{GROUP, Stop, WORDS, take_group};
 use std::alloc::{AllocError, Allocator};
 
-/// The room for an unfinished group and for as many bytes after it as may make it whole.
+/// The room for an unfinished group and for the bytes after it that may complete it.
 pub(crate) const HELD: usize = 4099;
 
-/// Appends the words of each whole group at the front of `bytes` to `out`, and returns the number of bytes that those
+/// Appends the words of the whole groups at the front of `bytes` to `out`, and returns the number of bytes that those
 /// groups take. `block` is overwritten.
 fn take_groups<A: Allocator>(
     bytes: &[u8],
@@ -43,8 +43,8 @@ fn take_groups<A: Allocator>(
     Ok(at)
 }
 
-/// The outcome for an unfinished group once more bytes came: `Open` with the number of bytes that it has now, or
-/// `Whole` with the number of bytes of the piece that it took.
+/// The state of an unfinished group after more bytes: `Open` with the number of bytes that it has now, or `Whole` with
+/// the number of bytes of the piece that it took.
 #[derive(Clone, Copy)]
 pub(crate) enum Joined {
     Open(usize),
@@ -61,8 +61,8 @@ fn fill(held: &mut [u8], len: usize, piece: &[u8])
     held[len..end].copy_from_slice(piece);
 }
 
-/// Joins the unfinished group, the first `len` bytes of `held`, with the front of `piece`, and appends its words to
-/// `out` if it is whole then.
+/// Joins the unfinished group, the first `len` bytes of `held`, with the front of `piece`. If the group is then whole,
+/// appends its words to `out`.
 fn join_first<A: Allocator>(
     held: &mut [u8],
     len: usize,
@@ -88,14 +88,15 @@ fn join_first<A: Allocator>(
     }
 }
 
-/// The number of bytes that are held for the next group, and the number that the groups before took.
+/// The outcome of a piece: the number `len` of bytes that are held for the next group, and the number `taken` of bytes
+/// that the groups before it took.
 #[derive(Clone, Copy)]
 pub(crate) struct Fed {
     pub len: usize,
     pub taken: usize,
 }
 
-/// Takes `piece` while nothing is held: appends the words of its whole groups to `out`, and copies the rest to `held`.
+/// Takes `piece` if nothing is held. Appends the words of its whole groups to `out`, and copies the rest to `held`.
 fn feed_fresh<A: Allocator>(
     held: &mut [u8],
     piece: &[u8],
@@ -114,7 +115,8 @@ fn feed_fresh<A: Allocator>(
     })
 }
 
-/// Takes `piece` after the beginning of a group, the first `len` bytes of `held`.
+/// Takes `piece` if the first part of a group is held, which is the first `len` bytes of `held`. Appends the words of
+/// the groups that are then whole to `out`, and holds the rest.
 fn feed_begun<A: Allocator>(
     held: &mut [u8],
     len: usize,
@@ -139,8 +141,8 @@ fn feed_begun<A: Allocator>(
     }
 }
 
-/// Takes `piece` after the first `len` bytes of `held`, if there are any: appends the words of all groups that are
-/// whole then to `out`, and holds the rest.
+/// Takes `piece` after the first `len` bytes of `held`, of which there may be none. Appends the words of the groups
+/// that are then whole to `out`, and holds the rest.
 pub(crate) fn feed_held<A: Allocator>(
     held: &mut [u8],
     len: usize,

@@ -1,4 +1,4 @@
-//! Groups read into a block, for one append.
+//! The unpacking of small groups into a block, which is then appended at once.
 ghost use Rattle.std.specs.Prelude.{◌≡◌, ◌+◌, ◌*◌, ◌<◌, ◌≤◌, ◌++◌, [], length, take, slice_index, slice_range};
 ghost use Rattle.std.specs.Prelude.{replicate, IfSome, IfOk, OnErr};
 ghost use Rattle.capn_pack.specs.UnpackRefusal.{StartsWithin};
@@ -10,14 +10,12 @@ use crate::room::words_room;
 use crate::unpack_group::Taken;
 use std::alloc::{AllocError, Allocator};
 
-/// The number of bytes that a block needs after its limit: a few words, zero or raw, are written by one store of that
-/// size.
+/// The number of bytes that a block has after its limit. One store of this size writes up to eight words, zero or raw.
 pub(crate) const SLACK: usize = 64;
 
-/// The most bytes that one step reads: the head of a raw group and the bytes of a few words.
+/// The number of bytes of text that one step may read: the head of a raw group and the words after it.
 const REACH: usize = 10 + SLACK;
 
-/// Copies `word` to `block`, from offset `at` on.
 #[inline(always)]
 fn store_word(block: &mut [u8], at: usize, word: [u8; 8])
     requires { at + 8 ≤ length block.old }
@@ -26,7 +24,6 @@ fn store_word(block: &mut [u8], at: usize, word: [u8; 8])
     block[at..at + 8].copy_from_slice(&word);
 }
 
-/// Writes eight zero words to `block`, from offset `at` on.
 #[inline(always)]
 fn store_zeros(block: &mut [u8], at: usize)
     requires { at + SLACK ≤ length block.old }
@@ -80,7 +77,8 @@ fn fill_raw(text: &[u8], at: usize, block: &mut [u8], fill: usize) -> Option<Blo
     })
 }
 
-/// Writes the word of the group at byte `at` of `text`, whose tag names some bytes, to `block` from offset `fill` on.
+/// Writes the word of the group at byte `at` of `text` to `block` from offset `fill` on. The tag of the group names one
+/// to seven bytes.
 #[inline(always)]
 fn fill_named(text: &[u8], at: usize, block: &mut [u8], fill: usize) -> Block
     requires far { at + 17 ≤ length text.now }
@@ -94,7 +92,7 @@ fn fill_named(text: &[u8], at: usize, block: &mut [u8], fill: usize) -> Block
     let tag = rest[0];
     let word = spread_far(tag, &rest[1..]);
     store_word(block, fill, word);
-    // The next tag waits for this sum: one step from the count of bits to the offset.
+    // The next tag depends on this sum, so it is one step from the count of bits to the offset.
     Block {
         at: at + 1 + tag.count_ones() as usize,
         fill: fill + 8,
@@ -111,7 +109,7 @@ fn fill_group(text: &[u8], at: usize, block: &mut [u8], fill: usize) -> Option<B
     ensures gives { FillGives text.now at fill block.old block.new result }
 {
     let rest = &text[at..];
-    // One test, by which most groups go.
+    // Most groups pass by this one test.
     match rest[0] {
         1..=254 => Some(fill_named(text, at, block, fill)),
         0 => fill_zeros(text, at, block, fill),
@@ -119,7 +117,7 @@ fn fill_group(text: &[u8], at: usize, block: &mut [u8], fill: usize) -> Option<B
     }
 }
 
-/// Does what [`fill_group`] does, near the end of the text or of the block: returns `None` also for a raw group, and
+/// Does what [`fill_group`] does, near the end of the text or of the block. Returns `None` also for a raw group, and
 /// for zero words if fewer than [`SLACK`] bytes are left up to `limit`.
 #[inline(always)]
 fn fill_last(text: &[u8], at: usize, block: &mut [u8], fill: usize, limit: usize) -> Option<Block>
@@ -141,7 +139,7 @@ fn fill_last(text: &[u8], at: usize, block: &mut [u8], fill: usize, limit: usize
     }
 }
 
-/// The progress of some steps, and the number of steps that are left.
+/// The progress after some steps, and the number of steps that are left.
 #[derive(Clone, Copy)]
 struct Stretch {
     reached: Block,
@@ -149,7 +147,7 @@ struct Stretch {
 }
 
 /// Fills `block` with the words of the next `steps` groups of `text`, or of those before a group of more than eight
-/// words. Each of them has its bytes and its room for sure, so that nothing is tested but its kind.
+/// words. The requirements give each group its bytes and its room, so that only the kind of a group is tested.
 #[inline(always)]
 fn fill_steps(text: &[u8], from: Block, block: &mut [u8], steps: usize) -> Stretch
     requires far { from.at + REACH * steps ≤ length text.now }
@@ -181,8 +179,8 @@ fn fill_steps(text: &[u8], from: Block, block: &mut [u8], steps: usize) -> Stret
     }
 }
 
-/// Returns the number of groups of a few words that have their bytes and their room for sure: the text has `len` bytes,
-/// the block room up to `limit`, and `from` is the progress so far.
+/// Returns a number of groups of at most eight words for which there are surely bytes and room. The text has `len`
+/// bytes, the block has room up to `limit`, and `from` is the progress so far.
 #[inline(always)]
 fn sure_steps(len: usize, limit: usize, from: Block) -> usize
     requires inside { from.at ≤ len }
@@ -193,8 +191,8 @@ fn sure_steps(len: usize, limit: usize, from: Block) -> usize
     ((len - from.at) / 128).min((limit - from.fill) / SLACK)
 }
 
-/// Fills `block` with the words of the groups of `text` after `from`, near the end of the text or of the block, up to
-/// `limit`.
+/// Fills `block` up to `limit` with the words of the groups of `text` after `from`, near the end of the text or of the
+/// block.
 #[inline(always)]
 fn fill_rest(text: &[u8], from: Block, block: &mut [u8], limit: usize) -> Block
     requires slack { limit + SLACK ≤ length block.old }
@@ -219,7 +217,8 @@ fn fill_rest(text: &[u8], from: Block, block: &mut [u8], limit: usize) -> Block
     Block { at, fill }
 }
 
-/// Fills `block` up to `limit` with the words of the groups that come first in `text`, as far as it goes.
+/// Fills `block` up to `limit` with the words of the first groups of `text`. Stops before a group that is too long for
+/// a block, or too near the end of `text` or of the block.
 fn fill_block(text: &[u8], block: &mut [u8], limit: usize) -> Block
     requires { limit + SLACK ≤ length block.old }
     ensures within { result.fill ≤ limit }
@@ -238,8 +237,8 @@ fn fill_block(text: &[u8], block: &mut [u8], limit: usize) -> Block
     fill_rest(text, from, block, limit)
 }
 
-/// Appends the words of the first groups of `rest` to `out`: of as many groups as `block` holds and `room`, a number of
-/// words, allows. There may be none.
+/// Appends the words of the first groups of `rest` to `out`, as long as they fit into `block` and are at most `room`
+/// words. There may be none.
 pub(crate) fn take_block<A: Allocator>(
     rest: &[u8],
     room: usize,
@@ -256,7 +255,7 @@ pub(crate) fn take_block<A: Allocator>(
 {
     let limit = (8 * room).min(block.len() - SLACK);
     let filled = fill_block(rest, block, limit);
-    // An empty copy would still be a call, for every long group.
+    // Without this test, every long group would cost the call of an empty copy.
     if filled.fill == 0 {
         return Ok(Taken {
             bytes: filled.at,

@@ -1,4 +1,4 @@
-//! One group read, and its words appended.
+//! The unpacking of one group of any length.
 ghost use Rattle.std.specs.Prelude.{◌≡◌, ◌<◌, length, slice_index};
 ghost use Rattle.capn_pack.specs.inner.Steps.{TakeGives};
 
@@ -6,7 +6,7 @@ use crate::lanes::spread;
 use crate::room::words_room;
 use std::alloc::{AllocError, Allocator};
 
-/// The most bytes of a group: a tag, a word, a count and 255 words. An unfinished one has fewer.
+/// The most bytes of a group: a tag, a word, a count and 255 words. An unfinished group has fewer.
 pub(crate) const GROUP: usize = 2050;
 
 /// The most words of a group.
@@ -42,8 +42,7 @@ pub(crate) struct Taken {
     pub words: usize,
 }
 
-/// Reads the group of a zero word, and of as many more as its count says, at the front of `rest`, and appends its words
-/// to `out`, if they are at most `room`.
+/// Reads the group of zero words at the front of `rest`, and appends its words to `out` if they are at most `room`.
 #[inline(always)]
 fn take_zeros<A: Allocator>(rest: &[u8], room: usize, out: &mut Vec<u8, A>) -> Result<Taken, Stop>
     requires some { 0 < length rest.now }
@@ -62,8 +61,8 @@ fn take_zeros<A: Allocator>(rest: &[u8], room: usize, out: &mut Vec<u8, A>) -> R
     Ok(Taken { bytes: 2, words })
 }
 
-/// Reads the group at the front of `rest` that has one word, of which the tag names some bytes, and appends the word to
-/// `out`, if there is `room` for one.
+/// Reads the group at the front of `rest` if its tag names one to seven bytes, and appends its word to `out` if `room`
+/// is at least 1.
 fn take_named<A: Allocator>(rest: &[u8], room: usize, out: &mut Vec<u8, A>) -> Result<Taken, Stop>
     requires some { 0 < length rest.now }
     requires above { 0 < slice_index rest.now 0 }
@@ -86,8 +85,7 @@ fn take_named<A: Allocator>(rest: &[u8], room: usize, out: &mut Vec<u8, A>) -> R
     })
 }
 
-/// Reads the group of a word written whole, and of as many more as its count says, at the front of `rest`, and appends
-/// its words to `out`, if they are at most `room`.
+/// Reads the raw group at the front of `rest`, and appends its words to `out` if they are at most `room`.
 #[inline(always)]
 fn take_raw<A: Allocator>(rest: &[u8], room: usize, out: &mut Vec<u8, A>) -> Result<Taken, Stop>
     requires some { 0 < length rest.now }
@@ -115,7 +113,7 @@ fn take_raw<A: Allocator>(rest: &[u8], room: usize, out: &mut Vec<u8, A>) -> Res
     })
 }
 
-/// Reads the group at the front of `rest`, and appends its words to `out`, if they are at most `room`.
+/// Reads the group at the front of `rest`, and appends its words to `out` if they are at most `room`.
 pub(crate) fn take_group<A: Allocator>(
     rest: &[u8],
     room: usize,

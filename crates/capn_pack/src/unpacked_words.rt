@@ -1,4 +1,4 @@
-//! Unpacking.
+//! The call `unpack`: a whole packed text to the bytes of its words, under a maximum.
 ghost use Rattle.std.specs.Prelude.{◌≡◌, ◌*◌, ◌≤◌, length, IfOk, IfErr, IsErrOf, MatchResult, List, ℕ};
 ghost use Rattle.capn_pack.specs.Packed.{Packs};
 ghost use Rattle.capn_pack.specs.UnpackRefusal.{IsUnpackRefused, StartsWithin};
@@ -9,10 +9,10 @@ use crate::unpack_block::{SLACK, take_block};
 use crate::unpack_group::{Stop, take_group};
 use std::alloc::Allocator;
 
-/// A block and its slack.
+/// The length of the block that groups are read into, with its slack.
 const BLOCK: usize = 4096 + SLACK;
 
-/// Unpacks `bytes` group by group, small groups by the block, to at most `max_words` words.
+/// Unpacks `bytes` to at most `max_words` words. Small groups go through a block, long ones are appended one by one.
 fn unpack_groups<A: Allocator + Copy>(
     alloc: A,
     bytes: &[u8],
@@ -46,32 +46,32 @@ fn unpack_groups<A: Allocator + Copy>(
     Ok(out)
 }
 
-/// Unpacks a packed text: returns the bytes of its words. (Page: packing.)
+/// Unpacks the packed text `bytes` and returns the bytes of its words. (Page: packing.)
 ///
-/// It takes what the packer would not write too: set tag bits over zero bytes, short runs, any raw words. (Own.) A text
-/// without bytes packs no words. The answer grows on `alloc` a logarithmic number of times, and only for words that the
-/// text has after the head of their group and that are within the maximum: it gets room for twice the bytes that the
-/// text has left, within the maximum, and for these words at least; or for twice what it has.
+/// Texts that the packer would not write are read too: tag bits that are set for zero bytes, short runs, any raw words.
+/// (Own.) The empty text packs no words. The result grows on `alloc` a logarithmic number of times, and only for the
+/// words of whole groups within the maximum. A growth makes room for these words, and for up to twice the bytes that
+/// are left of the text, within the maximum; or it doubles the room.
 ///
-/// Refusals, with the offset of the group's tag: `Cut` if the group's head is cut, else `TooLong` if its words would
-/// bring their number above `max_words`, else `Cut` if its raw words are cut; `Memory` if a growth was refused, which
-/// takes a whole group within the maximum at the front. `Failed` never comes.
+/// Refusals, with the offset of the group's tag: `Cut` if the head of the group is cut. Otherwise `TooLong` if its
+/// words would exceed `max_words` with those before. Otherwise `Cut` if its raw words are cut. `Memory` if a growth was
+/// refused, for which the text has to begin with a whole group within the maximum. `Failed` is never returned.
 pub fn unpack<A: Allocator + Copy>(
     alloc: A,
     bytes: &[u8],
     max_words: u32,
 ) -> Result<Vec<u8, A>, UnpackFault>
-    // The answer is what the bytes pack, within the maximum.
+    // If `result` is `Ok`, it is what `bytes` pack, within the maximum.
     ensures found { IfOk result (λ v. Packs bytes.now v.items) }
     ensures within { IfOk result (λ v. length v.items ≤ 8 * max_words) }
-    // They are the bytes of words.
+    // If `result` is `Ok`, it has whole words.
     ensures words { IfOk result (λ v. HasWords v.items) }
-    // What they pack within the maximum is answered, unless memory runs out.
+    // If `bytes` pack something within the maximum, that is returned, unless memory runs out.
     ensures only { (bs : List ℕ) → Packs bytes.now bs → length bs ≤ 8 * max_words
         → MatchResult result (λ v. v.items ≡ bs) (λ e. e ≡ UnpackFault.Memory) }
-    // The meaning of each refusal, and its place.
+    // If `result` is an `Err`, `IsUnpackRefused` says what `bytes` have at the offset of the refusal.
     ensures refused { IfErr result (λ e. IsUnpackRefused bytes.now max_words e) }
-    // Memory is needed only if a whole group within the maximum comes first.
+    // Memory is needed only if `bytes` begin with a whole group within the maximum.
     ensures memory { IsErrOf result UnpackFault.Memory → StartsWithin bytes.now max_words }
 {
     match unpack_groups(alloc, bytes, max_words) {

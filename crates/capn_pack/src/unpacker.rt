@@ -1,4 +1,4 @@
-//! Unpacking of a text in pieces.
+//! The type `Unpacker`, which unpacks a text piece by piece.
 ghost use Rattle.std.specs.Prelude.{◌≡◌, ◌≢◌, ◌++◌, [], true, false, IfErr, OnOk, IsErrOf, IsOk};
 ghost use Rattle.capn_pack.specs.PackedPieces.{Feeds, Begins, NoGroupFirst};
 
@@ -7,11 +7,11 @@ use crate::text_piece::{HELD, feed_held};
 use std::alloc::Allocator;
 use std::marker::Model;
 
-/// Unpacks a text that comes in pieces, cut anywhere. (Own.)
+/// An unpacker of a text that is given in pieces, cut anywhere. (Own.)
 ///
-/// It keeps the bytes of the unfinished group, of which there are at most 2,049, and the offset of that group's tag in
-/// the text; it has its room inside and takes memory only for a piece's words. After any refusal each later call
-/// answers `Failed` and changes nothing.
+/// It keeps the bytes of the unfinished group, at most 2,049, and the offset of that group's tag in the text. Their
+/// room is inside it, so memory is taken only for the words of a piece. After any refusal each later call returns
+/// `Failed` and changes nothing.
 #[derive(Debug, Drop)]
 pub struct Unpacker {
     held: [u8; HELD],
@@ -54,21 +54,23 @@ impl Unpacker {
         }
     }
 
-    /// Takes the next `piece` of the text, and appends to `out` the bytes of the words of every group that is whole by
-    /// now, and of no other.
+    /// Takes the next `piece` of the text, and appends to `out` the bytes of the words of each group that is whole by
+    /// now.
     ///
-    /// `piece` is taken whole: what remains of it is held. There is no maximum of words; the pieces bound them.
+    /// All of `piece` is taken: the bytes of a group that is not whole yet are held. There is no maximum of words,
+    /// since the lengths of the pieces bound them.
     ///
-    /// Refusals: `Memory` if a growth of `out` was refused, and then a beginning of those words was appended (a piece
-    /// that makes no group whole takes no memory); `Failed` after an earlier refusal, and then `out` is as it was.
+    /// Refusals: `Memory` if a growth of `out` was refused. A prefix of the words was appended then. A piece that makes
+    /// no group whole takes no memory. `Failed` after an earlier refusal, and `out` is as it was.
     pub fn feed<A: Allocator>(
         &mut self,
         piece: &[u8],
         out: &mut Vec<u8, A>,
     ) -> Result<(), UnpackFault>
-        // The bytes held before and the piece are whole groups, whose words were appended, and the bytes held now.
+        // If `result` is `Ok`, the bytes held before and `piece` are whole groups and then the bytes held now. The
+        // words of those groups were appended.
         ensures fed { OnOk result (Feeds self.old piece.now out.old.items out.new.items self.new) }
-        // Without memory a beginning of the words was appended, and the text can't be continued.
+        // If memory was refused, a prefix of the words was appended, and the text can't be continued.
         ensures begun { IsErrOf result UnpackFault.Memory
             → Begins (self.old.rest ++ piece.now) out.old.items out.new.items
             × (self.new.failed ≡ true) }
@@ -77,7 +79,7 @@ impl Unpacker {
         // After a refusal nothing changes any more.
         ensures failed { self.old.failed ≡ true → (result ≡ Err UnpackFault.Failed)
             × (out.new.items ≡ out.old.items) × (self.new ≡ self.old) }
-        // Before one, only memory can be refused.
+        // Before a refusal, only memory can be refused.
         ensures kinds { self.old.failed ≡ false → IfErr result (λ e. e ≡ UnpackFault.Memory) }
     {
         if self.failed {
@@ -97,7 +99,8 @@ impl Unpacker {
         }
     }
 
-    /// Returns the bytes of the unfinished group, from its tag on, also after `Cut`; none if no group has begun.
+    /// Returns the bytes of the unfinished group from its tag on, also after `Cut`. They are empty if no group has
+    /// begun.
     pub fn held(&self) -> &[u8]
         ensures { result.now ≡ self.now.rest }
     {
@@ -106,14 +109,14 @@ impl Unpacker {
 
     /// Tells the unpacker that the text ends here.
     ///
-    /// Refusals: `Cut` at the offset of the unfinished group's tag, if there is one; `Failed` after an earlier refusal.
-    /// After Ok the text may go on. It takes no memory.
+    /// Refusals: `Cut` at the offset of the unfinished group's tag, if there is one. `Failed` after an earlier refusal.
+    /// After `Ok` the text may continue. Takes no memory.
     pub fn finish(&mut self) -> Result<(), UnpackFault>
         ensures ok { OnOk result ((self.old.rest ≡ []) × (self.old.failed ≡ false) × (self.new ≡ self.old)) }
         ensures cut { self.old.failed ≡ false → self.old.rest ≢ []
             → (result ≡ Err (UnpackFault.Cut self.old.offset)) × (self.new.failed ≡ true) }
         ensures failed { self.old.failed ≡ true → (result ≡ Err UnpackFault.Failed) × (self.new ≡ self.old) }
-        // The bytes that are held stay, whatever it answers.
+        // The bytes that are held stay, whatever `result` is.
         ensures kept { self.new.rest ≡ self.old.rest }
         ensures whole { self.old.failed ≡ false → self.old.rest ≡ [] → IsOk result }
     {

@@ -1,4 +1,4 @@
-//! The whole groups at the front of some bytes.
+//! The call `unpack_some`, which unpacks the whole groups at the front of some bytes.
 
 ghost use Rattle.std.specs.Prelude.{◌≡◌, ◌+◌, ◌≤◌, length, IfOk, OnErr};
 ghost use Rattle.capn_pack.specs.UnpackRefusal.{StartsWithin};
@@ -8,32 +8,32 @@ use crate::unpack_block::{SLACK, take_block};
 use crate::unpack_group::{Stop, take_group};
 use std::alloc::{AllocError, Allocator};
 
-/// A block and its slack.
+/// The length of the block that groups are read into, with its slack.
 const BLOCK: usize = 4096 + SLACK;
 
-/// The bytes that follow the whole groups that were unpacked.
+/// The reason why no more whole groups were unpacked: what follows them.
 #[derive(Clone, Copy, Debug, PartialEq, Eq)]
 pub enum Next {
     /// The end of the bytes.
     End,
-    /// The beginning of a group, of at most 2,049 bytes: with the bytes that follow it, it may be whole.
+    /// The first part of a group, at most 2,049 bytes. The group may become whole with the bytes that follow.
     Cut,
-    /// A group whose head announces more words than are left of the maximum.
+    /// A group with more words than are left of the maximum, by its head.
     TooLong,
 }
 
-/// The part of some bytes that was unpacked.
+/// The part of the given bytes that was unpacked, and what follows it.
 #[derive(Clone, Copy, Debug, PartialEq, Eq)]
 pub struct Progress {
     /// The number of bytes that the groups took.
     pub bytes: usize,
     /// The number of words that they have.
     pub words: u32,
-    /// The bytes that follow them.
+    /// What follows the groups.
     pub next: Next,
 }
 
-/// Returns the progress after `bytes` bytes, with `room` words left of `max_words`, and `next` after them.
+/// Returns the progress after `bytes` bytes, if `room` words are left of `max_words` and `next` follows.
 fn stopped(bytes: usize, max_words: u32, room: usize, next: Next) -> Progress
     requires { room ≤ max_words }
     ensures bytes { result.bytes ≡ bytes }
@@ -47,27 +47,28 @@ fn stopped(bytes: usize, max_words: u32, room: usize, next: Next) -> Progress
     }
 }
 
-/// Appends the words of the whole groups that come first in `bytes` to `out`, as long as they come to at most
+/// Appends the words of the whole groups at the front of `bytes` to `out`, as long as their number is at most
 /// `max_words`. (Own.)
 ///
-/// A text that comes in pieces is unpacked under a maximum by calls of it: each takes what the last call left, and the
-/// piece that came, with the words that the last call left of the maximum. At the end of the text, what is left is
-/// refused as [`unpack`](crate::unpack) refuses it there: `Cut` if a group has begun, and `TooLong` as soon as this
-/// call answers it.
+/// Repeated calls unpack a text in pieces under a maximum. Each call gets the bytes that the last call left and the
+/// next piece, and the maximum without the words that were unpacked. If a call returns `TooLong`,
+/// [`unpack`](crate::unpack) refuses the whole text with `TooLong`, at the group that follows. If the last call returns
+/// `Cut`, it refuses the text with `Cut` there.
 ///
-/// It takes no memory except what `out` needs for those words. Refusal: `AllocError` if a growth of `out` was refused,
-/// and then a beginning of those words was appended; that needs a whole group within the maximum at the front.
+/// Takes no memory except for the words in `out`. Refusal: `AllocError` if a growth of `out` was refused, for which
+/// `bytes` have to begin with a whole group within the maximum. A prefix of the words was appended then.
 pub fn unpack_some<A: Allocator>(
     bytes: &[u8],
     max_words: u32,
     out: &mut Vec<u8, A>,
 ) -> Result<Progress, AllocError>
-    // Its words were appended, and no whole group within what is left of the maximum comes next.
+    // If `result` is `Ok`, the words of the groups were appended, and no whole group within what is left of the maximum
+    // follows.
     ensures some { IfOk result (λ p. UnpacksSome bytes.now max_words out.old.items out.new.items p.bytes p.words
         p.next) }
-    // Without memory a beginning of the words within the maximum was appended.
+    // If memory was refused, a prefix of the words within the maximum was appended.
     ensures begun { OnErr result (AppendsSome bytes.now max_words out.old.items out.new.items) }
-    // Memory is asked for only if a whole group within the maximum comes first.
+    // Memory is needed only if `bytes` begin with a whole group within the maximum.
     ensures memory { OnErr result (StartsWithin bytes.now max_words) }
 {
     let mut block = [0; BLOCK];

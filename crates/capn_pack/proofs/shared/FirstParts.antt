@@ -1,7 +1,7 @@
--- The first parts of texts. (For `ChosenLaws`, `GroupLaws`, capn_commands and capn_serve.)
+-- Lemma for `ChosenLaws`, `GroupLaws`, capn_commands and capn_serve: equal texts have equal first parts.
 use Rattle.std.proofs.Common.{◌≡◌, ℕ, List, [], ◌∷◌, ◌++◌, length, refl, arith}
 
--- two equal texts with first parts of one length have equal parts
+-- if `a ++ x` equals `b ++ y` and `a` is as long as `b`, the parts are equal
 pub append_same : (a b x y : List ℕ) → length a ≡ length b → a ++ x ≡ b ++ y → (a ≡ b) × (x ≡ y)
 append_same [] [] x y long e = (refl, e)
 append_same [] (d ∷ b) x y long e = absurd (omega arith)

@@ -1,5 +1,5 @@
--- The front of some bytes decides the group, if there is one. (For `reading`, `unpack`, capn_canon, capn_commands and
--- other crates.)
+-- Lemmas for `reading`, `unpack`, capn_canon, capn_commands and other crates: bytes begin with at most one group, and a
+-- packed text has one reading.
 use Rattle.std.proofs.Common.{◌≡◌, ℕ, zero, suc, ◌*◌, ◌/◌, ◌^◌, ◌<◌, ◌≤◌, inl, inr, false, eqb, List, [], ◌∷◌, ◌++◌}
 use Rattle.std.proofs.Common.{length, refl, sym, ap, ◌∙◌, subst, arith, append_assoc, length-append, pow-suc}
 use Rattle.std.proofs.lemmas.Bool.{ne_eqb}
@@ -32,11 +32,11 @@ length_named (suc n) tag (x ∷ xs) long less =
       | inr odd ↦ omega (arith, ap length (named_one tag x xs odd), ones_half tag, rest)
     ]
 
--- the tests of a tag that names some bytes and not all
+-- a tag that names some bytes and not all is neither 0 nor 255
 middle : (tag : ℕ) → 0 < tag → tag < 255 → (eqb tag 0 ≡ false) × (eqb tag 255 ≡ false)
 middle tag above below = (ne_eqb tag 0 (λ e. absurd (omega arith)), ne_eqb tag 255 (λ e. absurd (omega arith)))
 
--- the bytes have a head that gives the length of the group's text and its words
+-- the bytes `b` begin with the head of the group `g`, which gives the length of its text and its number of words
 pub record HeadOf (g : Group) (b : List ℕ) : Type 0 where
   pub head : HasHead b
   pub long : len_at b ≡ length (group_text g)
@@ -60,7 +60,7 @@ head_of (Raw (a ∷ b ∷ c ∷ d ∷ e ∷ f ∷ g ∷ h ∷ []) n further) mor
 }
 head_of (Raw _ n further) more is = absurd (omega (arith, is.0))
 
--- no group begins where one is cut
+-- bytes that are cut within a group begin with no group
 pub no_group : (room : ℕ) (rest : List ℕ) → IsCut room rest → (g : Group) (more : List ℕ) → IsGroup g
     → rest ≡ group_text g ++ more → ⊥
 no_group room rest cut g more is e =
@@ -70,7 +70,7 @@ no_group room rest cut g more is e =
 
 -- ---- two readings of one text
 
--- words that a tag names alike are alike
+-- two words with the same tag and the same named bytes are equal
 named_same : (tag : ℕ) (v w x y : List ℕ) → length v ≡ length w → IsNamedBy tag v → IsNamedBy tag w
     → named_bytes tag v ++ x ≡ named_bytes tag w ++ y → (v ≡ w) × (x ≡ y)
 named_same tag [] [] x y long p q e = (refl, e)
@@ -94,7 +94,7 @@ named_same tag (a ∷ v) (b ∷ w) x y long p q e =
 head_is : (a b : ℕ) (x y : List ℕ) → a ∷ x ≡ b ∷ y → (a ≡ b) × (x ≡ y)
 head_is a b x y e = (cc, cc)
 
--- no group's text begins another's
+-- two groups whose texts begin the same bytes are equal
 pub group_same : (g h : Group) (x y : List ℕ) → IsGroup g → IsGroup h → group_text g ++ x ≡ group_text h ++ y
     → (g ≡ h) × (x ≡ y)
 group_same (Zeros m) (Zeros n) x y p q e = let a = head_is _ _ _ _ e in let b = head_is _ _ _ _ a.1 in
@@ -119,14 +119,14 @@ group_same (Raw v m f) (Raw w n g) x y p q e =
     let z = append_same f g x y (p.2 ∙ ap (λ i. 8 * i) c.0 ∙ sym q.2) c.1 in
     ((λ i. Raw (r.0 i) (c.0 i) (z.0 i)), z.1)
 
--- groups that are the whole of some groups and a rest go on in the rest
+-- the groups `gs` are the groups `hs` and then groups of `rest`
 pub record GoesOn (gs hs : List Group) (rest : List ℕ) : Type 0 where
   pub more : List Group
   pub whole : gs ≡ hs ++ more
   pub each : AllByRecursion IsGroup more
   pub text : rest ≡ texts more
 
--- groups whose texts begin with those of others begin with these
+-- if the text of `gs` begins with the text of `hs`, then `gs` begin with `hs`
 pub goes_on : (gs hs : List Group) (rest : List ℕ) → AllByRecursion IsGroup gs → AllByRecursion IsGroup hs
     → texts gs ≡ texts hs ++ rest → GoesOn gs hs rest
 goes_on gs [] rest p q e = record { more = gs; whole = refl; each = p; text = sym e }
@@ -155,7 +155,7 @@ one_reading b cs bs p q =
     p.are_bytes ∙ ap contents (r.whole ∙ ap (λ l. q.groups ++ l) (no_texts r.more r.text) ∙ append-nil q.groups)
     ∙ sym q.are_bytes
 
--- what is read within the maximum isn't refused
+-- whole groups within the room are not cut
 not_cut : (room : ℕ) (rest : List ℕ) (more : List Group) → AllByRecursion IsGroup more → rest ≡ texts more
     → IsCut room rest → ⊥
 not_cut room rest [] p e cut = omega (arith, cut.0, ap length e)
@@ -168,7 +168,7 @@ not_long room rest (g ∷ more) p e fits long =
     let h = head_of g (texts more) p.0 in
     omega (arith, long.2, ap words_at e, h.count)
 
--- what never comes before whole groups within the room is found in no text that is read
+-- a fault that no whole groups within the room have is found in no text that is read within the maximum
 pub not_refused : (Q : ℕ → List ℕ → Type 0)
     → ((room : ℕ) (rest : List ℕ) (more : List Group) → AllByRecursion IsGroup more → rest ≡ texts more
     → word_count more ≤ room → Q room rest → ⊥)

@@ -1,4 +1,5 @@
--- A group at the front of some bytes. (For `unpack_block.rt`, `unpack_group.rt`, capn_c, capn_canon and other crates.)
+-- Lemmas for `unpack_block.rt`, `unpack_group.rt`, capn_c, capn_canon and other crates: a group at the front of some
+-- bytes, and rows of groups.
 use Rattle.std.proofs.Common.{◌≡◌, ℕ, suc, ◌+◌, ◌-◌, ◌*◌, ◌<◌, ◌≤◌, List, [], ◌∷◌, ◌++◌, length, take, drop, get_or}
 use Rattle.std.proofs.Common.{slice_range, refl, sym, ap, ◌∙◌, arith, take-add, length-take, length-drop, drop-drop}
 use Rattle.std.proofs.Common.{drop-cons, take_all, replicate, length-append, get_or-drop, ◌^◌}
@@ -19,7 +20,7 @@ take_two [] h = absurd (omega arith)
 take_two (x ∷ []) h = absurd (omega arith)
 take_two (x ∷ y ∷ xs) h = refl
 
--- an item and n more are at i
+-- the items from index `i` on begin with item `i`
 take_at_next : (i n : ℕ) (xs : List ℕ) → i < length xs
     → take (1 + n) (drop i xs) ≡ get_or xs i 0 ∷ take n (drop (i + 1) xs)
 take_at_next i n xs h =
@@ -44,14 +45,14 @@ take_raw_text xs m h =
 pub take_tail : (n : ℕ) (xs : List ℕ) → take n (slice_range xs 1 (length xs)) ≡ take n (drop 1 xs)
 take_tail n xs = ap (take n) (take_all (length xs - 1) (drop 1 xs) (omega (arith, length-drop 1 xs)))
 
--- what `resize` leaves where it lengthens
+-- the items after `resize` makes a list longer
 pub resized : (xs : List ℕ) (l n : ℕ) → l ≡ length xs
     → take (l + n) xs ++ replicate ((l + n) - l) 0 ≡ xs ++ replicate n 0
 resized xs l n e =
     let size : (l + n) - l ≡ n = omega arith in
     rw (take_all (l + n) xs (omega arith), size) refl
 
--- the sizes of such a group are those of a group
+-- the sizes of a raw group are those that `IsGroup` asks for
 pub raw_is_group : (xs : List ℕ) (m : ℕ) → 10 + 8 * m ≤ length xs → m < 256 → (length (slice_range xs 1 9) ≡ 8)
     × (m < 256) × (length (slice_range xs 10 (10 + 8 * m)) ≡ 8 * m)
 raw_is_group xs m h small = (
@@ -66,7 +67,7 @@ length_content (Zeros more) h = length-replicate (8 * (1 + more)) 0
 length_content (Named tag word) h = h.2
 length_content (Raw word count more) h = length-append word more ∙ omega (arith, h.0, h.2)
 
--- a range up to the end is what is left
+-- the range from `at` to the end is what `drop` leaves
 pub rest_is : (bytes : List ℕ) (at : ℕ) → slice_range bytes at (length bytes) ≡ drop at bytes
 rest_is bytes at = take_all (length bytes - at) (drop at bytes) (omega (arith, length-drop at bytes))
 
@@ -74,12 +75,12 @@ rest_is bytes at = take_all (length bytes - at) (drop at bytes) (omega (arith, l
 pub length_rest : (bytes : List ℕ) (at : ℕ) → length (slice_range bytes at (length bytes)) ≡ length bytes - at
 length_rest bytes at = ap length (rest_is bytes at) ∙ length-drop at bytes
 
--- what is left is bytes
+-- what is left of bytes is bytes
 pub byte_of_rest : (bytes : List ℕ) (at i : ℕ) → ((k : ℕ) → get_or bytes k 0 < 2 ^ 8)
     → get_or (slice_range bytes at (length bytes)) i 0 < 2 ^ 8
 byte_of_rest bytes at i fits = rw (rest_is bytes at, get_or-drop) (fits (at + i))
 
--- a row of groups and one more
+-- the text of a row of groups and one more
 pub texts_more : (gs : List Group) (g : Group) → texts (gs ++ g ∷ []) ≡ texts gs ++ group_text g
 texts_more gs g = flat_map-append group_text gs (g ∷ []) ∙ ap (λ l. texts gs ++ l) (append-nil (group_text g))
 
@@ -87,7 +88,7 @@ texts_more gs g = flat_map-append group_text gs (g ∷ []) ∙ ap (λ l. texts g
 pub contents_more : (gs : List Group) (g : Group) → contents (gs ++ g ∷ []) ≡ contents gs ++ group_bytes g
 contents_more gs g = flat_map-append group_bytes gs (g ∷ []) ∙ ap (λ l. contents gs ++ l) (append-nil (group_bytes g))
 
--- groups and one more are groups
+-- a row of groups and one more is a row of groups
 pub each_more : (gs : List Group) (g : Group) → AllByRecursion IsGroup gs → IsGroup g
     → AllByRecursion IsGroup (gs ++ g ∷ [])
 each_more [] g h is = (is, tt)
@@ -104,12 +105,12 @@ length_contents [] h = omega arith
 length_contents (g ∷ gs) h = length-append (group_bytes g) (contents gs)
     ∙ omega (arith, length_content g h.0, length_contents gs h.1)
 
--- the number of words of groups joined
+-- the number of words of two rows of groups joined
 pub count_append : (gs hs : List Group) → word_count (gs ++ hs) ≡ word_count gs + word_count hs
 count_append [] hs = omega arith
 count_append (g ∷ gs) hs = omega (arith, count_append gs hs)
 
--- groups joined are groups
+-- two rows of groups joined are a row of groups
 pub each_append : (gs hs : List Group) → AllByRecursion IsGroup gs → AllByRecursion IsGroup hs
     → AllByRecursion IsGroup (gs ++ hs)
 each_append [] hs p q = q

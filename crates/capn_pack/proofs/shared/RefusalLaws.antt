@@ -1,4 +1,4 @@
--- A packed text is refused for one reason. (For `reading`, capn_canon and capn_commands.)
+-- Lemmas for `reading`, capn_canon and capn_commands: a packed text is refused for one reason.
 use Rattle.std.proofs.Common.{◌≡◌, ℕ, ◌+◌, ◌≤◌, List, [], ◌∷◌, ◌++◌, length, refl, ap, sym, subst, ◌∙◌}
 use Rattle.std.proofs.Common.{append_assoc, arith}
 use Rattle.std.specs.List.{AllByRecursion}
@@ -8,7 +8,7 @@ use Rattle.capn_pack.specs.declared.fault.UnpackFault.{UnpackFault}
 use Rattle.capn_pack.specs.declared.fault.UnpackFault.TheVariants as fault
 use Rattle.capn_pack.proofs.shared.GroupLaws.{no_group, head_of, group_same}
 
--- a rest with this fault begins with no whole group for which there is room
+-- a rest with the fault `Fault` begins with no whole group within the room
 abbrev NoneFits : (ℕ → List ℕ → Type 0) → Type 0
 NoneFits Fault = (room : ℕ) (rest more : List ℕ) (g : Group)
     → IsGroup g → rest ≡ group_text g ++ more → group_words g ≤ room → Fault room rest → ⊥
@@ -19,7 +19,7 @@ cut-no_group room rest more g h e fits cut = no_group room rest cut g more h e
 long-no_group : NoneFits IsTooLong
 long-no_group room rest more g h e fits long = let a = head_of g more h in omega (arith, long.2, ap words_at e, a.count)
 
--- two rows of groups before such rests are one
+-- two rows of groups before rests with a fault are equal
 record SameRow (gs hs : List Group) (rest other : List ℕ) (left right : ℕ) : Type 0 where
   texts_are : texts gs ≡ texts hs
   rest_is : rest ≡ other

@@ -1,5 +1,5 @@
--- Each text is a row of whole groups and a rest that no group begins, in one way. (For `splitting`, capn_commands,
--- capn_commands and capn_serve.)
+-- Lemmas for `splitting`, capn_commands and capn_serve: each text is a row of whole groups and a rest that begins with
+-- no group, in exactly one way.
 use Rattle.std.proofs.Common.{◌≡◌, ◌⊎◌, inl, inr, ℕ, zero, suc, ◌+◌, ◌*◌, ◌/◌, ◌%◌, ◌^◌, ◌<◌, ◌≤◌, List, [], ◌∷◌}
 use Rattle.std.proofs.Common.{◌++◌, length, take, drop, get_or, slice_range, refl, ap, sym, ◌∙◌, arith}
 use Rattle.std.proofs.Common.{append_assoc, length-append, length-drop, take-append-drop}
@@ -17,7 +17,7 @@ use Rattle.capn_pack.proofs.shared.StreamLemmas.{nothing_first, splits_open}
 
 -- ---- a word of which a tag names these bytes
 
--- a word of n bytes, of which a tag names those that come first in these
+-- a word of `n` bytes in which the bytes named by `tag` are the first of `xs`
 record Word (n tag : ℕ) (xs : List ℕ) : Type 0 where
   word : List ℕ
   size : length word ≡ n
@@ -63,14 +63,14 @@ named_word (suc n) tag xs small room = elim (parity tag) [
 
 -- ---- a group comes first, or none does
 
--- a group's text comes first in these bytes
+-- `bs` begin with the text of a group
 record First (bs : List ℕ) : Type 0 where
   group : Group
   more : List ℕ
   is : IsGroup group
   text_is : bs ≡ group_text group ++ more
 
--- the first bytes are a group's
+-- if the first `n` bytes are the text of a group, `bs` begin with one
 first_of : (bs : List ℕ) (n : ℕ) (g : Group) → IsGroup g → take n bs ≡ group_text g → First bs
 first_of bs n g is e =
     record {
@@ -81,7 +81,7 @@ first_of bs n g is e =
           ∙ ap (λ (l : List ℕ). l ++ drop n bs) e;
     }
 
--- the first number of a group is its tag
+-- bytes that begin with the text of a group begin with its tag
 tag_of_first : (bs : List ℕ) (g : Group) (more : List ℕ) → bs ≡ group_text g ++ more
     → get_or bs 0 0 ≡ get_or (group_text g) 0 0
 tag_of_first bs (Zeros n) more e = ap (λ (l : List ℕ). get_or l 0 0) e
@@ -150,14 +150,14 @@ named_first bs some above below =
 
 -- ---- all of a text
 
--- some groups, and a rest with which none begins
+-- `bs` are some groups and a rest that begins with no group
 pub record Split (bs old : List ℕ) : Type 0 where
   pub rest : List ℕ
   pub new : List ℕ
   pub len : ℕ
   pub splits : Splits bs rest old new len
 
--- one group more in front
+-- one more group in front of a text that is split
 split_more : (bs old : List ℕ) (g : Group) (more : List ℕ) → IsGroup g → bs ≡ group_text g ++ more
     → Split more (old ++ group_bytes g) → Split bs old
 split_more bs old g more is e s = record {
@@ -204,7 +204,7 @@ splits_all bs old = split_all (suc (length bs)) bs old (omega arith)
 
 -- ---- in one way
 
--- a text has one row of groups and one rest with which none begins
+-- a text has only one row of groups and rest that begins with no group
 pub one_row : (gs hs : List Group) (r s : List ℕ) → AllByRecursion IsGroup gs → AllByRecursion IsGroup hs
     → NoGroupFirst r → NoGroupFirst s → texts gs ++ r ≡ texts hs ++ s → (gs ≡ hs) × (r ≡ s)
 one_row [] [] r s f g n m e = (refl, e)

@@ -1,4 +1,5 @@
--- The word of a tag and the bytes that it names, byte by byte. (For `GroupLaws`, `LaneLemmas`, `RunLemmas` and others.)
+-- Lemmas for `GroupLaws`, `LaneLemmas`, `RunLemmas` and others: a word and the bytes that a tag names in it, byte by
+-- byte.
 use Rattle.std.proofs.Common.{◌≡◌, ℕ, zero, suc, ◌+◌, ◌*◌, ◌/◌, ◌%◌, ◌^◌, ◌<◌, ◌⊎◌, inl, inr, List, ◌∷◌, refl, sym, ap}
 use Rattle.std.proofs.Common.{◌∙◌, arith}
 use Rattle.std.proofs.lemmas.Bool.Decides.{nat_tests}
@@ -6,7 +7,7 @@ use Rattle.std.proofs.lemmas.Nat.{ones_cat}
 use Rattle.std.specs.Prelude.{count_ones}
 use Rattle.capn_pack.specs.Packed.{named_bytes}
 
--- a number has the digits of its half and its last
+-- the set bits of a number are those of its half and its last bit
 pub ones_half : (n : ℕ) → count_ones n ≡ n % 2 + count_ones (n / 2)
 unfolding lib.Count.ones
 ones_half n =
@@ -24,7 +25,7 @@ ones_half n =
 pub named_one : (left b : ℕ) (ws : List ℕ) → left % 2 ≡ 1 → named_bytes left (b ∷ ws) ≡ b ∷ named_bytes (left / 2) ws
 named_one left b ws e = grind (arith, nat_tests)
 
--- another does not
+-- a tag whose lowest bit is not set does not name the first byte
 pub named_none : (left b : ℕ) (ws : List ℕ) → left % 2 ≡ 0 → named_bytes left (b ∷ ws) ≡ named_bytes (left / 2) ws
 named_none left b ws e = grind (arith, nat_tests)
 

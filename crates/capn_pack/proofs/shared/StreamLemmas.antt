@@ -1,4 +1,5 @@
--- Groups at the front of a stream. (For `feed_begun`, `join_first`, `take_groups`, capn_commands and capn_serve.)
+-- Lemmas for `take_groups`, `join_first`, `feed_begun`, capn_commands and capn_serve: the groups at the front of a
+-- stream that is given in pieces.
 use Rattle.std.proofs.Common.{◌≡◌, ℕ, ◌+◌, ◌-◌, ◌<◌, ◌≤◌, ◌⊎◌, inl, inr, List}
 use Rattle.std.proofs.Common.{[], ◌∷◌, ◌++◌, length, take, drop, slice_range, refl, sym, ap, ◌∙◌, subst, arith}
 use Rattle.std.proofs.Common.{append_assoc, length-append, take-append-drop, length-take, take_all}
@@ -15,7 +16,7 @@ use Rattle.capn_pack.specs.declared.text_piece.Joined.TheVariants as joins
 use Rattle.capn_pack.proofs.shared.GroupLemmas.{rest_is, each_append, text_some}
 use Rattle.capn_pack.proofs.shared.GroupLaws.{no_group}
 
--- a text of which a row of groups was taken begins so
+-- if a row of groups was taken from `bytes`, `Begins` holds
 pub begins : (bytes : List ℕ) (at : ℕ) (old out : List ℕ) → TakesRow bytes at old out → Begins bytes old out
 begins bytes at old out u = record {
   groups = u.groups;
@@ -25,7 +26,7 @@ begins bytes at old out u = record {
   content = u.content;
 }
 
--- it splits so, where no group begins with what is left
+-- if a row of groups was taken from `bytes` and no group follows, `Splits` holds
 pub splits : (bytes : List ℕ) (at : ℕ) (old out : List ℕ) → TakesRow bytes at old out → NoGroupFirst (drop at bytes)
     → Splits bytes (drop at bytes) old out at
 splits bytes at old out u none = record {
@@ -37,7 +38,7 @@ splits bytes at old out u none = record {
   open_rest = none;
 }
 
--- whole groups, and then a beginning of what was left with more after it
+-- if `stream` splits and the words of a prefix of what follows are appended, `Begins` holds for all
 pub begins_then : (stream rest more words next : List ℕ) (len : ℕ) → Splits stream rest [] words len
     → Begins (rest ++ more) [] next → Begins (stream ++ more) [] (words ++ next)
 begins_then stream rest more words next len s b = record {
@@ -56,11 +57,11 @@ begins_then stream rest more words next len s b = record {
       ∙ sym (flat_map-append group_bytes s.groups b.groups);
 }
 
--- no group begins with nothing
+-- the empty text begins with no group
 pub nothing_first : NoGroupFirst []
 nothing_first g more is e = omega (arith, text_some g, ap length e, length-append (group_text g) more)
 
--- it splits so, where what is left is cut
+-- if a row of groups was taken from `bytes` and what follows is cut, `Splits` holds
 pub splits_cut : (bytes : List ℕ) (at : ℕ) (old out : List ℕ) (room : ℕ) → TakesRow bytes at old out
     → IsCut room (slice_range bytes at (length bytes)) → Splits bytes (drop at bytes) old out at
 splits_cut bytes at old out room u cut =
@@ -68,7 +69,7 @@ splits_cut bytes at old out room u cut =
 
 -- ---- an unfinished group and what comes
 
--- what takes no more than the bytes that were held would be a group among them
+-- a group that takes no more bytes than were held would be a group among them
 past_rest : (rest piece joined : List ℕ) (more room taken count : ℕ) (old new : List ℕ)
     → joined ≡ rest ++ take more piece → NoGroupFirst rest → Takes joined room taken count old new → length rest ≤ taken
 past_rest rest piece joined more room taken count old new e none t =
@@ -82,14 +83,14 @@ past_rest rest piece joined more room taken count old new e none t =
       | inr le ↦ le
     ]
 
--- a group taken of what is held and more ends after what is held
+-- a group that is taken from held bytes and more ends after the held bytes
 pub join_past : (held piece joined : List ℕ) (len more room taken count : ℕ) (old new : List ℕ) → len ≤ length held
     → joined ≡ take len held ++ take more piece → NoGroupFirst (take len held) → Takes joined room taken count old new
     → len ≤ taken
 join_past held piece joined len more room taken count old new le e none t =
     omega (arith, past_rest (take len held) piece joined more room taken count old new e none t, length-take len held)
 
--- what is held and more made a group whole
+-- the group of the held bytes became whole by the bytes of a piece
 pub join_whole : (held piece joined kept : List ℕ) (len more room taken count : ℕ) (old new : List ℕ)
     → len ≤ length held → more ≤ length piece → joined ≡ take len held ++ take more piece → NoGroupFirst (take len held)
     → Takes joined room taken count old new
@@ -107,7 +108,7 @@ join_whole held piece joined kept len more room taken count old new le short e n
     ∙ ap (λ n. take n (rest ++ take more piece)) (sym sum) ∙ ap (take taken) (sym e) ∙ t.text in
     (omega arith, t.group, t.is_group, text_is, t.content)
 
--- what is held and more made no group whole
+-- the group of the held bytes is still unfinished after the bytes of a piece
 pub join_open : (held piece joined kept : List ℕ) (len more all room : ℕ) (old new : List ℕ) → 0 < len
     → len ≤ length held → (length piece ≤ more) ⊎ (2049 ≤ more) → more ≤ length piece
     → joined ≡ take len held ++ take more piece → all ≡ len + length (take more piece) → take all kept ≡ joined
@@ -131,7 +132,7 @@ join_open held piece joined kept len more all room old new some le enough within
 
 -- ---- what joined groups and a rest make
 
--- what is held and a piece split as the group that they made whole, and the rest of the piece
+-- the held bytes and a piece split into the group that they made whole and the groups of the rest of the piece
 pub splits_more : (rest piece held : List ℕ) (at : ℕ) (old mid new after : List ℕ) (taken : ℕ)
     → Joins rest piece held old mid (joins.Whole at) → Splits (slice_range piece at (length piece)) after mid new taken
     → Splits (rest ++ piece) after old new ((length rest + at) + taken)
@@ -157,7 +158,7 @@ splits_more rest piece held at old mid new after taken j s =
       open_rest = s.open_rest;
     }
 
--- they begin so too
+-- the held bytes and a piece begin with the group that they made whole and a prefix of what follows
 pub begins_more : (rest piece held : List ℕ) (at : ℕ) (old mid new : List ℕ)
     → Joins rest piece held old mid (joins.Whole at) → Begins (slice_range piece at (length piece)) mid new
     → Begins (rest ++ piece) old new
@@ -174,12 +175,12 @@ begins_more rest piece held at old mid new j s =
       content = s.content ∙ ap (λ l. l ++ contents s.groups) j.4 ∙ append_assoc old (group_bytes g) (contents s.groups);
     }
 
--- a stream with which no group begins splits into nothing and itself
+-- a stream that begins with no group splits into nothing and itself
 pub splits_open : (stream old new : List ℕ) → NoGroupFirst stream → new ≡ old → Splits stream stream old new 0
 splits_open stream old new none e =
     record { groups = []; each = tt; text = refl; content = e ∙ sym (append-nil old); size = refl; open_rest = none }
 
--- one piece after another
+-- if a stream splits, and its rest with the next piece does, both pieces together split
 pub splits_then : (stream rest piece after : List ℕ) (old mid new : List ℕ) (len more : ℕ)
     → Splits stream rest old mid len → Splits (rest ++ piece) after mid new more
     → Splits (stream ++ piece) after old new (len + more)

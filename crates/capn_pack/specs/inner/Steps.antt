@@ -1,4 +1,4 @@
--- Single steps of the code.
+-- The relations that single steps of packing and of unpacking keep.
 use Rattle.std.specs.Prelude.{ℕ, ◌≡◌, ◌+◌, ◌-◌, ◌*◌, ◌<◌, ◌≤◌, ◌++◌, List, length, take, drop, slice_range, replicate}
 use Rattle.std.specs.Prelude.{Option, Some, None, Result, Ok, Err}
 use Rattle.std.specs.List.{AllByRecursion}
@@ -12,7 +12,7 @@ use Rattle.capn_pack.specs.declared.unpack_group.Stop.{Stop}
 use Rattle.capn_pack.specs.declared.unpack_group.Stop.TheVariants.{Memory, Cut, TooLong}
 use Rattle.capn_pack.specs.declared.unpack_group.Taken.{Taken}
 
--- The next group of the rest takes `taken` bytes and has `count` words, whose bytes were appended.
+-- The group at the front of `rest` takes `taken` bytes and has `count` words, whose bytes were appended.
 pub record Takes (rest : List ℕ) (room taken count : ℕ) (old new : List ℕ) : Type 0 where
   pub group : Group
   pub is_group : IsGroup group
@@ -22,27 +22,28 @@ pub record Takes (rest : List ℕ) (room taken count : ℕ) (old new : List ℕ)
   pub fits : count ≤ room
   pub content : new ≡ old ++ group_bytes group
 
--- The answer of reading the next group: what it takes; or nothing was appended, and memory was refused for a whole
--- group within the room, or the group is cut and shorter than the longest, or it has more words than there is room for.
+-- The result of reading the group at the front of `rest`. It is what the group takes; otherwise nothing was appended.
+-- Then memory was refused for a whole group of at most `room` words, or the group is cut and shorter than the longest,
+-- or it has more words than `room`.
 abbrev pub TakeGives : List ℕ → ℕ → List ℕ → Result Taken Stop → List ℕ → Type 0
 TakeGives rest room old (Ok taken) new = Takes rest room taken.bytes taken.words old new
 TakeGives rest room old (Err Memory) new = StartsWithin rest room × (new ≡ old)
 TakeGives rest room old (Err Cut) new = IsCut room rest × (length rest < GROUP) × (new ≡ old)
 TakeGives rest room old (Err TooLong) new = IsTooLong room rest × (new ≡ old)
 
--- The group at one offset of the text, of `count` words, was read up to `f.at`, and its words fill a block from `fill`
--- to `f.fill`.
+-- The group at offset `at` of `text`, which has `count` words, was read up to `f.at`, and its words fill a block from
+-- `fill` to `f.fill`.
 pub record Fills (text : List ℕ) (at fill count : ℕ) (old new : List ℕ) (f : Block) : Type 0 where
   pub forward : at < f.at
   pub reach : f.at ≤ at + REACH
   pub takes : Takes (slice_range text at (length text)) 8 (f.at - at) count (take fill old) (take f.fill new)
 
--- The answer of such a step: it filled some words, or left the block as it was.
+-- The result of reading one group into a block: it filled some words, or left the block as it was.
 abbrev pub FillGives : List ℕ → ℕ → ℕ → List ℕ → List ℕ → Option Block → Type 0
 FillGives text at fill old new (Some f) = (count : ℕ) × Fills text at fill count old new f
 FillGives text at fill old new None = new ≡ old
 
--- The next groups of the rest take `taken` bytes, and their words' bytes were appended.
+-- The groups at the front of `rest` take `taken` bytes, and the bytes of their words were appended.
 pub record TakesRow (rest : List ℕ) (taken : ℕ) (old new : List ℕ) : Type 0 where
   pub groups : List Group
   pub each : AllByRecursion IsGroup groups
@@ -50,7 +51,7 @@ pub record TakesRow (rest : List ℕ) (taken : ℕ) (old new : List ℕ) : Type 
   pub text : take taken rest ≡ texts groups
   pub content : new ≡ old ++ contents groups
 
--- The group that the packer chooses for the words from one offset to the next was appended.
+-- The group that the packer chooses for the words from offset `at` to `next` was appended.
 pub record Puts (bytes : List ℕ) (at next : ℕ) (old new : List ℕ) : Type 0 where
   pub group : Group
   pub is_group : IsGroup group
@@ -60,7 +61,7 @@ pub record Puts (bytes : List ℕ) (at next : ℕ) (old new : List ℕ) : Type 0
   pub content : drop at bytes ≡ group_bytes group ++ drop next bytes
   pub text : new ≡ old ++ group_text group
 
--- The groups that the packer chooses for the words from one offset to the next were appended.
+-- The groups that the packer chooses for the words from offset `at` to `next` were appended.
 pub record PutsRow (bytes : List ℕ) (at next : ℕ) (old new : List ℕ) : Type 0 where
   pub groups : List Group
   pub chosen : (more : List Group) → contents more ≡ drop next bytes → IsChosenRow more → IsChosenRow (groups ++ more)
@@ -69,13 +70,13 @@ pub record PutsRow (bytes : List ℕ) (at next : ℕ) (old new : List ℕ) : Typ
   pub content : drop at bytes ≡ contents groups ++ drop next bytes
   pub text : new ≡ old ++ texts groups
 
--- So many words from one offset on are zero, at most 255.
+-- The `count` words from offset `start` on are zero, and they are at most 255.
 pub record IsZeroRun (bytes : List ℕ) (start count : ℕ) : Type 0 where
   pub most : count ≤ 255
   pub inside : start + 8 * count ≤ length bytes
   pub zeros : drop start bytes ≡ replicate (8 * count) 0 ++ drop (start + 8 * count) bytes
 
--- So many words from one offset on are dense, within the limit.
+-- The `count` words from offset `start` on are dense, and they are at most `limit`.
 pub record IsDenseRun (bytes : List ℕ) (start limit count : ℕ) : Type 0 where
   pub most : count ≤ limit
   pub inside : start + 8 * count ≤ length bytes
