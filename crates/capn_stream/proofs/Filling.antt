@@ -1,4 +1,4 @@
--- One more part of a frame that comes in pieces. (For `fill`.)
+-- Lemmas for `fill`: one more part of a frame that is fed in pieces.
 use Rattle.std.proofs.Common.{◌≡◌, inl, inr, ℕ, ◌+◌, ◌-◌, ◌<◌, ◌≤◌, List, ◌++◌, length, take, drop}
 use Rattle.std.proofs.Common.{refl, ap, sym, subst, ◌∙◌, arith, append_assoc, length-drop}
 use Rattle.std.proofs.Math.Seq.{take-add}
@@ -14,7 +14,7 @@ use Rattle.capn_stream.specs.declared.stage.Stage.{Stage}
 use Rattle.capn_stream.specs.declared.stage.Stage.TheVariants as stages
 use Rattle.capn_stream.proofs.shared.Longer.{IsStage-extends, IsStop-append}
 
--- the bytes after those that were taken of a piece, and some of those that were left
+-- the stage after `at` bytes of `piece` were taken, and the bytes of the frame so far
 pub record Filled (stage : Stage) (old piece : List ℕ) (most at : ℕ) (new ends : List ℕ) : Type 0 where
   pub inside : at ≤ length piece
   pub text : new ≡ old ++ take at piece
@@ -25,7 +25,7 @@ pub stop_count : (bs : List ℕ) (most : ℕ) (e : FrameFault) → length bs ≡
     → (e ≡ TooManySegments (announced_segments bs)) × (most_segments < announced_segments bs) → IsHeadRefused bs most e
 stop_count bs most e here h = rw h.0 (omega arith, refl, h.1)
 
--- the table is waited for after the count
+-- the stage after the count is the table
 pub is_table : (stage : Stage) (old piece : List ℕ) (most at segments : ℕ) (new ends : List ℕ)
     → Filled stage old piece most at new ends → HasCount new × (segments ≡ announced_segments new) → length new ≡ 4
     → Filled (stages.Table segments) old piece most at new ends
@@ -39,7 +39,7 @@ is_table stage old piece most at segments new ends f counted here = record {
   };
 }
 
--- the contents are waited for after the table
+-- the stage after the table is the contents
 pub is_contents : (segments : ℕ) (old piece : List ℕ) (most at start end : ℕ) (new ends cuts : List ℕ)
     → Filled (stages.Table segments) old piece most at new ends → Tabled new most start end cuts
     → Filled (stages.Contents start end) old piece most at new cuts
@@ -69,20 +69,20 @@ module _ (stage : Stage) (old piece : List ℕ) (most at n end : ℕ) (mid new e
         is = IsStage-extends stage mid (drop at piece) most n new ends is part;
       }
 
-  -- the whole piece after what was there
+  -- the old bytes and the whole piece are the new bytes and what is left of the piece
   pub filled_all : old ++ piece ≡ new ++ drop (at + n) piece
   filled_all =
       ap (λ (xs : List ℕ). old ++ xs) (sym (take-append-drop (at + n) piece))
       ∙ sym (append_assoc old (take (at + n) piece) (drop (at + n) piece))
       ∙ ap (λ (xs : List ℕ). xs ++ drop (at + n) piece) (sym filled.text)
 
-  -- what is refused by what is there is refused by the whole piece
+  -- a refusal of the bytes so far is a refusal of the old bytes and the whole piece
   pub filled_stop : (e : FrameFault) → IsHeadRefused new most e → IsHeadRefused (old ++ piece) most e
   filled_stop e h =
       subst (λ (bs : List ℕ). IsHeadRefused bs most e) (sym filled_all)
       (IsStop-append new (drop (at + n) piece) most e h)
 
-  -- of a table that announces too many words all is there
+  -- if a table announces too many words, all of the table is held
   pub filled_kept : (e : FrameFault) → IsHeadRefused new most e → KeepsHead old piece most new e
   filled_kept Memory h = tt
   filled_kept Empty h = tt
@@ -91,7 +91,7 @@ module _ (stage : Stage) (old piece : List ℕ) (most at n end : ℕ) (mid new e
   filled_kept Cut h = tt
   filled_kept Failed h = tt
 
-  -- the piece ended
+  -- the result if the piece ended
   pub filled_short : length new < end → Fills old piece most (at + n) new stage ends
   filled_short short =
       let part = rw (take_rest piece at, end_is) at more in
@@ -104,7 +104,7 @@ module _ (stage : Stage) (old piece : List ℕ) (most at n end : ℕ) (mid new e
         stops = inl (omega (arith, part.stops (omega (arith, short, end_is)), length-drop at piece, inside));
       }
 
-  -- the frame is whole
+  -- the result if the frame is whole
   pub filled_done : IsDone stage new → Fills old piece most (at + n) new stage ends
   filled_done done =
       let f = filled in

@@ -1,4 +1,4 @@
--- A message that is held in segments: its words, its bytes and its size. (For `segments.rt`.)
+-- Lemmas for `segments.rt`: the words, the bytes and the size of a message in segments that lie apart.
 use Rattle.std.proofs.Common.{◌≡◌, ℕ, zero, suc, ◌+◌, ◌-◌, ◌*◌, ◌^◌, ◌<◌, ◌≤◌, List, [], ◌∷◌, length, take, drop, map}
 use Rattle.std.proofs.Common.{slice_index, slice_index_or, All, Bor, Some, None, min, refl, ap, sym, ◌∙◌, arith}
 use Rattle.std.proofs.lemmas.Bool.{lt-ltb, le-ltb}
@@ -10,25 +10,25 @@ use Rattle.capn_words.specs.Message.{word_number, words_of, most_words}
 use Rattle.capn_words.proofs.shared.Words.{word_bytes-number, word_number-lt}
 use Rattle.capn_stream.specs.Segments.{IsHeld, IsWord, joined, message_of}
 
--- segments, as a contract sees them
+-- segments, as contracts see them
 abbrev pub Held : Type 0
 Held = List (Bor (List (List ℕ)))
 
--- what stands for a segment that isn't there
+-- the value that stands for a segment that doesn't exist
 abbrev pub none : Bor (List (List ℕ))
 none = record { ref_ptr = (0, 0); now = [] }
 
--- each of their words has 8 bytes
+-- each word of the segments has 8 bytes
 abbrev pub AreHeld : Held → Type 0
 AreHeld segments = All (λ segment. All IsWord segment.now) segments
 
--- the words of words of 8 bytes are below 2^64
+-- words of 8 bytes stand for numbers below 2^64
 numbers : (words : List (List ℕ)) → All IsWord words → AreWords (map word_number words)
 numbers [] h k = omega arith
 numbers (w ∷ ws) h zero = word_number-lt w (h 0 [] (omega arith)).1
 numbers (w ∷ ws) h (suc k) = numbers ws (λ i d l. h (suc i) d (omega (arith, l))) k
 
--- their bytes are those words, joined
+-- the bytes of the numbers are the words of 8 bytes, joined
 pub bytes_of_numbers : (words : List (List ℕ)) → All IsWord words → bytes (map word_number words) ≡ joined words
 bytes_of_numbers [] h = refl
 bytes_of_numbers (w ∷ ws) h =
@@ -38,7 +38,7 @@ bytes_of_numbers (w ∷ ws) h =
     let rest = bytes_of_numbers ws (λ i d l. h (suc i) d (omega (arith, l))) in
     rw (same, rest) refl
 
--- how many words all segments have
+-- the number of words of the message is the sum over its segments
 pub total_of : (segments : Held) → total (message_of segments) ≡ sum_by (λ segment. length segment.now) segments
 total_of [] = refl
 total_of (s ∷ segments) =
@@ -47,11 +47,11 @@ total_of (s ∷ segments) =
     ∙ ap (λ (n : ℕ). length s.now + n) (total_of segments)
     ∙ sym (sum_by-cons (λ segment. length segment.now) s segments)
 
--- as many segments as there are
+-- the message has as many segments as were given
 pub count_of : (segments : Held) → length (message_of segments) ≡ length segments
 count_of segments = length-map segments (λ segment. map word_number segment.now)
 
--- the words of a segment
+-- segment `i` of the message has the words of segment `i`
 pub segment_of : (segments : Held) (i : ℕ) (d : Bor (List (List ℕ))) → i < length segments
     → segment_at (message_of segments) i ≡ map word_number (slice_index_or segments i d).now
 segment_of segments i d h = get_or-map (λ segment. map word_number segment.now) segments i d [] h
@@ -60,12 +60,12 @@ segment_of segments i d h = get_or-map (λ segment. map word_number segment.now)
 pub words_of-none : (message : List (List ℕ)) (s : ℕ) → length message ≤ s → words_of message s ≡ None
 words_of-none message s h = rw (le-ltb s (length message) h) refl
 
--- one that is there has as many as it holds
+-- a segment that exists has the number of words that it holds
 pub words_of-some : (message : List (List ℕ)) (s : ℕ) → s < length message
     → words_of message s ≡ Some (length (segment_at message s))
 words_of-some message s h = rw (lt-ltb s (length message) h) refl
 
--- a place in range is in a segment that is there
+-- a place in range is in a segment that exists
 place_segment : (message : List (List ℕ)) (s k : ℕ) → k < length (segment_at message s) → s < length message
 place_segment [] s k h = absurd (omega arith)
 place_segment (ws ∷ message) zero k h = omega arith
@@ -77,12 +77,12 @@ below [] h s k = omega arith
 below (x ∷ xs) h zero k = numbers x.now (h 0 x (omega arith)) k
 below (x ∷ xs) h (suc s) k = below xs (λ i d l. h (suc i) d (omega (arith, l))) s k
 
--- what is held is a message
+-- segments within the limits are a message
 pub held_message : (segments : Held) → IsHeld (message_of segments) most_words → AreHeld segments
     → IsMessage (message_of segments)
 held_message segments h w = record { some = h.some; few = h.few; room = h.room; each = below segments w }
 
--- what a segment holds, by its words of 8 bytes
+-- facts about segment `i`, by its words of 8 bytes
 module _ (segments : Held) (message : List (List ℕ)) (is : message_of segments ≡ message) (i : ℕ)
     (d : Bor (List (List ℕ))) where
   abbrev words : List (List ℕ)
@@ -91,7 +91,7 @@ module _ (segments : Held) (message : List (List ℕ)) (is : message_of segments
   pub seen_segment : i < length segments → segment_at message i ≡ map word_number words
   seen_segment h = ap (λ (m : List (List ℕ)). segment_at m i) (sym is) ∙ segment_of segments i d h
 
-  -- it is there
+  -- the segment exists
   pub seen_here : (k : ℕ) → k < length (segment_at message i) → i < length segments
   seen_here k h =
       let e = place_segment message i k h in omega (arith, e, ap length is, count_of segments)
@@ -99,7 +99,7 @@ module _ (segments : Held) (message : List (List ℕ)) (is : message_of segments
   pub seen_count : i < length message → i < length segments
   seen_count h = omega (arith, h, ap length is, count_of segments)
 
-  -- how many words it has
+  -- its number of words
   pub seen_length : i < length segments → length (segment_at message i) ≡ length words
   seen_length h = ap length (seen_segment h) ∙ length-map words word_number
 
@@ -108,7 +108,7 @@ module _ (segments : Held) (message : List (List ℕ)) (is : message_of segments
       let here : i < length message = omega (arith, h, ap length is, count_of segments) in
       ap Some (sym (seen_length h)) ∙ sym (words_of-some message i here)
 
-  -- and no more than all have
+  -- its number of words is below 2^32, as that of all is
   pub seen_room : IsHeld (message_of segments) most_words → i < length segments → length words < 2 ^ 32
   seen_room h here =
       let there : i < length (message_of segments) = omega (arith, here, count_of segments) in
@@ -116,7 +116,7 @@ module _ (segments : Held) (message : List (List ℕ)) (is : message_of segments
       let long = ap length (segment_of segments i d here) ∙ length-map words word_number in
       omega (arith, part, long, h.room)
 
-  -- a word of it
+  -- one word of it
   pub seen_word : (k : ℕ) → k < length (segment_at message i)
       → word_number (slice_index_or words k []) ≡ slice_index (segment_at message i) k
   seen_word k h =
@@ -136,7 +136,7 @@ module _ (segments : Held) (message : List (List ℕ)) (is : message_of segments
 min_again : (a b m : ℕ) → min (min a m + b) m ≡ min (a + b) m
 min_again a b m = omega arith
 
--- the sum of the lengths so far and one more, each number above 2^64 - 1 standing as that
+-- the capped sum of the lengths so far, with one length more
 pub counted_more : (segments : Held) (i : ℕ) (d : Bor (List (List ℕ))) → i < length segments → (old one new : ℕ)
     → old ≡ min (sum_by (λ segment. length segment.now) (take i segments)) (2 ^ 64 - 1)
     → one ≡ length (slice_index_or segments i d).now → new ≡ min (old + one) (2 ^ 64 - 1)

@@ -1,14 +1,14 @@
--- Words of 8 bytes each, joined. (For `bytes_of`.)
+-- Lemmas for `bytes_of`: words of 8 bytes each, joined.
 use Rattle.std.proofs.Common.{◌≡◌, ℕ, zero, suc, ◌*◌, ◌<◌, List, [], ◌∷◌, ◌++◌, length}
 use Rattle.std.proofs.Common.{slice_index_or, All, refl, arith, length-append}
 use Rattle.capn_words.specs.Message.{AreBytes}
 use Rattle.capn_stream.specs.Segments.{IsWord, joined}
 
--- each of some words has 8 bytes
+-- each of `words` has 8 bytes
 abbrev pub HaveEight : List (List ℕ) → Type 0
 HaveEight words = (i : ℕ) → i < length words → length (slice_index_or words i []) ≡ 8
 
--- they have 8 bytes each in all
+-- words of 8 bytes have 8 bytes each in all
 pub length-joined : (words : List (List ℕ)) → HaveEight words → 8 * length words ≡ length (joined words)
 length-joined [] h = refl
 length-joined (w ∷ ws) h =
@@ -16,18 +16,18 @@ length-joined (w ∷ ws) h =
     let rest = length-joined ws (λ i l. h (suc i) (omega (arith, l))) in
     omega (arith, first, rest, length-append w (joined ws))
 
--- a beginning of bytes is bytes
+-- a prefix of bytes is bytes
 AreBytes-front : (xs ys : List ℕ) → AreBytes (xs ++ ys) → AreBytes xs
 AreBytes-front [] ys h i = omega arith
 AreBytes-front (x ∷ xs) ys h zero = h 0
 AreBytes-front (x ∷ xs) ys h (suc i) = AreBytes-front xs ys (λ j. h (suc j)) i
 
--- and so is what follows
+-- what follows a prefix of bytes is bytes
 AreBytes-back : (xs ys : List ℕ) → AreBytes (xs ++ ys) → AreBytes ys
 AreBytes-back [] ys h = h
 AreBytes-back (x ∷ xs) ys h = AreBytes-back xs ys (λ j. h (suc j))
 
--- words of 8 numbers each are words, if these are bytes
+-- words of 8 numbers each are words if the numbers are bytes
 pub all_words : (words : List (List ℕ)) → HaveEight words → AreBytes (joined words) → All IsWord words
 all_words [] h bs k d l = absurd (omega (arith, l))
 all_words (w ∷ ws) h bs zero d l = (h 0 (omega arith), AreBytes-front w (joined ws) bs)

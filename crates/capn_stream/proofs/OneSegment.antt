@@ -1,4 +1,4 @@
--- Frames of one segment. (For `first_bare`.)
+-- Lemmas for `first_bare`: frames of one segment.
 use Rattle.std.proofs.Common.{◌≡◌, ℕ, ◌+◌, ◌-◌, ◌*◌, ◌^◌, ◌≤◌, List, [], ◌∷◌, length, take, drop, sum, refl, ap, arith}
 use Rattle.capn_words.specs.Message.{AreBytes, IsBare}
 use Rattle.capn_stream.specs.Frames.{StandsFirst}
@@ -6,13 +6,13 @@ use Rattle.capn_stream.specs.FrameRefusal.{IsWhole, announced_words, entries, en
 use Rattle.capn_stream.proofs.shared.FrameLaws.{announces, whole_of}
 use Rattle.capn_stream.proofs.shared.WholeFrames.{read_stands}
 
--- bytes that announce one segment announce the words of its size
+-- bytes that announce one segment announce as many words as its size
 one_size : (bs : List ℕ) → entry_number bs ≡ 0 → announced_words bs ≡ entry_number (drop 4 bs)
 one_size bs one =
     let P : ℕ → ℕ = λ n. sum (entries (n + 1) (drop 4 bs)) in
     omega (arith, ap P one)
 
--- all of a frame of one segment of `n` words is there
+-- `bs` have the whole frame of one segment of `n` words
 pub record HasOne (bs : List ℕ) (most n : ℕ) : Type 0 where
   pub table : 8 ≤ length bs
   pub one : entry_number bs ≡ 0
@@ -20,7 +20,7 @@ pub record HasOne (bs : List ℕ) (most n : ℕ) : Type 0 where
   pub room : n ≤ most
   pub contents : 8 + 8 * n ≤ length bs
 
--- where a message of one segment comes first, all of its frame is there
+-- bytes that begin with a message of one segment have its whole frame
 pub has_one : (bs : List ℕ) (most : ℕ) (ws : List ℕ) (taken : ℕ) → StandsFirst bs most (ws ∷ []) taken
     → HasOne bs most (entry_number (drop 4 bs))
 has_one bs most ws taken h =
@@ -37,7 +37,7 @@ has_one bs most ws taken h =
       contents = omega (arith, whole.2, size, head);
     }
 
--- and where all of it is there, the message comes first
+-- bytes that have the whole frame of one segment begin with its message
 pub one_stands : (bs : List ℕ) (most n : ℕ) (ws : List ℕ) → most ≤ 2 ^ 28 → AreBytes bs → HasOne bs most n
     → IsBare (take (8 + 8 * n - 8) (drop 8 bs)) ws → StandsFirst bs most (ws ∷ []) (8 + 8 * n)
 one_stands bs most n ws small below h bare =

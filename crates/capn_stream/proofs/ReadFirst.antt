@@ -1,4 +1,4 @@
--- The answer of a read, of all that the reader had to give. (For `read_message`.)
+-- Lemmas for `read_message`: its result, for all that the reader had to give.
 use Rattle.std.proofs.Common.{◌≡◌, inl, inr, ℕ, ◌<◌, ◌≤◌, List, [], ◌++◌, length, take, Bool, IsErrOf}
 use Rattle.std.proofs.Common.{Option, Some, None, IfSome, Result, Ok, Err, refl, ap, sym, subst, ◌∙◌, arith, append-nil}
 use Rattle.std.proofs.Common.{length-append}
@@ -65,12 +65,12 @@ only input most (Err faults.Io) h message taken t = inr (inr refl)
 only input most (Err (faults.Frame e)) (refused, other, some) message taken t =
     absurd (other (refused_whole input most e (whole_of input most message taken t) refused))
 
--- what stops inside the message is what a read gives
+-- `StopsInside` implies `ReadGives`
 pub read_gives : (old new : Option (List ℕ)) (failed : Bool) (most : ℕ) (r : Result (Option (List (List ℕ))) ReadFault)
     → StopsInside old new failed most r → ReadGives old new failed most r
 read_gives old new failed most r (bytes, received, place) = (bytes, received)
 
--- and needs memory only if there are bytes
+-- memory is needed only if the reader has bytes
 pub wants_first : (old new : Option (List ℕ)) (failed : Bool) (most : ℕ)
     (r : Result (Option (List (List ℕ))) ReadFault)
     → StopsInside old new failed most r → IfSome old (λ input. IsErrOf r faults.Memory → 0 < length input)

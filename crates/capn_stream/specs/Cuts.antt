@@ -1,25 +1,25 @@
--- Words that are cut into segments.
+-- Words that are cut into segments at given ends.
 use Rattle.std.specs.Prelude.{ℕ, ◌+◌, ◌-◌, ◌<◌, ◌≤◌, List, [], ◌∷◌, length, take, drop}
 use Rattle.capn_words.specs.Message.{AreWords, most_segments, most_words}
 
--- the words from a place on, cut: a segment ends at each of the ends, and the last one with the words
+-- the words from index `from` on, cut into segments: one ends at each of the ends, and the last one ends with the words
 abbrev pub cut : ℕ → List ℕ → List ℕ → List (List ℕ)
 cut from [] ws = drop from ws ∷ []
 cut from (end ∷ ends) ws = take (end - from) (drop from ws) ∷ cut end ends ws
 
--- the ends rise, and the last is within the length
+-- the ends rise from `from` on, and the last is at most `len`
 abbrev pub AreRising : ℕ → List ℕ → ℕ → Type 0
 AreRising from [] len = from ≤ len
 AreRising from (end ∷ ends) len = (from ≤ end) × AreRising end ends len
 
--- these ends cut these words into a message
+-- `ends` cut the words `ws` into a message
 pub record AreEnds (ends ws : List ℕ) : Type 0 where
   pub few : length ends < most_segments
   pub rising : AreRising 0 ends (length ws)
   pub room : length ws ≤ most_words
   pub each : AreWords ws
 
--- the ends of the segments of these sizes, the first beginning at a place
+-- the ends of segments of the given sizes, if the first begins at word `from`
 abbrev pub ends_from : ℕ → List ℕ → List ℕ
 ends_from from [] = []
 ends_from from (size ∷ sizes) = (from + size) ∷ ends_from (from + size) sizes

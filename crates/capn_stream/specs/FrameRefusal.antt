@@ -1,5 +1,5 @@
--- The numbers that the table of a stream announces, and the reason why the stream is refused. (Page: serialization over
--- a stream; the order of the tests is our own.)
+-- The numbers that the table of a frame announces, and the reason why bytes are no frame. (Page: serialization over a
+-- stream; the order of the tests is our own.)
 use Rattle.std.specs.Prelude.{◌≡◌, ◌⊎◌, ℕ, zero, suc, ◌+◌, ◌*◌, ◌<◌, ◌≤◌, List, [], ◌∷◌, length, drop, sum, ⊤, refl}
 use Rattle.byteorder.specs.Endian.{little_number}
 use Rattle.capn_words.specs.Message.{most_segments}
@@ -8,11 +8,11 @@ use Rattle.capn_stream.specs.declared.fault.FrameFault.{FrameFault}
 use Rattle.capn_stream.specs.declared.fault.FrameFault.TheVariants.{Memory, Empty, TooManySegments, TooManyWords, Cut}
 use Rattle.capn_stream.specs.declared.fault.FrameFault.TheVariants.{Failed}
 
--- the number in the first 4 bytes, the least first
+-- the number in the first 4 bytes, the least significant first
 unfoldable pub entry_number : List ℕ → ℕ
 entry_number bs = little_number 4 bs
 
--- the first n numbers of 4 bytes
+-- the first `n` numbers of 4 bytes each
 abbrev pub entries : ℕ → List ℕ → List ℕ
 entries zero bs = []
 entries (suc n) bs = entry_number bs ∷ entries n (drop 4 bs)
@@ -25,23 +25,23 @@ announced_segments bs = entry_number bs + 1
 abbrev pub announced_words : List ℕ → ℕ
 announced_words bs = sum (entries (announced_segments bs) (drop 4 bs))
 
--- the number of bytes that the table of `count` segments and its padding take
+-- the length in bytes of the table of `count` segments with its padding
 abbrev pub head_length : ℕ → ℕ
 head_length count = 4 + 4 * count + padding count
 
--- the number of bytes that the announced frame takes
+-- the length in bytes of the announced frame
 abbrev pub frame_length : List ℕ → ℕ
 frame_length bs = head_length (announced_segments bs) + 8 * announced_words bs
 
--- the count is there, and announces no more segments than are allowed
+-- `bs` have the whole count, which announces no more segments than are allowed
 abbrev pub HasCount : List ℕ → Type 0
 HasCount bs = (4 ≤ length bs) × (announced_segments bs ≤ most_segments)
 
--- the table and its padding are there
+-- `bs` have the whole table with its padding
 abbrev pub HasHead : List ℕ → Type 0
 HasHead bs = HasCount bs × (head_length (announced_segments bs) ≤ length bs)
 
--- the announced frame is there, and has at most `most` words
+-- `bs` have the whole announced frame, which has at most `most` words
 abbrev pub IsWhole : List ℕ → ℕ → Type 0
 IsWhole bs most = HasHead bs × (announced_words bs ≤ most) × (frame_length bs ≤ length bs)
 
@@ -49,39 +49,40 @@ IsWhole bs most = HasHead bs × (announced_words bs ≤ most) × (frame_length b
 abbrev pub most_few : ℕ
 most_few = 64
 
--- the announced frame is there and allowed, and its table has more segments, so that memory is needed for where they
--- end
+-- `bs` have the whole announced frame, which is allowed, and its table has more than `most_few` segments, so that
+-- memory is needed for their ends
 abbrev pub HasTable : List ℕ → ℕ → Type 0
 HasTable bs most = IsWhole bs most × (most_few < announced_segments bs)
 
--- the count 63 announces as many as are read without memory,
+-- the count 63 announces the most segments that are read without memory
 no_more : announced_segments (63 ∷ 0 ∷ 0 ∷ 0 ∷ []) ≡ most_few
 unfolding entry_number
 no_more = refl
 
--- and the count 64 announces one more
+-- the count 64 announces one segment more
 one_more : announced_segments (64 ∷ 0 ∷ 0 ∷ 0 ∷ []) ≡ most_few + 1
 unfolding entry_number
 one_more = refl
 
--- the count is cut; or the segments announced are allowed, and the table or its padding is cut; or the words announced
--- are allowed too, and the contents are cut
+-- `bs` are cut within a frame. Either the count is cut; or the announced segments are allowed, and the table or its
+-- padding is cut; or the announced words are allowed too, and the contents are cut.
 abbrev pub IsCut : List ℕ → ℕ → Type 0
 IsCut bs most =
     ((0 < length bs) × (length bs < 4))
     ⊎ (HasCount bs × (length bs < head_length (announced_segments bs)))
     ⊎ (HasHead bs × (announced_words bs ≤ most) × (length bs < frame_length bs))
 
--- the bytes end with the count or before it; or with the table and its padding, if the segments announced are allowed;
--- or with the contents, if the words announced are allowed too
+-- `bs` do not go beyond the part of the frame that is needed next. They end with the count or before; or, if the
+-- announced segments are allowed, with the table and its padding or before; or, if the announced words are allowed too,
+-- with the contents or before.
 abbrev pub EndsWithin : List ℕ → ℕ → Type 0
 EndsWithin bs most =
     (length bs ≤ 4)
     ⊎ (HasCount bs × (length bs ≤ head_length (announced_segments bs)))
     ⊎ (HasHead bs × (announced_words bs ≤ most) × (length bs ≤ frame_length bs))
 
--- bytes are refused under a number of words, for this fault; each test is made once those before it have passed
--- (running out of memory says nothing of the bytes)
+-- `bs` are refused with the given fault if at most `most` words are allowed. Each test is made after those before it
+-- have passed. Running out of memory says nothing of the bytes.
 abbrev pub IsFrameRefused : List ℕ → ℕ → FrameFault → Type 0
 IsFrameRefused bs most Memory = ⊤
 IsFrameRefused bs most Empty = length bs ≡ 0

@@ -6,11 +6,11 @@ use Rattle.std.specs.List.{flat_map}
 use Rattle.byteorder.specs.Endian.{little_bytes}
 use Rattle.capn_words.specs.Message.{most_segments, bytes, segment_at, total, AreBytes}
 
--- the words of the longest table and its padding (Own.)
+-- the number of words of the longest table with its padding (Own.)
 abbrev pub most_table_words : ℕ
 most_table_words = most_segments / 2 + 1
 
--- a number below 2^32 as its 4 bytes, the least first
+-- a number below 2^32 as its 4 bytes, the least significant first
 unfoldable pub entry : ℕ → List ℕ
 entry n = little_bytes 4 n
 
@@ -26,7 +26,7 @@ padding count = if count % 2 == 0 then 4 else 0
 abbrev pub segment_bytes : List (List ℕ) → List ℕ
 segment_bytes message = flat_map bytes message
 
--- a table that is accepted can announce this message: 1 to 4,096 segments (own: no more), each of fewer than 2^32
+-- a table that is accepted can announce `message`: it has 1 to 4,096 segments (own: no more), each of fewer than 2^32
 -- words, which are below 2^64
 pub record FitsTable (message : List (List ℕ)) : Type 0 where
   pub some : 0 < length message
@@ -34,7 +34,7 @@ pub record FitsTable (message : List (List ℕ)) : Type 0 where
   pub sizes : (s : ℕ) → length (segment_at message s) < 2 ^ 32
   pub each : (s k : ℕ) → slice_index (segment_at message s) k < 2 ^ 64
 
--- the bytes are the message's table, padding of any bytes (Own: any.), and the message's contents
+-- `bs` are a frame of `message`: its table, padding of any bytes (Own: any.), and its contents
 pub record Frames (bs : List ℕ) (message : List (List ℕ)) : Type 0 where
   pub fits : FitsTable message
   pub gap : List ℕ
@@ -42,11 +42,11 @@ pub record Frames (bs : List ℕ) (message : List (List ℕ)) : Type 0 where
   pub gap_length : length gap ≡ padding (length message)
   pub text : bs ≡ table message ++ (gap ++ segment_bytes message)
 
--- the frame of the message whose padding is zero (own: what is written)
+-- the frame of `message` with zeros as padding (own: what is written)
 abbrev pub frame_text : List (List ℕ) → List ℕ
 frame_text message = table message ++ (replicate (padding (length message)) 0 ++ segment_bytes message)
 
--- the first `taken` bytes are a frame of the message, which has at most `most` words
+-- the first `taken` bytes of `bs` are a frame of `message`, which has at most `most` words
 pub record StandsFirst (bs : List ℕ) (most : ℕ) (message : List (List ℕ)) (taken : ℕ) : Type 0 where
   pub inside : taken ≤ length bs
   pub frame : Frames (take taken bs) message

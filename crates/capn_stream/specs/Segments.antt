@@ -1,4 +1,4 @@
--- A message that is held in segments, each of them words of 8 bytes each. (Own.)
+-- A message in segments that lie apart, each a list of words of 8 bytes. (Own.)
 use Rattle.std.specs.Prelude.{◌≡◌, ℕ, ◌-◌, ◌^◌, ◌<◌, ◌≤◌, List, length, map, min, Result, Ok, Err}
 use Rattle.std.specs.Borrow.{Bor}
 use Rattle.std.specs.List.{flat_map}
@@ -6,11 +6,11 @@ use Rattle.capn_words.specs.Message.{most_segments, total, word_number, AreBytes
 use Rattle.capn_stream.specs.declared.segments_fault.SegmentsFault.{SegmentsFault}
 use Rattle.capn_stream.specs.declared.segments_fault.SegmentsFault.TheVariants.{Empty, TooManySegments, TooManyWords}
 
--- the message that segments hold: a word is the number of its 8 bytes, the least significant first
+-- the message of `segments`: a word is the number of its 8 bytes, the least significant first
 abbrev pub message_of : List (Bor (List (List ℕ))) → List (List ℕ)
 message_of segments = map (λ segment. map word_number segment.now) segments
 
--- the bytes of words, one after another
+-- the bytes of `words`, one after another
 abbrev pub joined : List (List ℕ) → List ℕ
 joined words = flat_map (λ word. word) words
 
@@ -18,24 +18,26 @@ joined words = flat_map (λ word. word) words
 abbrev pub IsWord : List ℕ → Type 0
 IsWord word = (length word ≡ 8) × AreBytes word
 
--- a message has as many segments as may be, and at most `most` words
+-- `message` has a number of segments that is allowed, and at most `most` words
 pub record IsHeld (message : List (List ℕ)) (most : ℕ) : Type 0 where
   pub some : 0 < length message
   pub few : length message ≤ most_segments
   pub room : total message ≤ most
 
--- the number of words that is reported: segments that share their words may have more than 64 bits count
+-- the number of words that is reported: that of `message`, or 2^64 - 1 if that is less, since segments that share their
+-- words may have more in all
 abbrev pub counted_words : List (List ℕ) → ℕ
 counted_words message = min (total message) (2 ^ 64 - 1)
 
--- segments are no message of at most `most` words, for this fault; each test is made once those before it have passed
+-- segments are no message of at most `most` words, for the given fault; each test is made after those before it have
+-- passed
 abbrev pub IsUnheld : List (List ℕ) → ℕ → SegmentsFault → Type 0
 IsUnheld message most Empty = length message ≡ 0
 IsUnheld message most (TooManySegments n) = (n ≡ length message) × (most_segments < n)
 IsUnheld message most (TooManyWords n) = (0 < length message) × (length message ≤ most_segments)
     × (most < total message) × (n ≡ counted_words message)
 
--- segments are read, under a number of words, as the message that they hold, or with the first of the refusals
+-- reading segments, with at most `most` words, gives the message that they hold, or the first of the refusals
 abbrev pub ReadsSegments : List (List ℕ) → ℕ → Result (List (List ℕ)) SegmentsFault → Type 0
 ReadsSegments message most (Ok read) = (read ≡ message) × IsHeld message most
 ReadsSegments message most (Err e) = IsUnheld message most e

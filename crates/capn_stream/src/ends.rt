@@ -1,4 +1,4 @@
-//! The ends of the segments of a message, of which the first are kept in place.
+//! The ends of the segments of a message. The first 63 are kept without memory.
 
 ghost use Rattle.std.specs.Prelude.{◌≡◌, ◌+◌, ◌-◌, ◌*◌, ◌^◌, ◌<◌, ◌≤◌, ◌∷◌, ◌++◌, [], length, take, sum};
 ghost use Rattle.std.specs.Prelude.{slice_index, IfOk, OnErr};
@@ -13,15 +13,15 @@ use std::alloc::{AllocError, Allocator};
 /// The most ends that are kept in place.
 const MOST_KEPT: usize = 63;
 
-/// The ends of all segments of a message but the last: the first 63 in place, and the others in a list. Which of both
-/// has the end of a segment is known by its number alone.
+/// The ends of all segments of a message but the last: the first 63 in place, and the others in a list. The number of a
+/// segment alone decides which of the two has its end.
 #[derive(Debug, Drop)]
 pub(crate) struct Ends<A: Allocator> {
-    /// The number of them.
+    /// The number of all ends.
     count: usize,
-    /// The first, as many as there are.
+    /// The first 63 ends. The places from `count` on are not used.
     few: [u32; MOST_KEPT],
-    /// The others.
+    /// The ends from number 63 on.
     rest: Vec<u32, A>,
 }
 
@@ -35,7 +35,7 @@ impl<A: Allocator> Ends<A> {
         self.count
     }
 
-    /// Returns the word at which `segment` begins.
+    /// Returns the index of the word at which `segment` begins.
     #[inline]
     pub(crate) fn start_of(&self, segment: usize) -> u32
         requires kept { AreKept self.now }
@@ -51,7 +51,8 @@ impl<A: Allocator> Ends<A> {
         self.rest[segment - MOST_KEPT - 1]
     }
 
-    /// Returns the word at which `segment` ends: for the last one, the end of the message, which has `words` words.
+    /// Returns the index of the word at which `segment` ends. The last segment ends where the message does, after
+    /// `words` words.
     #[inline]
     pub(crate) fn end_of(&self, words: u32, segment: usize) -> u32
         requires kept { AreKept self.now }
@@ -66,7 +67,7 @@ impl<A: Allocator> Ends<A> {
     }
 }
 
-/// Returns the ends of the first `count` segments of `sizes`, in words, each in its place.
+/// Returns the ends of the first `count` segments of `sizes`, in words. The places from `count` on are 0.
 fn few_ends(sizes: &[u8], count: usize) -> [u32; MOST_KEPT]
     requires few { count ≤ 63 }
     requires inside { 4 * count ≤ length sizes.now }
@@ -82,8 +83,8 @@ fn few_ends(sizes: &[u8], count: usize) -> [u32; MOST_KEPT]
     ends
 }
 
-/// Returns the ends of the segments of `sizes` from number `first` on and below `count`, in words. It takes memory only
-/// if there is one.
+/// Returns the ends of the segments of `sizes` from number `first` on and below `count`, in words. Takes memory only if
+/// there is such a segment.
 fn rest_ends<A: Allocator>(
     alloc: A,
     sizes: &[u8],
@@ -103,7 +104,7 @@ fn rest_ends<A: Allocator>(
     ends_of(alloc, &sizes[4 * first..], count - first, from)
 }
 
-/// Returns the ends of the first `count` segments of `sizes`, in words. It takes memory only for more than 63.
+/// Returns the ends of the first `count` segments of `sizes`, in words. Takes memory only for more than 63.
 pub(crate) fn read_ends<A: Allocator>(
     alloc: A,
     sizes: &[u8],

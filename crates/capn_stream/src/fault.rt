@@ -4,20 +4,21 @@ use std::alloc::AllocError;
 use std::error::Error;
 use std::{fmt, io};
 
-/// The reason why bytes are no frame, in the order in which the tests are made.
+/// The reason why bytes are no frame.
 #[derive(Clone, Copy, Debug, PartialEq, Eq)]
 pub enum FrameFault {
     /// A growth was refused.
     Memory,
     /// There are no bytes.
     Empty,
-    /// The number of segments announced is more than a message may have. Reported once the count is there.
+    /// The table announces more segments than a message may have. Their number is given, as soon as the count is read.
     TooManySegments(u64),
-    /// The number of words announced is more than is allowed. Reported once the table and its padding are there.
+    /// The table announces more words than are allowed. Their number is given, as soon as the table and its padding are
+    /// read.
     TooManyWords(u64),
     /// The bytes end within the count, the table, its padding or the contents.
     Cut,
-    /// An earlier call was refused. Only a reader that is fed in pieces answers it.
+    /// An earlier call was refused. Only a [`Framer`](crate::Framer) returns this.
     Failed,
 }
 
@@ -39,11 +40,11 @@ pub enum ReadFault {
     Memory,
     /// The reader failed.
     Io,
-    /// The bytes are no frame: `TooManySegments`, `TooManyWords` or `Cut`.
+    /// The bytes are no frame. The fault is `TooManySegments`, `TooManyWords` or `Cut`.
     Frame(FrameFault),
 }
 
-/// The writer failed.
+/// The failure of a writer.
 #[derive(Clone, Copy, Debug, PartialEq, Eq)]
 pub struct Io;
 

@@ -1,4 +1,4 @@
-//! A message as a frame.
+//! The call `frame`, which returns the bytes of a message's frame.
 
 ghost use Rattle.std.specs.Prelude.{◌≡◌, ℕ, ◌+◌, ◌-◌, ◌≤◌, ◌++◌, length, replicate, Some, IfOk, OnOk};
 ghost use Rattle.std.specs.List.{flat_map};
@@ -9,7 +9,6 @@ use crate::table::head_of;
 use capn_words::{Memory, Place, Space, total_words};
 use std::alloc::{AllocError, Allocator};
 
-/// Appends `number` to `text`, as its 4 bytes.
 #[tactic(auto, unfolding(crate::specs::Frames::entry))]
 fn put_entry<A: Allocator>(text: &mut Vec<u8, A>, number: u32) -> Result<(), AllocError>
     ensures { OnOk result (text.new.items ≡ text.old.items ++ entry number) }
@@ -32,7 +31,6 @@ fn put_table<S: Space, A: Allocator>(text: &mut Vec<u8, A>, space: &S) -> Result
     Ok(())
 }
 
-/// Appends the padding after the table of `segments` segments to `text`.
 fn put_padding<A: Allocator>(text: &mut Vec<u8, A>, segments: u32) -> Result<(), AllocError>
     ensures { OnOk result (text.new.items ≡ text.old.items ++ replicate (padding segments) 0) }
 {
@@ -64,8 +62,8 @@ fn put_contents<S: Space, A: Allocator>(text: &mut Vec<u8, A>, space: &S) -> Res
 
 /// Returns the frame of the message `space`: its table, padding of zeros, and its contents.
 ///
-/// [`first`](crate::first) of these bytes gives the message back. Memory is asked of `alloc` once, for exactly the
-/// frame; `Memory` comes only if that was refused. (Page: serialization over a stream; that padding is zero is our
+/// [`first`](crate::first) of the result gives the message back. Memory is taken from `alloc` once, for exactly the
+/// frame. `Memory` is returned only if that was refused. (Page: serialization over a stream. Zeros as padding are our
 /// own.)
 pub fn frame<S: Space, A: Allocator + Copy>(alloc: A, space: &S) -> Result<Vec<u8, A>, Memory>
     ensures exact { IfOk result (λ text. text.items ≡ frame_text (S.message space.now)) }

@@ -1,4 +1,4 @@
-//! A message to a writer.
+//! The call `write_message`, which writes the frame of a message to a writer without memory.
 
 ghost use Rattle.std.specs.Prelude.{◌≡◌, ◌↔◌, ◌+◌, ◌-◌, ◌*◌, ◌<◌, ◌≤◌, ◌++◌, length, take, true, false, OnOk, IsErr};
 ghost use Rattle.std.specs.Io.KnownBytes.{Appends};
@@ -12,13 +12,11 @@ use crate::table::MOST_TABLE_WORDS;
 use capn_words::{Space, Watched};
 use std::io::Write;
 
-/// The most segments whose table is put together in the small buffer.
+/// The most segments for which the table is put together in the small buffer.
 const FEW_SEGMENTS: u32 = 62;
 
-/// The number of bytes of the small buffer.
 const SMALL_HEAD: usize = 256;
 
-/// The number of bytes of the longest table and its padding.
 const MOST_HEAD: usize = 8 * MOST_TABLE_WORDS as usize;
 
 /// Copies `bytes` to `head`, from offset `at` on.
@@ -31,7 +29,6 @@ fn put(head: &mut [u8], at: usize, bytes: &[u8])
     head[at..end].copy_from_slice(bytes);
 }
 
-/// Writes `number`, as its 4 bytes, to `head` from offset `at` on.
 #[tactic(auto, unfolding(crate::specs::Frames::entry))]
 fn put_entry(head: &mut [u8], at: usize, number: u32)
     requires { at + 4 ≤ length head.old }
@@ -40,8 +37,8 @@ fn put_entry(head: &mut [u8], at: usize, number: u32)
     put(head, at, &number.to_le_bytes());
 }
 
-/// Writes the table of the message `space` and its padding of zeros to the front of `head`, and returns how many bytes
-/// they are.
+/// Writes the table of the message `space` and its padding of zeros to the front of `head`, and returns their length in
+/// bytes.
 fn put_head<S: Space>(head: &mut [u8], space: &S) -> usize
     requires { 8 + 4 * length (S.message space.now) ≤ length head.old }
     ensures inside { result ≤ length head.old }
@@ -61,8 +58,8 @@ fn put_head<S: Space>(head: &mut [u8], space: &S) -> usize
     at
 }
 
-/// Writes the table of the message `space` and its padding to `writer`, put together in `head`, which has room for
-/// them.
+/// Writes the table of the message `space` and its padding to `writer`. They are put together in `head`, which has room
+/// for them.
 fn write_head<W: Write, S: Space>(
     writer: &mut Watched<W>,
     space: &S,
@@ -82,7 +79,7 @@ fn write_head<W: Write, S: Space>(
 }
 
 /// Writes the table of the message `space` and its padding to `writer`. Most tables are short, and a small buffer is
-/// soon cleared.
+/// faster to clear.
 fn write_table<W: Write, S: Space>(writer: &mut Watched<W>, space: &S) -> Result<(), Io>
     requires { has_failed writer.old ≡ false }
     ensures ok { OnOk result (Appends (W.contents (inner_of writer.old)) (W.contents (inner_of writer.new))
@@ -100,7 +97,7 @@ fn write_table<W: Write, S: Space>(writer: &mut Watched<W>, space: &S) -> Result
 
 /// Writes the frame of the message `space` to `writer`: its table, padding of zeros, and its contents.
 ///
-/// `Io` exactly if the writer fails, and then a beginning of the frame was written. It takes no memory.
+/// Returns `Io` exactly if the writer fails. A prefix of the frame was written then. Takes no memory.
 pub fn write_message<W: Write, S: Space>(writer: &mut Watched<W>, space: &S) -> Result<(), Io>
     requires { has_failed writer.old ≡ false }
     ensures ok { OnOk result (Appends (W.contents (inner_of writer.old)) (W.contents (inner_of writer.new))

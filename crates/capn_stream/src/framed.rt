@@ -1,4 +1,4 @@
-//! A message of several segments, borrowed.
+//! The type `Framed`, a message whose segments follow one another in borrowed bytes.
 
 ghost use Rattle.std.specs.Prelude.{◌≡◌, ℕ, ◌+◌, ◌<◌};
 ghost use Rattle.capn_stream.specs.Cuts.{AreEnds, cut};
@@ -11,8 +11,8 @@ use std::marker::Model;
 
 /// A message whose segments follow one another in borrowed bytes.
 ///
-/// It copies none of them. Beside the borrow it keeps the ends of all segments but the last: up to 63 in itself, so a
-/// message of at most 64 segments takes no memory. Every segment is found in constant time.
+/// No byte is copied. In addition to the borrow, the ends of all segments but the last are kept: up to 63 inside, so
+/// that a message of at most 64 segments takes no memory. Every segment is found in constant time.
 #[derive(Debug, Drop)]
 pub struct Framed<'a, A: Allocator = Global> {
     words: Bare<'a>,
@@ -32,7 +32,7 @@ impl<'a, A: Allocator> Model for Framed<'a, A> {
 }
 
 impl<'a, A: Allocator> Framed<'a, A> {
-    /// Cuts `words` at `ends`.
+    /// Returns the message whose segments are `words`, cut at `ends`.
     pub(crate) fn new(words: Bare<'a>, ends: Ends<A>) -> Framed<'a, A>
         requires kept { AreKept ends }
         requires ends { AreEnds (kept ends) words }

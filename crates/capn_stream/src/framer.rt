@@ -1,4 +1,4 @@
-//! Messages from a stream in pieces.
+//! The type `Framer`, which takes messages from a stream that is given in pieces.
 
 ghost use Rattle.std.specs.Prelude.{◌≡◌, ◌↔◌, IsTrue, ℕ, ◌+◌, ◌<◌, ◌≤◌, ◌++◌, List, [], length, false};
 ghost use Rattle.std.specs.Prelude.{IfErr, IsErrOf};
@@ -14,11 +14,11 @@ use std::alloc::{Allocator, Global};
 use std::marker::Model;
 use std::mem;
 
-/// Takes messages from a stream that comes in pieces, cut anywhere. (Own.)
+/// A reader of messages from a stream that is given in pieces, cut anywhere. (Own.)
 ///
-/// It keeps the bytes that came since the last message was taken, and beside them what their table says, so that no
-/// byte is looked at twice. It grows with bytes that came, by 64 at the first of a message, and never by what a table
-/// announces. After any refusal each later `feed` and `finish` answers `Failed`, and `take` answers None.
+/// It keeps the bytes that were fed since the last message was taken. It also keeps what their table says, so that no
+/// byte is looked at twice. It grows with the bytes that are fed, first by 64, and never by what a table announces.
+/// After any refusal each later `feed` and `finish` returns `Failed`, and `take` returns `None`.
 #[derive(Debug, Drop)]
 pub struct Framer<A: Allocator + Copy = Global> {
     alloc: A,
@@ -40,7 +40,7 @@ impl<A: Allocator + Copy> Model for Framer<A> {
 }
 
 impl<A: Allocator + Copy> Framer<A> {
-    /// Returns a framer at the beginning of a stream, for messages of at most `max_words` words. It takes no memory.
+    /// Returns a framer at the beginning of a stream, for messages of at most `max_words` words. Takes no memory.
     pub fn new(alloc: A, max_words: u32) -> Framer<A>
         requires { max_words ≤ most_message_words }
         ensures { result ≡ record { rest = []; most = max_words; failed = false } }
@@ -57,14 +57,15 @@ impl<A: Allocator + Copy> Framer<A> {
 
     /// Takes bytes of `piece` until a message is whole or `piece` ends, and returns their number.
     ///
-    /// While a message waits it takes none. Refusals: `TooManySegments` once the count is there, `TooManyWords` once
-    /// the table and its padding are there, `Memory` if a growth was refused, `Failed` after an earlier refusal.
+    /// While a message waits to be taken, `feed` takes no bytes. Refusals: `TooManySegments` once the count is read,
+    /// `TooManyWords` once the table and its padding are read, `Memory` if a growth was refused, `Failed` after an
+    /// earlier refusal.
     #[inline]
     pub fn feed(&mut self, piece: &[u8]) -> Result<usize, FrameFault>
         ensures gives { FeedGives self.old piece.now result self.new }
-        // Of a table that announces too many words all is held.
+        // If a table announces too many words, all of the table is held.
         ensures kept { IfErr result (λ e. KeepsHead self.old.rest piece.now self.old.most self.new.rest e) }
-        // Memory is needed only if bytes came that are kept: the piece has some, and no message waits.
+        // Memory is needed only for bytes that are kept: `piece` has some, and no message waits.
         ensures memory { IsErrOf result FrameFault.Memory
             → (0 < length piece.now) × IsUnfinished self.old.rest self.old.most }
     {
@@ -83,8 +84,8 @@ impl<A: Allocator + Copy> Framer<A> {
         fed
     }
 
-    /// Returns the number of bytes that are missing of the part that is waited for: no message is whole before they
-    /// came.
+    /// Returns the number of bytes that the current part of the frame still needs. No message is whole before they are
+    /// fed.
     pub(crate) fn wanted(&self) -> usize
         requires { self.now.failed ≡ false }
         ensures least { (more : List ℕ) → IsFrame (self.now.rest ++ more) self.now.most → result ≤ length more }
@@ -95,7 +96,7 @@ impl<A: Allocator + Copy> Framer<A> {
         part_left(self.stage, &self.frame)
     }
 
-    /// Returns `true` if it holds no byte: none has come since the last message was taken.
+    /// Tests whether no byte is held, as none was fed after the last message was taken.
     #[inline]
     pub fn is_empty(&self) -> bool
         ensures { IsTrue result ↔ (self.now.rest ≡ []) }
@@ -103,8 +104,9 @@ impl<A: Allocator + Copy> Framer<A> {
         self.frame.is_empty()
     }
 
-    /// Returns the bytes that came since the last message was taken, while no call has refused: the frame of the
-    /// message that waits, or the beginning of one. After `TooManyWords` a beginning of it, with its whole table.
+    /// Returns the bytes that were fed since the last message was taken: the whole frame of the message that waits, or
+    /// the first part of a frame. After a refusal with `TooManyWords` they are a prefix of the frame with its whole
+    /// table. After other refusals they are not specified.
     #[inline]
     pub fn held(&self) -> &[u8]
         ensures { result.now ≡ self.now.rest }
@@ -112,7 +114,7 @@ impl<A: Allocator + Copy> Framer<A> {
         &self.frame
     }
 
-    /// Takes the message that waits, if one does, once. It takes no memory: the bytes are moved.
+    /// Takes the message that waits, once, if there is one. Takes no memory, since the bytes are moved.
     #[inline]
     pub fn take(&mut self) -> Option<Stored<A>>
         ensures { TakeGives self.old result self.new }
@@ -133,8 +135,8 @@ impl<A: Allocator + Copy> Framer<A> {
 
     /// Tells the framer that the stream ends here.
     ///
-    /// `Cut` if a message has begun and is not whole, `Failed` after an earlier refusal. After Ok the stream may go on.
-    /// It takes no memory.
+    /// Refusals: `Cut` if a message has begun and is not whole, `Failed` after an earlier refusal. After `Ok` the
+    /// stream may continue. Takes no memory.
     pub fn finish(&mut self) -> Result<(), FrameFault>
         ensures { FinishGives self.old result self.new }
     {

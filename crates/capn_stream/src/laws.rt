@@ -2,7 +2,8 @@
 
 ghost use Rattle.capn_stream.specs.Laws.{FramedAreNotRefused, OneFrame, OneRefusal};
 
-/// States: bytes begin with at most one message. Otherwise they are refused for one reason, and never both.
+/// States that bytes begin with at most one message, are refused for at most one reason, and are never both read and
+/// refused.
 pub fn framing()
     ensures one { OneFrame }
     ensures refusal { OneRefusal }

@@ -1,4 +1,4 @@
-//! The next message of a reader.
+//! The call `read_message`, which reads the next message of a reader and no byte after it.
 
 ghost use Rattle.std.specs.Prelude.{◌≡◌, ℕ, ◌<◌, ◌≤◌, ◌++◌, List, length, false, IfSome, IsErrOf};
 ghost use Rattle.capn_words.specs.Message.{most_message_words};
@@ -13,11 +13,11 @@ use capn_words::Watched;
 use std::alloc::Allocator;
 use std::io::Read;
 
-/// The most bytes that one call of a reader is asked for.
+/// The most bytes that one call asks the reader for.
 const PIECE: usize = 16_384;
 
-/// Feeds `piece`, all of which belongs to the frame that is being read, to `framer`, and takes its message if that is
-/// whole then.
+/// Feeds `piece` to `framer`, and takes the message if it is then whole. All of `piece` belongs to the frame that is
+/// being read.
 fn take_in<A: Allocator + Copy>(
     framer: &mut Framer<A>,
     piece: &[u8],
@@ -34,7 +34,7 @@ fn take_in<A: Allocator + Copy>(
     }
 }
 
-/// Returns the end of a read that found the end of the input: `None` between messages, else `Cut`.
+/// Returns the outcome at the end of the input: `None` between messages, otherwise `Cut`.
 fn end_of<A: Allocator + Copy>(mut framer: Framer<A>) -> Result<Option<Stored<A>>, ReadFault>
     requires good { framer.failed ≡ false }
     requires part { IsUnfinished framer.rest framer.most }
@@ -46,7 +46,7 @@ fn end_of<A: Allocator + Copy>(mut framer: Framer<A>) -> Result<Option<Stored<A>
     }
 }
 
-/// Reads the next message of `reader`: its bytes and no others, in pieces.
+/// Reads the next message of `reader` in pieces. Takes the bytes of that message and no others.
 fn receive<R: Read, A: Allocator + Copy>(
     alloc: A,
     reader: &mut Watched<R>,
@@ -74,15 +74,16 @@ fn receive<R: Read, A: Allocator + Copy>(
     }
 }
 
-/// Reads the next message of `reader`, of at most `max_words` words: its bytes and no others are taken.
+/// Reads the next message of `reader`, which may have at most `max_words` words. Takes the bytes of that message and no
+/// others.
 ///
-/// No call asks the reader for more than 16,384 bytes, nor for more than the part of the message that is waited for
-/// still needs. The message grows on `alloc` with bytes that came, never by what its table announces.
+/// The reader is never asked for more than 16,384 bytes at once, nor for more than the current part of the message
+/// still needs. The message grows on `alloc` with the bytes that were read, never by what its table announces.
 ///
-/// `None` exactly if the input ends between messages. Refusals: `Memory` if a growth was refused, which takes a byte of
-/// a message; `Io` exactly if the reader fails; `Frame` with `TooManySegments`, `TooManyWords` or `Cut`. After a
-/// refusal the reader is inside the message: after the 4 bytes of the count at `TooManySegments`, after the table and
-/// its padding at `TooManyWords`, at the end of the input at `Cut`, and never beyond the message.
+/// Returns `None` exactly if the input ends between messages. Refusals: `Memory` if a growth was refused, for which the
+/// reader must have a byte to give. `Io` exactly if the reader fails. `Frame` with `TooManySegments`, `TooManyWords` or
+/// `Cut`. After a refusal the reader is inside the message, and never beyond it. For `TooManySegments` it is after the
+/// 4 bytes of the count, for `TooManyWords` after the table and its padding, for `Cut` at the end of the input.
 pub fn read_message<R: Read, A: Allocator + Copy>(
     alloc: A,
     reader: &mut Watched<R>,
@@ -90,10 +91,11 @@ pub fn read_message<R: Read, A: Allocator + Copy>(
 ) -> Result<Option<Stored<A>>, ReadFault>
     requires small { max_words ≤ most_message_words }
     requires fine { has_failed reader.old ≡ false }
-    // The answer, of all that the reader had to give; and a message that comes first is answered.
+    // `result` is what `ReadsFirst` says of all the bytes that the reader had to give. If they begin with a message,
+    // that is returned, unless memory runs out or the reader fails.
     ensures exact { IfSome (R.remaining (inner_of reader.old)) (ReadsFirst max_words result) }
     ensures only { IfSome (R.remaining (inner_of reader.old)) (OnlyFirst max_words result) }
-    // It takes the bytes of that message and no others, and reports a reader that failed.
+    // The bytes of that message are taken and no others. A reader that failed is reported.
     ensures gives { ReadGives (R.remaining (inner_of reader.old)) (R.remaining (inner_of reader.new))
         (has_failed reader.new)
         max_words result }

@@ -1,4 +1,4 @@
-//! The bytes of words.
+//! The bytes of words of 8 bytes each, borrowed without a copy.
 
 ghost use Rattle.std.specs.Prelude.{◌≡◌, ◌+◌, ◌*◌, ◌<◌, ◌≤◌, ◌^◌, [], length, take, drop, All, slice_index_or};
 ghost use Rattle.capn_words.specs.Message.{AreBytes, word_number};
@@ -7,7 +7,7 @@ ghost use Rattle.capn_stream.specs.Segments.{IsWord, joined};
 use byteorder::{ByteOrder, LittleEndian};
 use std::slice;
 
-/// Returns the bytes of `words`, joined: `count` of them.
+/// Returns the joined bytes of `words`, which are `count` bytes.
 fn joined_bytes(words: &[[u8; 8]], count: usize) -> &[u8]
     requires { (count ≡ length (joined words.now)) × (count < 2 ^ 63) }
     ensures { result.now ≡ joined words.now }
@@ -32,7 +32,7 @@ pub fn bytes_of(words: &[[u8; 8]]) -> &[u8]
     as_bytes(joined_bytes(words, 8 * words.len()))
 }
 
-/// Returns the `len` bytes from the start of word `start` of `words` on.
+/// Returns `len` bytes from the start of word `start` of `words` on.
 pub fn part(words: &[[u8; 8]], start: usize, len: usize) -> &[u8]
     requires { 8 * start + len ≤ 8 * length words.now }
     ensures { result.now ≡ take len (drop (8 * start) (joined words.now)) }

@@ -1,4 +1,4 @@
-//! A message in segments, read in place.
+//! The type `Segments`, a message of borrowed segments that lie apart.
 
 ghost use Rattle.std.specs.Prelude.{◌≡◌, ◌≤◌, ◌<◌, length, All, List, ℕ, Ok};
 ghost use Rattle.capn_words.specs.Message.{most_message_words};
@@ -18,7 +18,7 @@ fn length_of(segment: &[[u8; 8]]) -> u64
     segment.len() as u64
 }
 
-/// Returns the number of words that `segments` have together, or 2^64 - 1 if they have more.
+/// Returns the number of words in all `segments` together, or 2^64 - 1 if that is less.
 fn words_in(segments: &[&[[u8; 8]]]) -> u64
     ensures count { result ≡ counted_words (message_of segments.now) }
     ensures each { All (λ segment. All IsWord segment.now) segments.now }
@@ -32,7 +32,7 @@ fn words_in(segments: &[&[[u8; 8]]]) -> u64
 
 /// A message over borrowed segments. Contracts see it as the list of their words.
 ///
-/// It copies none of them, and finds each word in constant time.
+/// No byte is copied, and each word is found in constant time.
 #[derive(Debug, Drop)]
 pub struct Segments<'a> {
     segments: &'a [&'a [[u8; 8]]],
@@ -52,14 +52,14 @@ impl<'a> Model for Segments<'a> {
 }
 
 impl<'a> Segments<'a> {
-    /// Reads `segments` as a message, each of them its words of 8 bytes, the least significant first. A segment may be
-    /// empty. Nothing is copied.
+    /// Reads `segments` as a message. Each segment is a list of words of 8 bytes, the least significant byte first, and
+    /// may be empty. Nothing is copied.
     ///
-    /// Refusals: `Empty` if there are none; `TooManySegments` with their number, if it is above 4,096; `TooManyWords`
-    /// with the words that they have together, if they are more than `max_words`. (Own: the limits.)
+    /// Refusals: `Empty` if there are no segments. `TooManySegments` with their number, if that is above 4,096.
+    /// `TooManyWords` with the number of their words together, if that is above `max_words`. (Own: the limits.)
     pub fn new(segments: &'a [&'a [[u8; 8]]], max_words: u32) -> Result<Segments<'a>, SegmentsFault>
         requires { max_words ≤ most_message_words }
-        // The meaning of each answer; and whatever segments hold is answered, if it is within the limits.
+        // Each `result` means what `ReadsSegments` says. If `segments` are within the limits, their words are returned.
         ensures exact { ReadsSegments (message_of segments.now) max_words result }
         ensures only { IsHeld (message_of segments.now) max_words → result ≡ Ok (message_of segments.now) }
     {

@@ -1,16 +1,16 @@
-//! Faults of segments as a message.
+//! The faults of segments that lie apart, read as a message.
 
 use std::error::Error;
 use std::fmt;
 
-/// The reason why segments are no message, in the order of the tests.
+/// The reason why segments are no message. The variants are in the order of the tests.
 #[derive(Clone, Copy, Debug, PartialEq, Eq)]
 pub enum SegmentsFault {
     /// There are no segments.
     Empty,
     /// The number of segments, which is above 4,096.
     TooManySegments(u64),
-    /// The number of words in all segments, which is above what is allowed; 2^64 - 1 stands for any number above it.
+    /// The number of words in all segments, which is above the maximum. 2^64 - 1 stands also for any number above it.
     TooManyWords(u64),
 }
 

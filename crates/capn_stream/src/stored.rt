@@ -1,4 +1,4 @@
-//! A message with segments of its own.
+//! The type `Stored`, a message that owns its segments.
 
 ghost use Rattle.std.specs.Prelude.{◌≡◌, ℕ, ◌+◌, ◌-◌, ◌*◌, ◌/◌, ◌%◌, ◌<◌, ◌≤◌, ◌∷◌, ◌++◌, [], List};
 ghost use Rattle.std.specs.Prelude.{length, slice_index, take, drop};
@@ -11,7 +11,7 @@ use capn_words::{Place, Space};
 use std::alloc::{Allocator, Global};
 use std::marker::Model;
 
-/// The words after the head of a frame that is owned.
+/// The words of a frame after its table. The frame is owned.
 #[derive(Debug, Drop)]
 pub(crate) struct Words<A: Allocator = Global> {
     frame: Vec<u8, A>,
@@ -38,7 +38,7 @@ fn count_of(frame: &[u8], start: usize) -> usize
     (frame.len() - start) / 8
 }
 
-/// Returns the word at byte `8 * index` of `frame` after `start`.
+/// Returns the word at byte `8 * index` of what follows byte `start` of `frame`.
 #[tactic(auto, unfolding(capn_words::specs::Message::word_number))]
 fn word_of(frame: &[u8], start: usize, index: usize) -> u64
     requires { start + (8 * index + 8) ≤ length frame.now }
@@ -48,7 +48,7 @@ fn word_of(frame: &[u8], start: usize, index: usize) -> u64
     LittleEndian::read_u64(&tail[8 * index..])
 }
 
-/// Returns the `len` bytes of `frame` from byte `from` after `start` on.
+/// Returns `len` bytes from byte `from` on of what follows byte `start` of `frame`.
 fn part(frame: &[u8], start: usize, from: usize, len: usize) -> &[u8]
     requires { start + (from + len) ≤ length frame.now }
     ensures { result.now ≡ take len (drop from (drop start frame.now)) }
@@ -73,7 +73,7 @@ impl<A: Allocator> Words<A> {
         word_of(&self.frame, self.start, index)
     }
 
-    /// Returns the `len` bytes from the start of word `index` on.
+    /// Returns `len` bytes from the start of word `index` on.
     fn bytes(&self, index: usize, len: usize) -> &[u8]
         requires { 8 * index + len ≤ 8 * length self.now }
         ensures { result.now ≡ take len (drop (8 * index) (bytes self.now)) }
@@ -82,7 +82,7 @@ impl<A: Allocator> Words<A> {
     }
 }
 
-/// Returns the word at which `segment` begins.
+/// Returns the index of the word at which `segment` begins.
 fn start_of(ends: &[u32], segment: usize) -> u32
     requires { segment ≤ length ends.now }
     ensures { result ≡ slice_index (0 ∷ ends.now) segment }
@@ -90,7 +90,8 @@ fn start_of(ends: &[u32], segment: usize) -> u32
     if segment == 0 { 0 } else { ends[segment - 1] }
 }
 
-/// Returns the word at which `segment` ends: for the last one, the end of the message, which has `words` words.
+/// Returns the index of the word at which `segment` ends. The last segment ends where the message does, after `words`
+/// words.
 fn end_of(ends: &[u32], words: u32, segment: usize) -> u32
     requires { segment ≤ length ends.now }
     ensures { result ≡ slice_index (ends.now ++ words ∷ []) segment }
@@ -104,8 +105,8 @@ fn end_of(ends: &[u32], words: u32, segment: usize) -> u32
 
 /// A message that owns its segments.
 ///
-/// It is made by [`Framer`](crate::Framer) and [`read_message`](crate::read_message): the frame as it came, in one
-/// buffer, and the ends of its segments, so that every segment is found in constant time.
+/// [`Framer`](crate::Framer) and [`read_message`](crate::read_message) make it. It has the frame as it was received, in
+/// one buffer, and the ends of the segments, so that every segment is found in constant time.
 #[derive(Debug, Drop)]
 pub struct Stored<A: Allocator = Global> {
     words: Words<A>,
@@ -124,7 +125,7 @@ impl<A: Allocator> Model for Stored<A> {
 }
 
 impl<A: Allocator> Stored<A> {
-    /// Cuts the words of `frame` from byte `start` on at `ends`.
+    /// Returns the message whose segments are the words of `frame` from byte `start` on, cut at `ends`.
     pub(crate) fn new(frame: Vec<u8, A>, start: usize, ends: Vec<u32, A>) -> Stored<A>
         requires tail { IsTail frame.items start }
         requires ends { AreEnds ends.items (words_in (length (drop start frame.items) / 8) (drop start frame.items)) }

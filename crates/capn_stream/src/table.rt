@@ -1,4 +1,4 @@
-//! The table of segments at the front of a stream.
+//! The segment table at the front of a frame: its numbers, its length, and all refusals of a frame.
 
 ghost use Rattle.std.specs.Prelude.{◌≡◌, ℕ, ◌+◌, ◌*◌, ◌^◌, ◌<◌, ◌≤◌, length, drop, sum, IfOk, IfErr, IsErrOf, OnErr};
 ghost use Rattle.std.specs.Prelude.{vec_capacity};
@@ -13,10 +13,10 @@ use byteorder::{ByteOrder, LittleEndian};
 use capn_words::MOST_SEGMENTS;
 use std::alloc::{AllocError, Allocator};
 
-/// The number of words of the longest table of segments and its padding.
+/// The number of words of the longest segment table with its padding.
 pub const MOST_TABLE_WORDS: u32 = MOST_SEGMENTS / 2 + 1;
 
-/// Returns the number of 4 bytes that begins at byte `4 * index`. (Page: serialization over a stream.)
+/// Returns the number in the 4 bytes from byte `4 * index` of `bytes` on. (Page: serialization over a stream.)
 #[tactic(auto, unfolding(crate::specs::FrameRefusal::entry_number))]
 #[inline(always)]
 pub fn entry_at(bytes: &[u8], index: usize) -> u32
@@ -26,7 +26,7 @@ pub fn entry_at(bytes: &[u8], index: usize) -> u32
     LittleEndian::read_u32(&bytes[4 * index..])
 }
 
-/// Returns the sum of the first `count` sizes, in words.
+/// Returns the sum of the first `count` entries of `sizes`, in words.
 pub fn total_of(sizes: &[u8], count: usize) -> u64
     requires few { count ≤ most_segments }
     requires inside { 4 * count ≤ length sizes.now }
@@ -39,8 +39,8 @@ pub fn total_of(sizes: &[u8], count: usize) -> u64
     total
 }
 
-/// Returns the ends of the first `count` segments of `sizes`, in words, where the first begins at word `from`. Its one
-/// growth is for exactly the sizes, which are there.
+/// Returns the ends of the first `count` segments of `sizes`, in words, if the first segment begins at word `from`. The
+/// one growth is for exactly `count` ends, whose sizes are there to read.
 pub(crate) fn ends_of<A: Allocator>(
     alloc: A,
     sizes: &[u8],
@@ -63,7 +63,7 @@ pub(crate) fn ends_of<A: Allocator>(
     Ok(ends)
 }
 
-/// Returns the number of bytes that the table of `count` segments and its padding take.
+/// Returns the length in bytes of the table of `count` segments with its padding.
 #[inline(always)]
 pub fn head_of(count: usize) -> usize
     requires { count ≤ most_segments }
@@ -72,7 +72,7 @@ pub fn head_of(count: usize) -> usize
     8 * (count / 2 + 1)
 }
 
-/// The numbers that a table announces: of segments, and of words in all.
+/// The number of segments and of words that a table announces.
 #[derive(Clone, Copy)]
 pub struct Head {
     /// The number of segments.
@@ -83,8 +83,8 @@ pub struct Head {
 
 /// Reads the table at the front of `bytes`, if its frame is whole and has at most `max_words` words.
 ///
-/// It refuses what [`first`](crate::first) refuses, by the same tests in the same order, but never for memory: it takes
-/// none. (Page: serialization over a stream; the order of the tests is our own.)
+/// The refusals are those of [`first`](crate::first), by the same tests in the same order. `Memory` is not among them,
+/// since no memory is taken. (Page: serialization over a stream. The order of the tests is our own.)
 pub fn read_head(bytes: &[u8], max_words: u32) -> Result<Head, FrameFault>
     requires { max_words ≤ most_message_words }
     ensures whole { IfOk result (λ head. IsWhole bytes.now max_words) }

@@ -1,4 +1,5 @@
--- Words that are cut into segments. (For `frame_bytes.rt`, `frame_output.rt`, `framed.rt` and `stored.rt`.)
+-- Lemmas for `frame_bytes.rt`, `frame_output.rt`, `framed.rt` and `stored.rt`: words that are cut into segments at
+-- given ends.
 use Rattle.std.proofs.Common.{◌≡◌, ℕ, zero, suc, ◌+◌, ◌-◌, ◌*◌, ◌^◌, ◌<◌, ◌≤◌, List, [], ◌∷◌, ◌++◌, length, take, drop}
 use Rattle.std.proofs.Common.{slice_index, Some, None, refl, ap, sym, subst, inl, inr, ◌∙◌, arith, length-drop}
 use Rattle.std.proofs.Common.{length-take}
@@ -16,7 +17,7 @@ pub length-cut : (from : ℕ) (ends ws : List ℕ) → length (cut from ends ws)
 length-cut from [] ws = refl
 length-cut from (end ∷ ends) ws = let e = length-cut end ends ws in omega (arith, e)
 
--- segment s goes from where it begins to where it ends
+-- segment `s` has the words from its start to its end
 pub segment-cut : (from : ℕ) (ends ws : List ℕ) (s : ℕ) → s ≤ length ends
     → segment_at (cut from ends ws) s
     ≡ take (slice_index (ends ++ length ws ∷ []) s - slice_index (from ∷ ends) s)
@@ -48,7 +49,7 @@ each-cut from (end ∷ ends) ws each zero k =
     below-take (2 ^ 64) (end - from) (drop from ws) (omega arith) (below-drop (2 ^ 64) from ws each) k
 each-cut from (end ∷ ends) ws each (suc s) k = each-cut end ends ws each s k
 
--- the segments have all the words from the first one on
+-- the segments have all the words from index `from` on
 pub total-cut : (from : ℕ) (ends ws : List ℕ) → AreRising from ends (length ws)
     → total (cut from ends ws) + from ≡ length ws
 total-cut from [] ws r = omega (arith, length-drop from ws)
@@ -67,7 +68,7 @@ message-cut ends ws h = record {
 
 -- ---- what the calls on a cut message read
 
--- a place in a segment is in one that exists
+-- a place in range is in a segment that exists
 pub place_segment : (message : List (List ℕ)) (s k : ℕ) → k < length (segment_at message s) → s < length message
 place_segment [] s k h = absurd (omega arith)
 place_segment (ws ∷ message) zero k h = omega arith
@@ -121,7 +122,7 @@ module _ (ends ws : List ℕ) (is : AreEnds ends ws) (s : ℕ) (here : s < lengt
       sym (ap (λ (xs : List ℕ). take len (drop (8 * k) (bytes xs))) (segment-cut 0 ends ws s within)
       ∙ bytes_of_part start size k len ws room)
 
--- the message into which words are cut at ends
+-- facts about the message into which the words `ws` are cut at `ends`
 module _ (ends ws : List ℕ) (message : List (List ℕ)) (seen : cut 0 ends ws ≡ message) (is : AreEnds ends ws) where
   pub seen_message : IsMessage message
   seen_message = subst IsMessage seen (message-cut ends ws is)

@@ -1,5 +1,5 @@
--- Frames and the numbers that their tables announce. (For `first`, `first_bare`, `framing`, capn_c, capn_canon and
--- other crates.)
+-- Lemmas for `first`, `first_bare`, `framing`, capn_c, capn_canon and other crates: frames and the numbers that their
+-- tables announce.
 use Rattle.std.proofs.Common.{◌≡◌, ℕ, zero, suc, ◌+◌, ◌-◌, ◌*◌, ◌^◌, ◌<◌, ◌≤◌, List, [], ◌∷◌, ◌++◌, length, take, drop}
 use Rattle.std.proofs.Common.{sum, map, replicate, slice_index, refl, ap, sym, subst, ◌∙◌, arith, append_assoc}
 use Rattle.std.proofs.Common.{length-append}
@@ -67,7 +67,7 @@ size_le [] s = omega arith
 size_le (ws ∷ message) zero = omega (arith, sum_by-cons length ws message)
 size_le (ws ∷ message) (suc s) = omega (arith, size_le message s, sum_by-cons length ws message)
 
--- a table can say what a message is
+-- a table can announce every message
 pub FitsTable-message : (message : List (List ℕ)) → IsMessage message → FitsTable message
 FitsTable-message message h = record {
   some = h.some;
@@ -78,7 +78,7 @@ FitsTable-message message h = record {
 
 -- ---- what a frame announces
 
--- the bytes announce a message's segments, their sizes and its words, and its contents come after the table
+-- `bs` announce the segments of `message`, their sizes and its words, and its contents follow the table
 pub record Announces (bs : List ℕ) (message : List (List ℕ)) (taken : ℕ) : Type 0 where
   pub count : announced_segments bs ≡ length message
   pub sizes : entries (announced_segments bs) (drop 4 bs) ≡ map length message
@@ -137,7 +137,7 @@ announces_parts message gap rest bs fits room e =
           ∙ take_at (segment_bytes message) rest (8 * announced_words bs) size;
     }
 
--- the bytes that a frame begins announce its message
+-- bytes that begin with a frame announce its message
 pub announces : (bs : List ℕ) (most : ℕ) (message : List (List ℕ)) (taken : ℕ) → StandsFirst bs most message taken
     → Announces bs message taken
 announces bs most message taken h =
@@ -169,7 +169,7 @@ announces bs most message taken h =
     let P : ℕ → Type 0 = λ n. Announces bs message n in
     subst P (sym size) (announces_parts message f.gap rest bs f.fits f.gap_length split)
 
--- what comes first is whole
+-- bytes that begin with a frame have it whole
 pub whole_of : (bs : List ℕ) (most : ℕ) (message : List (List ℕ)) (taken : ℕ) → StandsFirst bs most message taken
     → IsWhole bs most
 whole_of bs most message taken h =
@@ -182,7 +182,7 @@ whole_of bs most message taken h =
       omega (arith, a.length_is, h.inside),
     )
 
--- what is whole is refused only if memory runs out
+-- bytes that have a whole frame are refused only if memory runs out
 pub refused_whole : (bs : List ℕ) (most : ℕ) (e : FrameFault) → IsWhole bs most → IsFrameRefused bs most e → e ≡ Memory
 refused_whole bs most Memory w r = refl
 refused_whole bs most Empty w r = absurd (omega arith)
@@ -250,7 +250,7 @@ zeros_below zero i = omega arith
 zeros_below (suc n) zero = omega arith
 zeros_below (suc n) (suc i) = zeros_below n i
 
--- all of a frame comes first in it
+-- a frame is the first frame in its own bytes
 pub stands_alone : (bs : List ℕ) (most : ℕ) (message : List (List ℕ)) → Frames bs message → total message ≤ most
     → StandsFirst bs most message (length bs)
 stands_alone bs most message h room = record {
@@ -260,7 +260,7 @@ stands_alone bs most message h room = record {
   room = room;
 }
 
--- what comes first and takes all bytes is their frame
+-- if the first frame takes all of `bs`, then `bs` are a frame of its message
 pub frames_all : (bs : List ℕ) (most : ℕ) (message : List (List ℕ)) → StandsFirst bs most message (length bs)
     → Frames bs message
 frames_all bs most message h = let P : List ℕ → Type 0 = λ xs. Frames xs message in

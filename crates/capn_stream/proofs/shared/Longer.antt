@@ -1,5 +1,5 @@
--- The numbers that bytes announce stay as more of them come. (For `Filling`, `ReadFirst`, `Wanting`, capn_c,
--- capn_commands and capn_serve.)
+-- Lemmas for `Filling`, `ReadFirst`, `Wanting`, capn_c, capn_commands and capn_serve: the numbers that bytes announce
+-- stay as more bytes follow.
 use Rattle.std.proofs.Common.{◌≡◌, ℕ, zero, suc, ◌+◌, ◌*◌, ◌≤◌, List, ◌++◌, length}
 use Rattle.std.proofs.Common.{take, drop, sum, refl, ap, sym, subst, ◌∙◌, arith}
 use Rattle.std.proofs.Common.{length-append, length-drop}
@@ -19,7 +19,7 @@ pub entry_number-append : (bs more : List ℕ) → 4 ≤ length bs → entry_num
 unfolding entry_number
 entry_number-append bs more h = little_from-append 4 bs more h
 
--- so do the entries in the first bytes
+-- the entries in the first bytes stay
 pub entries-append : (n : ℕ) (bs more : List ℕ) → 4 * n ≤ length bs → entries n (bs ++ more) ≡ entries n bs
 entries-append zero bs more h = refl
 entries-append (suc n) bs more h =
@@ -28,34 +28,34 @@ entries-append (suc n) bs more h =
     let ih = entries-append n (drop 4 bs) more (omega (arith, length-drop 4 bs)) in
     rw (first, rest, ih) refl
 
--- more bytes change nothing of the number of segments
+-- the announced number of segments stays
 pub segments-append : (bs more : List ℕ) → 4 ≤ length bs → announced_segments (bs ++ more) ≡ announced_segments bs
 segments-append bs more h = ap (λ (n : ℕ). n + 1) (entry_number-append bs more h)
 
--- nor of the sizes in a table that is there
+-- the sizes in a complete table stay
 pub sizes-append : (n : ℕ) (bs more : List ℕ) → 4 + 4 * n ≤ length bs
     → entries n (drop 4 (bs ++ more)) ≡ entries n (drop 4 bs)
 sizes-append n bs more h =
     rw (drop-append-le 4 bs more (omega arith)) (entries-append n (drop 4 bs) more (omega (arith, length-drop 4 bs)))
 
--- nor of the number of words after a whole table
+-- the announced number of words stays after a complete table
 pub words-append : (bs more : List ℕ) → HasHead bs → announced_words (bs ++ more) ≡ announced_words bs
 words-append bs more h =
     ap (λ (n : ℕ). sum (entries n (drop 4 (bs ++ more)))) (segments-append bs more h.0.0)
     ∙ ap sum (sizes-append (announced_segments bs) bs more (omega (arith, h.1)))
 
--- so do the segments' ends
+-- the announced ends of the segments stay
 pub ends-append : (bs more : List ℕ) → HasHead bs → announced_ends (bs ++ more) ≡ announced_ends bs
 ends-append bs more h =
     let count = entry_number-append bs more h.0.0 in
     let sizes = sizes-append (entry_number bs) bs more (omega (arith, h.1)) in
     rw (count, sizes) refl
 
--- the number of segments stays there
+-- a count that is read and allowed stays so
 pub HasCount-append : (bs more : List ℕ) → HasCount bs → HasCount (bs ++ more)
 HasCount-append bs more h = (omega (arith, length-append bs more, h.0), omega (arith, segments-append bs more h.0, h.1))
 
--- so does the table
+-- a complete table stays complete
 pub HasHead-append : (bs more : List ℕ) → HasHead bs → HasHead (bs ++ more)
 HasHead-append bs more h =
     let same = ap head_length (segments-append bs more h.0.0) in
@@ -78,7 +78,7 @@ Knows-append (stages.Contents start end) bs most ends more (head, room, begins, 
       cuts ∙ sym (ends-append bs more head),
     )
 
--- a stage goes on with what was added to its bytes
+-- a stage stays with the bytes that were added
 pub IsStage-extends : (stage : Stage) (old piece : List ℕ) (most n : ℕ) (new ends : List ℕ)
     → IsStage stage old most ends → Extends old piece (need stage) n new → IsStage stage new most ends
 IsStage-extends stage old piece most n new ends is more = record {
@@ -88,7 +88,7 @@ IsStage-extends stage old piece most n new ends is more = record {
   within = more.upto;
 }
 
--- bytes that are refused stay so
+-- bytes that are refused before their contents stay refused
 pub IsStop-append : (bs more : List ℕ) (most : ℕ) (e : FrameFault) → IsHeadRefused bs most e
     → IsHeadRefused (bs ++ more) most e
 IsStop-append bs more most Memory h = tt

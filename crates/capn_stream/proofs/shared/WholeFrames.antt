@@ -1,4 +1,4 @@
--- Whole bytes are a frame. (For `first` and `read_table`.)
+-- Lemmas for `first` and `read_table`: bytes with a whole frame begin with a message.
 use Rattle.std.proofs.Common.{◌≡◌, ℕ, ◌+◌, ◌-◌, ◌*◌, ◌^◌, ◌≤◌, List, ◌++◌, length, take, drop, sum, map, ap, sym, subst}
 use Rattle.std.proofs.Common.{◌∙◌, arith, append_assoc, length-drop}
 use Rattle.std.specs.List.{flat_map}
@@ -122,7 +122,7 @@ pub sum-sizes_read : (bs : List ℕ) (segments : ℕ) → segments ≡ announced
 sum-sizes_read bs segments count =
     omega (arith, ap sum (sizes_read bs segments count), sum-entries_more (entry_number bs) (drop 4 bs))
 
--- the segments after a head that was read
+-- facts about the segments after a table that was read
 module _ (bs : List ℕ) (most segments words start : ℕ) (ends ws : List ℕ) (small : most ≤ 2 ^ 28) (below : AreBytes bs)
     (whole : IsWhole bs most)
     (count : segments ≡ announced_segments bs) (all : words ≡ announced_words bs)

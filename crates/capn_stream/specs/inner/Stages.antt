@@ -1,4 +1,4 @@
--- The known part of a frame that comes in pieces.
+-- The stages of a frame that is received in pieces, and what is known at each.
 use Rattle.std.specs.Prelude.{◌≡◌, ◌⊎◌, ℕ, ◌<◌, ◌≤◌, List, ◌++◌, length, take, drop, ⊤}
 use Rattle.capn_words.specs.Message.{most_segments, AreBytes}
 use Rattle.capn_stream.specs.Cuts.{ends_from}
@@ -11,17 +11,18 @@ use Rattle.capn_stream.specs.declared.fault.FrameFault.TheVariants.{Failed}
 use Rattle.capn_stream.specs.declared.stage.Stage.{Stage}
 use Rattle.capn_stream.specs.declared.stage.Stage.TheVariants as stages
 
--- the number of bytes of the frame that are there once the part that is waited for is whole
+-- the length of the frame up to the end of the part that is received at this stage
 abbrev pub need : Stage → ℕ
 need stages.Count = 4
 need (stages.Table segments) = head_length segments
 need (stages.Contents start end) = end
 
--- the ends of the segments but the last that are announced
+-- the ends of all announced segments but the last
 abbrev pub announced_ends : List ℕ → List ℕ
 announced_ends bs = ends_from 0 (entries (entry_number bs) (drop 4 bs))
 
--- the part that is waited for is the one that the bytes announce, and none before it was refused
+-- the stage is the one that `bs` announce, `ends` are the announced ends once the table is read, and no part before was
+-- refused
 abbrev pub Knows : Stage → List ℕ → ℕ → List ℕ → Type 0
 Knows stages.Count bs most ends = ⊤
 Knows (stages.Table segments) bs most ends = HasCount bs × (segments ≡ announced_segments bs)
@@ -35,23 +36,23 @@ FitsStage stages.Count = ⊤
 FitsStage (stages.Table segments) = segments ≤ most_segments
 FitsStage (stages.Contents start end) = ⊤
 
--- and the bytes go no further than that part
+-- the stage is the one that `bs` announce, and `bs` end with its part or before
 pub record IsStage (stage : Stage) (bs : List ℕ) (most : ℕ) (ends : List ℕ) : Type 0 where
   pub below : AreBytes bs
   pub knows : Knows stage bs most ends
   pub within : length bs ≤ need stage
 
--- all of the frame is there
+-- `bs` are the whole frame
 abbrev pub IsDone : Stage → List ℕ → Type 0
 IsDone stages.Count bs = ⊥
 IsDone (stages.Table segments) bs = ⊥
 IsDone (stages.Contents start end) bs = length bs ≡ end
 
--- the part that is waited for is not there, unless it is the last
+-- the part of this stage is not complete, unless it is the last part
 abbrev pub Rests : Stage → List ℕ → Type 0
 Rests stage bs = (length bs < need stage) ⊎ IsDone stage bs
 
--- bytes of a piece were added, no more than are needed, and fewer only if the piece ends
+-- `n` bytes of `piece` were added to `old`, up to `end` bytes in all, and fewer only if `piece` ends
 pub record Extends (old piece : List ℕ) (end n : ℕ) (new : List ℕ) : Type 0 where
   pub inside : n ≤ length piece
   pub text : new ≡ old ++ take n piece
@@ -59,7 +60,7 @@ pub record Extends (old piece : List ℕ) (end n : ℕ) (new : List ℕ) : Type 
   pub below : AreBytes new
   pub stops : length new < end → n ≡ length piece
 
--- a frame is refused before its contents are waited for, for this fault
+-- a frame is refused with the given fault before its contents are received
 abbrev pub IsHeadRefused : List ℕ → ℕ → FrameFault → Type 0
 IsHeadRefused bs most Memory = ⊤
 IsHeadRefused bs most Empty = ⊥
@@ -68,13 +69,13 @@ IsHeadRefused bs most (TooManyWords n) = IsFrameRefused bs most (TooManyWords n)
 IsHeadRefused bs most Cut = ⊥
 IsHeadRefused bs most Failed = ⊥
 
--- the number of parts that are still waited for after this one
+-- the number of parts that follow the part of this stage
 abbrev pub parts_left : Stage → ℕ
 parts_left stages.Count = 2
 parts_left (stages.Table segments) = 1
 parts_left (stages.Contents start end) = 0
 
--- the table and its padding are there, and the contents are waited for
+-- the table with its padding is read, and the contents follow
 pub record Tabled (bs : List ℕ) (most start end : ℕ) (ends : List ℕ) : Type 0 where
   pub head : HasHead bs
   pub room : announced_words bs ≤ most
@@ -82,7 +83,7 @@ pub record Tabled (bs : List ℕ) (most start end : ℕ) (ends : List ℕ) : Typ
   pub stops : end ≡ frame_length bs
   pub cuts : ends ≡ announced_ends bs
 
--- a piece was taken, whole or up to the end of the frame
+-- `n` bytes of `piece` were added to `old`: all, or those up to the end of the frame
 pub record Fills (old piece : List ℕ) (most n : ℕ) (new : List ℕ) (stage : Stage) (ends : List ℕ) : Type 0 where
   pub inside : n ≤ length piece
   pub text : new ≡ old ++ take n piece

@@ -2,7 +2,7 @@
 use Rattle.std.specs.Prelude.{◌≡◌, ℕ, ◌%◌, ◌≤◌, List, length, drop}
 use Rattle.capn_words.specs.Message.{AreBytes}
 
--- whole words come after the start
+-- `frame` has whole words from byte `start` on
 pub record IsTail (frame : List ℕ) (start : ℕ) : Type 0 where
   pub below : AreBytes (drop start frame)
   pub inside : start ≤ length frame

@@ -1,4 +1,4 @@
--- The segments after some are those that are left of all.
+-- The proof of `rest_ends`: the ends of the segments after the first ones.
 use Rattle.std.proofs.Common.{◌≡◌, ℕ, ◌+◌, ◌-◌, ◌*◌, ◌≤◌, List, ◌++◌, length, take, drop, sum, ap, sym, ◌∙◌, arith}
 use Rattle.std.proofs.lemmas.List.{take_rest}
 use Rattle.std.proofs.lemmas.List.Sums.{sum_by-append}
@@ -9,11 +9,11 @@ use Rattle.capn_stream.proofs.shared.Entries.{entries_then, length-entries}
 use Rattle.capn_stream.proofs.shared.Ends.{ends_from-append, length-ends_from}
 use Rattle.capn_stream.proofs.ends.rest_ends.Goals as goal
 
--- the sizes of the segments that are left
+-- the sizes of the segments from number `first` on
 abbrev left_of : (first count : ℕ) → List ℕ → List ℕ
 left_of first count sizes = entries (count - first) (take (length sizes - 4 * first) (drop (4 * first) sizes))
 
--- all sizes are the first and those
+-- the sizes of all segments are those of the first ones and of the others
 all_of : (first count : ℕ) (sizes : List ℕ) → first ≤ count
     → entries count sizes ≡ entries first sizes ++ left_of first count sizes
 all_of first count sizes l =
@@ -21,7 +21,7 @@ all_of first count sizes l =
     ap (λ (n : ℕ). entries n sizes) e ∙ entries_then first (count - first) sizes
     ∙ ap (λ (xs : List ℕ). entries first sizes ++ entries (count - first) xs) (sym (take_rest sizes (4 * first)))
 
--- and so their sums
+-- the sum of all sizes is the sum of the first ones and of the others
 sums_of : (first count : ℕ) (sizes : List ℕ) → first ≤ count
     → sum (entries count sizes) ≡ sum (entries first sizes) + sum (left_of first count sizes)
 sums_of first count sizes l =

@@ -8,11 +8,11 @@ use Rattle.capn_stream.specs.inner.FrameOutput.{head_text}
 use Rattle.capn_stream.proofs.Sent.{begun_all, begun_front, begun_more, contents_more, contents_split}
 use Rattle.capn_stream.proofs.frame_output.write_message.Goals as goal
 
--- a frame is its head and its contents
+-- a frame is its table with padding, and then its contents
 in_two : (message : List (List ℕ)) → frame_text message ≡ head_text message ++ segment_bytes message
 in_two message = sym (append_assoc (table message) (replicate (padding (length message)) 0) (segment_bytes message))
 
--- and those of some segments and of the rest
+-- a frame is its table with padding, the bytes of some segments, and those of the others
 in_three : (message : List (List ℕ)) (s : ℕ)
     → frame_text message ≡ (head_text message ++ segment_bytes (take s message)) ++ segment_bytes (drop s message)
 in_three message s =

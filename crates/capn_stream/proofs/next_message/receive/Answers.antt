@@ -42,7 +42,7 @@ returns-in-Ok-eq0 g c =
           received_end _ _ c.pieces.framer.rest c.args.max_words _ c.end_of.result ends read.0 read.1 bound fine;
     }
 
--- the part that is waited for needs what was read
+-- the bytes that were read end within the message
 read_within : (framer : Framing) (buf : List ℕ) (wanted count most : ℕ)
     → ((more : List ℕ) → length more ≤ wanted → EndsWithin (framer.rest ++ more) framer.most) → framer.most ≡ most
     → count ≤ wanted → EndsWithin (framer.rest ++ take count buf) most

@@ -1,5 +1,5 @@
--- The bytes of words are those of their arrays, one after another: a walk of the MIR by hand, since it goes through a
--- raw pointer.
+-- The proof of `joined_bytes`: the bytes of words are those of their arrays, one after another. The proof follows the
+-- MIR by hand, since the function uses a raw pointer.
 use Rattle.std.proofs.Common.{◌≡◌, ℕ, ◌+◌, ◌*◌, ◌^◌, ◌<◌, List, [], ◌∷◌, ◌++◌, length, refl, subst}
 use Rattle.std.proofs.Common.{arith, w64, Bor}
 use Rattle.capn_stream.specs.Segments.{joined}
@@ -51,11 +51,11 @@ flat (w ∷ ws) = w ++ flat ws
 
 module _ {M : Type 1} {𝓤 : Ura M} (𝓛 : Logic 𝓤) {D : Type 0} (c : D → ℕ → ℕ → Lft → Fml) (n : ℕ) (κ : Lft)
     (b : ℕ) where
-  -- of an array of n elements, each of size 1
+  -- what is known of an array of `n` elements, each of size 1
   abbrev run_of : List D → ℕ → ℕ → Lft → Fml
   run_of ys b' o = beside (said (feq ℕ (length ys) n)) (each_shared ys c 1 b' o)
 
-  -- elements and those after them
+  -- elements, and then more elements
   after : (xs ys : List D) (o : ℕ)
       → ent 𝓤 (sem 𝓛 (beside (each_shared xs c 1 b o) (each_shared ys c 1 b (at o 1 (length xs))) κ))
       (sem 𝓛 (each_shared (xs ++ ys) c 1 b o κ))
@@ -93,7 +93,7 @@ module _ {M : Type 1} {𝓤 : Ura M} (𝓛 : Logic 𝓤) (at_mem : Memory → SP
   abbrev clauses : Clauses 𝓤 F.ended
   clauses = F.clauses 𝓛 at_mem run
 
-  -- the words are lent for κ and lie at the offset o of the block b
+  -- the words are lent for `κ` and are at offset `o` of the block `b`
   module _ (C : Calls 𝓤 H) (Λ : Loops 𝓤 H) (κ : Lft) (q : Share) (b o : ℕ) (xs : List (List ℕ)) (m : ℕ) where
     abbrev words : Bor (List (List ℕ))
     words = record { ref_ptr = (b, o); now = xs }

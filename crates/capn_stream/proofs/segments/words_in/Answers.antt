@@ -1,4 +1,4 @@
--- The words of segments, counted one segment after the other.
+-- The proof of `words_in`, which counts one segment after the other.
 use Rattle.std.proofs.Common.{◌-◌, ◌^◌, length, min, All, refl, ℕ, ap, sym, subst, ◌∙◌, arith}
 use Rattle.std.specs.List.{sum_by}
 use Rattle.std.proofs.lemmas.List.{take_all}

@@ -3,7 +3,7 @@ use Rattle.capn_stream.specs.inner.Stages.{IsStage, parts_left}
 use Rattle.capn_stream.proofs.Came.{Came}
 use Rattle.capn_stream.proofs.stage.fill.Given as goal
 
--- the bytes of the piece so far come after those that were there
+-- the bytes of the piece so far follow the old bytes
 abbrev pub invariant-parts : goal.invariant-parts
 invariant-parts g l = record {
   inside : l.at ≤ length l.piece;
@@ -12,6 +12,6 @@ invariant-parts g l = record {
   came : Came l.fn.stage l.stage l.fn.bytes.items l.bytes.items l.piece;
 }
 
--- the parts after the one that is waited for
+-- the number of parts after the current one
 abbrev pub decreases-parts : goal.decreases-parts
 decreases-parts g l = parts_left l.stage
