@@ -1,4 +1,4 @@
--- A value of one kind is the same as no value of another. (For `sameness.rt`.)
+-- Lemmas for `sameness.rt`: values of different kinds are never the same.
 use Rattle.std.proofs.Common.{◌≡◌, ℕ, List, Bool, false, refl, sym, ap, ap₂, ◌∙◌, ◌≢◌, suc, true, ◌&&◌, arith, min}
 use Rattle.std.proofs.Common.{length}
 use Rattle.std.proofs.Common.{take, drop, ◌-◌, length-drop, inl, inr}
@@ -46,7 +46,7 @@ no_voids A _ k n = refl
 pub not_voids : {A : Type 0} (w : Value A) (k : ℕ) → ((m : ℕ) → w ≡ Voids m → ⊥) → test (voids k) (tree_of w) ≡ false
 not_voids {A} w k n = no_voids A (tree_of w) k (λ m e. n m (sym (value_of-tree_of A w) ∙ e))
 
--- a test that holds says which width and numbers the other list has
+-- a test of two lists that holds shows which width and numbers the other list has
 no_numbers : (u : Tree) (a : NumberWidth) (xs : List ℕ) → ((ys : List ℕ) → u ≡ numbers a ys → ⊥)
     → test (numbers a xs) u ≡ false
 no_numbers (numbers b ys) a xs n =
@@ -118,7 +118,7 @@ pub test_slots-past_right : (ss ts : Trees) → count ts ≡ 0 → test_slots ss
 test_slots-past_right ss no_trees e = test_slots-no_more ss ∙ and_true _
 test_slots-past_right ss (tree t ts) e = absurd (omega arith)
 
--- what is said of the trees of two values of known kinds
+-- facts about the trees of two values of known kinds
 module _ {A B : Type 0} (v : Value A) (w : Value B) where
   seen : (t u : Tree) {r : Bool} → tree_of v ≡ t → tree_of w ≡ u → r ≡ test t u → r ≡ test (tree_of v) (tree_of w)
   seen t u e f h = h ∙ sym (ap₂ test e f)
@@ -190,11 +190,11 @@ module _ {A B : Type 0} (v : Value A) (w : Value B) where
   pub cap_apart : (k : ℕ) → v ≡ Cap k → ((j : ℕ) → w ≡ Cap j → ⊥) → false ≡ test (tree_of v) (tree_of w)
   cap_apart k e n = seen_apart (cap k) (ap tree_of e ∙ tree_of-Cap A k) (not_cap w k n)
 
--- with what is seen of each kind of value
+-- the rules for values of different kinds, with the trees of each kind
 pub ruleset apart =
     (views, not_null, test_each-uneven, test_rows-uneven, test_slots-past_left, test_slots-past_right)
 
--- what is left past the shared slots
+-- the test of the slots past the shared ones
 pub test_slots-past_shared : {A B : Type 0} (a : List (Value A)) (b : List (Value B)) (i s : ℕ)
     → s ≡ min (length a) (length b) → i ≡ s →
     test_slots (trees_of (drop i a)) (trees_of (drop i b)) ≡ test_slots (trees_of a) (trees_of b) →

@@ -1,5 +1,5 @@
--- A value over another allocator: its tree is the same if its content is, or trimmed if its content is. (For the cycle
--- `anew` and `copy_of_plain`.)
+-- Lemmas for the cycle `anew` and `copy_of_plain`: the tree of a copy over another allocator is that of the value, or
+-- trimmed.
 use Rattle.std.proofs.Common.{◌≡◌, ℕ, List, length, Bool, true, false, Option, ◌⊎◌, inl, inr, refl, sym, ap, ap₂, ◌∙◌}
 use Rattle.std.specs.Prelude.{Result}
 use Rattle.std.specs.Result.{IfOk}
@@ -27,12 +27,12 @@ module _ (A : Type 0) {B : Type 0} (v : Value B) where
   pub cap_kept : {k : ℕ} → v ≡ Cap k → tree_of {A = A} (Cap k) ≡ tree_of v
   cap_kept {k} e = tree_of-Cap A k ∙ sym (ap tree_of e ∙ tree_of-Cap B k)
 
--- a list of numbers, by those of the other
+-- the copy of a list of numbers has the numbers of the list
 pub numbers_kept : {B : Type 0} (v : Value B) {t : Tree} {a : NumberWidth} {xs ys : List ℕ} → t ≡ numbers a ys → ys ≡ xs
     → tree_of v ≡ numbers a xs → t ≡ tree_of v
 numbers_kept v {a = a} e f g = e ∙ ap (numbers a) f ∙ sym g
 
--- the value is of none of the kinds that hold others
+-- facts about a value that holds no other values
 module _ {A : Type 0} where
   parts_cut : (t : Tree) → IsNot {A = A} Node (value_of A t) → IsNot {A = A} Links (value_of A t)
       → IsNot {A = A} Rows (value_of A t) → t ≡ trimmed t
@@ -41,7 +41,7 @@ module _ {A : Type 0} where
   parts_cut (rows bs) m l r = absurd (r _ refl)
   parts_cut _ m l r = refl
 
-  -- so trimming leaves it
+  -- trimming leaves a value that holds no other values as it is
   plain_kept : {B E : Type 0} (v : Value A) (r : Result (Value B) E) → IsNot Node v → IsNot Links v → IsNot Rows v
       → IfOk r (λ u. tree_of u ≡ tree_of v) → IfOk r (λ u. tree_of u ≡ trimmed (tree_of v))
   plain_kept v r m l n h =
@@ -75,7 +75,7 @@ list_anew : (cut : Bool) (bs : Bodies) → rows (rows_anew (kept_of_rows cut bs)
 list_anew true bs = refl
 list_anew false bs = refl
 
--- a value that holds others, by what is made of them
+-- the copy of a value that holds others, from the copies of these
 module _ {A B : Type 0} (cut : Bool) (v : Value B) where
   pub node_made : (b : Body B) (r : Body A) {kept : Option (ℕ × ℕ)} → v ≡ Node b
       → kept ≡ kept_of_body cut b.words (trees_of b.slots) → r.words ≡ words_anew kept b.words

@@ -1,11 +1,11 @@
--- The values below a value are less deep: so the functions on its parts end. (For `cost_and_height.rt`, `flaws.rt`,
--- `sameness.rt` and others.)
+-- Lemmas for `cost_and_height.rt`, `flaws.rt`, `sameness.rt` and others: the values below a value are less deep, so the
+-- functions that call themselves on them end.
 use Rattle.std.proofs.Common.{◌≡◌, ℕ, ◌+◌, ◌*◌, ◌<◌, ◌≤◌, List, length, get_or, ap, arith, rules}
 use denote.Param.Weighed.{most, at_most}
 use Rattle.capn_value.specs.declared.value.Value.{Value, Node, Links, Rows, size-Value, the_lemmas}
 use Rattle.capn_value.specs.declared.value.Body.{Body, size-Body}
 
--- from one function of a cycle to another, each with its place in the order
+-- the measure falls from one function of a cycle to the next
 pub falls : (x y q t : ℕ) → 2 * y + q ≡ t → x < y → 2 * x + 0 < t
 falls x y q t e h = omega arith
 

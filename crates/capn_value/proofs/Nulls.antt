@@ -1,4 +1,4 @@
--- The one value that is null. (For `copy_value` and `trim_value`.)
+-- Lemma for `copy_value` and `trim_value`: the only null value is `nil`.
 use Rattle.std.proofs.Common.{◌≡◌, true, refl}
 use Rattle.capn_value.specs.Tree.{Tree, nil, is_null}
 

@@ -1,5 +1,5 @@
--- A loop that writes a line for each number or word: one more, and all of them. (For `show_octs`, `show_pairs`,
--- `show_quads` and `word_lines`.)
+-- Lemmas for `show_octs`, `show_pairs`, `show_quads` and `word_lines`: the text after a loop that writes a line for
+-- each number or word.
 use Rattle.std.proofs.Common.{◌≡◌, ℕ, ◌+◌, ◌<◌, List, ◌∷◌, ◌++◌, length, drop, codes, sym, ap, ◌∙◌, add-one}
 use Rattle.std.proofs.Common.{append_assoc}
 use Rattle.std.proofs.Math.Seq.{drop-cons}
@@ -39,6 +39,6 @@ module _ (out : List ℕ) (level : ℕ) (xs : List ℕ) (i : ℕ) {all : List �
   words_written e =
       sym (append-nil out) ∙ sym (ap (λ (l : List ℕ). out ++ word_lines level l) (drop-past xs i e)) ∙ so_far
 
--- after a first line
+-- the text of the lines after a first line
 pub behind_first : (o m x y : List ℕ) {out : List ℕ} → out ≡ m ++ y → m ≡ o ++ x → out ≡ o ++ (x ++ y)
 behind_first o m x y e f = e ∙ ap (λ l. l ++ y) f ∙ append_assoc o x y

@@ -1,4 +1,4 @@
--- A value is the same once trimmed. (For `reading` and `trimming`.)
+-- Lemmas for `reading` and `trimming`: a value is the same once it is trimmed.
 use Rattle.std.proofs.Common.{◌≡◌, ℕ, zero, suc, ◌≤◌, refl, arith}
 use Rattle.capn_value.specs.Tree.{Tree, nil, node, voids, numbers, links, rows, cap, Trees}
 use Rattle.capn_value.specs.Tree.{no_trees, tree, Bodies, no_bodies, body, front, tree_at, is_null}

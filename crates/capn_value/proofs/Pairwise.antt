@@ -1,4 +1,4 @@
--- A test of two lists, one pair after another, and a test of one. (For the cycle `sameness` and `are_null`.)
+-- Lemmas for the cycle `sameness` and `are_null`: a test of two lists, one pair after another, and a test of one list.
 use Rattle.std.proofs.Common.{◌≡◌, ℕ, ◌+◌, ◌<◌, ◌≤◌, List, Bool, true, false, ◌&&◌, length, get_or, drop, min, arith}
 use Rattle.std.proofs.Common.{sym, ap, ap₂, ◌∙◌}
 use Rattle.capn_value.specs.TreeOf.{tree_of, trees_of, rows_of}
@@ -8,7 +8,7 @@ use Rattle.capn_value.specs.declared.value.Value.{Value}
 use Rattle.capn_value.specs.declared.value.Body.{Body}
 use Rattle.capn_value.proofs.Anywhere.{drop-next, drop-past}
 
--- where a loop ends
+-- a loop ends exactly at its limit
 pub ended : (i n : ℕ) → i ≤ n → n ≤ i → i ≡ n
 ended i n h k = omega arith
 
@@ -25,7 +25,7 @@ fails b rest e f so_far = ap (λ x. x && rest) (sym f ∙ e) ∙ so_far
 pub holds : (b rest : Bool) {r all : Bool} → r ≡ b → r ≡ true → (b && rest) ≡ all → rest ≡ all
 holds b rest e f so_far = ap (λ x. x && rest) (sym f ∙ e) ∙ so_far
 
--- of two bodies: their words, and then their slots
+-- the test of two bodies: their words, and then their slots
 module _ {ws ys w v : List ℕ} (e : w ≡ ws) (f : v ≡ ys) {r : Bool} (same : r ≡ test_words w v) where
   here : r ≡ test_words ws ys
   here = same ∙ ap₂ test_words e f
@@ -94,7 +94,7 @@ module _ {A B : Type 0} (a : List (Body A)) (b : List (Body B)) (i : ℕ) {all :
   rows_tested e f = sym (ap₂ (λ us vs. test_rows (rows_of us) (rows_of vs)) (drop-past a i e) (drop-past b i f))
       ∙ so_far
 
--- of one list: whether each element is null
+-- the test of one list that each element is null
 module _ {A : Type 0} (items : List (Value A)) (i : ℕ) {all : Bool} (so_far : are_null (trees_of (drop i items)) ≡ all)
   where
     module _ (v : Value A) (h : i < length items) (e : v ≡ get_or items i v) {r : Bool}

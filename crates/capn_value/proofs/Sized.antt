@@ -1,5 +1,5 @@
--- A loop that tests or counts the sizes of rows: one more, and all of them. (For `are_even`, `has_long_rows` and
--- `has_wide_row`.)
+-- Lemmas for `are_even`, `has_long_rows` and `has_wide_row`: a loop over the sizes of rows, after one more row and
+-- after all of them.
 use Rattle.std.proofs.Common.{◌≡◌, ℕ, ◌+◌, ◌-◌, ◌^◌, ◌<◌, ◌≤◌, List, Bool, true, false, ◌||◌, ◌&&◌, length, get_or}
 use Rattle.std.proofs.Common.{drop, min, nat_lt, sym, ap, ap₂, ◌∙◌, arith}
 use Rattle.std.proofs.lemmas.Bool.Decides.{nat_tests}
@@ -27,7 +27,7 @@ differs_then p q rest e f = ap₂ (λ a b. a && b && rest) e f
 agrees_both : (p q rest : Bool) → p ≡ true → q ≡ true → (p && q && rest) ≡ rest
 agrees_both p q rest e f = ap₂ (λ a b. a && b && rest) e f
 
--- what is counted is capped
+-- the capped sum so far, with one more row
 counted_more : (words w s n m part rest cap all : ℕ) → n ≡ min (words + w) cap → m ≡ min (n + s) cap
     → part ≡ w + s + rest → min (words + part) cap ≡ all → min (m + rest) cap ≡ all
 counted_more words w s n m part rest cap all e f g so_far = omega arith
@@ -35,7 +35,7 @@ counted_more words w s n m part rest cap all e f g so_far = omega arith
 none_more : (words rest : ℕ) → rest ≡ 0 → words ≡ words + rest
 none_more words rest e = omega arith
 
--- a number above the cap is known by its capped one
+-- a capped number is above a limit exactly if the number is
 pub above : (m n cap most : ℕ) → most < cap → min m cap ≡ min n cap → nat_lt most m ≡ nat_lt most n
 above m n cap most h e = grind (arith, nat_tests)
 

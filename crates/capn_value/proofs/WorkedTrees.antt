@@ -1,4 +1,4 @@
--- Worked values: what they are trimmed to, cost, and show as, and why some do not fit.
+-- Worked values: their trimmed values, their costs and their texts, and values that do not fit.
 use Rattle.std.proofs.Common.{◌≡◌, [], ◌∷◌, Some, None, codes, false, refl}
 use Rattle.std.specs.Fmt.{digits}
 use Rattle.hex.specs.Hex.{encode_with}
@@ -21,12 +21,12 @@ empty_struct_stays : trimmed (node [] (tree (node (0 ∷ []) no_trees) no_trees)
     ≡ node [] (tree (node [] no_trees) no_trees)
 empty_struct_stays = refl
 
--- rows are cut together: the second word stays where one row has it
+-- rows are cut to one size: the second word stays if one row has it
 rows_trimmed : trimmed (rows (body (1 ∷ 2 ∷ []) no_trees (body (3 ∷ 0 ∷ []) no_trees no_bodies)))
     ≡ rows (body (1 ∷ 2 ∷ []) no_trees (body (3 ∷ 0 ∷ []) no_trees no_bodies))
 rows_trimmed = refl
 
--- and they keep their number where nothing is left of them
+-- rows keep their number if nothing is kept of them
 rows_left_empty : trimmed (rows (body (0 ∷ []) no_trees (body (0 ∷ []) no_trees no_bodies)))
     ≡ rows (body [] no_trees (body [] no_trees no_bodies))
 rows_left_empty = refl
@@ -35,16 +35,16 @@ rows_left_empty = refl
 links_stay : trimmed (links (tree nil (tree nil no_trees))) ≡ links (tree nil (tree nil no_trees))
 links_stay = refl
 
--- a struct that is copied and not cut is as it was
+-- a struct that is copied whole is as it was
 struct_anew : anew false (node (5 ∷ 0 ∷ []) (tree nil no_trees)) ≡ node (5 ∷ 0 ∷ []) (tree nil no_trees)
 struct_anew = refl
 
--- rows of which each keeps one word and no slot
+-- rows that are cut to one word and no slot each
 rows_cut : rows_anew (Some (1, 0)) (body (1 ∷ 2 ∷ []) (tree nil no_trees) (body [] no_trees no_bodies))
     ≡ body (1 ∷ []) no_trees (body [] no_trees no_bodies)
 rows_cut = refl
 
--- a struct of one word and a slot with three bytes: 1 and 2 for itself, 1 and 1 for the bytes
+-- the cost of a struct of one word and of a slot with three bytes: 1 and 2 for the struct, 1 and 1 for the bytes
 struct_costs : cost 1 (node (5 ∷ []) (tree (numbers byte (1 ∷ 2 ∷ 3 ∷ [])) no_trees)) ≡ 5
 struct_costs = refl
 
@@ -52,27 +52,27 @@ struct_costs = refl
 voids_cost : cost 1 (voids 7) ≡ 8
 voids_cost = refl
 
--- rows without words cost one each, beside the list and its tag
+-- rows without words cost one each, in addition to the list and its tag
 rows_cost : cost 1 (rows (body [] no_trees (body [] no_trees no_bodies))) ≡ 4
 unfolding rows_price
 rows_cost = refl
 
--- the root of a chain of two is two high
+-- a chain of two structs has height 2
 chain_height : height (node [] (tree (node [] no_trees) no_trees)) ≡ 2
 chain_height = refl
 
--- rows that differ in their words are ragged, and a slot with them too
+-- rows with different numbers of words are ragged, and so is a value with them in a slot
 ragged_rows : misfit (node [] (tree (rows (body (1 ∷ []) no_trees (body [] no_trees no_bodies))) no_trees))
     ≡ Some Ragged
 unfolding misfit
 ragged_rows = refl
 
--- more elements than a pointer counts are too many, at any size
+-- a list of more elements than a pointer can count is too long, even if they have no size
 long_list : misfit (voids 536870912) ≡ Some Long
 unfolding misfit
 long_list = refl
 
--- a capability fits in a slot, and is no root
+-- a capability fits in a slot, and not as the root
 capability_fits : misfit (links (tree (cap 0) no_trees)) ≡ None
 unfolding misfit
 capability_fits = refl

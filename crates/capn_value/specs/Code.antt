@@ -1,4 +1,4 @@
--- A code of trees: each is stored as a `Value`, over the usual allocator.
+-- The code of trees: each tree is stored as a `Value`, over the usual allocator.
 use Rattle.std.specs.Prelude.{ℕ, zero, suc, ◌≡◌, List, [], ◌∷◌, map, Bool, true, false}
 use Rattle.std.specs.Coded.{Coded, code_by}
 use Rattle.std.specs.Int.{from_bool}
@@ -17,7 +17,7 @@ use Rattle.capn_value.specs.declared.value.Value.{Cap}
 use Rattle.capn_value.specs.declared.value.Body.{Body}
 use Rattle.capn_value.specs.contracts.value.Value as stored
 
--- the declared value of a tree, and the lists that it holds; `bits_from` makes those of bits
+-- the `Value` of a tree, and the lists in it; `bits_from` makes a list of bits of numbers
 module _ (A : Type 0) (bits_from : List ℕ → List Bool) where
   -- a list of numbers
   abbrev pub numbers_of : NumberWidth → List ℕ → Value A
@@ -45,8 +45,8 @@ module _ (A : Type 0) (bits_from : List ℕ → List Bool) where
     bodies_of no_bodies = []
     bodies_of (body ws ss bs) = (record { words = ws; slots = values_of ss }) ∷ bodies_of bs
 
--- any numbers as bits: for each as many that are set, and then one that isn't, since a tree may hold numbers that no
--- bit is
+-- The bits that stand for a list of any numbers, since a tree may hold numbers that are no bits. A number is stored as
+-- that many set bits, and then one that isn't set.
 abbrev after_set : ℕ → List Bool → List Bool
 after_set zero bs = false ∷ bs
 after_set (suc n) bs = true ∷ after_set n bs
@@ -55,7 +55,7 @@ abbrev pub in_bits : List ℕ → List Bool
 in_bits [] = []
 in_bits (n ∷ ns) = after_set n (in_bits ns)
 
--- and back, from bits as numbers
+-- a list of numbers with 1 added to the first number
 abbrev first_raised : List ℕ → List ℕ
 first_raised [] = []
 first_raised (n ∷ ns) = suc n ∷ ns
@@ -78,7 +78,7 @@ abbrev numbers_from : NumberWidth → List ℕ → List ℕ
 numbers_from bit xs = from_bits xs
 numbers_from _ xs = xs
 
--- a tree, and the trees in it, from the tree of the value as which it is stored
+-- the tree from the tree of the `Value` as which it was stored
 abbrev mutual
   pub stored_tree : Tree → Tree
   stored_tree (node ws ss) = node ws (stored_each ss)

@@ -8,14 +8,15 @@ use Rattle.capn_value.specs.NumberWidth.{per_word}
 use Rattle.capn_value.specs.Tree.{Tree, nil, node, voids, numbers, links, rows, cap, Trees}
 use Rattle.capn_value.specs.Tree.{no_trees, tree, Bodies, no_bodies, body, count, count_rows, row_words}
 
--- the cost of each content beside its size
+-- the cost of each content in addition to its size
 abbrev pub base : Tariff → ℕ
 base Strict = 1
 base Plain = 0
 
 -- ---- read to here for the theorem
 
--- 0 for null and a capability, else 1 plus the greatest height of a slot, a slot of a row, or an element
+-- the height: 0 for null and for a capability, otherwise 1 plus the greatest height of a slot, of a slot of a row, or
+-- of an element
 abbrev mutual
   pub height : Tree → ℕ
   height nil = 0
@@ -34,7 +35,8 @@ abbrev mutual
   greatest_in_rows no_bodies = 0
   greatest_in_rows (body ws slots bs) = max (greatest slots) (greatest_in_rows bs)
 
--- the cost of a composite list beside its pointer and its tag: its words, or one for each row if rows have none
+-- the cost of the rows of a composite list without its pointer and its tag: their words, or one for each row if rows
+-- have no words
 unfoldable pub rows_price : Bodies → ℕ
 rows_price bs = cond (row_words bs == 0) (count_rows bs) (row_words bs)
 
@@ -46,11 +48,11 @@ most_cost = 2 ^ 28
 abbrev pub most_height : ℕ
 most_height = 256
 
--- one more than a value that fits costs by any tariff; no sum of costs is counted further
+-- one more than the greatest cost of a value that fits, by any tariff; sums of costs are capped here
 abbrev pub dear : ℕ
 dear = 2 * most_cost + 2
 
--- the prices of all content of a value, where each content costs `base` beside its size
+-- the cost of a value: the sum of the prices of all its content, if each costs `base` in addition to its size
 module _ (base : ℕ) where
   abbrev mutual
     pub cost : Tree → ℕ

@@ -1,4 +1,4 @@
--- The first capability. (Own.)
+-- The index of the first capability of a value. (Own.)
 use Rattle.std.specs.Prelude.{ℕ, Some, None, Option}
 use Rattle.std.specs.Option.{option_or}
 use Rattle.capn_value.specs.Tree.{Tree, node, links, rows, cap, Trees}

@@ -1,4 +1,4 @@
--- The values that fit into a message, and the first reason why one doesn't. The greatest sizes are those that the
+-- The values that fit into a message, and the first reason why a value doesn't. The greatest sizes are those that
 -- pointers can count. (Page: structs, lists; the bounds on cost and height are our own.)
 use Rattle.std.specs.Prelude.{ℕ, ◌≡◌, ◌≤◌, Bool, true, false, cond, ◌||◌, ◌&&◌, not, nat_lt, ◌==◌, length, Option}
 use Rattle.std.specs.Prelude.{Some, None, List}
@@ -9,7 +9,7 @@ use Rattle.capn_value.specs.Cost.{height, base, cost, most_cost, most_height}
 use Rattle.capn_value.specs.declared.misfit.Misfit.{Misfit}
 use Rattle.capn_value.specs.declared.misfit.Misfit.TheVariants.{Wide, Long, Ragged, Costly, Tall, BadRoot}
 
--- true if a test holds of the value, or of one below it
+-- true if `test` holds of the value, or of one below it
 module _ (test : Tree → Bool) where
   abbrev mutual
     pub anywhere : Tree → Bool
@@ -33,12 +33,12 @@ module _ (test : Tree → Bool) where
 abbrev pub is_wide_body : List ℕ → Trees → Bool
 is_wide_body ws ss = nat_lt 65535 (length ws) || nat_lt 65535 (count ss)
 
--- one of the rows is such a body
+-- one of the rows has more than 65,535 words or slots
 abbrev pub has_wide_row : Bodies → Bool
 has_wide_row no_bodies = false
 has_wide_row (body ws ss bs) = is_wide_body ws ss || has_wide_row bs
 
--- a struct that is too wide, or a list of structs with one
+-- a struct with more than 65,535 words or slots, or a list of structs with one
 abbrev pub is_wide : Tree → Bool
 is_wide (node ws ss) = is_wide_body ws ss
 is_wide (rows bs) = has_wide_row bs
@@ -57,11 +57,11 @@ abbrev pub words_in_rows : Tree → ℕ
 words_in_rows (rows bs) = row_words bs
 words_in_rows _ = 0
 
--- more than 2^29 - 1 elements, or words in rows
+-- a list of more than 2^29 - 1 elements, or of rows with more words than that in all
 abbrev pub is_long : Tree → Bool
 is_long t = nat_lt 536870911 (elements t) || nat_lt 536870911 (words_in_rows t)
 
--- every row has w words and s slots
+-- every row has `w` words and `s` slots
 abbrev pub are_even : ℕ → ℕ → Bodies → Bool
 are_even w s no_bodies = true
 are_even w s (body ws ss bs) = (length ws == w) && (count ss == s) && are_even w s bs
@@ -71,13 +71,13 @@ abbrev pub is_ragged : Tree → Bool
 is_ragged (rows (body ws ss bs)) = not (are_even (length ws) (count ss) bs)
 is_ragged _ = false
 
--- a message's root is anything but a capability (Own.)
+-- the value may be a root, as anything but a capability may (Own.)
 abbrev pub is_root : Tree → Bool
 is_root (cap k) = false
 is_root _ = true
 
--- the first of the six that holds, each looked for in the whole value before the next; cost is counted by the plain
--- tariff, so that a value that costs no more by any tariff fits too
+-- The first of the six misfits that the value has. Each is looked for in the whole value before the next. Cost is
+-- counted by the plain tariff, so a value that is cheap enough by the strict tariff is never `Costly`.
 unfoldable pub misfit : Tree → Option Misfit
 misfit t =
     cond (anywhere is_wide t) (Some Wide)
@@ -87,7 +87,7 @@ misfit t =
     (cond (nat_lt most_height (height t)) (Some Tall)
     (cond (is_root t) None (Some BadRoot))))))
 
--- the misfit holds of the value, and none before it does
+-- the value has the misfit, and none before it
 abbrev pub IsFirst : Misfit → Tree → Type 0
 IsFirst Wide t = anywhere is_wide t ≡ true
 IsFirst Long t = (anywhere is_wide t ≡ false) × (anywhere is_long t ≡ true)
@@ -102,7 +102,7 @@ IsFirst BadRoot t =
     (anywhere is_wide t ≡ false) × (anywhere is_long t ≡ false) × (anywhere is_ragged t ≡ false)
     × (nat_lt most_cost (cost (base Plain) t) ≡ false) × (nat_lt most_height (height t) ≡ false) × (is_root t ≡ false)
 
--- none of the six holds
+-- the value has none of the six misfits
 unfoldable pub Fits : Tree → Type 0
 Fits t = misfit t ≡ None
 

@@ -1,12 +1,11 @@
--- The questions of a reader to a value, whatever its schema: the getters, and their answers along a path. (Page:
--- structs, lists, capabilities, default values.)
+-- The getters that a reader calls on a value, whatever its schema, and their results along a path. (Page: structs,
+-- lists, capabilities, default values.)
 use Rattle.std.specs.Prelude.{ℕ, zero, suc, List, [], ◌∷◌, slice_index}
 use Rattle.capn_value.specs.NumberWidth.{NumberWidth}
 use Rattle.capn_value.specs.Tree.{Tree, nil, node, voids, numbers, links, rows, cap, Bodies, no_bodies, body, tree_at}
 use Rattle.capn_value.specs.Fits.{elements}
 
--- the kinds of values that a pointer denotes: null, which `has` tells apart, a struct, a list by its elements, a
--- capability
+-- the kinds of values that a pointer denotes: null (which `has` tests), a struct, a list by its elements, a capability
 pub data Kind : Type 0 where
   null : Kind
   struct : Kind
@@ -41,13 +40,13 @@ abbrev pub number : Tree → ℕ → ℕ
 number (numbers w xs) i = slice_index xs i
 number _ i = 0
 
--- struct i of a list
+-- struct `i` of a list
 abbrev pub row_at : Bodies → ℕ → Tree
 row_at no_bodies i = nil
 row_at (body ws ss bs) zero = node ws ss
 row_at (body ws ss bs) (suc i) = row_at bs i
 
--- element i of a list of pointers, or of structs: of a struct neither its number of words nor of pointers is given
+-- element `i` of a list of pointers or of structs; for a struct, neither its number of words nor of pointers is given
 abbrev pub element : Tree → ℕ → Tree
 element (links ts) i = tree_at ts i
 element (rows bs) i = row_at bs i
@@ -73,7 +72,7 @@ abbrev pub at : Tree → List Step → Tree
 at t [] = t
 at t (s ∷ p) = at (next t s) p
 
--- all answers about one value without a further step
+-- all results of the getters on one value, without a further step
 pub record Answer : Type 0 where
   pub kind : Kind
   pub word : ℕ → ℕ
@@ -84,6 +83,6 @@ pub record Answer : Type 0 where
 abbrev pub told : Tree → Answer
 told t = record { kind = kind t; word = word t; elements = elements t; number = number t; index = index t }
 
--- the answer of the getters at the end of a path
+-- the results of the getters at the end of a path
 abbrev pub get : Tree → List Step → Answer
 get t p = told (at t p)

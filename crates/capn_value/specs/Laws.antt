@@ -1,4 +1,4 @@
--- Laws of the definitions, whatever the code does. (Own.)
+-- Laws of the definitions alone, apart from the code. (Own.)
 use Rattle.std.specs.Prelude.{◌≡◌, ◌≤◌, ◌↔◌, List, Some}
 use Rattle.capn_value.specs.Tree.{Tree}
 use Rattle.capn_value.specs.Same.{Same}
@@ -31,14 +31,15 @@ FittingIsSixFacts = (t : Tree) → Fits t ↔ IsFit t
 abbrev pub MisfitIsFirst : Type 0
 MisfitIsFirst = (t : Tree) (k : Misfit) → (misfit t ≡ Some k) ↔ IsFirst k t
 
--- values are the same if and only if the getters give the same answers for both along every path
+-- values are the same if and only if the getters agree on them along every path
 abbrev pub SameExactlyToGetters : Type 0
 SameExactlyToGetters = (v w : Tree) → Same v w ↔ ((p : List Step) → get v p ≡ get w p)
 
--- then anything that is computed from their answers is the same for both
+-- values are the same if and only if the functions of all paths are equal, so that anything computed from the getters
+-- is equal too
 abbrev pub SameToReaders : Type 0
 SameToReaders = (v w : Tree) → Same v w ↔ (get v ≡ get w)
 
--- trimming changes no answer of theirs
+-- trimming changes no result of the getters
 abbrev pub TrimmedIsToldAlike : Type 0
 TrimmedIsToldAlike = (v : Tree) (p : List Step) → get (trimmed v) p ≡ get v p

@@ -9,7 +9,7 @@ pub data NumberWidth : Type 0 where
   quad : NumberWidth
   oct : NumberWidth
 
--- the bits of a number
+-- the number of bits of a number
 abbrev pub bits_in : NumberWidth → ℕ
 bits_in bit = 1
 bits_in byte = 8
@@ -17,7 +17,7 @@ bits_in pair = 16
 bits_in quad = 32
 bits_in oct = 64
 
--- the most numbers that a word holds
+-- the number of numbers that a word holds
 abbrev pub per_word : NumberWidth → ℕ
 per_word w = 64 / bits_in w
 

@@ -3,16 +3,16 @@ use Rattle.std.specs.Prelude.{ℕ, ◌≡◌, List, ⊤, slice_index}
 use Rattle.capn_value.specs.Tree.{Tree, nil, node, voids, numbers, links, rows, cap, Trees}
 use Rattle.capn_value.specs.Tree.{no_trees, tree, Bodies, no_bodies, body}
 
--- word i is equal, 0 past the end
+-- word i of `ws` equals word i of `vs`, with 0 past the end
 abbrev pub SameWords : List ℕ → List ℕ → Type 0
 SameWords ws vs = (i : ℕ) → slice_index ws i ≡ slice_index vs i
 
--- no slot holds anything
+-- every slot is null
 abbrev pub AllNull : Trees → Type 0
 AllNull no_trees = ⊤
 AllNull (tree t ts) = (t ≡ nil) × AllNull ts
 
--- of one kind, and equal except for zero words and null slots past a struct's end
+-- the values are of one kind, and equal except for zero words and null slots past the end of a struct
 abbrev mutual
   pub Same : Tree → Tree → Type 0
   Same nil nil = ⊤
@@ -24,19 +24,19 @@ abbrev mutual
   Same (cap j) (cap k) = j ≡ k
   Same _ _ = ⊥
 
-  -- slot i is the same, null past the end
+  -- slot i of both is the same, with null past the end
   pub SameSlots : Trees → Trees → Type 0
   SameSlots no_trees ts = AllNull ts
   SameSlots (tree s ss) no_trees = (s ≡ nil) × SameSlots ss no_trees
   SameSlots (tree s ss) (tree t ts) = Same s t × SameSlots ss ts
 
-  -- as many, and each the same
+  -- both have the same number of trees, and each is the same
   pub SameEach : Trees → Trees → Type 0
   SameEach no_trees no_trees = ⊤
   SameEach (tree s ss) (tree t ts) = Same s t × SameEach ss ts
   SameEach _ _ = ⊥
 
-  -- as many rows, and each the same whatever its size
+  -- both have the same number of rows, and each is the same, whatever its size
   pub SameRows : Bodies → Bodies → Type 0
   SameRows no_bodies no_bodies = ⊤
   SameRows (body ws ss bs) (body vs ts cs) = SameWords ws vs × SameSlots ss ts × SameRows bs cs

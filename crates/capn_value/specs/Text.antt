@@ -8,11 +8,11 @@ use Rattle.capn_value.specs.NumberWidth.{NumberWidth, bit, byte, pair, quad, oct
 use Rattle.capn_value.specs.Tree.{Tree, nil, node, voids, numbers, links, rows, cap, Trees}
 use Rattle.capn_value.specs.Tree.{no_trees, tree, Bodies, no_bodies, body, count, count_rows}
 
--- one line
+-- one line: its indentation, the text, a newline
 unfoldable pub line : ℕ → List ℕ → List ℕ
 line level text = replicate (2 * level) 32 ++ (text ++ 10 ∷ [])
 
--- a word, a space and a number
+-- a name, a space and a number
 abbrev pub named : List ℕ → ℕ → List ℕ
 named name n = name ++ 32 ∷ decimal n
 
@@ -25,12 +25,12 @@ abbrev pub digit : Bool → ℕ
 digit true = 49
 digit false = 48
 
--- a digit for each bit, the first element first
+-- a digit for each bit, in the order of the elements
 abbrev pub digits_of : List Bool → List ℕ
 digits_of [] = []
 digits_of (b ∷ bs) = digit b ∷ digits_of bs
 
--- one line, unless the list is empty
+-- one line with `text`, or none if the list has no elements
 abbrev pub one_line : ℕ → ℕ → List ℕ → List ℕ
 one_line level zero text = []
 one_line level (suc n) text = line level text
@@ -45,7 +45,7 @@ abbrev pub number_lines : ℕ → List ℕ → List ℕ
 number_lines level [] = []
 number_lines level (n ∷ ns) = line level (decimal n) ++ number_lines level ns
 
--- the name of a list of numbers in its first line
+-- the name of a list of numbers, with which its first line begins
 abbrev pub numbers_name : NumberWidth → List ℕ
 numbers_name bit = codes "bits"
 numbers_name byte = codes "bytes"
@@ -53,7 +53,8 @@ numbers_name pair = codes "u16"
 numbers_name quad = codes "u32"
 numbers_name oct = codes "u64"
 
--- the lines below it: one of digits for bits and for bytes, else one for each number
+-- the lines below the first line of a list of numbers: one line of digits for bits and for bytes, otherwise a line for
+-- each number
 abbrev pub numbers_lines : NumberWidth → ℕ → List ℕ → List ℕ
 numbers_lines bit level xs = one_line level (length xs) (digits_of (map is_set xs))
 numbers_lines byte level xs = one_line level (length xs) (encode_lower xs)
@@ -63,7 +64,7 @@ numbers_lines _ level xs = number_lines level xs
 abbrev pub body_line : ℕ → ℕ → ℕ → List ℕ
 body_line level w s = line level (codes "struct " ++ (decimal w ++ 32 ∷ decimal s))
 
--- a first line with kind and size, then the values in it, one level deeper
+-- the text of a value: a first line with its kind and size, then the values in it, one level deeper
 abbrev mutual
   pub shown : ℕ → Tree → List ℕ
   shown level nil = line level (codes "null")
@@ -86,6 +87,6 @@ abbrev mutual
       body_line level (length ws) (count ss)
       ++ (word_lines (level + 1) ws ++ (shown_each (level + 1) ss ++ shown_rows level bs))
 
--- the root has level 0
+-- the text of a whole value, whose root has level 0
 abbrev pub show_text : Tree → List ℕ
 show_text t = shown 0 t

@@ -2,8 +2,8 @@
 use Rattle.std.specs.Prelude.{ℕ, zero, suc, ◌+◌, List, Bool, true, false, length}
 use Rattle.capn_value.specs.NumberWidth.{NumberWidth}
 
--- the value that a pointer denotes: null, a struct by its data words and slots, a list of elements of no size, of
--- numbers of one width, of pointers or of structs, or a capability by its index. Nothing bounds the numbers here
+-- The value that a pointer denotes: null; a struct by its data words and slots; a list of elements of no size, of
+-- numbers of one width, of pointers or of structs; or a capability by its index. The numbers are not bounded.
 mutual
   pub data Tree : Type 0 where
     nil : Tree
@@ -19,7 +19,7 @@ mutual
     no_trees : Trees
     tree : Tree → Trees → Trees
 
-  -- the structs of a struct list, each by its words and its slots
+  -- the structs of a composite list, each by its words and its slots
   pub data Bodies : Type 0 where
     no_bodies : Bodies
     body : List ℕ → Trees → Bodies → Bodies
@@ -34,36 +34,36 @@ abbrev pub count_rows : Bodies → ℕ
 count_rows no_bodies = 0
 count_rows (body ws ss bs) = suc (count_rows bs)
 
--- true if it is null
+-- true if the tree is null
 abbrev pub is_null : Tree → Bool
 is_null nil = true
 is_null _ = false
 
 -- ---- read to here for the theorem
 
--- the tree at a place, null past the end
+-- tree number `i`, or null past the end
 abbrev pub tree_at : Trees → ℕ → Tree
 tree_at no_trees i = nil
 tree_at (tree t ts) zero = t
 tree_at (tree t ts) (suc i) = tree_at ts i
 
--- the first n
+-- the first `n` trees
 abbrev pub front : ℕ → Trees → Trees
 front zero ts = no_trees
 front (suc n) no_trees = no_trees
 front (suc n) (tree t ts) = tree t (front n ts)
 
--- the words of all rows together, data words and slots
+-- the number of words of all rows together, data words and slots
 abbrev pub row_words : Bodies → ℕ
 row_words no_bodies = 0
 row_words (body ws ss bs) = length ws + count ss + row_words bs
 
--- the first, then the second
+-- the trees of both lists, one list after the other
 abbrev pub joined : Trees → Trees → Trees
 joined no_trees us = us
 joined (tree t ts) us = tree t (joined ts us)
 
--- the first rows, then the second
+-- the rows of both lists, one list after the other
 abbrev pub joined_rows : Bodies → Bodies → Bodies
 joined_rows no_bodies cs = cs
 joined_rows (body ws ss bs) cs = body ws ss (joined_rows bs cs)

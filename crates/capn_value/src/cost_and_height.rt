@@ -1,8 +1,7 @@
-//! The capped cost and height of a value.
-//! The caps keep each sum from wrapping.
+//! The cost and the height of a value, capped so that no sum wraps.
 //!
-//! Cost looks at each list, and what a slice holds is in its type's range. So it is here that a value is
-//! found to be in range, which takes no step of its own.
+//! The cost of a list is computed from its typed slice, whose numbers are in the range of the type. The functions for
+//! the cost therefore also prove that a value is in range, which takes no step at run time.
 
 ghost use Rattle.std.specs.Prelude.{◌≡◌, ◌+◌, ◌||◌, ◌^◌, min, length};
 ghost use Rattle.std.specs.Int.{div_ceil};
@@ -23,7 +22,7 @@ pub const MOST_HEIGHT: u32 = 256;
 /// One more than the greatest cost of a value that fits, by either tariff.
 const DEAR: usize = 2 * MOST_COST as usize + 2;
 
-// Returns `a + b`, or `DEAR` if that is more.
+// Returns `a + b`, or `DEAR` if that is less.
 fn plus(a: usize, b: usize) -> usize
     ensures { result ≡ min (a + b) sizes.dear }
 {
@@ -59,7 +58,7 @@ fn oct_words(xs: &[u64]) -> usize
     xs.len()
 }
 
-// Returns the cost of the rows of a list beside its pointer and tag, if they have `words` words together.
+// Returns the cost of the rows `bodies` of a list without its pointer and tag, if the rows have `words` words together.
 #[tactic(auto, using(std::proofs::lemmas::Grind::common_steps, crate::proofs::shared::Prices::prices))]
 fn capped_rows_price<A: Allocator>(bodies: &[Body<A>], words: usize) -> usize
     requires { words ≡ min (row_words (rows_of bodies.now)) sizes.dear }
@@ -72,7 +71,7 @@ fn capped_rows_price<A: Allocator>(bodies: &[Body<A>], words: usize) -> usize
     }
 }
 
-/// Returns the cost of `v` in words, if each content costs `base` beside its size; or `DEAR`, if that is more.
+/// Returns the cost of `v` in words if each content costs `base` in addition to its size, or `DEAR` if that is less.
 #[cycle(cost)]
 #[tactic(auto, using(std::proofs::lemmas::Grind::common_steps, crate::specs::Views::views))]
 pub fn capped_cost<A: Allocator>(v: &Value<A>, base: usize) -> usize
@@ -123,7 +122,7 @@ fn capped_costs<A: Allocator>(items: &[Value<A>], base: usize) -> usize
     sum
 }
 
-// The number of words of all rows together, and the cost of their slots.
+// The number of words of all rows together, and the cost of what is in their slots.
 #[derive(Drop)]
 struct RowSums {
     words: usize,
@@ -156,7 +155,7 @@ fn taller(below: u32) -> u32
     below.saturating_add(1).min(TALL)
 }
 
-/// Returns the height of `v`, or `TALL` if that is more.
+/// Returns the height of `v`, or `TALL` if that is less.
 #[cycle(height)]
 #[tactic(auto, using(std::proofs::lemmas::Grind::common_steps, crate::specs::Views::views))]
 pub fn capped_height<A: Allocator>(v: &Value<A>) -> u32

@@ -1,4 +1,4 @@
-//! The first misfit of a value.
+//! The search for the first misfit of a value.
 
 ghost use Rattle.std.specs.Prelude.{◌≡◌, ◌||◌, IfNone};
 ghost use Rattle.capn_value.specs.TreeOf.{tree_of, trees_of, rows_of};
@@ -12,7 +12,7 @@ use crate::tariff::Tariff;
 use crate::value::{Body, Value};
 use std::alloc::Allocator;
 
-/// The flaws found in a value, of those that a part can have.
+/// The flaws found in a value, among those that its parts can have by themselves.
 #[derive(Clone, Copy)]
 struct Flaws {
     wide: bool,
@@ -27,7 +27,7 @@ impl Flaws {
         ragged: false,
     };
 
-    // Joins the flaws of both.
+    // Returns the flaws of `self` and of `other` together.
     fn or(self, other: Flaws) -> Flaws
         ensures wide { result.wide ≡ (self.wide || other.wide) }
         ensures long { result.long ≡ (self.long || other.long) }
@@ -41,7 +41,7 @@ impl Flaws {
     }
 }
 
-/// Finds the first misfit of `v`. A value that has none is also in range.
+/// Finds the first misfit of `v`. If there is none, `v` is also in range.
 #[tactic(auto, unfolding(crate::specs::Fits::misfit))]
 pub fn misfit<A: Allocator>(v: &Value<A>) -> Option<Misfit>
     ensures reason { result ≡ fits.misfit (tree_of v.now) }

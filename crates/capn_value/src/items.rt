@@ -1,4 +1,4 @@
-//! The field type of a value's lists.
+//! The type `Items`, a list of elements inside a value.
 
 ghost use Rattle.std.specs.Prelude.{◌≡◌, ◌^◌, ◌<◌, [], ◌∷◌, ◌++◌, ◌↔◌, IsTrue, length, IfOk, OnOk, OnErr};
 ghost use Rattle.std.specs.Iterator.Runs.{EveryRun, ItemsMapTo};
@@ -9,9 +9,9 @@ use std::marker::Model;
 use std::ops::DerefSlice;
 use std::slice;
 
-/// A list of elements, which contracts see as just that: no capacity and no address.
+/// A list of elements. Contracts see only the elements, without capacity and address.
 ///
-/// It is made from a `Vec` and gives it back without taking memory.
+/// It is made of a `Vec` and gives that back, without taking memory.
 #[derive(Debug, Drop)]
 pub struct Items<T, A: Allocator = Global> {
     items: Vec<T, A>,
@@ -38,8 +38,8 @@ impl<T, A: Allocator> Items<T, A> {
         }
     }
 
-    /// Returns an empty list over `alloc`. Room for `capacity` elements is asked for at once, so that they are put in
-    /// without taking more; for none, nothing is.
+    /// Returns an empty list over `alloc` with room for `capacity` elements, which are then pushed without a growth.
+    /// Takes no memory if `capacity` is 0.
     pub fn with_capacity(alloc: A, capacity: usize) -> Result<Items<T, A>, AllocError>
         ensures ok { IfOk result (λ it. it ≡ []) }
         ensures memory { OnErr result (0 < capacity) }
@@ -85,7 +85,7 @@ impl<T, A: Allocator> Items<T, A> {
 }
 
 impl<T: Copy, A: Allocator> Items<T, A> {
-    /// Copies the slice `items`, in memory of just its size.
+    /// Copies the slice `items` to memory of exactly its size.
     pub fn from_slice(alloc: A, items: &[T]) -> Result<Items<T, A>, AllocError>
         ensures { IfOk result (λ it. it ≡ items.now) }
     {
@@ -95,7 +95,7 @@ impl<T: Copy, A: Allocator> Items<T, A> {
 }
 
 impl<T: Drop, A: Allocator> Items<T, A> {
-    /// Puts `item` after the others. After a refusal the list is as it was.
+    /// Appends `item`. After a refusal the list is as it was.
     pub fn push(&mut self, item: T) -> Result<(), AllocError>
         ensures ok { OnOk result (self.new ≡ self.old ++ item ∷ []) }
         ensures err { OnErr result (self.new ≡ self.old) }

@@ -1,11 +1,11 @@
-//! Laws of trimming and of limits, as an empty function.
+//! The laws of values, apart from any call, as empty functions.
 
 ghost use Rattle.capn_value.specs.Laws.{SameExactlyTrimmed, SameOnceTrimmed, TrimmingIsThrifty, FittingIsSixFacts};
 ghost use Rattle.capn_value.specs.Laws.{MisfitIsFirst, SameExactlyToGetters, SameToReaders, TrimmedIsToldAlike};
 
-/// States: values are the same if and only if their trimmed ones are equal; a value is the same as its trimmed one,
-/// which costs no more, is no higher, and fits. A value fits if and only if none of the six misfits holds of it, and
-/// its misfit is the first that does.
+/// States that values are the same if and only if they are equal once trimmed. A value is the same as its trimmed
+/// value, which costs no more, is no higher, and fits. A value fits if and only if it has none of the six misfits, and
+/// `misfit` is the first that it has.
 pub fn trimming()
     ensures same { SameExactlyTrimmed }
     ensures kept { SameOnceTrimmed }
@@ -14,9 +14,9 @@ pub fn trimming()
     ensures first { MisfitIsFirst }
 {}
 
-/// States: values are the same if and only if the getters give the same of both along every path: the kind, each data
-/// word and pointer of a struct, with zeros and nulls past its end, and the elements of a list. So a value reads as it
-/// does once trimmed.
+/// States that values are the same if and only if the getters agree on them along every path: on the kind, on each data
+/// word and pointer of a struct, and on the elements of a list. Past the end of a struct, getters return zero and null.
+/// A value therefore reads like its trimmed value.
 pub fn reading()
     ensures exactly { SameExactlyToGetters }
     ensures whole { SameToReaders }

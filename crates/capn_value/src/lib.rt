@@ -1,13 +1,12 @@
-//! Values of messages as trees.
-//! A value is what a pointer denotes, apart from where it is in a message.
+//! Values of messages as trees: the value of a pointer is what it denotes, apart from where it is in a message.
 //!
-//! A [`Value`] is put together freely. A [`Tree`] is a value that fits into a message: [`Tree::new`] makes
-//! one, or gives the value back with the first [`Misfit`]. Contracts see both as one mathematical tree,
-//! without capacities, addresses or allocators.
+//! A [`Value`] is put together freely. A [`Tree`] is a value that fits into a message. [`Tree::new`] makes one, or
+//! gives the value back with the first [`Misfit`]. Contracts see both as one mathematical tree, without capacities,
+//! addresses or allocators.
 //!
-//! - [`same`] says whether two values are equal up to trailing zero words and trailing null slots of structs.
-//! - [`trim`] cuts these off. Two trees are the same if and only if they are equal once trimmed, and trimming
-//!   raises neither [`cost`] nor [`height`].
+//! - [`same`] tests whether two values are equal up to trailing zero words and trailing null slots of structs.
+//! - [`trim`] cuts off trailing zero words and trailing null slots of structs. Two trees are the same if and only if
+//!   they are equal once trimmed, and trimming raises neither [`cost`] nor [`height`].
 //! - [`first_cap`] finds the first capability, [`copy`] copies a tree, and [`show`] writes its text.
 //! - [`laws`] states what holds of the definitions alone.
 //!
@@ -48,5 +47,5 @@ pub use tariff::Tariff;
 pub use tree::{Tree, copy, cost, height, show, trim};
 pub use value::{Body, Value, first_cap};
 
-// The types in the signatures above.
+// The types of other crates in the signatures above.
 pub use capn_words::Memory;

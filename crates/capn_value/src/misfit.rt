@@ -1,19 +1,19 @@
-//! The misfits of a value, in the order of tests.
+//! The misfits: the reasons why a value fits into no message.
 
 use std::error::Error;
 use std::fmt;
 
-/// The reason why a value fits into no message. (Own.) The reasons are in the order in which they are tested, and each
-/// is looked for in the whole value before the next.
+/// The reason why a value fits into no message. (Own.) The variants are in the order of the tests. Each test looks at
+/// the whole value before the next begins.
 #[derive(Clone, Copy, Debug, PartialEq, Eq)]
 pub enum Misfit {
     /// A struct has more than 65,535 data words or slots.
     Wide,
-    /// A list has more than 2^29 - 1 elements, or its rows have more words in all, data words and slots.
+    /// A list has more than 2^29 - 1 elements, or its rows together have more data words and slots than that.
     Long,
     /// Two rows of one list differ in their number of data words or of slots.
     Ragged,
-    /// The cost by the plain tariff is above 2^28 words.
+    /// The cost is above 2^28 words by the plain tariff.
     Costly,
     /// The height is above 256.
     Tall,

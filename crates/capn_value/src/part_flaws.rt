@@ -60,7 +60,7 @@ pub fn is_long<A: Allocator>(v: &Value<A>) -> bool
     }
 }
 
-// Returns `true` if the rows have more words together than a list may.
+// Returns `true` if the rows together have more words than a list may.
 #[tactic(auto, using(std::proofs::lemmas::Grind::common_steps, crate::specs::Views::views))]
 fn has_long_rows<A: Allocator>(bodies: &[Body<A>]) -> bool
     ensures { result ≡ nat_lt 536870911 (trees.row_words (rows_of bodies.now)) }
@@ -74,7 +74,7 @@ fn has_long_rows<A: Allocator>(bodies: &[Body<A>]) -> bool
     words > MOST_ELEMENTS
 }
 
-/// Returns `true` if `v` is a composite list of which two rows differ in size.
+/// Returns `true` if `v` is a composite list with two rows of different sizes.
 #[tactic(auto, using(std::proofs::lemmas::Grind::common_steps, crate::specs::Views::views))]
 pub fn is_ragged<A: Allocator>(v: &Value<A>) -> bool
     ensures { result ≡ fits.is_ragged (tree_of v.now) }

@@ -1,4 +1,4 @@
-//! Equality of values up to trimming.
+//! The test `same`: equality of values up to trimming.
 
 ghost use Rattle.std.specs.Prelude.{◌≡◌, ◌↔◌, ◌&&◌, IsTrue};
 ghost use Rattle.capn_value.specs.TreeOf.{tree_of, trees_of, rows_of};
@@ -12,8 +12,8 @@ use std::alloc::Allocator;
 /// Returns `true` if `v` and `w` are equal up to trailing zero words and trailing null slots of structs, at every
 /// level. (Page: canonicalization.)
 ///
-/// A pointer to an empty struct isn't null, elements of a list are all compared, and kinds of list stay apart. The
-/// values needn't fit. Takes no memory.
+/// A pointer to an empty struct isn't null. All elements of lists are compared, and lists of different kinds differ.
+/// The values needn't fit. Takes no memory.
 #[tactic(auto, using(crate::proofs::Decided::test_decides))]
 pub fn same<A: Allocator, B: Allocator>(v: &Value<A>, w: &Value<B>) -> bool
     ensures { IsTrue result ↔ Same (tree_of v.now) (tree_of w.now) }
@@ -44,7 +44,7 @@ fn are_null<A: Allocator>(items: &[Value<A>]) -> bool
     true
 }
 
-// Returns `true` if word i of each is equal, 0 past the end.
+// Returns `true` if word i of `a` equals word i of `b` for each i. Past its end, a section has zeros.
 fn test_words(a: &[u64], b: &[u64]) -> bool
     ensures { result ≡ test_words a.now b.now }
 {
@@ -88,7 +88,7 @@ fn test_bodies<A: Allocator, B: Allocator>(a: &Body<A>, b: &Body<B>) -> bool
         && test_slots(a.slots.as_slice(), b.slots.as_slice())
 }
 
-// Returns `true` if slot i of each is the same, null past the end.
+// Returns `true` if slot i of `a` is the same as slot i of `b` for each i. Past its end, a section has null slots.
 #[cycle(sameness)]
 #[tactic(auto, using(std::proofs::lemmas::Grind::common_steps, crate::proofs::Apart::apart))]
 fn test_slots<A: Allocator, B: Allocator>(a: &[Value<A>], b: &[Value<B>]) -> bool

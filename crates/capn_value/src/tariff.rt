@@ -1,20 +1,20 @@
-//! Tariffs for the contents of a message.
+//! The tariffs: what each object of a message costs in addition to its size.
 
 ghost use Rattle.std.specs.Prelude.{◌≡◌, ◌≤◌};
 ghost use Rattle.capn_value.specs.Cost as sizes;
 
-/// The price of a visit: the words of the content that its slot leads to, and one for each element that has no size.
-/// (Own, after the page's security considerations.)
+/// The rule for the price of a visit. A price counts the words of the content that the slot leads to, and one for each
+/// element of a list whose elements have no size. (Own, after the page's security considerations.)
 #[derive(Clone, Copy, Debug, PartialEq, Eq)]
 pub enum Tariff {
-    /// Each content costs 1 beside its size.
+    /// Each content costs 1 in addition to its size.
     Strict,
-    /// A content costs nothing beside its size.
+    /// A content costs its size alone.
     Plain,
 }
 
 impl Tariff {
-    /// Returns the cost of each content beside its size, in words.
+    /// Returns the cost of each content in addition to its size, in words.
     #[inline(always)]
     pub fn base(self) -> u32
         ensures value { result ≡ sizes.base self }

@@ -12,7 +12,7 @@ use crate::text_lines::{
 use crate::value::{Body, Value};
 use std::alloc::{AllocError, Allocator};
 
-/// Appends the text of `v` to `out`, its first line at this `level`. After a refusal a part of it may be there.
+/// Appends the text of `v` to `out`, with its first line at `level`. After a refusal a part of the text may be there.
 #[cycle(show)]
 #[tactic(auto, using(std::proofs::lemmas::Grind::common_steps, crate::specs::Views::views))]
 pub fn show<A: Allocator, B: Allocator>(

@@ -7,7 +7,6 @@ ghost use Rattle.hex.specs.Hex.{encode_lower};
 
 use std::alloc::{AllocError, Allocator};
 
-// Appends two spaces for each level.
 fn indent<A: Allocator>(out: &mut String<A>, level: u32) -> Result<(), AllocError>
     ensures { OnOk result (string_bytes out.new ≡ string_bytes out.old ++ replicate (2 * level) 32) }
 {
@@ -67,7 +66,8 @@ pub fn number_line<A: Allocator>(out: &mut String<A>, level: u32, n: u64) -> Res
     writeln!(out, "{n}")
 }
 
-/// Appends the line of one data `word` at this `level` to `out`, as a number: its most significant digit comes first.
+/// Appends the line of one data `word` at this `level` to `out`. The word is written as a number, its most significant
+/// digit first.
 #[tactic(auto, using(std::proofs::lemmas::Grind::common_steps), unfolding(crate::specs::Text::line))]
 pub fn word_line<A: Allocator>(out: &mut String<A>, level: u32, word: u64) -> Result<(), AllocError>
     ensures { OnOk result
@@ -79,7 +79,7 @@ pub fn word_line<A: Allocator>(out: &mut String<A>, level: u32, word: u64) -> Re
     out.push_str("\n")
 }
 
-/// Appends a line of the digits of `bytes` at this `level` to `out`.
+/// Appends a line of two hexadecimal digits for each of `bytes` at this `level` to `out`.
 #[tactic(auto, using(std::proofs::lemmas::Grind::common_steps), unfolding(crate::specs::Text::line))]
 pub fn bytes_line<A: Allocator>(
     out: &mut String<A>,
@@ -93,7 +93,7 @@ pub fn bytes_line<A: Allocator>(
     out.push_str("\n")
 }
 
-/// Appends a line of a digit for each of `bits` at this `level` to `out`.
+/// Appends a line of one digit for each of `bits` at this `level` to `out`.
 #[tactic(auto, using(std::proofs::lemmas::Grind::common_steps), unfolding(crate::specs::Text::line))]
 pub fn bits_line<A: Allocator>(
     out: &mut String<A>,
@@ -116,7 +116,7 @@ fn push_bits<A: Allocator>(out: &mut String<A>, bits: &[bool]) -> Result<(), All
     Ok(())
 }
 
-// The digits are put together apart, so that the string is extended once for all of them.
+// Appends a digit for each of `bits`. The digits are put together first, so that `out` is extended only once.
 fn push_block<A: Allocator>(out: &mut String<A>, bits: &[bool]) -> Result<(), AllocError>
     requires { length bits.now ≤ 64 }
     ensures { OnOk result (string_bytes out.new ≡ string_bytes out.old ++ text.digits_of bits.now) }
@@ -131,7 +131,6 @@ fn push_block<A: Allocator>(out: &mut String<A>, bits: &[bool]) -> Result<(), Al
     out.push_str(text)
 }
 
-// Appends two digits for each byte.
 #[tactic(auto, using(std::proofs::lemmas::Grind::common_steps, crate::proofs::Digits::digits))]
 fn push_hex<A: Allocator>(out: &mut String<A>, bytes: &[u8]) -> Result<(), AllocError>
     ensures { OnOk result (string_bytes out.new ≡ string_bytes out.old ++ encode_lower bytes.now) }
@@ -147,7 +146,7 @@ fn push_byte<A: Allocator>(out: &mut String<A>, byte: u8) -> Result<(), AllocErr
     ensures { OnOk result (string_bytes out.new ≡ string_bytes out.old ++ encode_lower (byte ∷ [])) }
 {
     let mut digits = [0u8; 2];
-    // Two digits have room, so nothing is refused.
+    // There is room for both digits, so nothing is refused.
     let _done = hex::encode_to_slice([byte], &mut digits);
     out.push(char::from(digits[0]))?;
     out.push(char::from(digits[1]))

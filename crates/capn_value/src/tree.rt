@@ -1,4 +1,4 @@
-//! Trees: values fit for a message.
+//! The type `Tree`, a value that fits into a message, and the calls on it.
 
 ghost use Rattle.std.specs.Prelude.{◌≡◌, ◌↔◌, ◌≢◌, ◌+◌, ◌*◌, ◌≤◌, IfOk, IfErr, OnErr, IsOk, string_bytes};
 ghost use Rattle.capn_value.specs.TreeOf.{tree_of};
@@ -23,7 +23,7 @@ use capn_words::Memory;
 use std::alloc::{Allocator, Global};
 use std::marker::Model;
 
-/// A value that fits into a message: it has no [`Misfit`]. Its numbers are those of their types.
+/// A value that fits into a message: it has no [`Misfit`], and its numbers are in the range of their types.
 #[derive(Debug, Drop)]
 pub struct Tree<A: Allocator = Global> {
     value: Value<A>,
@@ -47,8 +47,8 @@ impl<A: Allocator> Model for Tree<A> {
 }
 
 impl<A: Allocator> Tree<A> {
-    /// Makes a tree of a `value` that fits. Another comes back unchanged, with the first misfit, which may be anywhere
-    /// in it. Takes no memory, whatever the value's height.
+    /// Makes a tree of `value` if it fits. Otherwise gives `value` back unchanged, with its first misfit, which may be
+    /// anywhere in it. Takes no memory, whatever the height of `value`.
     #[tactic(auto, unfolding(crate::specs::Fits::Fits))]
     pub fn new(value: Value<A>) -> Result<Tree<A>, (Value<A>, Misfit)>
         ensures ok { IfOk result (λ t. t ≡ tree_of value) }
@@ -62,7 +62,7 @@ impl<A: Allocator> Tree<A> {
         }
     }
 
-    /// Makes a tree of a `value` that is known to fit; nothing of it is looked at. Takes no memory.
+    /// Makes a tree of a `value` that is known to fit, and looks at nothing in it. Takes no memory.
     pub fn of_fit(value: Value<A>) -> Tree<A>
         requires fits { Fits (tree_of value) }
         requires in_range { InRange (tree_of value) }
@@ -91,8 +91,8 @@ impl<A: Allocator> Tree<A> {
     }
 }
 
-/// Returns the greatest depth of an object in `tree`: from 0 to 256. The root has depth 1; null and capabilities have
-/// none. (Page: security considerations. That rows have the depth of their list is own.) Takes no memory.
+/// Returns the greatest depth of an object in `tree`, from 0 to 256. The root has depth 1. Null and capabilities have
+/// no depth. (Page: security considerations. That rows have the depth of their list is own.) Takes no memory.
 #[tactic(auto, using(crate::proofs::shared::Fitting::fit_parts))]
 pub fn height<A: Allocator>(tree: &Tree<A>) -> u32
     ensures exact { result ≡ sizes.height tree.now }
@@ -101,8 +101,8 @@ pub fn height<A: Allocator>(tree: &Tree<A>) -> u32
     capped_height(&tree.value)
 }
 
-/// Returns the cost of `tree`, in words, if each pointer is followed once, by a `tariff`: from 0 to 2^28 by the plain
-/// one, to 2^29 + 1 by the strict one. (Own, after the page's security considerations.) Takes no memory.
+/// Returns the cost of `tree` by `tariff`, in words, if each pointer is followed once. It is at most 2^28 by the plain
+/// tariff, and at most 2^29 + 1 by the strict one. (Own, after the page's security considerations.) Takes no memory.
 #[tactic(auto, using(crate::proofs::shared::Tariffs::affordable))]
 pub fn cost<A: Allocator>(tree: &Tree<A>, tariff: Tariff) -> u32
     ensures exact { result ≡ sizes.cost (sizes.base tariff) tree.now }
@@ -112,10 +112,10 @@ pub fn cost<A: Allocator>(tree: &Tree<A>, tariff: Tariff) -> u32
     capped_cost(&tree.value, tariff.base() as usize) as u32
 }
 
-/// Copies `tree` with trailing zero words and trailing null slots of structs cut off, at every level (encoding page:
-/// "Canonicalization"). The rows of a list are cut alike, and elements of a list are never cut.
+/// Copies `tree` without trailing zero words and trailing null slots of structs, at every level (encoding page:
+/// "Canonicalization"). All rows of a list are cut to one size, and elements of a list are never cut.
 ///
-/// Answers `Memory` only if a growth on `alloc` was refused, and takes what the answer holds.
+/// Returns `Memory` only if a growth on `alloc` was refused. Takes only the memory that the result holds.
 #[tactic(auto, using(crate::proofs::shared::StaysFit::fits))]
 pub fn trim<A: Allocator + Copy, B: Allocator>(alloc: A, tree: &Tree<B>) -> Result<Tree<A>, Memory>
     ensures value { IfOk result (λ r. r ≡ cut.trimmed tree.now) }
@@ -132,7 +132,7 @@ pub fn trim<A: Allocator + Copy, B: Allocator>(alloc: A, tree: &Tree<B>) -> Resu
 
 /// Copies `tree` to memory of `alloc`.
 ///
-/// Answers `Memory` only if a growth was refused, and takes what the answer holds.
+/// Returns `Memory` only if a growth was refused. Takes only the memory that the result holds.
 pub fn copy<A: Allocator + Copy, B: Allocator>(alloc: A, tree: &Tree<B>) -> Result<Tree<A>, Memory>
     ensures exact { IfOk result (λ r. r ≡ tree.now) }
     // Null takes no memory.
@@ -142,10 +142,10 @@ pub fn copy<A: Allocator + Copy, B: Allocator>(alloc: A, tree: &Tree<B>) -> Resu
     Ok(Tree { value })
 }
 
-/// Writes the text of `tree`, as it was read and not trimmed: a line for each value and each data word, indented by two
+/// Returns the text of `tree`, which is not trimmed first: a line for each value and each data word, indented by two
 /// spaces a level. (Own.)
 ///
-/// Answers `Memory` only if a growth on `alloc` was refused, and takes one string.
+/// Returns `Memory` only if a growth on `alloc` was refused. Takes the memory of one string.
 #[tactic(auto, using(crate::proofs::shared::Fitting::fit_parts))]
 pub fn show<A: Allocator, B: Allocator>(alloc: A, tree: &Tree<B>) -> Result<String<A>, Memory>
     ensures { IfOk result (λ t. string_bytes t ≡ text.show_text tree.now) }

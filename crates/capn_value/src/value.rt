@@ -1,4 +1,4 @@
-//! Values, and the first capability in one.
+//! The type `Value`, which is what a pointer denotes, and the search for the first capability in one.
 
 ghost use Rattle.std.specs.Prelude.{◌≡◌};
 ghost use Rattle.capn_value.specs.TreeOf.{tree_of, trees_of, rows_of};
@@ -9,7 +9,7 @@ use std::alloc::{Allocator, Global};
 
 /// The value that a pointer denotes. (Page: structs, lists, capabilities.)
 ///
-/// Kinds of list stay apart: an empty list of bytes is no empty list of voids.
+/// Lists of different kinds differ: an empty list of bytes does not equal an empty list of voids.
 #[cycle(value)]
 #[derive(Debug, Drop)]
 pub enum Value<A: Allocator = Global> {
@@ -17,7 +17,7 @@ pub enum Value<A: Allocator = Global> {
     Nil,
     /// A struct.
     Node(Body<A>),
-    /// A list of this many elements of no size.
+    /// A list of elements of no size, by their number.
     Voids(u32),
     /// A list of single bits.
     Bits(Items<bool, A>),
@@ -47,10 +47,10 @@ pub struct Body<A: Allocator = Global> {
     pub slots: Items<Value<A>, A>,
 }
 
-/// Returns the index of the first capability of `v` in preorder; `None` if there is none.
+/// Returns the index of the first capability of `v` in preorder, or `None` if there is none.
 ///
-/// Preorder: a value, then the values in its slots, rows or elements, in order, each with all below it before the next.
-/// (Own.) Takes no memory.
+/// In preorder a value is followed by the values in its slots, rows or elements, in order, each with all below it
+/// before the next. (Own.) Takes no memory.
 #[cycle(first_cap)]
 pub fn first_cap<A: Allocator>(v: &Value<A>) -> Option<u32>
     ensures { result ≡ caps.first_cap (tree_of v.now) }

@@ -1,4 +1,4 @@
-//! Copies of values in new memory, trimmed or whole.
+//! Copies of values in other memory, trimmed or whole.
 
 ghost use Rattle.std.specs.Prelude.{◌≡◌, ◌≢◌, [], ◌∷◌, ◌++◌, IfOk, OnOk, OnErr, IsOkAnd, List};
 ghost use Rattle.capn_value.specs.Tree.{nil, front};
@@ -14,7 +14,6 @@ use crate::sameness::is_null;
 use crate::value::{Body, Value};
 use std::alloc::{AllocError, Allocator};
 
-/// Copies a list of plain elements as a whole.
 fn copied<T: Copy, A: Allocator, B: Allocator>(
     alloc: A,
     items: &Items<T, B>,
@@ -24,7 +23,7 @@ fn copied<T: Copy, A: Allocator, B: Allocator>(
     Items::from_slice(alloc, items.as_slice())
 }
 
-/// Puts what was `made` after the others of `out`, if it was made. After a refusal the list is as it was.
+/// Appends what was `made` to `out`, if it was made. After a refusal `out` is as it was.
 #[inline]
 pub fn push_made<T: Drop, A: Allocator>(
     out: &mut Items<T, A>,
@@ -73,7 +72,7 @@ pub fn copy_of_plain<A: Allocator, B: Allocator>(
     }
 }
 
-/// Copies `v` with every body cut to what it keeps, at every level, to memory of `alloc`. Null takes no memory.
+/// Copies `v` with every body cut to what is kept of it, at every level, to memory of `alloc`. Null takes no memory.
 pub fn trim_value<A: Allocator + Copy, B: Allocator>(
     alloc: A,
     v: &Value<B>,
@@ -87,7 +86,7 @@ pub fn trim_value<A: Allocator + Copy, B: Allocator>(
     anew(alloc, v, true)
 }
 
-// Returns the numbers of words and slots of the body that are kept, if it is cut.
+// Returns the numbers of words and of slots of `body` that are kept if it is cut, or `None` if it is not to be `cut`.
 fn kept_of_body<A: Allocator>(body: &Body<A>, cut: bool) -> Option<(usize, usize)>
     ensures { result ≡ made.kept_of_body cut body.now.words (trees_of body.now.slots) }
 {
@@ -100,7 +99,8 @@ fn kept_of_body<A: Allocator>(body: &Body<A>, cut: bool) -> Option<(usize, usize
     ))
 }
 
-// Returns the numbers of words and slots of each row that are kept, if they are cut.
+// Returns the numbers of words and of slots of each row that are kept if the rows are cut, or `None` if they are not to
+// be `cut`.
 fn kept_of_rows<A: Allocator>(rows: &[Body<A>], cut: bool) -> Option<(usize, usize)>
     ensures { result ≡ made.kept_of_rows cut (rows_of rows.now) }
 {
@@ -110,8 +110,8 @@ fn kept_of_rows<A: Allocator>(rows: &[Body<A>], cut: bool) -> Option<(usize, usi
     Some((kept_words_of_rows(rows), kept_slots_of_rows(rows)))
 }
 
-/// Copies `v` to memory of `alloc`: with every body cut to what it keeps, if `cut` is true, or as it is. Null is a
-/// value like any other.
+/// Copies `v` to memory of `alloc`. If `cut` is true, every body is cut to what is kept of it. Null is treated like any
+/// other value.
 #[cycle(anew)]
 pub fn anew<A: Allocator + Copy, B: Allocator>(
     alloc: A,
@@ -133,7 +133,7 @@ pub fn anew<A: Allocator + Copy, B: Allocator>(
     }
 }
 
-// Copies the body, cut to the words and slots that are kept, or whole.
+// Copies `body`: the words and slots that are `kept`, or all if `kept` is `None`.
 #[cycle(anew)]
 fn anew_body<A: Allocator + Copy, B: Allocator>(
     alloc: A,
@@ -150,7 +150,7 @@ fn anew_body<A: Allocator + Copy, B: Allocator>(
     Ok(Body { words, slots })
 }
 
-// Copies the first `most` values, each to new memory.
+// Copies the first `most` of `items` to memory of `alloc`.
 #[cycle(anew)]
 fn anew_front<A: Allocator + Copy, B: Allocator>(
     alloc: A,
@@ -168,7 +168,7 @@ fn anew_front<A: Allocator + Copy, B: Allocator>(
     Ok(out)
 }
 
-// Copies the rows, each cut to the words and slots that are kept, or whole.
+// Copies `rows`: of each the words and slots that are `kept`, or all if `kept` is `None`.
 #[cycle(anew)]
 fn anew_rows<A: Allocator + Copy, B: Allocator>(
     alloc: A,

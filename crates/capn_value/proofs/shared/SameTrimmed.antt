@@ -1,4 +1,5 @@
--- Two values that fit are the same if and only if they are equal once trimmed. (For `trim`, `trimming` and capn_canon.)
+-- Lemmas for `trim`, `trimming` and capn_canon: two values that fit are the same if and only if they are equal once
+-- trimmed.
 use Rattle.std.proofs.Common.{◌≡◌, ℕ, zero, suc, ◌≤◌, max, List, [], ◌∷◌, take, length, Bool, true, false, ◌&&◌, refl}
 use Rattle.std.proofs.Common.{sym, ap, ap₂, ◌∙◌, arith, subst, ◌↔◌}
 use Rattle.std.specs.Prelude.{◌==◌, slice_index}
@@ -125,12 +126,12 @@ kept_slots_rows_same (body ws ss bs) (body vs ts cs) h =
     ap₂ max (kept_slots_same ss ts h.1) (kept_slots_rows_same bs cs h.2)
 kept_slots_rows_same _ _ h = absurd h
 
--- each row has at least w words and s slots
+-- each row has at least `w` words and `s` slots
 abbrev AtLeast : ℕ → ℕ → Bodies → Type 0
 AtLeast w s no_bodies = Unit {0}
 AtLeast w s (body ws ss bs) = (w ≤ length ws) × (s ≤ count ss) × AtLeast w s bs
 
--- what is kept of even rows is within each
+-- the lengths that are kept of even rows are at most those of each row
 even_bounds : (a b : ℕ) (bs : Bodies) → are_even a b bs ≡ true → (kept_words_of_rows bs ≤ a)
     × (kept_slots_of_rows bs ≤ b)
 even_bounds a b no_bodies h = (omega arith, omega arith)
@@ -162,7 +163,7 @@ at_least_kept (body ws ss bs) h =
           e w s,
     )
 
--- no list of rows in it is ragged
+-- no list of rows in the value is ragged
 abbrev IsEven : Tree → Type 0
 IsEven t = anywhere is_ragged t ≡ false
 

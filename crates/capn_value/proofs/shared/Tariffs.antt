@@ -1,4 +1,4 @@
--- The cost of a value by one tariff and by the other. (For `cost` and capn_walk.)
+-- Lemmas for `cost` and capn_walk: the cost of a value by one tariff and by the other.
 use Rattle.std.proofs.Common.{◌≡◌, ℕ, ◌+◌, ◌*◌, ◌≤◌, length, arith}
 use Rattle.std.specs.Int.{div_ceil}
 use Rattle.capn_value.specs.NumberWidth.{per_word}
@@ -11,7 +11,7 @@ use Rattle.capn_value.specs.Fits.{Fits}
 use Rattle.capn_value.proofs.shared.Fitting.{fit_parts}
 use Rattle.capn_value.proofs.shared.Prices.{row_words-le}
 
--- where each content costs more beside its size, so does the value
+-- if each content costs more in addition to its size, the value costs more
 module _ (less more : ℕ) (le : less ≤ more) where
   raised : (n : ℕ) → less + n ≤ more + n
   raised n = omega (arith, le)
@@ -37,7 +37,7 @@ module _ (less more : ℕ) (le : less ≤ more) where
 doubled : (n : ℕ) → 1 + n ≤ 2 * (0 + n) + 1
 doubled n = omega arith
 
--- each content except the root's is named by a slot, which is a word of the content above it
+-- each content except the root's has a slot, which is a word of the content above it
 mutual
   pub cost-doubled : (t : Tree) → cost 1 t ≤ 2 * cost 0 t + 1
   cost-doubled nil = omega arith
@@ -56,12 +56,12 @@ mutual
   costs_in_rows-doubled no_bodies = omega arith
   costs_in_rows-doubled (body ws ss bs) = omega (arith, costs-doubled ss, costs_in_rows-doubled bs)
 
--- a value that fits is counted to the end, by either tariff
+-- the cost of a value that fits is below the cap, by either tariff
 pub affordable : (tariff : Tariff) (t : Tree) → Fits t → cost (base tariff) t + 1 ≤ dear
 affordable Strict t h = let cheap = (fit_parts t h).cheap in omega (arith, cost-doubled t)
 affordable Plain t h = let cheap = (fit_parts t h).cheap in omega arith
 
--- by the plain one it costs at most what a value may
+-- a value that fits costs at most 2^28 words by the plain tariff
 pub plainly_cheap : (tariff : Tariff) (t : Tree) → Fits t → tariff ≡ Plain → cost (base tariff) t ≤ most_cost
 plainly_cheap Plain t h e = (fit_parts t h).cheap
 plainly_cheap Strict t h e = absurd cc

@@ -1,23 +1,24 @@
--- The test that decides `Same`: the functions compute it, and `proofs/Decided.antt` shows that the two agree.
+-- The test that decides `Same`. The functions compute this test, and `proofs/Decided.antt` shows that it agrees with
+-- `Same`.
 use Rattle.std.specs.Prelude.{ℕ, ◌==◌, ◌&&◌, Bool, true, false, List, [], ◌∷◌}
 use Rattle.std.specs.Cmp.Lexicographic.{pointwise}
 use Rattle.capn_value.specs.NumberWidth.{bits_in}
 use Rattle.capn_value.specs.Tree.{Tree, nil, node, voids, numbers, links, rows, cap, Trees}
 use Rattle.capn_value.specs.Tree.{no_trees, tree, Bodies, no_bodies, body, is_null}
 
--- word by word, with zeros past the shorter one's end
+-- true if the words are equal one by one, with zeros past the end of the shorter list
 abbrev pub test_words : List ℕ → List ℕ → Bool
 test_words [] [] = true
 test_words [] (v ∷ vs) = (0 == v) && test_words [] vs
 test_words (w ∷ ws) [] = (w == 0) && test_words ws []
 test_words (w ∷ ws) (v ∷ vs) = (w == v) && test_words ws vs
 
--- no slot holds anything
+-- true if every slot is null
 abbrev pub are_null : Trees → Bool
 are_null no_trees = true
 are_null (tree t ts) = is_null t && are_null ts
 
--- kind by kind
+-- true if the values are of one kind and their parts pass the test
 abbrev mutual
   pub test : Tree → Tree → Bool
   test nil nil = true

@@ -1,5 +1,5 @@
--- The storage of elements in `Items`, so that `Value` may hold `Items` of `Value`: as the `Vec` inside it does, seen as
--- the list of its elements.
+-- The storage of elements in `Items`, by which `Value` may hold `Items` of `Value`. It is that of the `Vec` inside,
+-- seen as the list of its elements.
 use mathlib.Core.Path.{◌≡◌, refl, sym}
 use mathlib.Core.List.{List, []}
 use mathlib.Core.Former.{Former, this, list, via, children}
@@ -18,18 +18,18 @@ use Rattle.capn_value.specs.declared.items.Items.TheView.{view, invariant}
 use Rattle.capn_value.specs.contracts.items.Items as stored
 use Rattle.capn_value.specs.contracts.items.Items.TheInside as fields
 
--- a value is the list of its elements, whatever the allocator
+-- the value of an `Items` is the list of its elements, whatever the allocator
 abbrev pub the_former : Former {0} → Type 0 → Former {0}
 the_former elements A = list elements
 
--- a list of elements that are weighed is weighed
+-- if the elements are weighed, so is a list of them
 abbrev pub the_weighed : {elements : Former {0}} → Weighed elements → (A : Type 0) → Weighed (the_former elements A)
 the_weighed weights A = w_list weights
 
 pub the_empty : (A : Type 0) → A → List ⊥
 the_empty A alloc = []
 
--- its elements are that list
+-- the elements of an `Items` are its value
 abbrev pub the_items : (A T : Type 0) → List T → List T
 the_items A T elements = elements
 
@@ -37,7 +37,7 @@ pub the_items_listed : (A T : Type 0) (elements : List T)
     → listed _ (children (the_former this A) T elements) ≡ the_items A T elements
 the_items_listed A T elements = list-listed T elements
 
--- the one field, a `Vec`
+-- the storage of the one field, a `Vec`
 abbrev inside : Type 0 → Former {0}
 inside A = via (vec.the_former this A) (λ T. Inside T A) (λ T it. it.items) (λ T v. record { items = v }) (λ T it. refl)
     (λ T v. refl)
