@@ -1,4 +1,4 @@
--- The size of an object by its form, and that an object lies inside its message.
+-- The size of an object by its form, and what it means that the object lies inside its message.
 use Rattle.std.specs.Prelude.{ℕ, ◌+◌, ◌*◌, ◌<◌, ◌≤◌, List, length, ⊤}
 use Rattle.capn_words.specs.Message.{segment_at}
 use Rattle.capn_words.specs.declared.space.Place.{Place}
@@ -19,35 +19,35 @@ slot_count (shapes.Many Link n) = n
 slot_count (shapes.Many width n) = 0
 slot_count (shapes.Rows n data_words pointers span) = n * pointers
 
--- the words that an object takes
+-- the number of words that an object takes
 abbrev pub extent : Shape → ℕ
 extent (shapes.Node data_words pointers) = data_words + pointers
 extent (shapes.Many width n) = content_words width n
 extent (shapes.Rows n data_words pointers span) = 1 + span
 
--- the rows of a composite list, which has a tag, are within its words
+-- the rows of a composite list, which has a tag word, are within the words that its pointer gives
 abbrev pub RowsFit : Shape → Type 0
 RowsFit (shapes.Rows n data_words pointers span) = n * (data_words + pointers) ≤ span
 RowsFit (shapes.Many Rows n) = ⊥
 RowsFit _ = ⊤
 
--- elements that are neither pointers nor structs
+-- elements of the width are neither pointers nor structs
 abbrev pub IsPlain : Width → Type 0
 IsPlain Link = ⊥
 IsPlain Rows = ⊥
 IsPlain _ = ⊤
 
--- a pointer to a list of such elements
+-- the pointer leads to a list whose elements are neither pointers nor structs
 abbrev pub AreNumbers : Pointer → Type 0
 AreNumbers (Many o width n) = IsPlain width
 AreNumbers _ = ⊥
 
--- n words from a place on are within its segment, which exists
+-- `n` words from `at` on are inside its segment, which exists
 pub record IsContent (message : List (List ℕ)) (at : Place) (n : ℕ) : Type 0 where
   pub exists : at.segment < length message
   pub within : at.word + n ≤ length (segment_at message at.segment)
 
--- content of a message lies inside its segment
+-- the target, if it is content of `message`, lies inside its segment
 abbrev pub IsInMessage : List (List ℕ) → Target → Type 0
 IsInMessage message (targets.Content s start shape pads) =
     IsContent message (record { segment = s; word = start }) (extent shape) × RowsFit shape

@@ -1,4 +1,4 @@
--- The target of the pointer at a place of a message, or the first fault.
+-- The target of the pointer at a place of a message, or the first fault of that slot.
 use Rattle.std.specs.Prelude.{ℕ, ◌+◌, ◌-◌, ◌*◌, ◌/◌, nat_lt, ◌==◌, ℤ, pos, negsuc, Bool, true, false, List, length}
 use Rattle.std.specs.Prelude.{slice_index, Result, Ok, Err, if◌then◌else◌}
 use Rattle.capn_words.specs.Message.{segment_at}
@@ -15,7 +15,7 @@ use Rattle.capn_target.specs.declared.target.Fault.{Fault}
 use Rattle.capn_target.specs.declared.target.Fault.TheVariants as faults
 use Rattle.capn_words.specs.Pointers.{field, pointer_of}
 
--- the width of a list of numbers in its pointer
+-- the width that the pointer to a list of such numbers has
 abbrev pub list_width : NumberWidth → Width
 list_width bit = W1
 list_width byte = W8
@@ -23,11 +23,11 @@ list_width pair = W16
 list_width quad = W32
 list_width oct = W64
 
--- the words that n bits take
+-- the number of words that `n` bits take
 abbrev pub words_for : ℕ → ℕ
 words_for n = (n + 63) / 64
 
--- the content words of a list, with the tag of a composite one
+-- the number of words of a list's content; a composite list has a tag word and `n` words after it
 abbrev pub content_words : Width → ℕ → ℕ
 content_words W0 n = 0
 content_words W1 n = words_for n
@@ -38,13 +38,15 @@ content_words W64 n = n
 content_words Link n = n
 content_words Rows n = 1 + n
 
--- the word to which an offset leads from the word after a pointer; before word 0 it is a fault (Own.)
+-- the index of the word to which an offset leads, counted from the word after a pointer at `word`; before word 0 it is
+-- a fault (Own.)
 abbrev pub content_start : (word : ℕ) (offset : ℤ) → Result ℕ Fault
 content_start w (pos n) = Ok (w + 1 + n)
 content_start w (negsuc n) = if nat_lt w n then Err faults.Range else Ok (w - n)
 
 module _ (message : List (List ℕ)) where
-  -- a struct list whose content starts with this tag; its count is unsigned, its rows may leave words free (Own: both.)
+  -- the composite list whose content starts with the tag word `tag`; its count is unsigned, its rows may leave words
+  -- free (Own: both.)
   abbrev pub tagged : (segment start pads span tag : ℕ) → Result Target Fault
   tagged s start pads span tag =
       if field 0 2 tag == 0
@@ -52,54 +54,54 @@ module _ (message : List (List ℕ)) where
       else Ok (targets.Content s start (shapes.Rows (field 2 30 tag) (field 32 16 tag) (field 48 16 tag) span) pads)
       else Err faults.BadTag
 
-  -- this, if content of n words is inside its segment; n may be 0 (Own.)
+  -- `found`, if content of `n` words from `start` on is inside its segment; `n` may be 0 (Own.)
   abbrev pub if_inside : (segment start n : ℕ) → Result Target Fault → Result Target Fault
   if_inside s start n found = if nat_lt (length (segment_at message s)) (start + n) then Err faults.Range else found
 
-  -- a list whose content starts here: rows after their tag, or elements of one width
+  -- the list whose content starts at `start`: rows after their tag word, or elements of one width
   abbrev pub list : (segment start pads : ℕ) → Width → (n : ℕ) → Result Target Fault
   list s start pads Rows n =
       if_inside s start (1 + n) (tagged s start pads n (slice_index (segment_at message s) start))
   list s start pads width n =
       if_inside s start (content_words width n) (Ok (targets.Content s start (shapes.Many width n) pads))
 
-  -- a struct whose content starts here, by the sizes of its sections
+  -- the struct whose content starts at `start`, by the sizes of its sections
   abbrev pub struct : (segment start pads data_words pointers : ℕ) → Result Target Fault
   struct s start pads data_words pointers =
       if_inside s start (data_words + pointers) (Ok (targets.Content s start (shapes.Node data_words pointers) pads))
 
-  -- a struct's pointer to content from a start that is known, if it has one
+  -- the struct whose content starts at the given word, or the fault of that start
   abbrev pub struct_from : (segment : ℕ) → Result ℕ Fault → (pads data_words pointers : ℕ) → Result Target Fault
   struct_from s (Ok start) pads data_words pointers = struct s start pads data_words pointers
   struct_from s (Err e) pads data_words pointers = Err e
 
-  -- a list's pointer to content from a start that is known, if it has one
+  -- the list whose content starts at the given word, or the fault of that start
   abbrev pub list_from : (segment : ℕ) → Result ℕ Fault → (pads : ℕ) → Width → (n : ℕ) → Result Target Fault
   list_from s (Ok start) pads width n = list s start pads width n
   list_from s (Err e) pads width n = Err e
 
-  -- the struct or list whose pointer, or pad of one word, is at word w of the segment
+  -- the struct or list whose pointer is at `word` of the segment, in the slot itself or in a pad of one word
   abbrev pub target_from : (segment word pads : ℕ) → Pointer → Result Target Fault
   target_from s w pads (Node o data_words pointers) = struct_from s (content_start w o) pads data_words pointers
   target_from s w pads (Many o width n) = list_from s (content_start w o) pads width n
   target_from s w pads _ = Err faults.BadPad
 
-  -- the second word of a pad of two, whose first names where the content starts: zero is a struct without words, and
-  -- the offset is ignored (Own: both.)
+  -- the content that the second word of a pad of two describes, if the first gives its start; zero is a struct without
+  -- words, and the offset is ignored (Own: both.)
   abbrev pub second_pad : (segment start : ℕ) → Pointer → Result Target Fault
   second_pad s start Nil = struct s start 2 0 0
   second_pad s start (Node o data_words pointers) = struct s start 2 data_words pointers
   second_pad s start (Many o width n) = list s start 2 width n
   second_pad s start _ = Err faults.BadPad
 
-  -- true if this may be such a word: null, or a pointer to a struct or a list
+  -- true if the pointer may be the second word of a pad of two: null, or a pointer to a struct or a list
   abbrev pub is_second_pad : Pointer → Bool
   is_second_pad Nil = true
   is_second_pad (Node o data_words pointers) = true
   is_second_pad (Many o width n) = true
   is_second_pad _ = false
 
-  -- the target of a pad of two words: its first is a far pointer to the content, its second describes that
+  -- the target of a pad of two words: the first is a far pointer to the content, and the second describes the content
   abbrev pub two_pads : Pointer → Pointer → Result Target Fault
   two_pads (Far false w s) tag =
       if is_second_pad tag
@@ -107,18 +109,18 @@ module _ (message : List (List ℕ)) where
       else Err faults.BadPad
   two_pads _ tag = Err faults.BadPad
 
-  -- the pointer that a word of a segment holds
+  -- the pointer at `word` of a segment
   abbrev pub pointer_in : (segment word : ℕ) → Pointer
   pointer_in s w = pointer_of (slice_index (segment_at message s) w)
 
-  -- this, if a pad of n words is there
+  -- `found`, if a landing pad of `n` words at `word` is inside an existing segment
   abbrev pub landing : (segment word n : ℕ) → Result Target Fault → Result Target Fault
   landing s w n found =
       if nat_lt s (length message)
       then if nat_lt (length (segment_at message s)) (w + n) then Err faults.PadRange else found
       else Err faults.NoSegment
 
-  -- the target of a pointer at word w of segment s (Own: the order of the faults.)
+  -- the target of a pointer at `word` of a segment (Own: the order of the faults.)
   abbrev pub target_of_pointer : (segment word : ℕ) → Pointer → Result Target Fault
   target_of_pointer s w Nil = Ok targets.Nil
   target_of_pointer s w (Cap k) = Ok (targets.Cap k)
@@ -133,7 +135,7 @@ module _ (message : List (List ℕ)) where
 
 -- ---- read to here for the theorem
 
--- the bits of an element, and of a word of the rows of a composite list
+-- the number of bits of an element, or for a composite list of a word of its rows
 abbrev pub bits_of : Width → ℕ
 bits_of W0 = 0
 bits_of W1 = bits_in bit

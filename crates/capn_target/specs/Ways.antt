@@ -1,5 +1,5 @@
--- The ways in which a pointer leads to content: near, by a landing pad of one word, or by one of two. (Page: structs,
--- lists, inter-segment pointers.) These say what `target` computes, apart from the order of its tests.
+-- The three ways in which a pointer leads to content: near, by a landing pad of one word, or by a pad of two. (Page:
+-- structs, lists, inter-segment pointers.) They state what `target` computes, apart from the order of its tests.
 use Rattle.std.specs.Prelude.{◌≡◌, ◌⊎◌, ℕ, ◌+◌, ◌*◌, ◌<◌, ◌≤◌, true, false, List, length, slice_index, Ok}
 use Rattle.capn_words.specs.Message.{segment_at}
 use Rattle.capn_words.specs.Pointers.{field}
@@ -11,25 +11,25 @@ use Rattle.capn_target.specs.declared.target.Shape.{Shape}
 use Rattle.capn_target.specs.declared.target.Shape.TheVariants as shapes
 use Rattle.capn_target.specs.Target.{content_words, content_start, pointer_in}
 
--- the offset of a pointer at word w, counted from the word after it, leads to the start
+-- the offset of a pointer at word `w`, counted from the word after it, leads to word `start`
 abbrev pub LeadsTo : ℕ → Pointer → ℕ → Type 0
 LeadsTo w (Node offset words slots) start = content_start w offset ≡ Ok start
 LeadsTo w (Many offset width n) start = content_start w offset ≡ Ok start
 LeadsTo w _ start = ⊥
 
--- a tag word counts rows of these sizes, which are within n words
+-- `tag` is the tag word of the rows of `shape`, which are within `n` words
 abbrev pub HasRows : ℕ → ℕ → Shape → Type 0
 HasRows tag n shape =
     (field 0 2 tag ≡ 0) × (shape ≡ shapes.Rows (field 2 30 tag) (field 32 16 tag) (field 48 16 tag) n)
     × (field 2 30 tag * (field 32 16 tag + field 48 16 tag) ≤ n)
 
 module _ (message : List (List ℕ)) where
-  -- n words from a start on are inside a segment
+  -- `n` words from `start` on are inside segment `s`
   abbrev pub Lies : ℕ → ℕ → ℕ → Type 0
   Lies s start n = start + n ≤ length (segment_at message s)
 
-  -- the content that the pointer describes, except for its offset, starts there: content of this shape, inside the
-  -- segment
+  -- the pointer, apart from its offset, describes content of `shape` at word `start` of segment `s`, and that is inside
+  -- the segment
   abbrev pub Describes : Pointer → ℕ → ℕ → Shape → Type 0
   Describes Nil s start shape = (shape ≡ shapes.Node 0 0) × Lies s start 0
   Describes (Node offset words slots) s start shape = (shape ≡ shapes.Node words slots) × Lies s start (words + slots)
@@ -38,18 +38,18 @@ module _ (message : List (List ℕ)) where
   Describes (Many offset width n) s start shape = (shape ≡ shapes.Many width n) × Lies s start (content_words width n)
   Describes _ s start shape = ⊥
 
-  -- a pad of n words is there
+  -- a landing pad of `n` words at `word` is inside segment `s`, which exists
   abbrev pub IsPad : ℕ → ℕ → ℕ → Type 0
   IsPad s word n = (s < length message) × Lies s word n
 
-  -- the pointer at a place leads to content by its own offset
+  -- the pointer at `at` leads to content by its own offset
   pub record Near (at : Place) (s start : ℕ) (shape : Shape) (pads : ℕ) : Type 0 where
     pub offset : LeadsTo at.word (pointer_in message at.segment at.word) start
     pub content : Describes (pointer_in message at.segment at.word) s start shape
     pub here : s ≡ at.segment
     pub none : pads ≡ 0
 
-  -- it is a far pointer to a pad of one word, the pointer in the content's segment that leads to it
+  -- the pointer at `at` is a far pointer to a pad of one word, which is a pointer to the content in its own segment
   pub record ByOnePad (at : Place) (s start : ℕ) (shape : Shape) (pads : ℕ) : Type 0 where
     pub word : ℕ
     pub far : pointer_in message at.segment at.word ≡ Far false word s
@@ -58,7 +58,8 @@ module _ (message : List (List ℕ)) where
     pub content : Describes (pointer_in message s word) s start shape
     pub one : pads ≡ 1
 
-  -- it is a far pointer to a pad of two words: a far pointer to the content, and a tag that describes it
+  -- the pointer at `at` is a far pointer to a pad of two words: a far pointer to the content, and a word that describes
+  -- it
   pub record ByTwoPads (at : Place) (s start : ℕ) (shape : Shape) (pads : ℕ) : Type 0 where
     pub segment : ℕ
     pub word : ℕ
@@ -69,7 +70,7 @@ module _ (message : List (List ℕ)) where
     pub content : Describes (pointer_in message segment (word + 1)) s start shape
     pub two : pads ≡ 2
 
-  -- the pointer at a place leads to content in one of these three ways
+  -- the pointer at `at` leads to content in one of the three ways
   abbrev pub OneOfThree : Place → ℕ → ℕ → Shape → ℕ → Type 0
   OneOfThree at s start shape pads = Near at s start shape pads
       ⊎ (ByOnePad at s start shape pads ⊎ ByTwoPads at s start shape pads)

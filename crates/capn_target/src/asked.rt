@@ -1,10 +1,10 @@
-//! A message on which one task is done, by calls that count.
+//! The trait `Asked`, a message on which one task is done, by calls whose reads are counted.
 //!
-//! A call that takes an [`Asked`] in place of a `Space` can do one task on it and no more, since it is moved. The task
-//! has the message by calls that count alone ([`CountedTask`]), and asks it no more often than the message allows. So
-//! a clause `requires work { M.allows message n }` is one on the work of the call: its body is proved for each message
-//! that allows n, and so for one that allows no more. A reference to a `Space` allows all, so callers have nothing to
-//! show.
+//! A call that takes an [`Asked`] in place of a `Space` can do only one task on it, since the `Asked` is moved. The
+//! task ([`CountedTask`]) gets the message as calls that count, and reads it no more often than the message allows. A
+//! clause `requires work { M.allows message n }` therefore bounds the work of the call: its body is proved for every
+//! message that allows n reads, even one that allows no more. A reference to a `Space` allows any number, so callers
+//! have nothing to prove.
 
 ghost use Rattle.std.specs.Prelude.{◌≡◌, ℕ, ◌+◌, ◌<◌, ◌≤◌, List};
 
@@ -13,18 +13,18 @@ use capn_words::Space;
 use std::marker::Brand;
 use std::sync::ledger::{Blank, Ledger};
 
-/// A task on a message, done by calls that count.
+/// A task on a message, done by calls whose reads are counted.
 pub trait CountedTask {
-    /// The answer.
+    /// The result of the task.
     type Told;
 
-    /// The answer that the task gives of a message.
+    /// The relation between a message and the result of the task on it.
     ghost tells: { Self → List (List ℕ) → Self.Told → Type 0 };
 
-    /// The most times that it asks the message and turns its loops, whatever the message.
+    /// The greatest number of reads and turns of loops that the task counts, for any message.
     ghost most: { Self → ℕ };
 
-    /// Does the task on the message `space`, whose reads count in `reads`.
+    /// Does the task on the message `space`. Its reads are counted in `reads`.
     fn run<S: Space, L: Ledger>(
         self,
         space: &CountedSpace<'_, S, L>,
@@ -34,21 +34,21 @@ pub trait CountedTask {
         ensures work { reads.new ≤ reads.old + most self };
 }
 
-/// A task on a message and a buffer, done by calls that count.
+/// A task on a message and a buffer, done by calls whose reads are counted.
 pub trait CountedWriter {
-    /// The answer.
+    /// The result of the task.
     type Told;
 
     /// An item of the buffer.
     type Item;
 
-    /// The answer that the task gives of a message, and the change of the buffer.
+    /// The relation between a message, the buffer before and after the task, and the result of the task.
     ghost tells: { Self → List (List ℕ) → List Self.Item → List Self.Item → Self.Told → Type 0 };
 
-    /// The most times that it asks the message and turns its loops, whatever the message.
+    /// The greatest number of reads and turns of loops that the task counts, for any message.
     ghost most: { Self → ℕ };
 
-    /// Does the task on the message `space` and the buffer `out`; reads count in `reads`.
+    /// Does the task on the message `space` and the buffer `out`. Its reads are counted in `reads`.
     fn run<S: Space, L: Ledger>(
         self,
         space: &CountedSpace<'_, S, L>,
@@ -64,15 +64,17 @@ pub trait Asked {
     /// The segments, each the list of its words.
     ghost message: { Self → List (List ℕ) };
 
-    /// The message may be asked so often.
+    /// The condition that the given number of reads is allowed.
     ghost allows: { Self → ℕ → Type 0 };
 
-    /// Does `task` with a new count. One read of the number of segments opens it: the one more that is allowed.
+    /// Does `task` with a new count. The count begins with one read of the number of segments, so one read more than
+    /// those of the task has to be allowed.
     fn ask<T: CountedTask>(self, task: T) -> T::Told
         requires { allows self (T.most task + 1) }
         ensures { T.tells task (message self) result };
 
-    /// Does `task` on the buffer `out` with a new count, which is opened by one read of the number of segments.
+    /// Does `task` on the buffer `out` with a new count. The count begins with one read of the number of segments, so
+    /// one read more than those of the task has to be allowed.
     fn ask_into<T: CountedWriter>(self, task: T, out: &mut [T::Item]) -> T::Told
         requires { allows self (T.most task + 1) }
         ensures { T.tells task (message self) out.old out.new result };

@@ -1,4 +1,4 @@
-//! Content at a word of a segment, by its form, or the fault of its range or its tag.
+//! The content at a known word of a segment: its form, or the fault of its range or of its tag.
 
 ghost use Rattle.std.specs.Prelude.{◌≡◌, ℕ, ◌<◌, ◌≤◌, ◌+◌, ◌^◌, length, slice_index};
 ghost use Rattle.capn_words.specs.Message.{segment_at};
@@ -9,7 +9,7 @@ use crate::target::{Fault, Shape, Target};
 use capn_words::{Place, Space, Width};
 use std::sync::ledger::Ledger;
 
-/// Returns the number of words of `segment`; 0, if there is no such segment.
+/// Returns the number of words of `segment`, or 0 if there is no such segment.
 #[tactic(auto, using(crate::proofs::shared::Segments::length_of_none, crate::proofs::shared::Segments::length_of_some))]
 #[inline(always)]
 pub fn segment_length<S: Space, L: Ledger>(
@@ -23,7 +23,7 @@ pub fn segment_length<S: Space, L: Ledger>(
     space.words(segment, reads).unwrap_or(0)
 }
 
-/// Returns the number of words of `segment`, if that of the segment `known`, which may be the same, is `size`.
+/// Returns the number of words of `segment`, without a read if it is the segment `known`, which has `size` words.
 #[inline(always)]
 pub fn size_of<S: Space, L: Ledger>(
     space: &CountedSpace<'_, S, L>,
@@ -43,7 +43,7 @@ pub fn size_of<S: Space, L: Ledger>(
     }
 }
 
-/// Returns the place of `word` of `segment`.
+/// Returns the place of word `word` of `segment`.
 #[inline(always)]
 pub fn place(segment: u32, word: u32) -> Place
     ensures { result ≡ record { segment = segment; word = word } }
@@ -51,7 +51,8 @@ pub fn place(segment: u32, word: u32) -> Place
     Place { segment, word }
 }
 
-/// Returns the word to which `offset` leads from the pointer at `word`; `Range` if it is before word 0.
+/// Returns the index of the word to which `offset` leads from the pointer at `word`, or `Range` if that is before word
+/// 0.
 #[inline(always)]
 pub fn start_of(word: u32, offset: i32) -> Result<u64, Fault>
     ensures { result ≡ spec.content_start word offset }
@@ -64,7 +65,8 @@ pub fn start_of(word: u32, offset: i32) -> Result<u64, Fault>
     }
 }
 
-/// Returns the bits of an element of a list of this `width`, or of a word of the rows of a composite one.
+/// Returns the number of bits of an element of a list of this `width`. For `Rows` these are the bits of a word, since
+/// the count of a composite list is in words.
 #[inline(always)]
 fn bits_of(width: Width) -> u64
     ensures value { result ≡ spec.bits_of width }
@@ -80,7 +82,8 @@ fn bits_of(width: Width) -> u64
     }
 }
 
-/// Returns the number of words that the content of a list of `count` elements takes, with the tag of a composite one.
+/// Returns the number of words that the content of a list of `count` elements takes. For `Rows`, `count` is in words,
+/// and the tag word is added.
 #[inline(always)]
 pub fn content_words(width: Width, count: u32) -> u64
     ensures { result ≡ spec.content_words width count }
@@ -92,8 +95,8 @@ pub fn content_words(width: Width, count: u32) -> u64
     words
 }
 
-/// Returns the struct of `words` and `slots` whose content begins at word `start` of `segment`, which has `size` words,
-/// behind `pads` words of a landing pad; `Range` if it ends past the segment.
+/// Returns the struct of `words` and `slots` whose content begins at word `start` of `segment`, which has `size` words.
+/// Its pointer has a landing pad of `pads` words. `Range` if the content ends past the segment.
 #[inline(always)]
 pub fn node_at<S: Space, L: Ledger>(
     space: &CountedSpace<'_, S, L>,
@@ -120,8 +123,9 @@ pub fn node_at<S: Space, L: Ledger>(
     })
 }
 
-/// Returns the list of `count` elements whose content begins at word `start` of `segment`, which has `size` words,
-/// behind `pads` words of a landing pad; `Range` if it ends past the segment, or the fault of its tag.
+/// Returns the list of `count` elements whose content begins at word `start` of `segment`, which has `size` words. Its
+/// pointer has a landing pad of `pads` words. `Range` if the content ends past the segment, otherwise the fault of the
+/// tag word if it has one.
 #[inline(always)]
 pub fn many_at<S: Space, L: Ledger>(
     space: &CountedSpace<'_, S, L>,
@@ -153,8 +157,8 @@ pub fn many_at<S: Space, L: Ledger>(
     })
 }
 
-/// Returns the composite list of `span` words after its tag, which is at word `start` of `segment`, or the fault of the
-/// tag.
+/// Returns the composite list that has its tag word at word `start` of `segment` and `span` words after it, or the
+/// fault of the tag word.
 #[tactic(auto, using(std::proofs::lemmas::Grind::common_steps))]
 #[inline(always)]
 fn rows_at<S: Space, L: Ledger>(

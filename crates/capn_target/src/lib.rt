@@ -1,12 +1,13 @@
 //! The targets of a message's pointers. A target is null, a capability, or content that lies inside its segment.
 //!
-//! - [`resolve`] finds the target of any place, after landing pads if need be, or answers the first fault of that slot.
-//! - [`segment_length`], [`place`], [`start_of`], [`pointer_at`] and [`content_words`] are steps of it, for callers
-//!   that take them one by one.
+//! - [`resolve`] finds the target of the pointer at any place, through landing pads if it is far, or returns the first
+//!   fault of that slot.
+//! - [`segment_length`], [`place`], [`start_of`], [`pointer_at`] and [`content_words`] are its single steps, for
+//!   callers that take them one by one.
 //!
-//! All take any `Space`, and no memory. Module [`counted`] has them, and further steps, for a message whose reads are
-//! counted: `near` for a pointer in hand that leads to content in its own segment, and `node_at` and `many_at` for
-//! content whose start and form are known.
+//! The calls take any `Space`, and no memory. The module [`counted`] has these calls, and further steps, for a message
+//! whose reads are counted. There `near` takes a pointer that leads to content in its own segment, and `node_at` and
+//! `many_at` take content whose start and form are known.
 #![tactic(auto)]
 
 mod asked;

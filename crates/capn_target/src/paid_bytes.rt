@@ -1,4 +1,4 @@
-//! Bytes that were counted when they were given.
+//! The type `PaidBytes`, bytes whose read was counted when they were handed out.
 
 ghost use Rattle.std.specs.Prelude.{◌≡◌, ◌≤◌, length, drop, slice_index, IfOk};
 ghost use Rattle.byteorder.specs.Endian.{little_number};
@@ -8,8 +8,8 @@ use capn_value::Items;
 use std::alloc::{AllocError, Allocator};
 use std::marker::Model;
 
-/// Bytes of a message, which were counted when they were given. Each byte can be had once: a byte that is read is gone,
-/// and a copy takes all that are left. No call gives the slice, so the count bounds what is read.
+/// Bytes of a message, whose read was counted when they were handed out. Each byte can be read once: a byte that was
+/// read is gone, and a copy takes all that are left. No call gives the slice, so the count bounds what is read.
 #[derive(Drop)]
 pub struct PaidBytes<'s> {
     bytes: &'s [u8],
@@ -24,7 +24,7 @@ impl<'s> Model for PaidBytes<'s> {
 }
 
 impl<'s> PaidBytes<'s> {
-    /// Wraps `bytes`, each to be had once.
+    /// Wraps `bytes`, each of which can be read once.
     #[inline(always)]
     pub(crate) fn of(bytes: &'s [u8]) -> PaidBytes<'s>
         ensures { result ≡ bytes.now }
@@ -88,7 +88,7 @@ impl<'s> PaidBytes<'s> {
         word
     }
 
-    /// Copies the bytes that are left to `out`, which has room for just these.
+    /// Copies the bytes that are left to `out`, which has exactly their length.
     #[inline(always)]
     pub fn copy_to(self, out: &mut [u8])
         requires { length self ≡ length out.old }
@@ -97,7 +97,7 @@ impl<'s> PaidBytes<'s> {
         out.copy_from_slice(self.bytes);
     }
 
-    /// Copies all that are left to memory of `alloc`, of just their size.
+    /// Copies the bytes that are left to memory of `alloc` of exactly their size.
     #[inline(always)]
     pub fn into_items<A: Allocator>(self, alloc: A) -> Result<Items<u8, A>, AllocError>
         ensures { IfOk result (λ bytes. bytes ≡ self.entry) }

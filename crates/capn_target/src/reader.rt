@@ -1,11 +1,11 @@
-//! A message with counted reads.
+//! The type `CountedSpace`, a message that can be read only by calls that count.
 //!
-//! Whoever is handed a [`CountedSpace`] in place of a `Space` can read the message by its calls alone, and each of
-//! them counts. So a clause on [`Reads`] bounds what a body reads, whatever it answers. That a read is counted is
-//! proved: the fields are private to this file, no other ledger fits the type, and no call gives a slice or a `Space`:
-//! [`PaidBytes`] are had once, and an [`OnlySegment`] is read by calls that count in the same ledger. What was read is
-//! the body's own, and what it does with a copy isn't counted. That a loop counts its turns is the word of its author:
-//! a loop that leaves out [`Reads::tick`] is not refused, and its turns are not bounded.
+//! A function that is handed a [`CountedSpace`] in place of a `Space` can read the message only by its calls, and each
+//! of them counts. A clause on [`Reads`] therefore bounds the reads of a body, whatever it returns. It is proved that
+//! each read is counted. The fields are private to this file, no other ledger fits the type, and no call gives a slice
+//! or a `Space`. [`PaidBytes`] are read once, and an [`OnlySegment`] is read by calls that count in the same ledger.
+//! Work on a copy of what was read isn't counted. The turns of a loop are counted only if its author calls
+//! [`Reads::tick`]. A loop without that call is not refused, and its turns are not bounded.
 
 ghost use Rattle.std.specs.Prelude.{◌≡◌, ◌≢◌, ◌+◌, ◌/◌, ◌<◌, ◌≤◌, [], ◌∷◌, length, IfSome, IfNone};
 ghost use Rattle.capn_words.specs.Message.{IsMessage, IsPlace, IsRange, word_at, words_of, bytes_at};
@@ -15,8 +15,8 @@ use capn_words::{Bare, Place, Space};
 use std::marker::{Model, PhantomData};
 use std::sync::ledger::{Blank, Book, Ledger, Share};
 
-/// The number of times that the message of its ledger was read, and of turns of loops that were counted with the reads.
-/// It takes no bytes, and no call lowers it.
+/// The number of reads of the message of its ledger, and of the turns of loops that were counted with them. Its size is
+/// 0, and no call lowers it.
 #[derive(Drop)]
 pub struct Reads<L: Ledger> {
     book: Book<L>,
@@ -43,7 +43,7 @@ impl<L: Ledger> Reads<L> {
     }
 }
 
-/// A space whose message is read by calls that count, and in no other way. It takes the bytes of a reference.
+/// A message that can be read only by calls that count. It has the size of a reference.
 #[derive(Drop)]
 pub struct CountedSpace<'s, S: Space, L: Ledger> {
     space: &'s S,
@@ -61,8 +61,8 @@ impl<'s, S: Space, L: Ledger> Model for CountedSpace<'s, S, L> {
     ghost invariant = { λ c. IsMessage (S.message c.space.now) };
 }
 
-/// Opens the count of a message's reads: returns the message of `space`, to be read by calls that count, and a count of
-/// 1, since the number of segments is read once here. The ledger `blank` is new.
+/// Opens the count of a message's reads. Returns the message of `space` as one that is read by calls that count, and a
+/// count of 1, since the number of segments is read once here. The ledger `blank` is new.
 #[inline(always)]
 pub fn count_reads<'s, S: Space, L: Ledger>(
     space: &'s S,
@@ -86,7 +86,8 @@ pub fn count_reads<'s, S: Space, L: Ledger>(
 }
 
 impl<'s, S: Space, L: Ledger> CountedSpace<'s, S, L> {
-    /// Returns the message again, for a function that takes it by value: a reference to it would be one to a reference.
+    /// Returns the message again, for a function that takes it by value. A reference to it would be a reference to a
+    /// reference.
     #[inline(always)]
     pub fn again(&self) -> CountedSpace<'s, S, L>
         ensures { result ≡ self.now }
@@ -97,7 +98,7 @@ impl<'s, S: Space, L: Ledger> CountedSpace<'s, S, L> {
         }
     }
 
-    /// Gives a proof the bounds of the message. It reads nothing.
+    /// Gives the prover the bounds of the message. Reads nothing.
     #[inline(always)]
     pub fn bounds(&self)
         ensures { IsMessage self.now }
@@ -105,7 +106,7 @@ impl<'s, S: Space, L: Ledger> CountedSpace<'s, S, L> {
         let _space = self.space;
     }
 
-    /// Returns the number of segments. It counts in `reads` as one read.
+    /// Returns the number of segments. Counts in `reads` as one read.
     #[inline(always)]
     pub fn segments(&self, reads: &mut Reads<L>) -> u32
         ensures count { result ≡ length self.now }
@@ -115,7 +116,7 @@ impl<'s, S: Space, L: Ledger> CountedSpace<'s, S, L> {
         self.space.segments()
     }
 
-    /// Returns the number of words of `segment`, or `None` exactly if there is no such segment. It counts in `reads` as
+    /// Returns the number of words of `segment`, or `None` exactly if there is no such segment. Counts in `reads` as
     /// one read.
     #[inline(always)]
     pub fn words(&self, segment: u32, reads: &mut Reads<L>) -> Option<u32>
@@ -126,7 +127,7 @@ impl<'s, S: Space, L: Ledger> CountedSpace<'s, S, L> {
         self.space.words(segment)
     }
 
-    /// Returns the word at `at`, which has to be in range. It counts in `reads` as one read.
+    /// Returns the word at `at`, which has to be in range. Counts in `reads` as one read.
     #[inline(always)]
     pub fn word(&self, at: Place, reads: &mut Reads<L>) -> u64
         requires { IsPlace self.now at }
@@ -137,8 +138,8 @@ impl<'s, S: Space, L: Ledger> CountedSpace<'s, S, L> {
         self.space.word(at)
     }
 
-    /// Returns the `len` bytes from the start of the word at `at` on, as [`Space::bytes`] does, each of which is had
-    /// once. It counts in `reads` as one read for each word that they take.
+    /// Returns `len` bytes from the start of the word at `at` on, as [`Space::bytes`] does, but so that each is read
+    /// once. Counts in `reads` as one read for each word that the bytes take.
     #[inline(always)]
     pub fn bytes(&self, at: Place, len: usize, reads: &mut Reads<L>) -> PaidBytes<'s>
         requires { IsRange self.now at len }
@@ -149,8 +150,9 @@ impl<'s, S: Space, L: Ledger> CountedSpace<'s, S, L> {
         PaidBytes::of(self.space.bytes(at, len))
     }
 
-    /// Returns the only segment of a message as its words alone, which are faster to read; `None` if there are more. It
-    /// counts in `reads` as at most three reads. The words are read by calls that count in the same ledger.
+    /// Returns the words of the only segment of the message, which are faster to read than a message, or `None` if
+    /// there are more segments. Counts in `reads` as at most three reads. The words are read by calls that count in the
+    /// same ledger.
     #[inline(always)]
     pub fn only_segment(&self, reads: &mut Reads<L>) -> Option<OnlySegment<'s, L>>
         ensures one { IfSome result (λ words. self.now ≡ words ∷ []) }
@@ -172,8 +174,8 @@ impl<'s, S: Space, L: Ledger> CountedSpace<'s, S, L> {
     }
 }
 
-/// The words of the only segment of a message, to be read by calls that count, and in no other way. Contracts see it as
-/// the list of these words.
+/// The words of the only segment of a message, which can be read only by calls that count. Contracts see it as the list
+/// of these words.
 #[derive(Drop)]
 pub struct OnlySegment<'s, L: Ledger> {
     words: Bare<'s>,
@@ -189,7 +191,7 @@ impl<'s, L: Ledger> Model for OnlySegment<'s, L> {
 }
 
 impl<'s, L: Ledger> OnlySegment<'s, L> {
-    /// Returns the message of this segment, whose reads count in the same ledger.
+    /// Returns the message whose only segment this is. Its reads count in the same ledger.
     #[inline(always)]
     pub fn space(&self) -> CountedSpace<'_, Bare<'s>, L>
         ensures { result ≡ self.now ∷ [] }

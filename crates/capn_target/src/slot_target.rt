@@ -1,4 +1,4 @@
-//! The target of a slot, behind any landing pads, or the first fault of its pointer.
+//! The call `resolve`, which finds the target of a slot through any landing pads, or the first fault of its pointer.
 
 ghost use Rattle.std.specs.Prelude.{◌≡◌, ℕ, ◌<◌, ◌≤◌, ◌+◌, ◌^◌, length, Ok, Err, IfOk, OnOk, nat_lt, if◌then◌else◌};
 ghost use Rattle.capn_words.specs.Message.{segment_at, IsPlace};
@@ -14,10 +14,10 @@ use std::sync::ledger::Ledger;
 
 /// Finds the target of the pointer at `at`, or the first fault of that slot.
 ///
-/// The place has to be in range. A refusal is one of `Reserved` to `TagOverrun`, as a slot is tested: the word itself,
-/// then its landing pad, then the content's range, then the tag of a composite list. It reads at most four words,
-/// counted in `reads`, and takes no memory. (Page: structs, lists, inter-segment pointers, capabilities; the order of
-/// the tests is our own.)
+/// The place has to be in range. The refusals are `Reserved` to `TagOverrun`, tested in this order: the word itself,
+/// its landing pad, the range of the content, the tag word of a composite list. Reads at most four words, counted in
+/// `reads`, and takes no memory. (Page: structs, lists, inter-segment pointers, capabilities. The order of the tests is
+/// our own.)
 #[tactic(auto, unfolding(crate::specs::Target::target))]
 #[inline(always)]
 pub fn resolve<S: Space, L: Ledger>(
@@ -27,7 +27,8 @@ pub fn resolve<S: Space, L: Ledger>(
 ) -> Result<Target, Fault>
     requires { IsPlace space.now at }
     ensures exact { result ≡ spec.target space.now at }
-    // Content lies inside its segment, which exists, and rows within the words that their list's pointer gives.
+    // If `result` is content, it lies inside its segment, which exists. The rows of a composite list are within the
+    // words that the list's pointer gives.
     ensures inside { IfOk result (λ t. IsInMessage space.now t) }
     ensures reads { reads.new ≤ reads.old + 8 }
 {
@@ -69,7 +70,7 @@ fn named<S: Space, L: Ledger>(
     }
 }
 
-/// Reads the pointer at `word` of `segment`. It counts in `reads` as one read.
+/// Reads the pointer at `word` of `segment`. Counts in `reads` as one read.
 #[inline(always)]
 pub fn pointer_at<S: Space, L: Ledger>(
     space: &CountedSpace<'_, S, L>,
@@ -84,8 +85,9 @@ pub fn pointer_at<S: Space, L: Ledger>(
     split(space.word(Place { segment, word }, reads))
 }
 
-/// Returns the content of the struct or list `pointer` at `word` of `segment`, which has `size` words. The word is the
-/// slot itself, or a pad of one word: `pads` is 0 or 1. Another pointer is `BadPad`.
+/// Returns the content to which the struct or list `pointer` at `word` of `segment` leads. The segment has `size`
+/// words. The word is the slot itself if `pads` is 0, and a landing pad of one word if `pads` is 1. Any other pointer
+/// gives `BadPad`.
 #[inline(always)]
 pub fn near<S: Space, L: Ledger>(
     space: &CountedSpace<'_, S, L>,
@@ -121,7 +123,7 @@ pub fn near<S: Space, L: Ledger>(
     }
 }
 
-/// Finds the target of a far pointer by the landing pad of one word at `word` of `segment`.
+/// Finds the target of a far pointer whose landing pad is the one word at `word` of `segment`.
 #[inline(never)]
 fn behind_one<S: Space, L: Ledger>(
     space: &CountedSpace<'_, S, L>,
@@ -140,7 +142,7 @@ fn behind_one<S: Space, L: Ledger>(
     near(space, segment, size, word, 1, pointer, reads)
 }
 
-/// Finds the target of a far pointer by the landing pad of two words at `word` of `segment`.
+/// Finds the target of a far pointer whose landing pad is the two words at `word` of `segment`.
 #[inline(never)]
 fn behind_two<S: Space, L: Ledger>(
     space: &CountedSpace<'_, S, L>,
@@ -160,8 +162,8 @@ fn behind_two<S: Space, L: Ledger>(
     named_by_two(space, first, second, reads)
 }
 
-/// Finds the target of the two words of a landing pad: `first` is a far pointer to the content, and `second` the
-/// content's form.
+/// Finds the target to which the two words of a landing pad lead: `first` is a far pointer to the content, and `second`
+/// gives the form of the content.
 fn named_by_two<S: Space, L: Ledger>(
     space: &CountedSpace<'_, S, L>,
     first: Pointer,
@@ -207,7 +209,7 @@ fn named_by_two<S: Space, L: Ledger>(
     }
 }
 
-/// Refuses a landing pad of `pads` words at `word` of `segment` that isn't inside its segment.
+/// Refuses a landing pad of `pads` words at `word` of `segment` that isn't inside an existing segment.
 fn landing<S: Space, L: Ledger>(
     space: &CountedSpace<'_, S, L>,
     segment: u32,

@@ -1,17 +1,17 @@
-//! Targets of pointers, and faults of slots.
+//! The types `Target`, to which a pointer leads, and `Fault`, the reason why a slot is refused.
 
 use capn_words::Width;
 use std::error::Error;
 use std::fmt;
 
-/// The form of the content that a pointer names. (Page: structs, lists.)
+/// The form of the content to which a pointer leads. (Page: structs, lists.)
 #[derive(Clone, Copy, Debug, PartialEq, Eq)]
 pub enum Shape {
     /// A struct.
     Node {
-        /// Its data words.
+        /// The number of its data words.
         words: u16,
-        /// Its pointers, a word each, after the data words.
+        /// The number of its pointers, each of one word, after the data words.
         slots: u16,
     },
     /// A list that isn't composite.
@@ -25,11 +25,11 @@ pub enum Shape {
     Rows {
         /// The number of structs.
         count: u32,
-        /// The data words of each.
+        /// The number of data words of each struct.
         words: u16,
-        /// The pointers of each.
+        /// The number of pointers of each struct.
         slots: u16,
-        /// The words that the pointer gives to all of them; the tag is not counted.
+        /// The number of words that the pointer gives for all structs together, without the tag word.
         span: u32,
     },
 }
@@ -45,17 +45,18 @@ pub enum Target {
     Content {
         /// The index of its segment.
         segment: u32,
-        /// The index of its first word in the segment; of a composite list that is the tag.
+        /// The index of its first word in the segment. For a composite list that is the tag word.
         start: u32,
         /// Its form and size.
         shape: Shape,
-        /// The words of its landing pad: 0 for a near pointer, else 1 or 2.
+        /// The number of words of its landing pad: 0 for a near pointer, otherwise 1 or 2.
         pads: u8,
     },
 }
 
-/// The reason why a slot is refused. At one slot the tests are made in this order, and the first that fails is the
-/// answer; but at a landing pad of two words the segment of the content is looked up last. (Own.)
+/// The reason why a slot is refused. The tests of one slot are made in the order of the variants, and the first that
+/// fails is returned. There is one exception: for a landing pad of two words, the segment of the content is looked up
+/// after the pad's words are tested. (Own.)
 #[derive(Clone, Copy, Debug, PartialEq, Eq)]
 pub enum Fault {
     /// Segment 0 has no word, so there is no root.
@@ -64,16 +65,16 @@ pub enum Fault {
     RootKind,
     /// The word is no kind of pointer.
     Reserved,
-    /// There is no segment of the pad, or of the content that a pad of two words names.
+    /// The segment of the landing pad doesn't exist, or that of the content to which a pad of two words leads.
     NoSegment,
-    /// The pad isn't inside its segment.
+    /// The landing pad isn't inside its segment.
     PadRange,
-    /// A pad of one word is no struct or list pointer; or, of a pad of two words, the first is no far pointer
-    /// to a pad of one word, or the second is no word of zeros, struct or list pointer.
+    /// The landing pad has the wrong words. A pad of one word has to be a struct or list pointer. The first word of a
+    /// pad of two has to be a far pointer whose double bit is 0, and the second a struct or list pointer, or zero.
     BadPad,
     /// The content starts before word 0 or ends past its segment's end.
     Range,
-    /// The tag of a composite list isn't spelt as a struct pointer.
+    /// The tag word of a composite list doesn't have the form of a struct pointer.
     BadTag,
     /// The structs of a composite list take more words than its pointer gives.
     TagOverrun,

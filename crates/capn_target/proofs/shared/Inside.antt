@@ -1,5 +1,5 @@
--- Content that a pointer names lies inside its segment, which exists. (For `resolve`, capn_canon, capn_diagnostics and
--- other crates.)
+-- Lemmas for `resolve`, capn_canon, capn_diagnostics and other crates: the content to which a pointer leads lies inside
+-- its segment, which exists.
 use Rattle.std.proofs.Common.{◌≡◌, ℕ, ◌+◌, ◌<◌, ◌≤◌, List, length, Result, Ok, Err, IfOk}
 use Rattle.capn_words.specs.Message.{segment_at}
 use Rattle.capn_words.specs.declared.space.Place.{Place}
@@ -18,7 +18,7 @@ use Rattle.capn_target.proofs.shared.Ways.{described}
 use Rattle.capn_target.proofs.shared.Present.{present}
 
 module _ (m : List (List ℕ)) where
-  -- content of a shape lies inside its segment, and its rows have room
+  -- content of `shape` at `start` lies inside segment `s`, and its rows fit into its words
   abbrev Inside : ℕ → ℕ → Shape → Type 0
   Inside s start shape = (start + extent shape ≤ length (segment_at m s)) × RowsFit shape
 
@@ -37,14 +37,14 @@ module _ (m : List (List ℕ)) where
   inside-described (Cap k) s start shape d = absurd d
   inside-described (Reserved n) s start shape d = absurd d
 
-  -- the content that the pointer at a place names lies inside its segment, and its rows have room
+  -- the content to which the pointer at `at` leads lies inside its segment, and its rows fit into its words
   pub inside : (at : Place) (s start pads : ℕ) (shape : Shape) → target m at ≡ Ok (targets.Content s start shape pads) →
       (start + extent shape ≤ length (segment_at m s)) × RowsFit shape
   inside at s start pads shape e =
       let d = described m at s start pads shape e in
       inside-described (pointer_in m d.0.segment d.0.word) s start shape d.1
 
--- what a place names lies inside the message
+-- the target of a place in range lies inside the message
 pub found-inside : (m : List (List ℕ)) (at : Place) (t : Target) → at.word < length (segment_at m at.segment)
     → target m at ≡ Ok t → IsInMessage m t
 found-inside m at targets.Nil h e = tt
@@ -53,7 +53,7 @@ found-inside m at (targets.Content s start shape pads) h e =
     let i = inside m at s start pads shape e in
     (record { exists = present m at s start pads shape h e; within = i.0 }, i.1)
 
--- what a call found that is the target of a place
+-- a result that equals the target of a place in range lies inside the message, if it is `Ok`
 pub answer-inside : (m : List (List ℕ)) (at : Place) (r : Result Target Fault)
     → at.word < length (segment_at m at.segment) → target m at ≡ r
     → IfOk r (IsInMessage m)

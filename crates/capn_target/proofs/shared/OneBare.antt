@@ -1,4 +1,5 @@
--- A message of one segment is what its bytes are read as. (For `only_segment`, capn_c, capn_canon and capn_mismatch.)
+-- Lemmas for `only_segment`, capn_c, capn_canon and capn_mismatch: a message of one segment is the words in the bytes
+-- of that segment.
 use Rattle.std.proofs.Common.{◌≡◌, ℕ, ◌*◌, List, [], ◌∷◌, length, refl, ap, sym, ◌∙◌, arith, Option}
 use Rattle.std.proofs.Common.{Some, None}
 use Rattle.std.specs.Option.{unwrap_or}
@@ -8,7 +9,7 @@ use Rattle.capn_words.proofs.shared.Words.{bytes-injective, length-bytes}
 use Rattle.capn_words.specs.declared.space.Place.{Place}
 use Rattle.capn_target.proofs.shared.Segments.{length_of_none, length_of_some}
 
--- where the bytes begin
+-- the place at which the bytes of the segment begin
 abbrev pub start : Place
 start = record { segment = 0; word = 0 }
 
@@ -27,13 +28,13 @@ one-bare m bs ws is e eb b =
     only-segment m e
     ∙ ap (λ (xs : List ℕ). xs ∷ []) (bytes-injective seg ws (is.each 0) b.each (sym all ∙ sym eb ∙ b.same))
 
--- the words of the first segment, where there is one
+-- the number of words of the first segment, which is 0 if there is none
 pub first-words : (m : List (List ℕ)) (r : Option ℕ) (n : ℕ) → r ≡ words_of m 0 → n ≡ unwrap_or r 0
     → n ≡ length (segment_at m 0)
 first-words m None n e f = f ∙ sym (length_of_none m 0 (sym e))
 first-words m (Some k) n e f = f ∙ sym (length_of_some m 0 k (sym e))
 
--- the words of the bytes of the only segment, where the message has another name
+-- the words read from the bytes of the only segment are the message, which may be given under another name
 pub read-alone : (m k : List (List ℕ)) (r : Option ℕ) (n : ℕ) (bs ws : List ℕ) → k ≡ m → IsMessage m → length k ≡ 1
     → r ≡ words_of k 0 → n ≡ unwrap_or r 0 → bs ≡ bytes_at m start (8 * n) → IsBare bs ws → k ≡ ws ∷ []
 read-alone m k r n bs ws same is e er en eb b =

@@ -1,4 +1,4 @@
--- Content that a pointer names is in a segment that exists. (For `Inside`, capn_layout and capn_walk.)
+-- Lemmas for `Inside`, capn_layout and capn_walk: the content to which a pointer leads is in a segment that exists.
 use Rattle.std.proofs.Common.{◌≡◌, inl, inr, ℕ, ◌<◌, ◌≤◌, nat_lt, Bool, true, false, List, [], length, Ok, refl, ap}
 use Rattle.std.proofs.Common.{arith}
 use Rattle.std.proofs.lemmas.Bool.Decides.{nat_tests}
@@ -29,7 +29,7 @@ module _ (m : List (List ℕ)) where
   there at s start pads shape h (inr (inl n)) = n.pad.0
   there at s start pads shape h (inr (inr n)) = n.there
 
-  -- the segment of the content that a pointer in range names is there
+  -- the segment of the content to which a pointer in range leads exists
   pub present : (at : Place) (s start pads : ℕ) (shape : Shape) → at.word < length (segment_at m at.segment) →
       target m at ≡ Ok (targets.Content s start shape pads) → s < length m
   present at s start pads shape h e = there at s start pads shape h (one-of-three m at s start pads shape e)

@@ -1,4 +1,4 @@
--- Sizes, counts and indices that pointers name are in the ranges of their fields. (For capn_layout and capn_walk.)
+-- Lemmas for capn_layout and capn_walk: the sizes, counts and indices of targets are in the ranges of their fields.
 use Rattle.std.proofs.Common.{◌≡◌, ℕ, ◌%◌, ◌^◌, ◌<◌, ◌==◌, List, slice_index, Ok, arith}
 use Rattle.std.specs.Bool.{⊤}
 use Rattle.capn_words.specs.Message.{segment_at}
@@ -31,7 +31,7 @@ narrow-pointer w =
     pick IsNarrow (w % 4 == 2) _ _ (λ e. tt) (λ z.
     pick IsNarrow (field 2 30 w == 0) _ _ (λ e. omega arith) (λ e. tt)))))
 
--- the sizes and counts of an object have room in the fields of its pointer and its tag
+-- the sizes and counts of an object fit the fields of its pointer and its tag word
 abbrev pub HasRoom : Shape → Type 0
 HasRoom (shapes.Node a b) = (a < 2 ^ 16) × (b < 2 ^ 16)
 HasRoom (shapes.Many width n) = n < 2 ^ 29
@@ -57,7 +57,7 @@ module _ (m : List (List ℕ)) where
   narrow-in : (s w : ℕ) → IsNarrow (pointer_in m s w)
   narrow-in s w = narrow-pointer (slice_index (segment_at m s) w)
 
-  -- an object that a pointer names has sizes and counts with room in their fields
+  -- the object to which a pointer leads has sizes and counts that fit their fields
   pub room-of : (at : Place) (s start pads : ℕ) (shape : Shape) → target m at ≡ Ok (targets.Content s start shape pads)
       → HasRoom shape
   room-of at s start pads shape e =

@@ -1,4 +1,4 @@
--- The lengths of segments. (For `segment_length`, capn_c, capn_canon and other crates.)
+-- Lemmas for `segment_length`, capn_c, capn_canon and other crates: the lengths of segments.
 use Rattle.std.proofs.Common.{◌≡◌, ℕ, ◌<◌, ◌≤◌, List, [], length, ap, arith, Option, Some, None, nat_lt}
 use Rattle.std.proofs.lemmas.Bool.Decides.{nat_tests}
 use Rattle.std.proofs.Math.ListN.{get_or-eq_default}
@@ -6,7 +6,7 @@ use Rattle.std.proofs.lemmas.List.Sums.{get_or-le-sum_by}
 use Rattle.capn_words.specs.Message.{most_words, segment_at, words_of, IsMessage}
 use Rattle.capn_words.proofs.shared.Choices.{pick}
 
--- a segment that is not there has no words
+-- a segment that doesn't exist has no words
 pub length_of_none : (m : List (List ℕ)) (s : ℕ) → words_of m s ≡ None → length (segment_at m s) ≡ 0
 length_of_none m s h =
     pick (λ (o : Option ℕ). o ≡ None
@@ -15,7 +15,7 @@ length_of_none m s h =
     (λ e. λ n. let past : length m ≤ s = grind (arith, nat_tests) in ap length (get_or-eq_default m [] past))
     h
 
--- one that is there has the length that is answered
+-- a segment that exists has the length that is returned
 pub length_of_some : (m : List (List ℕ)) (s n : ℕ) → words_of m s ≡ Some n → length (segment_at m s) ≡ n
 length_of_some m s n h =
     pick (λ (o : Option ℕ). o ≡ Some n
